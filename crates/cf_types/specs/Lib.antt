@@ -1,0 +1,4 @@
+pub mod Term
+pub mod Stored
+pub mod Filled
+pub mod AdjunctBytes
