@@ -41,13 +41,4 @@ impl CacheEngine {
             regs: Vec::new(alloc),
         })
     }
-
-    /// Whether the bit of a connector's vector at an index tells a valid copy.
-    pub fn stands(&self, conn: ConnId, index: u32) -> bool
-        ensures { result ≡ stands self.now.content conn index }
-    {
-        self.regs
-            .iter()
-            .any(|reg| reg.conn == conn && reg.index == index)
-    }
 }
