@@ -1,0 +1,69 @@
+ghost use Rattle.std.specs.Prelude.{◌≡◌, ◌+◌, ◌-◌, ◌<◌, ◌≤◌, ◌↔◌, ◌++◌, Some, length, min, take, drop, slice_range, vec_len, IfOk, OnErr, IsErr};
+ghost use Rattle.std.specs.Io.KnownBytes.{Consumes, IsAtEnd, Keeps};
+ghost use Rattle.cf_io.specs.Count.{IsListed, Rises, one_more};
+
+use crate::counting::{counted, is_listed};
+use crate::{Failed, Source};
+
+/// A source in memory. It fails exactly the calls whose numbers, from 1, stand in `fails`.
+#[derive(Drop)]
+pub struct MemSource {
+    /// All the bytes, those that were read among them.
+    pub bytes: Vec<u8>,
+
+    /// How many of the bytes were read.
+    pub taken: usize,
+
+    /// How many calls of `read` there have been. The count stands still at `u64::MAX`.
+    pub calls: u64,
+
+    /// The numbers of the calls that fail.
+    pub fails: Vec<u64>,
+
+    /// How many calls failed. The count stands still at `u64::MAX`.
+    pub faults: u64,
+}
+
+impl Source for MemSource {
+    ghost left = { λ source. Some (drop source.taken source.bytes.items) };
+
+    ghost faults = { λ source. source.faults };
+
+    ghost calls = { λ source. source.calls };
+
+    /// Gives as many bytes as there are and fit, and leaves what stands behind them in `into` as it was.
+    ///
+    /// # Errors
+    ///
+    /// `Failed` exactly where the call is listed.
+    fn read(&mut self, into: &mut [u8]) -> Result<usize, Failed>
+        ensures within { IfOk result (λ n. n ≤ length into.new) }
+        ensures given { IfOk result (λ n. Consumes (Some (drop self.old.taken self.old.bytes.items)) (Some (drop self.new.taken self.new.bytes.items)) (take n into.new)) }
+        ensures end { IfOk result (λ n. n ≡ 0 → 0 < length into.new → IsAtEnd (Some (drop self.new.taken self.new.bytes.items))) }
+        ensures kept { OnErr result (Keeps (Some (drop self.old.taken self.old.bytes.items)) (Some (drop self.new.taken self.new.bytes.items))) }
+        ensures cause { OnErr result (Rises self.old.faults self.new.faults) }
+        ensures faults { self.old.faults ≤ self.new.faults }
+        ensures calls { self.new.calls ≤ self.old.calls + 1 }
+
+        ensures fails { IsErr result ↔ IsListed self.old.fails.items self.old.calls }
+        ensures ok { IfOk result (λ n. (n ≡ min (vec_len self.old.bytes - self.old.taken) (length into.old))
+            × (into.new ≡ take n (drop self.old.taken self.old.bytes.items) ++ drop n into.old)
+            × (self.new ≡ record self.old { taken = self.old.taken + n; calls = one_more self.old.calls })) }
+        ensures err { OnErr result ((into.new ≡ into.old)
+            × (self.new ≡ record self.old { calls = one_more self.old.calls; faults = one_more self.old.faults })) }
+    {
+        let listed = is_listed(&self.fails, self.calls);
+        self.calls = counted(self.calls);
+        if listed {
+            self.faults = counted(self.faults);
+            return Err(Failed);
+        }
+        let count = self.bytes.len().saturating_sub(self.taken).min(into.len());
+        if count > 0 {
+            let piece = &self.bytes[self.taken..self.taken + count];
+            into[..count].copy_from_slice(piece);
+            self.taken += count;
+        }
+        Ok(count)
+    }
+}

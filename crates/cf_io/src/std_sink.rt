@@ -1,0 +1,45 @@
+ghost use Rattle.std.specs.Prelude.{◌≡◌, ◌+◌, ◌<◌, ◌≤◌, None, length, take, IfOk, OnOk, OnErr};
+ghost use Rattle.std.specs.Io.KnownBytes.{Appends, Keeps};
+ghost use Rattle.cf_io.specs.Count.{Rises, one_more};
+
+use crate::counting::counted;
+use crate::{Failed, Sink};
+use std::io::Write;
+
+/// A sink over std's `Write`, as a terminal or a file. It tells no bytes: what becomes of them is trusted.
+#[derive(Drop)]
+pub struct StdSink<W> {
+    /// The writer.
+    pub inner: W,
+
+    /// How many writes answered an error, or took none of the bytes that they were given. The count stands still
+    /// at `u64::MAX`.
+    pub faults: u64,
+}
+
+impl<W: Write> Sink for StdSink<W> {
+    ghost held = { λ _. None };
+
+    ghost faults = { λ sink. sink.faults };
+
+    fn write(&mut self, from: &[u8]) -> Result<usize, Failed>
+        ensures within { IfOk result (λ n. n ≤ length from.now) }
+        ensures taken { IfOk result (λ n. Appends None None (take n from.now)) }
+        ensures some { IfOk result (λ n. 0 < length from.now → 0 < n) }
+        ensures kept { OnErr result (Keeps None None) }
+        ensures cause { OnErr result (Rises self.old.faults self.new.faults) }
+        ensures faults { self.old.faults ≤ self.new.faults }
+        ensures calls { ◌≤◌ 0 (0 + 1) }
+
+        ensures ok { OnOk result (self.new.faults ≡ self.old.faults) }
+        ensures err { OnErr result (self.new.faults ≡ one_more self.old.faults) }
+    {
+        match self.inner.write(from) {
+            Ok(count) if count > 0 || from.is_empty() => Ok(count),
+            _ => {
+                self.faults = counted(self.faults);
+                Err(Failed)
+            }
+        }
+    }
+}
