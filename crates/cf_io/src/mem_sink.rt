@@ -75,19 +75,14 @@ impl Sink for MemSink {
     ///
     /// `Failed` exactly where the call is listed, or bytes are given and the room is used up.
     fn write(&mut self, from: &[u8]) -> Result<usize, Failed>
-        ensures within { IfOk result (λ n. n ≤ length from.now) }
-        ensures taken { IfOk result (λ n. Appends (Some self.old.bytes.items) (Some self.new.bytes.items) (take n from.now)) }
-        ensures some { IfOk result (λ n. 0 < length from.now → 0 < n) }
-        ensures kept { OnErr result (Keeps (Some self.old.bytes.items) (Some self.new.bytes.items)) }
-        ensures cause { OnErr result (Rises self.old.faults self.new.faults) }
-        ensures faults { self.old.faults ≤ self.new.faults }
-        ensures calls { self.new.calls ≤ self.old.calls + 1 }
-
         ensures fails { IsErr result ↔ (IsListed self.old.fails.items self.old.calls
             ⊎ ((0 < length from.now) × (vec_len self.old.bytes ≡ self.old.room))) }
         ensures ok { IfOk result (λ n. (n ≡ min (length from.now) (min self.old.piece (self.old.room - vec_len self.old.bytes)))
+            × (self.new.bytes.items ≡ self.old.bytes.items ++ take n from.now)
             × (self.new.calls ≡ one_more self.old.calls) × (self.new.faults ≡ self.old.faults)) }
         ensures err { OnErr result (self.new ≡ record self.old { calls = one_more self.old.calls; faults = one_more self.old.faults }) }
+        ensures some { IfOk result (λ n. 0 < length from.now → 0 < n) }
+        ensures faults { self.old.faults ≤ self.new.faults }
         ensures form { (self.new.room ≡ self.old.room) × (self.new.piece ≡ self.old.piece) × (self.new.fails ≡ self.old.fails) }
     {
         let listed = is_listed(&self.fails, self.calls);

