@@ -40,8 +40,8 @@ pub fn read_all<S: Source>(alloc: Global, source: &mut S, limit: usize) -> Resul
     let mut text = Vec::new(alloc);
     let mut piece = [0; PIECE];
     while text.len() <= limit {
-        let room = limit - text.len();
-        let asked = if room < PIECE { room + 1 } else { PIECE };
+        // One byte past the limit is enough to tell that there are more.
+        let asked = (limit - text.len()).saturating_add(1).min(PIECE);
         let count = source.read(&mut piece[..asked])?;
         if count == 0 {
             return Ok(text);
