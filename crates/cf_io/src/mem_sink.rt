@@ -1,4 +1,4 @@
-ghost use Rattle.std.specs.Prelude.{◌≡◌, ◌+◌, ◌-◌, ◌<◌, ◌≤◌, ◌↔◌, ◌⊎◌, ◌++◌, [], Some, length, min, take, vec_len, vec_capacity, IfOk, OnErr, IsErr};
+ghost use Rattle.std.specs.Prelude.{◌≡◌, ◌+◌, ◌-◌, ◌<◌, ◌≤◌, ◌↔◌, ◌⊎◌, ◌++◌, [], Some, length, min, take, vec_len, vec_capacity, IfOk, OnOk, OnErr, IsErr};
 ghost use Rattle.std.specs.Io.KnownBytes.{Appends, Keeps};
 ghost use Rattle.cf_io.specs.Count.{IsListed, Rises, one_more};
 
@@ -75,14 +75,20 @@ impl Sink for MemSink {
     ///
     /// `Failed` exactly where the call is listed, or bytes are given and the room is used up.
     fn write(&mut self, from: &[u8]) -> Result<usize, Failed>
+        // Which calls fail.
         ensures fails { IsErr result ↔ (IsListed self.old.fails.items self.old.calls
             ⊎ ((0 < length from.now) × (vec_len self.old.bytes ≡ self.old.room))) }
-        ensures ok { IfOk result (λ n. (n ≡ min (length from.now) (min self.old.piece (self.old.room - vec_len self.old.bytes)))
-            × (self.new.bytes.items ≡ self.old.bytes.items ++ take n from.now)
-            × (self.new.calls ≡ one_more self.old.calls) × (self.new.faults ≡ self.old.faults)) }
-        ensures err { OnErr result (self.new ≡ record self.old { calls = one_more self.old.calls; faults = one_more self.old.faults }) }
+
+        // What an Ok takes.
+        ensures count { IfOk result (λ n. n ≡ min (length from.now) (min self.old.piece (self.old.room - vec_len self.old.bytes))) }
+        ensures bytes { IfOk result (λ n. self.new.bytes.items ≡ self.old.bytes.items ++ take n from.now) }
         ensures some { IfOk result (λ n. 0 < length from.now → 0 < n) }
+        ensures ok { OnOk result ((self.new.calls ≡ one_more self.old.calls) × (self.new.faults ≡ self.old.faults)) }
+
+        // An error counts a fault, and takes nothing.
+        ensures err { OnErr result (self.new ≡ record self.old { calls = one_more self.old.calls; faults = one_more self.old.faults }) }
         ensures faults { self.old.faults ≤ self.new.faults }
+
         ensures form { (self.new.room ≡ self.old.room) × (self.new.piece ≡ self.old.piece) × (self.new.fails ≡ self.old.fails) }
     {
         let listed = is_listed(&self.fails, self.calls);

@@ -38,13 +38,18 @@ impl Source for MemSource {
     ///
     /// `Failed` exactly where the call is listed.
     fn read(&mut self, into: &mut [u8]) -> Result<usize, Failed>
-        ensures given { IfOk result (λ n. left_of self.old ≡ take n into.new ++ left_of self.new) }
+        // Which calls fail.
         ensures fails { IsErr result ↔ IsListed self.old.fails.items self.old.calls }
-        ensures ok { IfOk result (λ n. (n ≡ min (length (left_of self.old)) (length into.old))
-            × (into.new ≡ take n (left_of self.old) ++ drop n into.old)
-            × (self.new ≡ record self.old { taken = self.old.taken + n; calls = one_more self.old.calls })) }
-        ensures err { OnErr result ((into.new ≡ into.old)
-            × (self.new ≡ record self.old { calls = one_more self.old.calls; faults = one_more self.old.faults })) }
+
+        // What an Ok gives, and what stays.
+        ensures count { IfOk result (λ n. n ≡ min (length (left_of self.old)) (length into.old)) }
+        ensures bytes { IfOk result (λ n. into.new ≡ take n (left_of self.old) ++ drop n into.old) }
+        ensures ok { IfOk result (λ n. self.new ≡ record self.old { taken = self.old.taken + n; calls = one_more self.old.calls }) }
+        ensures given { IfOk result (λ n. left_of self.old ≡ take n into.new ++ left_of self.new) }
+
+        // An error counts a fault, and takes and gives nothing.
+        ensures err { OnErr result (self.new ≡ record self.old { calls = one_more self.old.calls; faults = one_more self.old.faults }) }
+        ensures into { OnErr result (into.new ≡ into.old) }
         ensures faults { self.old.faults ≤ self.new.faults }
     {
         let listed = is_listed(&self.fails, self.calls);

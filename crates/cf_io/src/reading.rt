@@ -10,8 +10,8 @@ use std::alloc::Global;
 // How many bytes one read asks for at most.
 const PIECE: usize = 4096;
 
-/// Reads all that the source has left, at most `limit` bytes. It makes at most `limit + 2` reads and takes at
-/// most `limit + 1` bytes. What its reads took is gone from the source, whatever the answer.
+/// Reads all that the source has left, at most `limit` bytes. It makes at most `limit + 1` reads, and takes
+/// at most `limit + 1` bytes. What its reads took is gone from the source, whatever the answer.
 ///
 /// # Errors
 ///
@@ -27,7 +27,7 @@ pub fn read_all<S: Source>(alloc: Global, source: &mut S, limit: usize) -> Resul
     // An error has its cause, and in the absence of faults and of want of memory, length decides.
     ensures cause { IfErr result (HasCause limit (S.left source.old) (S.faults source.old) (S.faults source.new)) }
     ensures too_long { IfSome (S.left source.old) (λ bytes.
-        (Rises (S.faults source.old) (S.faults source.new) → ⊥) → (IsErrOf result ReadEnd.NoMemory → ⊥)
+        ¬ Rises (S.faults source.old) (S.faults source.new) → ¬ IsErrOf result ReadEnd.NoMemory
         → IsErrOf result (ReadEnd.TooLong limit) ↔ (limit < length bytes)) }
 
     // Whatever the answer, what is left is what was left without the bytes that were taken.
@@ -35,7 +35,7 @@ pub fn read_all<S: Source>(alloc: Global, source: &mut S, limit: usize) -> Resul
 
     // The counts.
     ensures faults { S.faults source.old ≤ S.faults source.new }
-    ensures calls { S.calls source.new ≤ S.calls source.old + limit + 2 }
+    ensures calls { S.calls source.new ≤ S.calls source.old + limit + 1 }
 {
     let mut text = Vec::new(alloc);
     let mut piece = [0; PIECE];

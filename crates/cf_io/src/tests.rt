@@ -45,7 +45,7 @@ fn a_read_fails_in_mid_stream(rt: HostRuntime) -> Result<(), Fail> {
     assert_eq!(rt; source.calls, 2);
 
     // The next try takes what is left.
-    let rest = source.bytes.len() - source.taken;
+    let rest = source.bytes.len().saturating_sub(source.taken);
     assert!(rt; 0 < rest && rest < 9000);
     let text = read_all(alloc, &mut source, 9000)?;
     assert_eq!(rt; text.len(), rest);
