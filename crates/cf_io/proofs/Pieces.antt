@@ -1,6 +1,5 @@
 -- Bytes that go piece by piece.
-use Rattle.std.proofs.Common.{◌≡◌, ℕ, ◌+◌, ◌-◌, ◌≤◌, Option, List, ◌++◌, length, take, drop, sym, ap, ◌∙◌, subst, arith, length-append, length-take}
-use Rattle.std.proofs.lemmas.Grind.{common_steps}
+use Rattle.std.proofs.Common.{◌≡◌, ℕ, ◌+◌, ◌≤◌, Option, List, ◌++◌, length, take, drop, sym, ap, ◌∙◌, subst, arith, length-append, length-take}
 use Rattle.std.proofs.lemmas.List.{take_at, drop-drop, length-take-le, take-append-drop}
 use Rattle.std.proofs.Math.Seq.{take-add}
 use Rattle.std.specs.Io.KnownBytes.{Appends}
@@ -12,7 +11,7 @@ pub Appends-more : (a b c : Option (List ℕ)) (text rest : List ℕ) (m n : ℕ
 Appends-more a b c text rest m n e p q =
     subst (Appends a c) (ap (λ l. take m text ++ take n l) e ∙ sym (take-add m n text)) (Appends-trans a b c _ _ p q)
 
--- a piece of m bytes and the first n of another are no longer than m + n together
+-- some bytes and the first n of others are at most k, where the bytes and n are
 pub length-more : (xs ys : List ℕ) (n k : ℕ) → length xs + n ≤ k → length (xs ++ take n ys) ≤ k
 length-more xs ys n k h = omega (arith, length-append xs (take n ys), length-take n ys)
 

@@ -1,6 +1,5 @@
-ghost use Rattle.std.specs.Prelude.{◌≡◌, ◌+◌, ◌-◌, ◌<◌, ◌≤◌, ◌↔◌, ◌⊎◌, ◌++◌, [], Some, length, min, take, vec_len, vec_capacity, IfOk, OnOk, OnErr, IsErr};
-ghost use Rattle.std.specs.Io.KnownBytes.{Appends, Keeps};
-ghost use Rattle.cf_io.specs.Count.{IsListed, Rises, one_more};
+ghost use Rattle.std.specs.Prelude.{◌≡◌, ◌-◌, ◌<◌, ◌≤◌, ◌↔◌, ◌⊎◌, ◌++◌, [], Some, length, min, take, vec_len, vec_capacity, IfOk, OnOk, OnErr, IsErr};
+ghost use Rattle.cf_io.specs.Count.{IsListed, one_more};
 
 use crate::counting::{counted, is_listed};
 use crate::{Failed, NoMemory, Sink};

@@ -1,7 +1,6 @@
-ghost use Rattle.std.specs.Prelude.{◌≡◌, ◌+◌, ◌-◌, ◌<◌, ◌≤◌, ◌↔◌, ◌++◌, Some, length, min, take, drop, slice_range, vec_len, IfOk, OnErr, IsErr};
-ghost use Rattle.std.specs.Io.KnownBytes.{Consumes, IsAtEnd, Keeps};
+ghost use Rattle.std.specs.Prelude.{◌≡◌, ◌+◌, ◌≤◌, ◌↔◌, ◌++◌, Some, length, min, take, drop, IfOk, OnErr, IsErr};
 ghost use Rattle.cf_io.specs.MemSource.{left_of};
-ghost use Rattle.cf_io.specs.Count.{IsListed, Rises, one_more};
+ghost use Rattle.cf_io.specs.Count.{IsListed, one_more};
 
 use crate::counting::{counted, is_listed};
 use crate::{Failed, Source};

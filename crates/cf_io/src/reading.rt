@@ -1,5 +1,5 @@
-ghost use Rattle.std.specs.Prelude.{◌≡◌, ◌+◌, ◌<◌, ◌≤◌, ◌↔◌, ◌++◌, length, take, vec_len, IfOk, IfErr, IfSome, IsErrOf, OnOk, OnErr};
-ghost use Rattle.std.specs.Io.KnownBytes.{Consumes, IsAtEnd, Keeps};
+ghost use Rattle.std.specs.Prelude.{◌≡◌, ◌+◌, ◌<◌, ◌≤◌, ◌↔◌, length, vec_len, IfOk, IfErr, IfSome, IsErrOf, OnOk};
+ghost use Rattle.std.specs.Io.KnownBytes.{IsAtEnd};
 ghost use Rattle.cf_io.specs.Count.{Rises};
 ghost use Rattle.cf_io.specs.ReadEnd.{HasCause};
 ghost use Rattle.cf_io.specs.Taken.{TakesAtMost};
