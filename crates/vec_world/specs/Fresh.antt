@@ -1,8 +1,8 @@
 -- The law of a load: what it finds in a word stood at a numbered point of the log.
 use Rattle.std.specs.Prelude.{◌≡◌, ◌-◌, ◌<◌, ◌≤◌, ◌⊎◌, ℕ, List, All, length, max, take, drop, slice_get, Some}
-use Rattle.vec_world.specs.declared.Step.{Step}
-use Rattle.vec_world.specs.declared.Step.TheVariants.{Load}
-use Rattle.vec_world.specs.declared.World.{World}
+use Rattle.vec_world.specs.declared.step.Step.{Step}
+use Rattle.vec_world.specs.declared.step.Step.TheVariants.{Load}
+use Rattle.vec_world.specs.declared.world.World.{World}
 use Rattle.vec_world.specs.Log.{bits_at, HasStore, IsCommitted}
 use Rattle.vec_world.specs.World.{bits_of, stamp_of, word_at, known_by, world_of}
 

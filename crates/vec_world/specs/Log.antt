@@ -1,8 +1,8 @@
 -- A log is the list of the stores and commits that acted, the oldest first.
 -- What is said here of a log speaks of no machine, so it holds of any list of steps; steps of other kinds in it count for nothing.
 use Rattle.std.specs.Prelude.{◌≡◌, ◌<◌, ◌≤◌, ◌==◌, ◌&&◌, ⊤, ℕ, Bool, List, All, Contains, fold, nat_le, if◌then◌else◌}
-use Rattle.vec_world.specs.declared.Step.{Step}
-use Rattle.vec_world.specs.declared.Step.TheVariants.{Store, Commit, Load, LoadCount, Split, Join}
+use Rattle.vec_world.specs.declared.step.Step.{Step}
+use Rattle.vec_world.specs.declared.step.Step.TheVariants.{Store, Commit, Load, LoadCount, Split, Join}
 
 -- the bits of a word at a number after one more step: a store to that word with a stamp of at most that number puts its own there
 abbrev pub bits_after : ℕ → ℕ → ℕ → Step → ℕ

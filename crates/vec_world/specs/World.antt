@@ -1,8 +1,8 @@
 -- The machine of vector words: what each step does to the world, and the world that a whole list of steps makes.
 use Rattle.std.specs.Prelude.{◌≡◌, ◌+◌, ◌-◌, ◌*◌, ◌/◌, ◌%◌, ◌^◌, ◌<◌, ◌==◌, ◌&&◌, ◌||◌, ℕ, Bool, not, List, [], ◌∷◌, ◌++◌, length, fold, max, nat_lt, if◌then◌else◌, slice_index, slice_set, take, replicate, Option, None, Some, slice_get}
-use Rattle.vec_world.specs.declared.Step.{Step}
-use Rattle.vec_world.specs.declared.Step.TheVariants.{Store, Commit, Load, LoadCount, Split, Join}
-use Rattle.vec_world.specs.declared.World.{World}
+use Rattle.vec_world.specs.declared.step.Step.{Step}
+use Rattle.vec_world.specs.declared.step.Step.TheVariants.{Store, Commit, Load, LoadCount, Split, Join}
+use Rattle.vec_world.specs.declared.world.World.{World}
 
 -- a word holds its bits in the lower half and its stamp in the upper half
 abbrev pub bits_of : ℕ → ℕ
@@ -55,30 +55,26 @@ stored world word bits stamp =
 abbrev pub committed : World → ℕ → World
 committed world number = record world { count = number; flying = 0; log = world.log ++ Commit number ∷ [] }
 
--- the pass knows the larger of what it knew and this number; no other pass learns it
+-- the pass, where there is one, knows the larger of what it knew and this number
 abbrev pub learned : World → ℕ → ℕ → World
-learned world pass number = record world { known = slice_set world.known pass (max (known_by world pass) number) }
+learned world pass number =
+    if has_pass world pass then record world { known = slice_set world.known pass (max (known_by world pass) number) } else world
 
 -- the pass's number stands last among the notes
 abbrev pub noted : World → ℕ → World
 noted world pass = record world { notes = world.notes ++ known_by world pass ∷ [] }
 
--- the last note is taken away, and the pass knows the larger of what it knew and that note; with no note nothing happens
+-- the last note is taken away and the pass learns its number; with no note nothing happens
 abbrev pub told : World → ℕ → Option ℕ → World
 told world into None = world
-told world into (Some note) =
-    record world {
-      known = slice_set world.known into (max (known_by world into) note);
-      notes = take (length world.notes - 1) world.notes;
-    }
+told world into (Some note) = record (learned world into note) { notes = take (length world.notes - 1) world.notes }
 
 -- what one step does. A step that can't act does nothing: nor does one that names a word or a pass that isn't there
 abbrev pub act : World → Step → World
 act world (Store word bits stamp) = if can_store world word stamp then stored world word bits stamp else world
 act world (Commit number) = if is_open world number then committed world number else world
-act world (Load pass word) =
-    if has_pass world pass && has_word world word then learned world pass (stamp_of (word_at world word)) else world
-act world (LoadCount pass) = if has_pass world pass then learned world pass world.count else world
+act world (Load pass word) = if has_word world word then learned world pass (stamp_of (word_at world word)) else world
+act world (LoadCount pass) = learned world pass world.count
 act world (Split pass) = if has_pass world pass then noted world pass else world
 act world (Join into) = if has_pass world into then told world into (slice_get world.notes (length world.notes - 1)) else world
 

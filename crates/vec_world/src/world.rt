@@ -1,6 +1,6 @@
 //! The world of the machine, and what each step does to it.
 ghost use Rattle.std.specs.Prelude.{◌≡◌, ◌<◌, max, length, IfOk, OnOk, OnErr, slice_get, slice_set, Option, option_map};
-ghost use Rattle.vec_world.specs.declared.Step.TheVariants.{Store, Commit, Load, LoadCount, Split, Join};
+ghost use Rattle.vec_world.specs.declared.step.Step.TheVariants.{Store, Commit, Load, LoadCount, Split, Join};
 ghost use Rattle.vec_world.specs.World.{start, act, is_open, learned};
 
 use crate::word::{stamp_of, word_of};
