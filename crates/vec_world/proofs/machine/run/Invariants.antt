@@ -1,0 +1,7 @@
+-- The world so far is the one that the steps so far make.
+use Rattle.std.proofs.Common.{◌≡◌, take}
+use Rattle.vec_world.specs.World.{world_of}
+use Rattle.vec_world.proofs.machine.run.Given as goal
+
+abbrev pub invariant-loop-step : goal.invariant-loop-step
+invariant-loop-step l = l.world ≡ world_of l.words l.passes (take l.step-index l.steps)
