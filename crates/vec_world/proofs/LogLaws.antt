@@ -1,9 +1,10 @@
 -- Laws of logs. They are said of any list of steps, so a log that no machine made may cite them too.
 use Rattle.std.proofs.Common.{◌≡◌, ◌≢◌, ◌⊎◌, ℕ, ◌+◌, ◌-◌, ◌<◌, ◌≤◌, Bool, true, false, ◌&&◌, cond, eqb, leb, List, [], ◌∷◌, ◌++◌, length, take, drop, get_or, refl, sym, ap, ◌∙◌, subst, inl, inr, arith, rules}
 use Rattle.std.specs.Prelude.{⊤, All, Contains, fold}
+use Rattle.std.proofs.lemmas.Bool.{cases_eq}
 use Rattle.std.proofs.lemmas.Bool.Decides.{nat_tests}
 use Rattle.std.proofs.lemmas.List.Sums.{fold_push, fold-append}
-use Rattle.std.proofs.lemmas.List.Elements.{All-head, All-tail, All-push, All-weaker, Contains-append_left, Contains-push}
+use Rattle.std.proofs.lemmas.List.Elements.{All-head, All-tail, All-nil, All-push, All-weaker, Contains-append_left, Contains-push}
 use Rattle.vec_world.specs.declared.step.Step.{Step}
 use Rattle.vec_world.specs.declared.step.Step.TheVariants.{Store, Commit, Load, LoadCount, Split, Join}
 use Rattle.vec_world.specs.Log.{bits_after, bits_at, HasStore, IsCommitted, OnStoreTo, StampsUpTo, StampsAbove}
@@ -41,3 +42,123 @@ bits_at-push_other log to bits stamp word number other =
 -- a commit leaves all bits
 pub bits_at-push_commit : (log : List Step) (committed word number : ℕ) → bits_at (log ++ Commit committed ∷ []) word number ≡ bits_at log word number
 bits_at-push_commit log committed word number = bits_at-push log (Commit committed) word number
+
+-- Many more steps of a log.
+
+-- stores with stamps above a number leave the bits at it
+bits_after-step_above : (word number old : ℕ) (step : Step) → OnStoreTo word (λ stamp. number < stamp) step → bits_after word number old step ≡ old
+bits_after-step_above word number old (Store to bits stamp) high =
+    elim (cases_eq to word) [
+        inl same ↦ bits_after-above word number old to bits stamp (high same)
+      | inr other ↦ bits_after-other word number old to bits stamp other
+    ]
+bits_after-step_above word number old (Commit _) high = refl
+bits_after-step_above word number old (Load _ _) high = refl
+bits_after-step_above word number old (LoadCount _) high = refl
+bits_after-step_above word number old (Split _) high = refl
+bits_after-step_above word number old (Join _) high = refl
+
+fold-above : (word number old : ℕ) (more : List Step) → StampsAbove more word number → fold (bits_after word number) old more ≡ old
+fold-above word number old [] high = refl
+fold-above word number old (step ∷ more) high =
+    fold-above word number (bits_after word number old step) more (All-tail (OnStoreTo word (λ stamp. number < stamp)) step more high)
+    ∙ bits_after-step_above word number old step (All-head (OnStoreTo word (λ stamp. number < stamp)) step more high)
+
+pub bits_at-append_above : (log more : List Step) (word number : ℕ) → StampsAbove more word number → bits_at (log ++ more) word number ≡ bits_at log word number
+bits_at-append_above log more word number high =
+    fold-append (bits_after word number) 0 log more ∙ fold-above word number (bits_at log word number) more high
+
+-- where no store to the word has a stamp above `low`, its bits at a higher number are those at `low`
+bits_after-up_to : (word low high old : ℕ) (step : Step) → low ≤ high → OnStoreTo word (λ stamp. stamp ≤ low) step → bits_after word high old step ≡ bits_after word low old step
+bits_after-up_to word low high old (Store to bits stamp) order within =
+    elim (cases_eq to word) [
+        inl same ↦
+            subst (λ (v : ℕ). bits_after word high old (Store v bits stamp) ≡ bits_after word low old (Store v bits stamp)) (sym same)
+                (bits_after-store word high old bits stamp (let h : stamp ≤ low = within same in omega arith) ∙ sym (bits_after-store word low old bits stamp (within same)))
+      | inr other ↦ bits_after-other word high old to bits stamp other ∙ sym (bits_after-other word low old to bits stamp other)
+    ]
+bits_after-up_to word low high old (Commit _) order within = refl
+bits_after-up_to word low high old (Load _ _) order within = refl
+bits_after-up_to word low high old (LoadCount _) order within = refl
+bits_after-up_to word low high old (Split _) order within = refl
+bits_after-up_to word low high old (Join _) order within = refl
+
+fold-up_to : (word low high old : ℕ) (log : List Step) → low ≤ high → StampsUpTo log word low → fold (bits_after word high) old log ≡ fold (bits_after word low) old log
+fold-up_to word low high old [] order within = refl
+fold-up_to word low high old (step ∷ log) order within =
+    ap (λ (start : ℕ). fold (bits_after word high) start log)
+        (bits_after-up_to word low high old step order (All-head (OnStoreTo word (λ stamp. stamp ≤ low)) step log within))
+    ∙ fold-up_to word low high (bits_after word low old step) log order (All-tail (OnStoreTo word (λ stamp. stamp ≤ low)) step log within)
+
+pub bits_at-up_to : (log : List Step) (word low high : ℕ) → low ≤ high → StampsUpTo log word low → bits_at log word high ≡ bits_at log word low
+bits_at-up_to log word low high order within = fold-up_to word low high 0 log order within
+
+-- The greatest stamp of a word.
+
+pub StampsUpTo-nil : (word number : ℕ) → StampsUpTo [] word number
+StampsUpTo-nil word number = All-nil (OnStoreTo word (λ stamp. stamp ≤ number))
+
+OnStoreTo-weaker : (word low high : ℕ) → low ≤ high → (step : Step) → OnStoreTo word (λ stamp. stamp ≤ low) step → OnStoreTo word (λ stamp. stamp ≤ high) step
+OnStoreTo-weaker word low high order (Store to bits stamp) within = λ same. let h : stamp ≤ low = within same in omega arith
+OnStoreTo-weaker word low high order (Commit _) within = within
+OnStoreTo-weaker word low high order (Load _ _) within = within
+OnStoreTo-weaker word low high order (LoadCount _) within = within
+OnStoreTo-weaker word low high order (Split _) within = within
+OnStoreTo-weaker word low high order (Join _) within = within
+
+pub StampsUpTo-weaker : (log : List Step) (word low high : ℕ) → low ≤ high → StampsUpTo log word low → StampsUpTo log word high
+StampsUpTo-weaker log word low high order within =
+    All-weaker (OnStoreTo word (λ stamp. stamp ≤ low)) (OnStoreTo word (λ stamp. stamp ≤ high)) (OnStoreTo-weaker word low high order) log within
+
+pub StampsUpTo-push_store : (log : List Step) (to bits stamp word number : ℕ) → stamp ≤ number → StampsUpTo log word number → StampsUpTo (log ++ Store to bits stamp ∷ []) word number
+StampsUpTo-push_store log to bits stamp word number low within =
+    All-push (OnStoreTo word (λ s. s ≤ number)) log (Store to bits stamp) within (λ _. low)
+
+pub StampsUpTo-push_other : (log : List Step) (to bits stamp word number : ℕ) → to ≢ word → StampsUpTo log word number → StampsUpTo (log ++ Store to bits stamp ∷ []) word number
+StampsUpTo-push_other log to bits stamp word number other within =
+    All-push (OnStoreTo word (λ s. s ≤ number)) log (Store to bits stamp) within (λ same. absurd (other same))
+
+pub StampsUpTo-push_commit : (log : List Step) (committed word number : ℕ) → StampsUpTo log word number → StampsUpTo (log ++ Commit committed ∷ []) word number
+StampsUpTo-push_commit log committed word number within =
+    All-push (OnStoreTo word (λ s. s ≤ number)) log (Commit committed) within tt
+
+-- What a load told goes on being told as the log grows.
+
+pub Tells-now : (log later : List Step) (count word bits number : ℕ) → bits ≡ bits_at log word number → Tells log later count word bits number
+Tells-now log later count word bits number same = inl same
+
+-- the step leaves the bits of the word at both numbers
+pub Tells-kept : (log later : List Step) (step : Step) (count word bits number : ℕ)
+    → bits_at (log ++ step ∷ []) word number ≡ bits_at log word number
+    → bits_at (log ++ step ∷ []) word (number - 1) ≡ bits_at log word (number - 1)
+    → Tells log later count word bits number → Tells (log ++ step ∷ []) (later ++ step ∷ []) count word bits number
+Tells-kept log later step count word bits number at before (inl now) = inl (now ∙ sym at)
+Tells-kept log later step count word bits number at before (inr below) =
+    inr (below.0, below.1 ∙ sym before, (below.2.0, Contains-append_left later (step ∷ []) (Store word below.2.0 number) below.2.1))
+
+pub Tells-push_commit : (log later : List Step) (committed count word bits number : ℕ)
+    → Tells log later count word bits number → Tells (log ++ Commit committed ∷ []) (later ++ Commit committed ∷ []) count word bits number
+Tells-push_commit log later committed count word bits number =
+    Tells-kept log later (Commit committed) count word bits number (bits_at-push_commit log committed word number) (bits_at-push_commit log committed word (number - 1))
+
+pub Tells-push_other : (log later : List Step) (to new stamp count word bits number : ℕ) → to ≢ word
+    → Tells log later count word bits number → Tells (log ++ Store to new stamp ∷ []) (later ++ Store to new stamp ∷ []) count word bits number
+Tells-push_other log later to new stamp count word bits number other =
+    Tells-kept log later (Store to new stamp) count word bits number (bits_at-push_other log to new stamp word number other) (bits_at-push_other log to new stamp word (number - 1) other)
+
+pub Tells-push_above : (log later : List Step) (to new stamp count word bits number : ℕ) → number < stamp
+    → Tells log later count word bits number → Tells (log ++ Store to new stamp ∷ []) (later ++ Store to new stamp ∷ []) count word bits number
+Tells-push_above log later to new stamp count word bits number high =
+    Tells-kept log later (Store to new stamp) count word bits number (bits_at-push_above log to new stamp word number high) (bits_at-push_above log to new stamp word (number - 1) (omega arith))
+
+-- the store of the very number comes, and no store to the word had that stamp before: what was told is now what stood just below the number
+pub Tells-push_same : (log later : List Step) (new count word bits number : ℕ) → count < number → StampsUpTo log word (number - 1)
+    → Tells log later count word bits number → Tells (log ++ Store word new number ∷ []) (later ++ Store word new number ∷ []) count word bits number
+Tells-push_same log later new count word bits number fresh below told =
+    let before : bits_at (log ++ Store word new number ∷ []) word (number - 1) ≡ bits_at log word (number - 1) = bits_at-push_above log word new number word (number - 1) (omega arith) in
+    let same : bits_at log word number ≡ bits_at log word (number - 1) = bits_at-up_to log word (number - 1) number (omega arith) below in
+    let stored : HasStore (later ++ Store word new number ∷ []) word number = (new, Contains-push later (Store word new number)) in
+    elim told as (λ _. Tells (log ++ Store word new number ∷ []) (later ++ Store word new number ∷ []) count word bits number) [
+        inl now ↦ inr (fresh, now ∙ same ∙ sym before, stored)
+      | inr was ↦ inr (fresh, was.1 ∙ sym before, stored)
+    ]
