@@ -1,6 +1,6 @@
 -- A log is the list of the stores and commits that acted, the oldest first.
 -- What is said here of a log speaks of no machine, so it holds of any list of steps; steps of other kinds in it count for nothing.
-use Rattle.std.specs.Prelude.{◌≡◌, ◌<◌, ◌≤◌, ◌==◌, ◌&&◌, ⊤, ℕ, Bool, List, All, Contains, fold, nat_le, if◌then◌else◌}
+use Rattle.std.specs.Prelude.{◌≡◌, ◌^◌, ◌<◌, ◌≤◌, ◌==◌, ◌&&◌, ⊤, ℕ, Bool, List, All, Contains, fold, nat_le, if◌then◌else◌}
 use Rattle.vec_world.specs.declared.step.Step.{Step}
 use Rattle.vec_world.specs.declared.step.Step.TheVariants.{Store, Commit, Load, LoadCount, Split, Join}
 
@@ -41,3 +41,12 @@ StampsUpTo log word number = All (OnStoreTo word (λ stamp. stamp ≤ number)) l
 -- each store to the word has a stamp above this number
 abbrev pub StampsAbove : List Step → ℕ → ℕ → Type 0
 StampsAbove log word number = All (OnStoreTo word (λ stamp. number < stamp)) log
+
+-- the bits of a store fill at most half a word
+abbrev pub FitsHalf : Step → Type 0
+FitsHalf (Store _ bits _) = bits < 2 ^ 32
+FitsHalf (Commit _) = ⊤
+FitsHalf (Load _ _) = ⊤
+FitsHalf (LoadCount _) = ⊤
+FitsHalf (Split _) = ⊤
+FitsHalf (Join _) = ⊤

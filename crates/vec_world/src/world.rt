@@ -1,6 +1,7 @@
 //! The world of the machine, and what each step does to it.
-ghost use Rattle.std.specs.Prelude.{◌≡◌, ◌<◌, max, length, IfOk, OnOk, OnErr, slice_get, slice_set, Option, option_map};
+ghost use Rattle.std.specs.Prelude.{◌≡◌, ◌^◌, ◌<◌, max, length, IfOk, OnOk, OnErr, slice_get, slice_set, Option, option_map};
 ghost use Rattle.vec_world.specs.declared.step.Step.TheVariants.{Store, Commit, Load, LoadCount, Split, Join};
+ghost use Rattle.vec_world.specs.Log.{FitsHalf};
 ghost use Rattle.vec_world.specs.World.{start, act, is_open, learned};
 
 use crate::word::{stamp_of, word_of};
@@ -43,6 +44,9 @@ impl World {
     pub(crate) fn act(&mut self, step: Step) -> Result<(), NoMemory>
         ensures ok { OnOk result (self.new ≡ act self.old step) }
         ensures err { OnErr result (self.new ≡ self.old) }
+
+        // The step's own type says so; whoever runs a list of steps learns it here.
+        ensures fits { FitsHalf step }
     {
         match step {
             Step::Store { word, bits, stamp } => self.store(word, bits, stamp),
@@ -73,6 +77,7 @@ impl World {
     fn store(&mut self, word: u32, bits: u32, stamp: u32) -> Result<(), NoMemory>
         ensures ok { OnOk result (self.new ≡ act self.old (Store word bits stamp)) }
         ensures err { OnErr result (self.new ≡ self.old) }
+        ensures fits { bits < 2 ^ 32 }
     {
         let at = word as usize;
         let Some(old) = self.words.get(at) else {
