@@ -1,9 +1,9 @@
 -- The law of a load: what it tells stays told by every log that later steps make.
-use Rattle.std.proofs.Common.{◌≡◌, ◌≢◌, ◌⊎◌, ℕ, ◌+◌, ◌-◌, ◌^◌, ◌<◌, ◌≤◌, Bool, true, false, cond, max, List, [], ◌∷◌, ◌++◌, length, take, drop, set, Option, Some, None, refl, sym, ap, ◌∙◌, subst, inl, inr, arith, rules}
+use Rattle.std.proofs.Common.{◌≡◌, ◌≢◌, ◌⊎◌, ℕ, ◌+◌, ◌-◌, ◌^◌, ◌<◌, ◌≤◌, Bool, true, false, cond, max, List, [], ◌∷◌, ◌++◌, length, take, drop, get_or, set, Option, Some, None, refl, sym, ap, ◌∙◌, subst, inl, inr, arith, rules}
 use Rattle.std.specs.Prelude.{⊤, All, Contains, fold, slice_get}
 use Rattle.std.proofs.lemmas.Bool.{cases_eq, cases_lt, ltb-true, cond_both}
 use Rattle.std.proofs.lemmas.List.{length_push, drop-append-le, drop_all, take-append-drop, length-replicate}
-use Rattle.std.proofs.lemmas.List.Sums.{fold-append}
+use Rattle.std.proofs.lemmas.List.Sums.{fold-append, fold_more}
 use Rattle.std.proofs.lemmas.List.Elements.{All-drop, All-take, All-get_or}
 use Rattle.vec_world.specs.declared.step.Step.{Step}
 use Rattle.vec_world.specs.declared.step.Step.TheVariants.{Store, Commit, Load, LoadCount, Split, Join}
@@ -188,3 +188,9 @@ each_load_tells words passes steps fits place pass word there in_passes in_words
     let before : World = world_of words passes (take place steps) in
     subst (λ (after : World). TellsWord before after pass word) (world_of-split words passes place steps)
         (tells-fold before pass word (drop place steps) (sound-world_of words passes (take place steps) (All-take FitsHalf place steps fits)) (All-drop FitsHalf place steps fits))
+
+-- one more step of the list
+pub world_of-more : (words passes : ℕ) (steps : List Step) (i : ℕ) (d : Step) (world after : World) → i < length steps
+    → world ≡ world_of words passes (take i steps) → after ≡ act world (get_or steps i d) → after ≡ world_of words passes (take (i + 1) steps)
+world_of-more words passes steps i d world after within so_far acts =
+    acts ∙ ap (λ (w : World). act w (get_or steps i d)) so_far ∙ sym (fold_more act (start words passes) steps i d within)
