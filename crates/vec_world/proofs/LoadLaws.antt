@@ -11,8 +11,8 @@ use Rattle.vec_world.specs.declared.world.World.{World}
 use Rattle.vec_world.specs.Log.{bits_at, HasStore, StampsUpTo, FitsHalf}
 use Rattle.vec_world.specs.World.{bits_of, stamp_of, word_at, known_by, start, is_open, has_word, has_pass, can_store, stored, committed, learned, noted, told, act, world_of}
 use Rattle.vec_world.specs.Fresh.{Tells, TellsWord, EachLoadTells, known_at_load, logged_since}
-use Rattle.vec_world.proofs.LogLaws.{bits_at-up_to, StampsUpTo-weaker, Tells-now, Tells-push_commit, Tells-push_other, Tells-push_above, Tells-push_same}
-use Rattle.vec_world.proofs.WorldLaws.{IsSettled, IsLastStore, IsSound, IsOpen, CanStore, can_store_from_test, open_from_test, stamp-above, settled-max, settled-known, settled-stamp, sound-stored, sound-committed, sound-learned, sound-noted, sound-told, sound-act, sound-world_of, fold-act}
+use Rattle.vec_world.proofs.LogLaws.{Carries-at, StampsUpTo-weaker, Tells-push_commit, Tells-push_other, Tells-push_above, Tells-push_same}
+use Rattle.vec_world.proofs.WorldLaws.{IsSettled, IsSound, IsOpen, CanStore, can_store_from_test, open_from_test, stamp-above, settled-max, settled-known, settled-stamp, sound-stored, sound-committed, sound-learned, sound-noted, sound-told, sound-act, sound-world_of, fold-act}
 
 -- A world that later steps made of `before`, as a load of `word` at `before` sees it, which found these bits and then knew this number.
 pub record IsAfterLoad (before : World) (word bits number : ℕ) (after : World) : Type 0 where
@@ -166,8 +166,7 @@ after_load-now world pass word sound =
       count = omega arith;
       log = omega arith;
       told =
-        inl (sym (bits_at-up_to world.log word (stamp_of (word_at world word)) (known_at_load world pass word) (omega arith) (sound.words word).greatest
-            ∙ (sound.words word).bits));
+        inl (sym (Carries-at world.log word (bits_of (word_at world word)) (stamp_of (word_at world word)) (known_at_load world pass word) (omega arith) (sound.words word)));
     }
 
 -- the law of a load, from any sound world on

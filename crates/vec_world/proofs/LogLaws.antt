@@ -1,13 +1,13 @@
 -- Laws of logs. They are said of any list of steps, so a log that no machine made may cite them too.
 use Rattle.std.proofs.Common.{◌≡◌, ◌≢◌, ◌⊎◌, ℕ, ◌+◌, ◌-◌, ◌<◌, ◌≤◌, Bool, true, false, ◌&&◌, cond, eqb, leb, List, [], ◌∷◌, ◌++◌, length, take, drop, get_or, refl, sym, ap, ◌∙◌, subst, inl, inr, arith, rules}
 use Rattle.std.specs.Prelude.{⊤, All, Contains, fold}
-use Rattle.std.proofs.lemmas.Bool.{cases_eq}
+use Rattle.std.proofs.lemmas.Bool.{cases_eq, cases_lt}
 use Rattle.std.proofs.lemmas.Bool.Decides.{nat_tests}
 use Rattle.std.proofs.lemmas.List.Sums.{fold_push, fold-append}
-use Rattle.std.proofs.lemmas.List.Elements.{All-head, All-tail, All-nil, All-push, All-weaker, Contains-append_left, Contains-push}
+use Rattle.std.proofs.lemmas.List.Elements.{All-head, All-tail, All-nil, All-cons, All-push, All-weaker, Contains-append_left, Contains-append_right, Contains-get_or, Contains-push}
 use Rattle.vec_world.specs.declared.step.Step.{Step}
 use Rattle.vec_world.specs.declared.step.Step.TheVariants.{Store, Commit, Load, LoadCount, Split, Join}
-use Rattle.vec_world.specs.Log.{bits_after, bits_at, HasStore, IsCommitted, OnStoreTo, StampsUpTo, StampsAbove}
+use Rattle.vec_world.specs.Log.{bits_after, bits_at, HasStore, IsCommitted, OnStoreTo, StampsUpTo, StampsFrom, StampsAbove, Carries}
 use Rattle.vec_world.specs.Fresh.{Tells}
 
 -- One more step of a log.
@@ -64,9 +64,12 @@ fold-above word number old (step ∷ more) high =
     fold-above word number (bits_after word number old step) more (All-tail (OnStoreTo word (λ stamp. number < stamp)) step more high)
     ∙ bits_after-step_above word number old step (All-head (OnStoreTo word (λ stamp. number < stamp)) step more high)
 
+pub bits_at-append : (log more : List Step) (word number : ℕ) → bits_at (log ++ more) word number ≡ fold (bits_after word number) (bits_at log word number) more
+bits_at-append log more word number = fold-append (bits_after word number) 0 log more
+
 pub bits_at-append_above : (log more : List Step) (word number : ℕ) → StampsAbove more word number → bits_at (log ++ more) word number ≡ bits_at log word number
 bits_at-append_above log more word number high =
-    fold-append (bits_after word number) 0 log more ∙ fold-above word number (bits_at log word number) more high
+    bits_at-append log more word number ∙ fold-above word number (bits_at log word number) more high
 
 -- where no store to the word has a stamp above `low`, its bits at a higher number are those at `low`
 bits_after-up_to : (word low high old : ℕ) (step : Step) → low ≤ high → OnStoreTo word (λ stamp. stamp ≤ low) step → bits_after word high old step ≡ bits_after word low old step
@@ -122,6 +125,36 @@ pub StampsUpTo-push_commit : (log : List Step) (committed word number : ℕ) →
 StampsUpTo-push_commit log committed word number within =
     All-push (OnStoreTo word (λ s. s ≤ number)) log (Commit committed) within tt
 
+-- What a word carries.
+
+pub Carries-nil : (word : ℕ) → Carries [] word 0 0
+Carries-nil word = record { greatest = StampsUpTo-nil word 0; there = refl }
+
+-- from its stamp on, the bits are those that the word carries
+pub Carries-at : (log : List Step) (word bits stamp number : ℕ) → stamp ≤ number → Carries log word bits stamp → bits_at log word number ≡ bits
+Carries-at log word bits stamp number low carries = bits_at-up_to log word stamp number low carries.greatest ∙ carries.there
+
+pub Carries-push_store : (log : List Step) (word old low bits stamp : ℕ) → low ≤ stamp → Carries log word old low → Carries (log ++ Store word bits stamp ∷ []) word bits stamp
+Carries-push_store log word old low bits stamp order carries =
+    record {
+      greatest = StampsUpTo-push_store log word bits stamp word stamp (omega arith) (StampsUpTo-weaker log word low stamp order carries.greatest);
+      there = bits_at-push_store log word bits stamp stamp (omega arith);
+    }
+
+pub Carries-push_other : (log : List Step) (to new at word bits stamp : ℕ) → to ≢ word → Carries log word bits stamp → Carries (log ++ Store to new at ∷ []) word bits stamp
+Carries-push_other log to new at word bits stamp other carries =
+    record {
+      greatest = StampsUpTo-push_other log to new at word stamp other carries.greatest;
+      there = bits_at-push_other log to new at word stamp other ∙ carries.there;
+    }
+
+pub Carries-push_commit : (log : List Step) (committed word bits stamp : ℕ) → Carries log word bits stamp → Carries (log ++ Commit committed ∷ []) word bits stamp
+Carries-push_commit log committed word bits stamp carries =
+    record {
+      greatest = StampsUpTo-push_commit log committed word stamp carries.greatest;
+      there = bits_at-push_commit log committed word stamp ∙ carries.there;
+    }
+
 -- What a load told goes on being told as the log grows.
 
 pub Tells-now : (log later : List Step) (count word bits number : ℕ) → bits ≡ bits_at log word number → Tells log later count word bits number
@@ -161,4 +194,64 @@ Tells-push_same log later new count word bits number fresh below told =
     elim told as (λ _. Tells (log ++ Store word new number ∷ []) (later ++ Store word new number ∷ []) count word bits number) [
         inl now ↦ inr (fresh, now ∙ same ∙ sym before, stored)
       | inr was ↦ inr (fresh, was.1 ∙ sym before, stored)
+    ]
+
+-- What a load told, at once for all that was logged since.
+
+-- of stores with stamps from a number on, all are above it, or one has that very number
+OnStoreTo-above : (word number : ℕ) (step : Step) → OnStoreTo word (λ stamp. number ≤ stamp) step
+    → OnStoreTo word (λ stamp. number < stamp) step ⊎ ((bits : ℕ) × (step ≡ Store word bits number))
+OnStoreTo-above word number (Store to bits stamp) from =
+    elim (cases_eq to word) [
+        inr other ↦ inl (λ same. absurd (other same))
+      | inl same ↦ elim (cases_lt number stamp) [
+            inl high ↦ inl (λ _. high)
+          | inr low ↦
+              let least : number ≤ stamp = from same in
+              let equal : stamp ≡ number = omega arith in
+              inr (bits, cc)
+        ]
+    ]
+OnStoreTo-above word number (Commit _) from = inl tt
+OnStoreTo-above word number (Load _ _) from = inl tt
+OnStoreTo-above word number (LoadCount _) from = inl tt
+OnStoreTo-above word number (Split _) from = inl tt
+OnStoreTo-above word number (Join _) from = inl tt
+
+pub StampsAbove-or_store : (log : List Step) (word number : ℕ) → StampsFrom log word number → StampsAbove log word number ⊎ HasStore log word number
+StampsAbove-or_store [] word number from = inl (All-nil (OnStoreTo word (λ stamp. number < stamp)))
+StampsAbove-or_store (step ∷ log) word number from =
+    elim (StampsAbove-or_store log word number (All-tail (OnStoreTo word (λ stamp. number ≤ stamp)) step log from)) [
+        inr has ↦ inr (has.0, Contains-append_right (step ∷ []) log (Store word has.0 number) has.1)
+      | inl rest ↦ elim (OnStoreTo-above word number step (All-head (OnStoreTo word (λ stamp. number ≤ stamp)) step log from)) [
+            inl high ↦ inl (All-cons (OnStoreTo word (λ stamp. number < stamp)) step log high rest)
+          | inr same ↦ inr (same.0, subst (Contains (step ∷ log)) same.1 (Contains-get_or (step ∷ log) 0 step (omega arith)))
+        ]
+    ]
+
+OnStoreTo-below : (word count number : ℕ) → count < number → (step : Step) → OnStoreTo word (λ stamp. number ≤ stamp) step → OnStoreTo word (λ stamp. number - 1 < stamp) step
+OnStoreTo-below word count number fresh (Store to bits stamp) from = λ same. let h : number ≤ stamp = from same in omega arith
+OnStoreTo-below word count number fresh (Commit _) from = from
+OnStoreTo-below word count number fresh (Load _ _) from = from
+OnStoreTo-below word count number fresh (LoadCount _) from = from
+OnStoreTo-below word count number fresh (Split _) from = from
+OnStoreTo-below word count number fresh (Join _) from = from
+
+StampsAbove-below : (log : List Step) (word count number : ℕ) → count < number → StampsFrom log word number → StampsAbove log word (number - 1)
+StampsAbove-below log word count number fresh from =
+    All-weaker (OnStoreTo word (λ stamp. number ≤ stamp)) (OnStoreTo word (λ stamp. number - 1 < stamp)) (OnStoreTo-below word count number fresh) log from
+
+-- A load found these bits and this stamp in the word, and then knew the number. Later stores to the word have that number or more; and
+-- one that has it came after a load that found another stamp, and knew of no commit of the number.
+pub Tells-append : (log later : List Step) (count word bits stamp number : ℕ) → Carries log word bits stamp → stamp ≤ number → StampsFrom later word number
+    → (HasStore later word number → (count < number) × (stamp < number)) → Tells (log ++ later) later count word bits number
+Tells-append log later count word bits stamp number carries low from open_then =
+    elim (StampsAbove-or_store later word number from) [
+        inl above ↦ inl (sym (bits_at-append_above log later word number above ∙ Carries-at log word bits stamp number low carries))
+      | inr has ↦
+          let then = open_then has in
+          let fresh : count < number = then.0 in
+          let below : stamp < number = then.1 in
+          let above : StampsAbove later word (number - 1) = StampsAbove-below later word count number fresh from in
+          inr (fresh, sym (bits_at-append_above log later word (number - 1) above ∙ Carries-at log word bits stamp (number - 1) (omega arith) carries), has)
     ]

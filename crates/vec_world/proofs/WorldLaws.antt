@@ -8,10 +8,10 @@ use Rattle.std.proofs.lemmas.List.Elements.{All-nil, All-head, All-tail, All-get
 use Rattle.vec_world.specs.declared.step.Step.{Step}
 use Rattle.vec_world.specs.declared.step.Step.TheVariants.{Store, Commit, Load, LoadCount, Split, Join}
 use Rattle.vec_world.specs.declared.world.World.{World}
-use Rattle.vec_world.specs.Log.{bits_at, IsCommitted, StampsUpTo, FitsHalf}
+use Rattle.vec_world.specs.Log.{IsCommitted, Carries, FitsHalf}
 use Rattle.vec_world.specs.World.{bits_of, stamp_of, word_of, word_at, known_by, start, is_open, has_word, has_pass, can_store, stored, committed, learned, noted, told, act, world_of}
 use Rattle.vec_world.specs.Fresh.{IsGenuine, HasGenuineNumbers}
-use Rattle.vec_world.proofs.LogLaws.{bits_at-push_store, bits_at-push_other, bits_at-push_commit, StampsUpTo-nil, StampsUpTo-weaker, StampsUpTo-push_store, StampsUpTo-push_other, StampsUpTo-push_commit}
+use Rattle.vec_world.proofs.LogLaws.{Carries-nil, Carries-push_store, Carries-push_other, Carries-push_commit}
 
 -- The two halves of a word.
 
@@ -27,10 +27,9 @@ bits_of-word_of bits stamp fits = omega arith
 abbrev pub IsSettled : World → ℕ → Type 0
 IsSettled world number = ((number ≤ world.count) × ((number ≡ 0) ⊎ IsCommitted world.log number)) ⊎ (number ≡ world.flying)
 
--- the word carries its last store of the log
-pub record IsLastStore (log : List Step) (word value : ℕ) : Type 0 where
-  pub greatest : StampsUpTo log word (stamp_of value)
-  pub bits : bits_at log word (stamp_of value) ≡ bits_of value
+-- the word's two halves are the bits and the stamp of its last store
+abbrev pub CarriesWord : List Step → ℕ → ℕ → Type 0
+CarriesWord log word value = Carries log word (bits_of value) (stamp_of value)
 
 pub record IsSound (world : World) : Type 0 where
   pub flight : (world.flying ≡ 0) ⊎ (world.count < world.flying)
@@ -38,7 +37,7 @@ pub record IsSound (world : World) : Type 0 where
   pub known : All (IsSettled world) world.known
   pub notes : All (IsSettled world) world.notes
   pub stamps : All (λ value. IsSettled world (stamp_of value)) world.words
-  pub words : (word : ℕ) → IsLastStore world.log word (word_at world word)
+  pub words : (word : ℕ) → CarriesWord world.log word (word_at world word)
 
 -- What the tests say.
 
@@ -130,30 +129,10 @@ stamp-above world word stamp can sound =
         ]
     ]
 
--- Words carry their last stores.
-
-last-push_store : (log : List Step) (word bits stamp : ℕ) → bits < 2 ^ 32 → StampsUpTo log word stamp → IsLastStore (log ++ Store word bits stamp ∷ []) word (word_of bits stamp)
-last-push_store log word bits stamp fits within =
-    let e : stamp ≡ stamp_of (word_of bits stamp) = sym (stamp_of-word_of bits stamp fits) in
-    let low : stamp ≤ stamp_of (word_of bits stamp) = omega arith in
-    record {
-      greatest = StampsUpTo-push_store log word bits stamp word (stamp_of (word_of bits stamp)) low (StampsUpTo-weaker log word stamp (stamp_of (word_of bits stamp)) low within);
-      bits = bits_at-push_store log word bits stamp (stamp_of (word_of bits stamp)) low ∙ sym (bits_of-word_of bits stamp fits);
-    }
-
-last-push_other : (log : List Step) (to bits stamp word value : ℕ) → to ≢ word → IsLastStore log word value → IsLastStore (log ++ Store to bits stamp ∷ []) word value
-last-push_other log to bits stamp word value other last =
-    record {
-      greatest = StampsUpTo-push_other log to bits stamp word (stamp_of value) other last.greatest;
-      bits = bits_at-push_other log to bits stamp word (stamp_of value) other ∙ last.bits;
-    }
-
-last-push_commit : (log : List Step) (number word value : ℕ) → IsLastStore log word value → IsLastStore (log ++ Commit number ∷ []) word value
-last-push_commit log number word value last =
-    record {
-      greatest = StampsUpTo-push_commit log number word (stamp_of value) last.greatest;
-      bits = bits_at-push_commit log number word (stamp_of value) ∙ last.bits;
-    }
+carries-word_of : (log : List Step) (word bits stamp : ℕ) → bits < 2 ^ 32 → Carries log word bits stamp → CarriesWord log word (word_of bits stamp)
+carries-word_of log word bits stamp fits carries =
+    subst (λ (s : ℕ). Carries log word (bits_of (word_of bits stamp)) s) (sym (stamp_of-word_of bits stamp fits))
+        (subst (λ (b : ℕ). Carries log word b stamp) (sym (bits_of-word_of bits stamp fits)) carries)
 
 -- Each change keeps the world sound.
 
@@ -172,13 +151,13 @@ sound-stored world word bits stamp fits can sound =
       words = λ (at : ℕ). elim (cases_eq at word) [
           inl same ↦
             let low : stamp_of (word_at world word) < stamp = stamp-above world word stamp can sound in
-            let last = last-push_store world.log word bits stamp fits (StampsUpTo-weaker world.log word (stamp_of (word_at world word)) stamp (omega arith) (sound.words word).greatest) in
+            let last = carries-word_of (world.log ++ Store word bits stamp ∷ []) word bits stamp fits (Carries-push_store world.log word (bits_of (word_at world word)) (stamp_of (word_at world word)) bits stamp (omega arith) (sound.words word)) in
             let there : get_or (set world.words word (word_of bits stamp)) word 0 ≡ word_of bits stamp = get_or-set_same world.words word (word_of bits stamp) 0 can.within in
-            subst (λ (n : ℕ). IsLastStore (world.log ++ Store word bits stamp ∷ []) n (get_or (set world.words word (word_of bits stamp)) n 0)) (sym same)
-                (subst (λ (v : ℕ). IsLastStore (world.log ++ Store word bits stamp ∷ []) word v) (sym there) last)
+            subst (λ (n : ℕ). CarriesWord (world.log ++ Store word bits stamp ∷ []) n (get_or (set world.words word (word_of bits stamp)) n 0)) (sym same)
+                (subst (λ (v : ℕ). CarriesWord (world.log ++ Store word bits stamp ∷ []) word v) (sym there) last)
         | inr other ↦
-            subst (λ (v : ℕ). IsLastStore (world.log ++ Store word bits stamp ∷ []) at v) (sym (get_or-set_other world.words word at (word_of bits stamp) 0 other))
-                (last-push_other world.log word bits stamp at (word_at world at) (λ same. other (sym same)) (sound.words at))
+            subst (λ (v : ℕ). CarriesWord (world.log ++ Store word bits stamp ∷ []) at v) (sym (get_or-set_other world.words word at (word_of bits stamp) 0 other))
+                (Carries-push_other world.log word bits stamp at (bits_of (word_at world at)) (stamp_of (word_at world at)) (λ same. other (sym same)) (sound.words at))
       ];
     }
 
@@ -192,7 +171,7 @@ sound-committed world number fresh sound =
       stamps =
         All-weaker (λ value. IsSettled world (stamp_of value)) (λ value. IsSettled (committed world number) (stamp_of value))
             (λ value. settled-committed world number (stamp_of value) fresh) world.words sound.stamps;
-      words = λ (word : ℕ). last-push_commit world.log number word (word_at world word) (sound.words word);
+      words = λ (word : ℕ). Carries-push_commit world.log number word (bits_of (word_at world word)) (stamp_of (word_at world word)) (sound.words word);
     }
 
 pub sound-learned : (world : World) (pass number : ℕ) → IsSettled world number → IsSound world → IsSound (learned world pass number)
@@ -275,7 +254,7 @@ sound-start words passes =
       notes = All-nil (IsSettled (start words passes));
       stamps = All-replicate (λ value. IsSettled (start words passes) (stamp_of value)) words 0 (inr refl);
       words = λ (word : ℕ).
-        subst (λ (v : ℕ). IsLastStore [] word v) (sym (get_or-zeros words word)) (record { greatest = StampsUpTo-nil word 0; bits = refl });
+        subst (λ (v : ℕ). CarriesWord [] word v) (sym (get_or-zeros words word)) (Carries-nil word);
     }
 
 pub sound-act : (world : World) (step : Step) → FitsHalf step → IsSound world → IsSound (act world step)

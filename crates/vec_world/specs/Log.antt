@@ -38,9 +38,18 @@ OnStoreTo word P (Join _) = ⊤
 abbrev pub StampsUpTo : List Step → ℕ → ℕ → Type 0
 StampsUpTo log word number = All (OnStoreTo word (λ stamp. stamp ≤ number)) log
 
+-- each store to the word has a stamp of at least this number
+abbrev pub StampsFrom : List Step → ℕ → ℕ → Type 0
+StampsFrom log word number = All (OnStoreTo word (λ stamp. number ≤ stamp)) log
+
 -- each store to the word has a stamp above this number
 abbrev pub StampsAbove : List Step → ℕ → ℕ → Type 0
 StampsAbove log word number = All (OnStoreTo word (λ stamp. number < stamp)) log
+
+-- the word carries these bits and this stamp: no store to it has a greater stamp, and from this one on its bits are these
+pub record Carries (log : List Step) (word bits stamp : ℕ) : Type 0 where
+  pub greatest : StampsUpTo log word stamp
+  pub there : bits_at log word stamp ≡ bits
 
 -- the bits of a store fill at most half a word
 abbrev pub FitsHalf : Step → Type 0
