@@ -4,7 +4,7 @@ use Rattle.std.specs.Prelude.{⊤, All, Contains, fold}
 use Rattle.std.proofs.lemmas.Bool.{cases_eq, cases_lt}
 use Rattle.std.proofs.lemmas.Bool.Decides.{nat_tests}
 use Rattle.std.proofs.lemmas.List.Sums.{fold_push, fold-append}
-use Rattle.std.proofs.lemmas.List.Elements.{All-head, All-tail, All-nil, All-cons, All-push, All-weaker, Contains-append_left, Contains-append_right, Contains-get_or, Contains-push}
+use Rattle.std.proofs.lemmas.List.Elements.{All-head, All-tail, All-nil, All-cons, All-push, All-weaker, All-contains, All-contains_itself, Contains-append_left, Contains-append_right, Contains-get_or, Contains-push}
 use Rattle.vec_world.specs.declared.step.Step.{Step}
 use Rattle.vec_world.specs.declared.step.Step.TheVariants.{Store, Commit, Load, LoadCount, Split, Join}
 use Rattle.vec_world.specs.Log.{bits_after, bits_at, HasStore, IsCommitted, OnStoreTo, StampsUpTo, StampsFrom, StampsAbove, Carries}
@@ -49,7 +49,7 @@ bits_at-push_commit log committed word number = bits_at-push log (Commit committ
 bits_after-step_above : (word number old : ℕ) (step : Step) → OnStoreTo word (λ stamp. number < stamp) step → bits_after word number old step ≡ old
 bits_after-step_above word number old (Store to bits stamp) high =
     elim (cases_eq to word) [
-        inl same ↦ bits_after-above word number old to bits stamp (high same)
+      | inl same ↦ bits_after-above word number old to bits stamp (high same)
       | inr other ↦ bits_after-other word number old to bits stamp other
     ]
 bits_after-step_above word number old (Commit _) high = refl
@@ -75,9 +75,9 @@ bits_at-append_above log more word number high =
 bits_after-up_to : (word low high old : ℕ) (step : Step) → low ≤ high → OnStoreTo word (λ stamp. stamp ≤ low) step → bits_after word high old step ≡ bits_after word low old step
 bits_after-up_to word low high old (Store to bits stamp) order within =
     elim (cases_eq to word) [
-        inl same ↦
-            subst (λ (v : ℕ). bits_after word high old (Store v bits stamp) ≡ bits_after word low old (Store v bits stamp)) (sym same)
-                (bits_after-store word high old bits stamp (let h : stamp ≤ low = within same in omega arith) ∙ sym (bits_after-store word low old bits stamp (within same)))
+      | inl same ↦
+          subst (λ (v : ℕ). bits_after word high old (Store v bits stamp) ≡ bits_after word low old (Store v bits stamp)) (sym same)
+          (bits_after-store word high old bits stamp (let h : stamp ≤ low = within same in omega arith) ∙ sym (bits_after-store word low old bits stamp (within same)))
       | inr other ↦ bits_after-other word high old to bits stamp other ∙ sym (bits_after-other word low old to bits stamp other)
     ]
 bits_after-up_to word low high old (Commit _) order within = refl
@@ -90,7 +90,7 @@ fold-up_to : (word low high old : ℕ) (log : List Step) → low ≤ high → St
 fold-up_to word low high old [] order within = refl
 fold-up_to word low high old (step ∷ log) order within =
     ap (λ (start : ℕ). fold (bits_after word high) start log)
-        (bits_after-up_to word low high old step order (All-head (OnStoreTo word (λ stamp. stamp ≤ low)) step log within))
+    (bits_after-up_to word low high old step order (All-head (OnStoreTo word (λ stamp. stamp ≤ low)) step log within))
     ∙ fold-up_to word low high (bits_after word low old step) log order (All-tail (OnStoreTo word (λ stamp. stamp ≤ low)) step log within)
 
 pub bits_at-up_to : (log : List Step) (word low high : ℕ) → low ≤ high → StampsUpTo log word low → bits_at log word high ≡ bits_at log word low
@@ -124,6 +124,24 @@ StampsUpTo-push_other log to bits stamp word number other within =
 pub StampsUpTo-push_commit : (log : List Step) (committed word number : ℕ) → StampsUpTo log word number → StampsUpTo (log ++ Commit committed ∷ []) word number
 StampsUpTo-push_commit log committed word number within =
     All-push (OnStoreTo word (λ s. s ≤ number)) log (Commit committed) within tt
+
+-- a fact of each stamp of the word, and of each store to it that the log has
+pub stamp_of_store : (P : ℕ → Type 0) (log : List Step) (word bits stamp : ℕ) → All (OnStoreTo word P) log → Contains log (Store word bits stamp) → P stamp
+stamp_of_store P log word bits stamp each has = All-contains (OnStoreTo word P) log (Store word bits stamp) each has refl
+
+OnStoreTo-from_each : (P : ℕ → Type 0) (log : List Step) (word : ℕ) → ((bits stamp : ℕ) → Contains log (Store word bits stamp) → P stamp)
+    → (step : Step) → Contains log step → OnStoreTo word P step
+OnStoreTo-from_each P log word each (Store to bits stamp) has =
+    λ same. each bits stamp (subst (λ (w : ℕ). Contains log (Store w bits stamp)) same has)
+OnStoreTo-from_each P log word each (Commit _) has = tt
+OnStoreTo-from_each P log word each (Load _ _) has = tt
+OnStoreTo-from_each P log word each (LoadCount _) has = tt
+OnStoreTo-from_each P log word each (Split _) has = tt
+OnStoreTo-from_each P log word each (Join _) has = tt
+
+pub stamps_from_each : (P : ℕ → Type 0) (log : List Step) (word : ℕ) → ((bits stamp : ℕ) → Contains log (Store word bits stamp) → P stamp) → All (OnStoreTo word P) log
+stamps_from_each P log word each =
+    All-weaker (Contains log) (OnStoreTo word P) (OnStoreTo-from_each P log word each) log (All-contains_itself log)
 
 -- What a word carries.
 
@@ -192,7 +210,7 @@ Tells-push_same log later new count word bits number fresh below told =
     let same : bits_at log word number ≡ bits_at log word (number - 1) = bits_at-up_to log word (number - 1) number (omega arith) below in
     let stored : HasStore (later ++ Store word new number ∷ []) word number = (new, Contains-push later (Store word new number)) in
     elim told as (λ _. Tells (log ++ Store word new number ∷ []) (later ++ Store word new number ∷ []) count word bits number) [
-        inl now ↦ inr (fresh, now ∙ same ∙ sym before, stored)
+      | inl now ↦ inr (fresh, now ∙ same ∙ sym before, stored)
       | inr was ↦ inr (fresh, was.1 ∙ sym before, stored)
     ]
 
@@ -203,14 +221,14 @@ OnStoreTo-above : (word number : ℕ) (step : Step) → OnStoreTo word (λ stamp
     → OnStoreTo word (λ stamp. number < stamp) step ⊎ ((bits : ℕ) × (step ≡ Store word bits number))
 OnStoreTo-above word number (Store to bits stamp) from =
     elim (cases_eq to word) [
-        inr other ↦ inl (λ same. absurd (other same))
+      | inr other ↦ inl (λ same. absurd (other same))
       | inl same ↦ elim (cases_lt number stamp) [
-            inl high ↦ inl (λ _. high)
-          | inr low ↦
-              let least : number ≤ stamp = from same in
-              let equal : stamp ≡ number = omega arith in
-              inr (bits, cc)
-        ]
+        | inl high ↦ inl (λ _. high)
+        | inr low ↦
+            let least : number ≤ stamp = from same in
+            let equal : stamp ≡ number = omega arith in
+            inr (bits, cc)
+      ]
     ]
 OnStoreTo-above word number (Commit _) from = inl tt
 OnStoreTo-above word number (Load _ _) from = inl tt
@@ -222,11 +240,11 @@ pub StampsAbove-or_store : (log : List Step) (word number : ℕ) → StampsFrom 
 StampsAbove-or_store [] word number from = inl (All-nil (OnStoreTo word (λ stamp. number < stamp)))
 StampsAbove-or_store (step ∷ log) word number from =
     elim (StampsAbove-or_store log word number (All-tail (OnStoreTo word (λ stamp. number ≤ stamp)) step log from)) [
-        inr has ↦ inr (has.0, Contains-append_right (step ∷ []) log (Store word has.0 number) has.1)
+      | inr has ↦ inr (has.0, Contains-append_right (step ∷ []) log (Store word has.0 number) has.1)
       | inl rest ↦ elim (OnStoreTo-above word number step (All-head (OnStoreTo word (λ stamp. number ≤ stamp)) step log from)) [
-            inl high ↦ inl (All-cons (OnStoreTo word (λ stamp. number < stamp)) step log high rest)
-          | inr same ↦ inr (same.0, subst (Contains (step ∷ log)) same.1 (Contains-get_or (step ∷ log) 0 step (omega arith)))
-        ]
+        | inl high ↦ inl (All-cons (OnStoreTo word (λ stamp. number < stamp)) step log high rest)
+        | inr same ↦ inr (same.0, subst (Contains (step ∷ log)) same.1 (Contains-get_or (step ∷ log) 0 step (omega arith)))
+      ]
     ]
 
 OnStoreTo-below : (word count number : ℕ) → count < number → (step : Step) → OnStoreTo word (λ stamp. number ≤ stamp) step → OnStoreTo word (λ stamp. number - 1 < stamp) step
@@ -247,7 +265,7 @@ pub Tells-append : (log later : List Step) (count word bits stamp number : ℕ) 
     → (HasStore later word number → (count < number) × (stamp < number)) → Tells (log ++ later) later count word bits number
 Tells-append log later count word bits stamp number carries low from open_then =
     elim (StampsAbove-or_store later word number from) [
-        inl above ↦ inl (sym (bits_at-append_above log later word number above ∙ Carries-at log word bits stamp number low carries))
+      | inl above ↦ inl (sym (bits_at-append_above log later word number above ∙ Carries-at log word bits stamp number low carries))
       | inr has ↦
           let then = open_then has in
           let fresh : count < number = then.0 in

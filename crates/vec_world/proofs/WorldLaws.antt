@@ -47,11 +47,13 @@ IsOpen world number = (world.count < number) × ((world.flying ≡ 0) ⊎ (world
 
 pub open_from_test : (world : World) (number : ℕ) → is_open world number ≡ true → IsOpen world number
 open_from_test world number test =
-    let parts = and_parts (ltb world.count number) (eqb world.flying 0 || eqb world.flying number) test in
-    (ltb-true world.count number parts.0, elim (or_cases (eqb world.flying 0) (eqb world.flying number) parts.1) [
-        inl none ↦ inl (eqb-true world.flying 0 none)
-      | inr same ↦ inr (eqb-true world.flying number same)
-    ])
+    let parts = and_parts (ltb world.count number) (eqb world.flying 0 || eqb world.flying number) test in (
+      ltb-true world.count number parts.0,
+      elim (or_cases (eqb world.flying 0) (eqb world.flying number) parts.1) [
+        | inl none ↦ inl (eqb-true world.flying 0 none)
+        | inr same ↦ inr (eqb-true world.flying number same)
+      ],
+    )
 
 -- a store can act: there is such a word, the stamp is open, and the word doesn't carry it
 pub record CanStore (world : World) (word stamp : ℕ) : Type 0 where
@@ -76,7 +78,7 @@ settled-stored world word bits stamp number fresh (inl low) =
     inl (low.0, elim low.1 [ inl none ↦ inl none | inr done ↦ inr (Contains-append_left world.log (Store word bits stamp ∷ []) (Commit number) done) ])
 settled-stored world word bits stamp number fresh (inr flies) =
     elim fresh.1 [
-        inl none ↦ inl (let zero : number ≡ 0 = flies ∙ none in (omega arith, inl zero))
+      | inl none ↦ inl (let zero : number ≡ 0 = flies ∙ none in (omega arith, inl zero))
       | inr same ↦ inr (flies ∙ same)
     ]
 
@@ -87,14 +89,14 @@ settled-committed world number at fresh (inl low) =
     inl (omega arith, elim low.1 [ inl none ↦ inl none | inr done ↦ inr (Contains-append_left world.log (Commit number ∷ []) (Commit at) done) ])
 settled-committed world number at fresh (inr flies) =
     elim fresh.1 [
-        inl none ↦ inl (let zero : at ≡ 0 = flies ∙ none in (omega arith, inl zero))
+      | inl none ↦ inl (let zero : at ≡ 0 = flies ∙ none in (omega arith, inl zero))
       | inr same ↦ inl (let it : at ≡ number = flies ∙ same in (omega arith, inr (subst (λ (n : ℕ). IsCommitted (world.log ++ Commit number ∷ []) n) (sym it) (Contains-push world.log (Commit number)))))
     ]
 
 pub settled-max : (world : World) (a b : ℕ) → IsSettled world a → IsSettled world b → IsSettled world (max a b)
 settled-max world a b left right =
     elim (cases_lt a b) [
-        inl less ↦ let it : b ≡ max a b = omega arith in subst (IsSettled world) it right
+      | inl less ↦ let it : b ≡ max a b = omega arith in subst (IsSettled world) it right
       | inr more ↦ let it : a ≡ max a b = omega arith in subst (IsSettled world) it left
     ]
 
@@ -105,14 +107,14 @@ settled-zero world number none = inl (omega arith, inl none)
 pub settled-known : (world : World) (pass : ℕ) → All (IsSettled world) world.known → IsSettled world (known_by world pass)
 settled-known world pass known =
     elim (cases_lt pass (length world.known)) [
-        inl there ↦ All-get_or (IsSettled world) world.known pass 0 there known
+      | inl there ↦ All-get_or (IsSettled world) world.known pass 0 there known
       | inr past ↦ settled-zero world (known_by world pass) (get_or_past world.known pass 0 past)
     ]
 
 pub settled-stamp : (world : World) (word : ℕ) → All (λ value. IsSettled world (stamp_of value)) world.words → IsSettled world (stamp_of (word_at world word))
 settled-stamp world word stamps =
     elim (cases_lt word (length world.words)) [
-        inl there ↦ All-get_or (λ value. IsSettled world (stamp_of value)) world.words word 0 there stamps
+      | inl there ↦ All-get_or (λ value. IsSettled world (stamp_of value)) world.words word 0 there stamps
       | inr past ↦ settled-zero world (stamp_of (word_at world word)) (ap stamp_of (get_or_past world.words word 0 past))
     ]
 
@@ -122,17 +124,17 @@ stamp-above world word stamp can sound =
     let settled : IsSettled world (stamp_of (word_at world word)) = settled-stamp world word sound.stamps in
     let above : world.count < stamp = can.fresh.0 in
     elim settled [
-        inl low ↦ omega (arith, low.0)
+      | inl low ↦ omega (arith, low.0)
       | inr flies ↦ elim can.fresh.1 [
-            inl none ↦ omega arith
-          | inr same ↦ absurd (can.other (flies ∙ same))
-        ]
+        | inl none ↦ omega arith
+        | inr same ↦ absurd (can.other (flies ∙ same))
+      ]
     ]
 
 carries-word_of : (log : List Step) (word bits stamp : ℕ) → bits < 2 ^ 32 → Carries log word bits stamp → CarriesWord log word (word_of bits stamp)
 carries-word_of log word bits stamp fits carries =
     subst (λ (s : ℕ). Carries log word (bits_of (word_of bits stamp)) s) (sym (stamp_of-word_of bits stamp fits))
-        (subst (λ (b : ℕ). Carries log word b stamp) (sym (bits_of-word_of bits stamp fits)) carries)
+    (subst (λ (b : ℕ). Carries log word b stamp) (sym (bits_of-word_of bits stamp fits)) carries)
 
 -- Each change keeps the world sound.
 
@@ -144,20 +146,20 @@ sound-stored world word bits stamp fits can sound =
       known = All-weaker (IsSettled world) (IsSettled (stored world word bits stamp)) (λ n. settled-stored world word bits stamp n can.fresh) world.known sound.known;
       notes = All-weaker (IsSettled world) (IsSettled (stored world word bits stamp)) (λ n. settled-stored world word bits stamp n can.fresh) world.notes sound.notes;
       stamps =
-        All-set (λ value. IsSettled (stored world word bits stamp) (stamp_of value)) world.words word (word_of bits stamp)
-        (inr (stamp_of-word_of bits stamp fits))
-        (All-weaker (λ value. IsSettled world (stamp_of value)) (λ value. IsSettled (stored world word bits stamp) (stamp_of value))
-            (λ value. settled-stored world word bits stamp (stamp_of value) can.fresh) world.words sound.stamps);
+          All-set (λ value. IsSettled (stored world word bits stamp) (stamp_of value)) world.words word (word_of bits stamp)
+          (inr (stamp_of-word_of bits stamp fits))
+          (All-weaker (λ value. IsSettled world (stamp_of value)) (λ value. IsSettled (stored world word bits stamp) (stamp_of value))
+          (λ value. settled-stored world word bits stamp (stamp_of value) can.fresh) world.words sound.stamps);
       words = λ (at : ℕ). elim (cases_eq at word) [
-          inl same ↦
+        | inl same ↦
             let low : stamp_of (word_at world word) < stamp = stamp-above world word stamp can sound in
             let last = carries-word_of (world.log ++ Store word bits stamp ∷ []) word bits stamp fits (Carries-push_store world.log word (bits_of (word_at world word)) (stamp_of (word_at world word)) bits stamp (omega arith) (sound.words word)) in
             let there : get_or (set world.words word (word_of bits stamp)) word 0 ≡ word_of bits stamp = get_or-set_same world.words word (word_of bits stamp) 0 can.within in
             subst (λ (n : ℕ). CarriesWord (world.log ++ Store word bits stamp ∷ []) n (get_or (set world.words word (word_of bits stamp)) n 0)) (sym same)
-                (subst (λ (v : ℕ). CarriesWord (world.log ++ Store word bits stamp ∷ []) word v) (sym there) last)
+            (subst (λ (v : ℕ). CarriesWord (world.log ++ Store word bits stamp ∷ []) word v) (sym there) last)
         | inr other ↦
             subst (λ (v : ℕ). CarriesWord (world.log ++ Store word bits stamp ∷ []) at v) (sym (get_or-set_other world.words word at (word_of bits stamp) 0 other))
-                (Carries-push_other world.log word bits stamp at (bits_of (word_at world at)) (stamp_of (word_at world at)) (λ same. other (sym same)) (sound.words at))
+            (Carries-push_other world.log word bits stamp at (bits_of (word_at world at)) (stamp_of (word_at world at)) (λ same. other (sym same)) (sound.words at))
       ];
     }
 
@@ -169,26 +171,26 @@ sound-committed world number fresh sound =
       known = All-weaker (IsSettled world) (IsSettled (committed world number)) (λ n. settled-committed world number n fresh) world.known sound.known;
       notes = All-weaker (IsSettled world) (IsSettled (committed world number)) (λ n. settled-committed world number n fresh) world.notes sound.notes;
       stamps =
-        All-weaker (λ value. IsSettled world (stamp_of value)) (λ value. IsSettled (committed world number) (stamp_of value))
-            (λ value. settled-committed world number (stamp_of value) fresh) world.words sound.stamps;
+          All-weaker (λ value. IsSettled world (stamp_of value)) (λ value. IsSettled (committed world number) (stamp_of value))
+          (λ value. settled-committed world number (stamp_of value) fresh) world.words sound.stamps;
       words = λ (word : ℕ). Carries-push_commit world.log number word (bits_of (word_at world word)) (stamp_of (word_at world word)) (sound.words word);
     }
 
 pub sound-learned : (world : World) (pass number : ℕ) → IsSettled world number → IsSound world → IsSound (learned world pass number)
 sound-learned world pass number settled sound =
     cond_both (has_pass world pass) (record world { known = set world.known pass (max (known_by world pass) number) }) world IsSound
-        (λ _. record {
-            flight = sound.flight;
-            count = sound.count;
-            known =
-              All-set (IsSettled world) world.known pass (max (known_by world pass) number)
-              (settled-max world (known_by world pass) number (settled-known world pass sound.known) settled)
-              sound.known;
-            notes = sound.notes;
-            stamps = sound.stamps;
-            words = sound.words;
-        })
-        (λ _. sound)
+    (λ _. record {
+      flight = sound.flight;
+      count = sound.count;
+      known =
+          All-set (IsSettled world) world.known pass (max (known_by world pass) number)
+          (settled-max world (known_by world pass) number (settled-known world pass sound.known) settled)
+          sound.known;
+      notes = sound.notes;
+      stamps = sound.stamps;
+      words = sound.words;
+    })
+    (λ _. sound)
 
 pub sound-noted : (world : World) (pass : ℕ) → IsSound world → IsSound (noted world pass)
 sound-noted world pass sound =
@@ -215,7 +217,7 @@ sound-without_note world sound =
 settled-note : (world : World) (at note : ℕ) → slice_get world.notes at ≡ Some note → IsSound world → IsSettled world note
 settled-note world at note there sound =
     subst (IsSettled world) (get_or_from_slice_get world.notes at note 0 there)
-        (All-get_or (IsSettled world) world.notes at 0 (slice_get_within world.notes at note there) sound.notes)
+    (All-get_or (IsSettled world) world.notes at 0 (slice_get_within world.notes at note there) sound.notes)
 
 -- a note that is told was among the notes
 pub sound-told : (world : World) (into : ℕ) (note : Option ℕ) → slice_get world.notes (length world.notes - 1) ≡ note → IsSound world → IsSound (told world into note)
@@ -223,25 +225,25 @@ sound-told world into None there sound = sound
 sound-told world into (Some note) there sound =
     let settled : IsSettled world note = settled-note world (length world.notes - 1) note there sound in
     cond_both (has_pass world into) (record world { known = set world.known into (max (known_by world into) note) }) world
-        (λ w. IsSound (record w { notes = take (length world.notes - 1) world.notes }))
-        (λ _. record {
-            flight = sound.flight;
-            count = sound.count;
-            known =
-              All-set (IsSettled world) world.known into (max (known_by world into) note)
-              (settled-max world (known_by world into) note (settled-known world into sound.known) settled)
-              sound.known;
-            notes = All-take (IsSettled world) (length world.notes - 1) world.notes sound.notes;
-            stamps = sound.stamps;
-            words = sound.words;
-        })
-        (λ _. sound-without_note world sound)
+    (λ w. IsSound (record w { notes = take (length world.notes - 1) world.notes }))
+    (λ _. record {
+      flight = sound.flight;
+      count = sound.count;
+      known =
+          All-set (IsSettled world) world.known into (max (known_by world into) note)
+          (settled-max world (known_by world into) note (settled-known world into sound.known) settled)
+          sound.known;
+      notes = All-take (IsSettled world) (length world.notes - 1) world.notes sound.notes;
+      stamps = sound.stamps;
+      words = sound.words;
+    })
+    (λ _. sound-without_note world sound)
 
 -- a list of zeros has 0 at each place, and past its end
 get_or-zeros : (many at : ℕ) → get_or {A = ℕ} (replicate many 0) at 0 ≡ 0
 get_or-zeros many at =
     elim (cases_lt at many) [
-        inl less ↦ get_or-replicate many at 0 0 less
+      | inl less ↦ get_or-replicate many at 0 0 less
       | inr more ↦ get_or_past (replicate many 0) at 0 (omega (arith, length-replicate {A = ℕ} many 0))
     ]
 
@@ -254,28 +256,28 @@ sound-start words passes =
       notes = All-nil (IsSettled (start words passes));
       stamps = All-replicate (λ value. IsSettled (start words passes) (stamp_of value)) words 0 (inr refl);
       words = λ (word : ℕ).
-        subst (λ (v : ℕ). CarriesWord [] word v) (sym (get_or-zeros words word)) (Carries-nil word);
+          subst (λ (v : ℕ). CarriesWord [] word v) (sym (get_or-zeros words word)) (Carries-nil word);
     }
 
 pub sound-act : (world : World) (step : Step) → FitsHalf step → IsSound world → IsSound (act world step)
 sound-act world (Store word bits stamp) fits sound =
     cond_both (can_store world word stamp) (stored world word bits stamp) world IsSound
-        (λ test. sound-stored world word bits stamp fits (can_store_from_test world word stamp test) sound) (λ _. sound)
+    (λ test. sound-stored world word bits stamp fits (can_store_from_test world word stamp test) sound) (λ _. sound)
 sound-act world (Commit number) fits sound =
     cond_both (is_open world number) (committed world number) world IsSound
-        (λ test. sound-committed world number (open_from_test world number test) sound) (λ _. sound)
+    (λ test. sound-committed world number (open_from_test world number test) sound) (λ _. sound)
 sound-act world (Load pass word) fits sound =
     cond_both (has_word world word) (learned world pass (stamp_of (word_at world word))) world IsSound
-        (λ _. sound-learned world pass (stamp_of (word_at world word))
-            (settled-stamp world word sound.stamps) sound)
-        (λ _. sound)
+    (λ _. sound-learned world pass (stamp_of (word_at world word))
+    (settled-stamp world word sound.stamps) sound)
+    (λ _. sound)
 sound-act world (LoadCount pass) fits sound = sound-learned world pass world.count sound.count sound
 sound-act world (Split pass) fits sound =
     cond_both (has_pass world pass) (noted world pass) world IsSound
-        (λ _. sound-noted world pass sound) (λ _. sound)
+    (λ _. sound-noted world pass sound) (λ _. sound)
 sound-act world (Join into) fits sound =
     cond_both (has_pass world into) (told world into (slice_get world.notes (length world.notes - 1))) world IsSound
-        (λ _. sound-told world into (slice_get world.notes (length world.notes - 1)) refl sound) (λ _. sound)
+    (λ _. sound-told world into (slice_get world.notes (length world.notes - 1)) refl sound) (λ _. sound)
 
 -- what each step keeps, a list of steps keeps
 pub fold-act : (P : World → Type 0) → ((world : World) (step : Step) → FitsHalf step → P world → P (act world step))
@@ -300,6 +302,6 @@ genuine_from_sound world sound =
       known = All-weaker (IsSettled world) (IsGenuine world) (genuine_from_settled world) world.known sound.known;
       notes = All-weaker (IsSettled world) (IsGenuine world) (genuine_from_settled world) world.notes sound.notes;
       stamps =
-        All-weaker (λ value. IsSettled world (stamp_of value)) (λ value. IsGenuine world (stamp_of value))
-            (λ value. genuine_from_settled world (stamp_of value)) world.words sound.stamps;
+          All-weaker (λ value. IsSettled world (stamp_of value)) (λ value. IsGenuine world (stamp_of value))
+          (λ value. genuine_from_settled world (stamp_of value)) world.words sound.stamps;
     }

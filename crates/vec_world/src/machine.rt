@@ -26,3 +26,6 @@ pub fn run(alloc: Global, words: u32, passes: u8, steps: &[Step]) -> Result<Worl
     }
     Ok(world)
 }
+
+#[cfg(test)]
+mod tests;
