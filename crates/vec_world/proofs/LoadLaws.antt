@@ -1,14 +1,14 @@
 -- The law of a load: what it tells stays told by every log that later steps make.
-use Rattle.std.proofs.Common.{◌≡◌, ◌≢◌, ◌⊎◌, ℕ, ◌+◌, ◌-◌, ◌^◌, ◌<◌, ◌≤◌, Bool, true, false, cond, max, List, [], ◌∷◌, ◌++◌, length, take, drop, get_or, set, Option, Some, None, refl, sym, ap, ◌∙◌, subst, inl, inr, arith, rules}
-use Rattle.std.specs.Prelude.{⊤, All, Contains, fold, slice_get}
-use Rattle.std.proofs.lemmas.Bool.{cases_eq, cases_lt, ltb-true, cond_both}
-use Rattle.std.proofs.lemmas.List.{length_push, drop-append-le, drop_all, take-append-drop, length-replicate}
+use Rattle.std.proofs.Common.{◌≡◌, ◌⊎◌, ℕ, ◌+◌, ◌-◌, ◌^◌, ◌<◌, ◌≤◌, max, List, [], ◌∷◌, ◌++◌, length, take, drop, get_or, set, Option, Some, None, refl, sym, ap, ◌∙◌, subst, inl, inr, arith}
+use Rattle.std.specs.Prelude.{All, fold, slice_get}
+use Rattle.std.proofs.lemmas.Bool.{cases_eq, cases_lt, cond_both}
+use Rattle.std.proofs.lemmas.List.{length_push, drop-append-le, take-append-drop}
 use Rattle.std.proofs.lemmas.List.Sums.{fold-append, fold_more}
-use Rattle.std.proofs.lemmas.List.Elements.{All-drop, All-take, All-get_or}
+use Rattle.std.proofs.lemmas.List.Elements.{All-drop, All-take}
 use Rattle.vec_world.specs.declared.step.Step.{Step}
 use Rattle.vec_world.specs.declared.step.Step.TheVariants.{Store, Commit, Load, LoadCount, Split, Join}
 use Rattle.vec_world.specs.declared.world.World.{World}
-use Rattle.vec_world.specs.Log.{bits_at, HasStore, StampsUpTo, FitsHalf}
+use Rattle.vec_world.specs.Log.{FitsHalf}
 use Rattle.vec_world.specs.World.{bits_of, stamp_of, word_at, known_by, start, is_open, has_word, has_pass, can_store, stored, committed, learned, noted, told, act, world_of}
 use Rattle.vec_world.specs.Fresh.{Tells, TellsWord, EachLoadTells, known_at_load, logged_since}
 use Rattle.vec_world.proofs.LogLaws.{Carries-at, StampsUpTo-weaker, Tells-push_commit, Tells-push_other, Tells-push_above, Tells-push_same}

@@ -1,13 +1,13 @@
 -- Laws of logs. They are said of any list of steps, so a log that no machine made may cite them too.
-use Rattle.std.proofs.Common.{◌≡◌, ◌≢◌, ◌⊎◌, ℕ, ◌+◌, ◌-◌, ◌<◌, ◌≤◌, Bool, true, false, ◌&&◌, cond, eqb, leb, List, [], ◌∷◌, ◌++◌, length, take, drop, get_or, refl, sym, ap, ◌∙◌, subst, inl, inr, arith, rules}
-use Rattle.std.specs.Prelude.{⊤, All, Contains, fold}
+use Rattle.std.proofs.Common.{◌≡◌, ◌≢◌, ◌⊎◌, ℕ, ◌-◌, ◌<◌, ◌≤◌, List, [], ◌∷◌, ◌++◌, refl, sym, ap, ◌∙◌, subst, inl, inr, arith}
+use Rattle.std.specs.Prelude.{All, Contains, fold}
 use Rattle.std.proofs.lemmas.Bool.{cases_eq, cases_lt}
 use Rattle.std.proofs.lemmas.Bool.Decides.{nat_tests}
 use Rattle.std.proofs.lemmas.List.Sums.{fold_push, fold-append}
 use Rattle.std.proofs.lemmas.List.Elements.{All-head, All-tail, All-nil, All-cons, All-push, All-weaker, All-contains, All-contains_itself, Contains-append_left, Contains-append_right, Contains-get_or, Contains-push}
 use Rattle.vec_world.specs.declared.step.Step.{Step}
 use Rattle.vec_world.specs.declared.step.Step.TheVariants.{Store, Commit, Load, LoadCount, Split, Join}
-use Rattle.vec_world.specs.Log.{bits_after, bits_at, HasStore, IsCommitted, OnStoreTo, StampsUpTo, StampsFrom, StampsAbove, Carries}
+use Rattle.vec_world.specs.Log.{bits_after, bits_at, HasStore, OnStoreTo, StampsUpTo, StampsFrom, StampsAbove, Carries}
 use Rattle.vec_world.specs.Fresh.{Tells}
 
 -- One more step of a log.

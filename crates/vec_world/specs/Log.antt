@@ -1,6 +1,6 @@
 -- A log is the list of the stores and commits that acted, the oldest first.
 -- What is said here of a log speaks of no machine, so it holds of any list of steps; steps of other kinds in it count for nothing.
-use Rattle.std.specs.Prelude.{◌≡◌, ◌^◌, ◌<◌, ◌≤◌, ◌==◌, ◌&&◌, ⊤, ℕ, Bool, List, All, Contains, fold, nat_le, if◌then◌else◌}
+use Rattle.std.specs.Prelude.{◌≡◌, ◌^◌, ◌<◌, ◌≤◌, ◌==◌, ◌&&◌, ⊤, ℕ, List, All, Contains, fold, nat_le, if◌then◌else◌}
 use Rattle.vec_world.specs.declared.step.Step.{Step}
 use Rattle.vec_world.specs.declared.step.Step.TheVariants.{Store, Commit, Load, LoadCount, Split, Join}
 

@@ -74,6 +74,7 @@ impl World {
         self.count < number && (self.flying == 0 || self.flying == number)
     }
 
+    /// Puts bits and stamp into the word and logs that, where the stamp is open and isn't the word's already.
     fn store(&mut self, word: u32, bits: u32, stamp: u32) -> Result<(), NoMemory>
         ensures ok { OnOk result (self.new ≡ act self.old (Store word bits stamp)) }
         ensures err { OnErr result (self.new ≡ self.old) }
@@ -91,6 +92,7 @@ impl World {
         Ok(())
     }
 
+    /// Makes the number the count and logs that, where it is open.
     fn commit(&mut self, number: u32) -> Result<(), NoMemory>
         ensures ok { OnOk result (self.new ≡ act self.old (Commit number)) }
         ensures err { OnErr result (self.new ≡ self.old) }
@@ -103,6 +105,7 @@ impl World {
         Ok(())
     }
 
+    /// Tells the pass the word's stamp.
     fn load(&mut self, pass: u8, word: u32)
         ensures { self.new ≡ act self.old (Load pass word) }
     {
@@ -121,6 +124,7 @@ impl World {
         }
     }
 
+    /// Writes down what the pass knows.
     fn split(&mut self, pass: u8) -> Result<(), NoMemory>
         ensures ok { OnOk result (self.new ≡ act self.old (Split pass)) }
         ensures err { OnErr result (self.new ≡ self.old) }
@@ -131,6 +135,7 @@ impl World {
         }
     }
 
+    /// Takes the newest note away and tells it to the pass, where there is a note and such a pass.
     fn join(&mut self, into: u8)
         ensures { self.new ≡ act self.old (Join into) }
     {
