@@ -3,7 +3,9 @@ pub mod Words
 pub mod Spelling
 pub mod Form
 pub mod Machine
+pub mod Connections
 pub mod History
 pub mod Serial
 pub mod Report
 pub mod Headline
+pub mod Kept

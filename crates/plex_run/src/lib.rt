@@ -3,6 +3,8 @@
 
 mod histories;
 mod scripts;
+mod serial;
+mod structure;
 mod transcripts;
 
 pub use histories::{Ask, Entry, Reply};

@@ -1,3 +1,5 @@
+ghost use Rattle.std.specs.Prelude.{◌≡◌};
+
 use crate::histories::Ask;
 use cf_types::{ConnId, Name16};
 use std::marker::Model;
@@ -31,6 +33,22 @@ impl Model for Script {
     ghost Value = { Plan };
 
     ghost view = { λ s. record { connectors = s.connectors.items; lines = s.lines.items } };
+}
+
+impl Script {
+    /// The connectors' names, in the order in which they are declared.
+    pub(crate) fn connectors(&self) -> &[Name16]
+        ensures value { result.now ≡ self.now.connectors }
+    {
+        self.connectors.as_slice()
+    }
+
+    /// The lines behind the policy.
+    pub(crate) fn lines(&self) -> &[Line]
+        ensures value { result.now ≡ self.now.lines }
+    {
+        self.lines.as_slice()
+    }
 }
 
 /// Why a text is no script.

@@ -1,0 +1,4 @@
+use Rattle.plex_run.proofs.structure.disconnected.Goals as goal
+
+pub leave-requires : goal.leave-requires
+leave-requires c = ?
