@@ -9,3 +9,4 @@ pub mod Serial
 pub mod Report
 pub mod Headline
 pub mod Kept
+pub mod Outcome

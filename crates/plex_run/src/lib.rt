@@ -2,6 +2,7 @@
 #![tactic(auto)]
 
 mod histories;
+mod run;
 mod scripts;
 mod serial;
 mod structure;
