@@ -1,0 +1,3 @@
+pub mod Pushed
+pub mod Replay
+pub mod Linked
