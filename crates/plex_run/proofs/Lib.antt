@@ -1,3 +1,5 @@
 pub mod Pushed
 pub mod Replay
 pub mod Linked
+pub mod Playing
+pub mod Telling
