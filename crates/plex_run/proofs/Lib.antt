@@ -5,3 +5,5 @@ pub mod Playing
 pub mod Telling
 pub mod Callers
 pub mod Lines
+pub mod Closings
+pub mod OneHistory

@@ -1,0 +1,42 @@
+-- The run of a script on one thread is one legal history.
+use Rattle.std.proofs.Common.{◌≡◌, ℕ, zero, suc, ◌+◌, ◌<◌, ◌≤◌, ◌==◌, ◌⊎◌, inl, inr, Bool, true, false, cond, List, [], ◌∷◌, ◌++◌, length, map, fold, filter, All, refl, ap, sym, subst, ◌∙◌, arith, ne_eqb}
+use Rattle.std.specs.List.{AllByRecursion}
+use Rattle.std.proofs.lemmas.List.Elements.{recursion_from_All}
+use Rattle.cf_types.specs.declared.numbers.ConnId.{ConnId}
+use Rattle.plex_run.specs.declared.histories.Entry.{Entry}
+use Rattle.plex_run.specs.declared.scripts.Line.{Line}
+use Rattle.plex_run.specs.declared.transcripts.Shown.{Shown}
+use Rattle.plex_run.specs.Plan.{Plan}
+use Rattle.plex_run.specs.Form.{InForm}
+use Rattle.plex_run.specs.History.{own}
+use Rattle.plex_run.specs.Serial.{Run, start, after_line, serial_run}
+use Rattle.plex_run.specs.Headline.{Plays, is_linked, Follows, IsOneHistory}
+use Rattle.plex_run.proofs.Playing.{plays_nothing}
+use Rattle.plex_run.proofs.Lines.{acts_of, AllHaveDone, HasDone, all_lines}
+use Rattle.plex_run.proofs.Closings.{ClosedBelow, AreClosedBelow, follows_idle, closed_all}
+
+-- no line is the operator's
+operator_idle : (lines : List Line) → AllByRecursion (λ line. 1 ≤ line.by.0) lines → acts_of lines (record { 0 = 0 }) ≡ []
+operator_idle [] _ = refl
+operator_idle (line ∷ lines) from_one =
+    let apart : line.by.0 == 0 ≡ false = ne_eqb line.by.0 0 (λ e. omega (arith, from_one.0)) in
+    rw apart (operator_idle lines from_one.1)
+
+-- before the closings the operator, who has none, has closed
+closed_first : (script : Plan) (history : List Entry) (conn : ConnId) (items : List Shown) → acts_of script.lines (record { 0 = 0 }) ≡ []
+    → HasDone script.lines history conn items → ClosedBelow script 1 history conn items
+closed_first script history (record { 0 = zero }) items idle done = ?
+closed_first script history (record { 0 = suc c }) items idle done = inr (omega arith, done.plays)
+
+closed_from_lines : (script : Plan) (run : Run) → acts_of script.lines (record { 0 = 0 }) ≡ []
+    → AllHaveDone (length script.connectors) script.lines run → AreClosedBelow script 1 run
+closed_from_lines script run idle all =
+    record {
+      legal = all.legal;
+      callers = all.callers;
+      each = λ c bound. closed_first script run.history (record { 0 = c }) _ idle (all.each c bound);
+      sees = λ c bound. (all.each c bound).sees;
+    }
+
+pub serial_is_one_history : (script : Plan) → InForm script → IsOneHistory script (serial_run script).history (serial_run script).transcripts
+serial_is_one_history script form = ?
