@@ -1,5 +1,5 @@
 -- What holds of each caller's transcript, as one transcript gains an item.
-use Rattle.std.proofs.Common.{◌≡◌, ◌≢◌, ℕ, suc, ◌+◌, ◌<◌, ◌≤◌, ◌==◌, Bool, true, false, List, [], ◌∷◌, ◌++◌, length, get_or, set, slice_index_or, refl, ap, sym, subst, ◌∙◌, arith, eqb-true, length-set, get_or-set_same, get_or-set_other}
+use Rattle.std.proofs.Common.{◌≡◌, ℕ, ◌<◌, ◌==◌, Bool, true, false, List, [], ◌∷◌, ◌++◌, length, slice_index_or, refl, sym, subst, eqb-true, length-set, get_or-set_same, get_or-set_other}
 use borrow.Author.Tests.{eqb-false}
 use Rattle.cf_types.specs.declared.numbers.ConnId.{ConnId}
 use Rattle.plex_run.specs.declared.transcripts.Shown.{Shown}
@@ -29,10 +29,10 @@ each_shown P Q by item transcripts within own others each c bound = go (by.0 == 
     go : (same : Bool) → by.0 == c ≡ same → Q (record { 0 = c }) (slice_index_or (shown_to by item transcripts) c [])
     go true same =
         let now : slice_index_or (shown_to by item transcripts) by.0 [] ≡ old ++ item ∷ [] =
-          get_or-set_same transcripts by.0 (old ++ item ∷ []) [] within in
+        get_or-set_same transcripts by.0 (old ++ item ∷ []) [] within in
         subst (λ (k : ℕ). Q (record { 0 = k }) (slice_index_or (shown_to by item transcripts) k [])) (eqb-true by.0 c same)
-          (subst (Q by) (sym now) (own old (each by.0 within)))
+        (subst (Q by) (sym now) (own old (each by.0 within)))
     go false apart =
         let now : slice_index_or (shown_to by item transcripts) c [] ≡ slice_index_or transcripts c [] =
-          get_or-set_other transcripts by.0 c (old ++ item ∷ []) [] (λ e. eqb-false by.0 c apart (sym e)) in
+        get_or-set_other transcripts by.0 c (old ++ item ∷ []) [] (λ e. eqb-false by.0 c apart (sym e)) in
         subst (Q (record { 0 = c })) (sym now) (others (record { 0 = c }) _ apart (each c within'))

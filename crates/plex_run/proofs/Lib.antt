@@ -4,6 +4,6 @@ pub mod Linked
 pub mod Playing
 pub mod Telling
 pub mod Callers
-pub mod Lines
-pub mod Closings
+pub mod LinesDone
+pub mod ClosingsDone
 pub mod OneHistory

@@ -1,14 +1,13 @@
 -- Whether a connector is active can be read from the replies to its own calls.
-use Rattle.std.proofs.Common.{◌≡◌, ℕ, zero, suc, ◌+◌, ◌<◌, ◌≤◌, ◌==◌, Bool, true, false, not, cond, ◌||◌, ◌&&◌, if◌then◌else◌, List, [], ◌∷◌, ◌++◌, length, take, get_or, fold, filter, slice_get, Some, refl, ap, sym, subst, ◌∙◌, le_refl, le_of_lt, eqb-true, eq-eqb, ne_eqb}
+use Rattle.std.proofs.Common.{◌≡◌, ℕ, zero, suc, ◌≤◌, ◌==◌, Bool, true, false, not, ◌||◌, if◌then◌else◌, List, [], ◌∷◌, ◌++◌, length, take, get_or, filter, refl, ap, sym, subst, ◌∙◌, le_refl, le_of_lt, eqb-true, eq-eqb, ne_eqb}
 use borrow.Author.Tests.{eqb-false}
 use Rattle.std.proofs.Math.Seq.{take-suc, take-length}
 use Rattle.std.proofs.lemmas.Option.{slice_get-get_or}
-use Rattle.std.proofs.lemmas.List.Sums.{fold-append}
+use Rattle.std.proofs.lemmas.List.Sums.{fold_push}
 use Rattle.std.proofs.lemmas.List.Folds.{list_any-append}
 use Rattle.std.proofs.lemmas.Map.Views.{any-filter_same}
 use Rattle.cf_types.specs.declared.numbers.ConnId.{ConnId}
 use Rattle.cf_types.specs.declared.cache_commands.CacheCmd.{CacheCmd}
-use Rattle.cf_types.specs.declared.shell_commands.ShellCmd.{ShellCmd}
 use Rattle.cf_types.specs.declared.shell_commands.ShellCmd.TheVariants.{Connect, Disconnect}
 use Rattle.plex_run.specs.declared.histories.Ask.{Ask}
 use Rattle.plex_run.specs.declared.histories.Ask.TheVariants.{Shell, Content}
@@ -24,7 +23,7 @@ use Rattle.plex_run.proofs.Replay.{replay_next, own_next_same, own_next_other}
 abbrev LinksAsReplied : Machine → ConnId → Ask → ConnId → Answered → Type 0
 LinksAsReplied machine by asked conn answered =
     is_active answered.machine conn
-      ≡ (if by.0 == conn.0 then links (is_active machine conn) asked answered.reply else is_active machine conn)
+    ≡ (if by.0 == conn.0 then links (is_active machine conn) asked answered.reply else is_active machine conn)
 
 same_both : (b linked : Bool) → linked ≡ (if b then linked else linked)
 same_both true linked = refl
@@ -38,15 +37,15 @@ one_more false false = refl
 
 one_less : (machine : Machine) (by conn : ConnId) (same : Bool) → by.0 == conn.0 ≡ same
     → is_active (record machine { active = filter (λ other. not (other.0 == by.0)) machine.active }) conn
-      ≡ (if same then false else is_active machine conn)
+    ≡ (if same then false else is_active machine conn)
 one_less machine by conn true same =
     any-filter_same (λ (other : ConnId). other.0 == conn.0) (λ other. not (other.0 == by.0)) false
-      (λ other here. ap not (eq-eqb other.0 by.0 (eqb-true other.0 conn.0 here ∙ sym (eqb-true by.0 conn.0 same))))
-      machine.active
+    (λ other here. ap not (eq-eqb other.0 by.0 (eqb-true other.0 conn.0 here ∙ sym (eqb-true by.0 conn.0 same))))
+    machine.active
 one_less machine by conn false apart =
     any-filter_same (λ (other : ConnId). other.0 == conn.0) (λ other. not (other.0 == by.0)) true
-      (λ other here. ap not (ne_eqb other.0 by.0 (λ e. eqb-false by.0 conn.0 apart (sym e ∙ eqb-true other.0 conn.0 here))))
-      machine.active
+    (λ other here. ap not (ne_eqb other.0 by.0 (λ e. eqb-false by.0 conn.0 apart (sym e ∙ eqb-true other.0 conn.0 here))))
+    machine.active
 
 linked_connect : (machine : Machine) (by : ConnId) (keep : Bool) (conn : ConnId) (active : Bool) → is_active machine by ≡ active
     → LinksAsReplied machine by (Shell (Connect keep)) conn (connect machine by)
@@ -74,10 +73,10 @@ linked_step machine by (Content cmd) conn = linked_content machine by cmd conn (
 -- the replies to a caller's own calls, one entry later
 linked_own : (history : List Entry) (entry : Entry) (conn : ConnId) (same : Bool) → entry.by.0 == conn.0 ≡ same
     → is_linked (own (history ++ entry ∷ []) conn)
-      ≡ (if same then links (is_linked (own history conn)) entry.ask entry.reply else is_linked (own history conn))
+    ≡ (if same then links (is_linked (own history conn)) entry.ask entry.reply else is_linked (own history conn))
 linked_own history entry conn true same =
     rw (own_next_same history entry conn same)
-      (fold-append (λ linked other. links linked other.ask other.reply) false (own history conn) (entry ∷ []))
+    (fold_push (λ linked other. links linked other.ask other.reply) false (own history conn) entry)
 linked_own history entry conn false other = ap is_linked (own_next_other history entry conn other)
 
 -- what is active, and what the replies say
@@ -99,13 +98,13 @@ linked_prefix history legal conn (suc n) within =
     let none = next_entry [] conn (Shell Disconnect) in
     let last = get_or history n none in
     let front : take (suc n) history ≡ take n history ++ next_entry (take n history) last.by last.ask ∷ [] =
-      take-suc history n none within
-      ∙ ap (λ entry. take n history ++ entry ∷ []) (legal n last (slice_get-get_or history n none within)) in
+    take-suc history n none within
+    ∙ ap (λ entry. take n history ++ entry ∷ []) (legal n last (slice_get-get_or history n none within)) in
     subst (AgreesAt conn) (sym front)
-      (linked_next (take n history) last.by last.ask conn (linked_prefix history legal conn n (le_of_lt within)))
+    (linked_next (take n history) last.by last.ask conn (linked_prefix history legal conn n (le_of_lt within)))
 
 -- in a legal history a connector is active exactly where the replies to its own calls say so
 pub linked_legal : (history : List Entry) → IsLegal history → (conn : ConnId) → is_active (replay history) conn ≡ is_linked (own history conn)
 linked_legal history legal conn =
     subst (AgreesAt conn) (take-length history)
-      (linked_prefix history legal conn (length history) (le_refl (length history)))
+    (linked_prefix history legal conn (length history) (le_refl (length history)))

@@ -1,8 +1,7 @@
 -- The run of a script on one thread is one legal history.
-use Rattle.std.proofs.Common.{◌≡◌, ℕ, zero, suc, ◌+◌, ◌<◌, ◌≤◌, ◌==◌, ◌⊎◌, inl, inr, Bool, true, false, cond, List, [], ◌∷◌, ◌++◌, length, map, fold, filter, All, refl, ap, sym, subst, ◌∙◌, arith, ne_eqb}
+use Rattle.std.proofs.Common.{◌≡◌, ℕ, zero, suc, ◌+◌, ◌<◌, ◌≤◌, ◌==◌, inl, inr, false, List, [], ◌∷◌, length, fold, refl, ap, subst, arith, ne_eqb}
 use Rattle.std.specs.List.{AllByRecursion}
 use Rattle.std.proofs.lemmas.List.Elements.{recursion_from_All}
-use Rattle.cf_types.specs.declared.numbers.ConnId.{ConnId}
 use Rattle.plex_run.specs.declared.histories.Entry.{Entry}
 use Rattle.plex_run.specs.declared.scripts.Line.{Line}
 use Rattle.plex_run.specs.declared.transcripts.Shown.{Shown}
@@ -12,8 +11,8 @@ use Rattle.plex_run.specs.History.{own}
 use Rattle.plex_run.specs.Serial.{Run, start, after_line, serial_run}
 use Rattle.plex_run.specs.Headline.{Plays, is_linked, Follows, IsOneHistory}
 use Rattle.plex_run.proofs.Playing.{plays_nothing}
-use Rattle.plex_run.proofs.Lines.{acts_of, AllHaveDone, HasDone, all_lines}
-use Rattle.plex_run.proofs.Closings.{ClosedBelow, AreClosedBelow, follows_idle, closed_all}
+use Rattle.plex_run.proofs.LinesDone.{acts_of, AllHaveDone, HasDone, all_lines}
+use Rattle.plex_run.proofs.ClosingsDone.{ClosedBelow, AreClosedBelow, follows_idle, closed_all}
 
 -- no line is the operator's
 operator_idle : (lines : List Line) → AllByRecursion (λ line. 1 ≤ line.by.0) lines → acts_of lines (record { 0 = 0 }) ≡ []
@@ -27,7 +26,7 @@ closed_first : (script : Plan) (history : List Entry) (c : ℕ) (items : List Sh
     → HasDone script.lines history (record { 0 = c }) items → ClosedBelow script 1 history (record { 0 = c }) items
 closed_first script history zero items idle done =
     let nothing : Plays [] (own history (record { 0 = 0 })) items =
-      subst (λ acts. Plays acts (own history (record { 0 = 0 })) items) idle done.plays in
+    subst (λ acts. Plays acts (own history (record { 0 = 0 })) items) idle done.plays in
     let none : own history (record { 0 = 0 }) ≡ [] = (plays_nothing (own history (record { 0 = 0 })) items nothing).0 in
     inl (omega arith, follows_idle script history (record { 0 = 0 }) items (ap is_linked none) done.plays)
 closed_first script history (suc c) items idle done = inr (omega arith, done.plays)
@@ -63,10 +62,10 @@ pub serial_is_one_history : (script : Plan) → InForm script → IsOneHistory s
 serial_is_one_history script form =
     let connectors = length script.connectors in
     let within : AllByRecursion (λ line. line.by.0 ≤ connectors) script.lines =
-      recursion_from_All (λ line. line.by.0 ≤ connectors) script.lines (λ k none bound. (form.lines k none bound).1) in
+    recursion_from_All (λ line. line.by.0 ≤ connectors) script.lines (λ k none bound. (form.lines k none bound).1) in
     let from_one : AllByRecursion (λ line. 1 ≤ line.by.0) script.lines =
-      recursion_from_All (λ line. 1 ≤ line.by.0) script.lines (λ k none bound. (form.lines k none bound).0) in
+    recursion_from_All (λ line. 1 ≤ line.by.0) script.lines (λ k none bound. (form.lines k none bound).0) in
     let run : Run = fold after_line (start connectors) script.lines in
     history_from_closed script (serial_run script)
-      (closed_all script 1 connectors run (omega arith)
-        (closed_from_lines script run (operator_idle script.lines from_one) (all_lines connectors script.lines within)))
+    (closed_all script 1 connectors run (omega arith)
+    (closed_from_lines script run (operator_idle script.lines from_one) (all_lines connectors script.lines within)))

@@ -1,9 +1,9 @@
 -- Tests that tell of a history, as the history and the items of the connector grow.
-use Rattle.std.proofs.Common.{◌≡◌, ℕ, ◌+◌, ◌<◌, ◌≤◌, Bool, max, inl, inr, List, [], ◌∷◌, ◌++◌, length, take, fold, map, slice_get, Some, refl, ap, sym, subst, ◌∙◌, arith, le_refl, le_of_lt, le_trans, take_at, length-append}
+use Rattle.std.proofs.Common.{◌≡◌, ℕ, ◌≤◌, Bool, max, inl, inr, List, [], ◌∷◌, ◌++◌, length, take, ap, sym, subst, ◌∙◌, arith, le_of_lt, le_trans, take_at, length-append}
 use Rattle.std.proofs.Math.Nat.{max-le}
 use Rattle.std.proofs.Math.Seq.{take-length}
 use Rattle.std.proofs.lemmas.List.{take-append-le, map-append}
-use Rattle.std.proofs.lemmas.List.Sums.{fold-append}
+use Rattle.std.proofs.lemmas.List.Sums.{fold_push}
 use Rattle.cf_types.specs.declared.numbers.ConnId.{ConnId}
 use Rattle.plex_run.specs.declared.histories.Entry.{Entry}
 use Rattle.plex_run.specs.declared.transcripts.Shown.{Shown}
@@ -20,10 +20,10 @@ pub record HasSeen (history : List Entry) (conn : ConnId) (items : List Shown) :
 
 -- the greatest number, with one more item
 number_next : (items : List Shown) (item : Shown) → seen (items ++ item ∷ []) ≡ max (seen items) (number_of item)
-number_next items item = rw (map-append, fold-append)
+number_next items item = rw (map-append, fold_push)
 
 complete_next : (items : List Shown) (item : Shown) → seen_complete (items ++ item ∷ []) ≡ max (seen_complete items) (call_of item)
-complete_next items item = rw (map-append, fold-append)
+complete_next items item = rw (map-append, fold_push)
 
 -- nothing seen
 pub seen_nothing : (conn : ConnId) → HasSeen [] conn []
@@ -35,9 +35,9 @@ seen_longer history more conn items has =
     let longer : length history ≤ length (history ++ more) = omega (arith, length-append history more) in
     record {
       tests = λ k index at bit e.
-        let told = has.tests k index at bit e in
-        let same : take at (history ++ more) ≡ take at history = take-append-le at history more told.0 in
-        (le_trans told.0 longer, told.1, told.2, rw same told.3);
+          let told = has.tests k index at bit e in
+          let same : take at (history ++ more) ≡ take at history = take-append-le at history more told.0 in
+          (le_trans told.0 longer, told.1, told.2, rw same told.3);
       shown = le_trans has.shown longer;
       complete = le_trans has.complete longer;
     }
@@ -68,12 +68,12 @@ told_next : (history : List Entry) (conn : ConnId) (items : List Shown) (item : 
     → HasSeen history conn items → TellsLast history conn item → TestsTell history conn (items ++ item ∷ [])
 told_next history conn items item has tells k index at bit e =
     elim (pushed_cases items item k (shown.Test index bit at) e) [
-      inl h ↦
-        let before : take k (items ++ item ∷ []) ≡ take k items = take-append-le k items _ (le_of_lt h.0) in
-        rw before (has.tests k index at bit h.1)
-    | inr h ↦
-        let before : take k (items ++ item ∷ []) ≡ items = take_at items _ k (sym h.0) in
-        rw before (told_item history conn items index at bit has.shown has.complete (subst (TellsLast history conn) (sym h.1) tells))
+      | inl h ↦
+          let before : take k (items ++ item ∷ []) ≡ take k items = take-append-le k items _ (le_of_lt h.0) in
+          rw before (has.tests k index at bit h.1)
+      | inr h ↦
+          let before : take k (items ++ item ∷ []) ≡ items = take_at items _ k (sym h.0) in
+          rw before (told_item history conn items index at bit has.shown has.complete (subst (TellsLast history conn) (sym h.1) tells))
     ]
 
 pub seen_next : (history : List Entry) (conn : ConnId) (items : List Shown) (item : Shown)

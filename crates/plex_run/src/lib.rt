@@ -2,9 +2,11 @@
 #![tactic(auto)]
 
 mod histories;
+mod laws;
 mod scripts;
 mod transcripts;
 
 pub use histories::{Ask, Entry, Reply};
+pub use laws::one_history;
 pub use scripts::{Act, Line, ReadFault, Script};
 pub use transcripts::{Shown, Transcript};

@@ -1,8 +1,7 @@
 -- The lines of a script, done one after the other.
-use Rattle.std.proofs.Common.{◌≡◌, ℕ, zero, suc, ◌+◌, ◌<◌, ◌≤◌, ◌==◌, Bool, true, false, List, [], ◌∷◌, ◌++◌, length, map, fold, filter, replicate, get_or, slice_index_or, refl, ap, ap₂, sym, subst, subst₂, ◌∙◌, arith, eq-eqb, append_assoc, append-nil, length-append}
+use Rattle.std.proofs.Common.{◌≡◌, ℕ, ◌+◌, ◌<◌, ◌≤◌, ◌==◌, true, false, List, [], ◌∷◌, ◌++◌, length, map, fold, filter, replicate, slice_index_or, refl, ap, sym, subst, subst₂, ◌∙◌, arith, eq-eqb, append_assoc, append-nil, length-append}
 use Rattle.std.specs.List.{AllByRecursion}
 use Rattle.std.proofs.lemmas.List.{map-append, length-replicate, get_or-replicate}
-use Rattle.std.proofs.lemmas.List.Elements.{filter-append}
 use Rattle.cf_types.specs.declared.numbers.ConnId.{ConnId}
 use Rattle.plex_run.specs.declared.histories.Ask.{Ask}
 use Rattle.plex_run.specs.declared.histories.Entry.{Entry}
@@ -14,6 +13,7 @@ use Rattle.plex_run.specs.declared.transcripts.Shown.TheVariants as shown
 use Rattle.plex_run.specs.History.{next_entry, own, IsLegal, stands_after}
 use Rattle.plex_run.specs.Serial.{Run, start, called, tested, acted, after_line}
 use Rattle.plex_run.specs.Headline.{Plays}
+use Rattle.plex_run.proofs.Pushed.{filter_pushed_kept, filter_pushed_dropped}
 use Rattle.plex_run.proofs.Replay.{legal_next, own_next_same, own_next_other}
 use Rattle.plex_run.proofs.Playing.{plays_append}
 use Rattle.plex_run.proofs.Telling.{HasSeen, seen_nothing, seen_longer, seen_next}
@@ -27,19 +27,13 @@ acts_of lines conn = map (λ line. line.act) (filter (λ line. line.by.0 == conn
 acts_next_same : (lines : List Line) (line : Line) (conn : ConnId) → line.by.0 == conn.0 ≡ true
     → acts_of (lines ++ line ∷ []) conn ≡ acts_of lines conn ++ line.act ∷ []
 acts_next_same lines line conn same =
-    let kept : filter (λ (other : Line). other.by.0 == conn.0) (line ∷ []) ≡ line ∷ [] = rw same in
-    ap (map (λ (other : Line). other.act)) (filter-append (λ (other : Line). other.by.0 == conn.0) lines (line ∷ []))
-    ∙ map-append (λ (other : Line). other.act) (filter (λ other. other.by.0 == conn.0) lines) _
-    ∙ ap (λ last. acts_of lines conn ++ map (λ (other : Line). other.act) last) kept
+    ap (map (λ (other : Line). other.act)) (filter_pushed_kept (λ (other : Line). other.by.0 == conn.0) lines line same)
+    ∙ map-append (λ (other : Line). other.act) (filter (λ other. other.by.0 == conn.0) lines) (line ∷ [])
 
 acts_next_other : (lines : List Line) (line : Line) (conn : ConnId) → line.by.0 == conn.0 ≡ false
     → acts_of (lines ++ line ∷ []) conn ≡ acts_of lines conn
 acts_next_other lines line conn apart =
-    let none : filter (λ (other : Line). other.by.0 == conn.0) (line ∷ []) ≡ [] = rw apart in
-    ap (map (λ (other : Line). other.act))
-      (filter-append (λ (other : Line). other.by.0 == conn.0) lines (line ∷ [])
-      ∙ ap (λ last. filter (λ (other : Line). other.by.0 == conn.0) lines ++ last) none
-      ∙ append-nil (filter (λ other. other.by.0 == conn.0) lines))
+    ap (map (λ (other : Line). other.act)) (filter_pushed_dropped (λ (other : Line). other.by.0 == conn.0) lines line apart)
 
 -- ---- one act
 
@@ -60,7 +54,7 @@ pub plays_called : (acts : List Act) (history : List Entry) (by : ConnId) (asked
     → Plays (acts ++ act.Call asked ∷ []) (own history by ++ next_entry history by asked ∷ []) (items ++ shown.Call (next_entry history by asked).no ∷ [])
 plays_called acts history by asked items plays =
     plays_append acts (own history by) items (act.Call asked ∷ []) (next_entry history by asked ∷ []) (shown.Call (next_entry history by asked).no ∷ [])
-      plays (refl, refl, tt)
+    plays (refl, refl, tt)
 
 pub sees_called : (history : List Entry) (by : ConnId) (asked : Ask) (items : List Shown) → HasSeen history by items
     → HasSeen (history ++ next_entry history by asked ∷ []) by (items ++ shown.Call (next_entry history by asked).no ∷ [])
@@ -71,13 +65,13 @@ sees_called history by asked items sees =
 
 done_called : (lines : List Line) (history : List Entry) (by : ConnId) (asked : Ask) (items : List Shown) → HasDone lines history by items
     → HasDone (lines ++ record { by = by; act = act.Call asked } ∷ []) (history ++ next_entry history by asked ∷ []) by
-        (items ++ shown.Call (next_entry history by asked).no ∷ [])
+    (items ++ shown.Call (next_entry history by asked).no ∷ [])
 done_called lines history by asked items done =
     let entry = next_entry history by asked in
     let self : by.0 == by.0 ≡ true = eq-eqb by.0 by.0 refl in
     record {
       plays =
-        subst₂ (λ acts entries. Plays acts entries (items ++ shown.Call entry.no ∷ []))
+          subst₂ (λ acts entries. Plays acts entries (items ++ shown.Call entry.no ∷ []))
           (sym (acts_next_same lines (record { by = by; act = act.Call asked }) by self))
           (sym (own_next_same history entry by self))
           (plays_called (acts_of lines by) history by asked items done.plays);
@@ -90,7 +84,7 @@ done_by_other : (lines : List Line) (history : List Entry) (line : Line) (entry 
 done_by_other lines history line entry conn items apart apart' done =
     record {
       plays =
-        subst₂ (λ acts entries. Plays acts entries items)
+          subst₂ (λ acts entries. Plays acts entries items)
           (sym (acts_next_other lines line conn apart))
           (sym (own_next_other history entry conn apart'))
           done.plays;
@@ -106,7 +100,7 @@ all_called connectors lines run by asked within all =
       legal = legal_next run.history by asked all.legal;
       callers = length_shown by (shown.Call entry.no) run.transcripts ∙ all.callers;
       each =
-        each_shown (HasDone lines run.history) (HasDone (lines ++ line ∷ []) (run.history ++ entry ∷ [])) by (shown.Call entry.no) run.transcripts
+          each_shown (HasDone lines run.history) (HasDone (lines ++ line ∷ []) (run.history ++ entry ∷ [])) by (shown.Call entry.no) run.transcripts
           (omega (arith, all.callers))
           (λ items. done_called lines run.history by asked items)
           (λ conn items apart. done_by_other lines run.history line entry conn items apart apart)
@@ -115,14 +109,14 @@ all_called connectors lines run by asked within all =
 
 done_tested : (lines : List Line) (history : List Entry) (by : ConnId) (index : ℕ) (items : List Shown) → HasDone lines history by items
     → HasDone (lines ++ record { by = by; act = act.Test index } ∷ []) history by
-        (items ++ shown.Test index (stands_after history by index) (length history) ∷ [])
+    (items ++ shown.Test index (stands_after history by index) (length history) ∷ [])
 done_tested lines history by index items done =
     let item : Shown = shown.Test index (stands_after history by index) (length history) in
     let plays : Plays (acts_of lines by ++ act.Test index ∷ []) (own history by ++ []) (items ++ item ∷ []) =
-      plays_append (acts_of lines by) (own history by) items (act.Test index ∷ []) [] (item ∷ []) done.plays (refl, tt) in
+    plays_append (acts_of lines by) (own history by) items (act.Test index ∷ []) [] (item ∷ []) done.plays (refl, tt) in
     record {
       plays =
-        subst₂ (λ acts entries. Plays acts entries (items ++ item ∷ []))
+          subst₂ (λ acts entries. Plays acts entries (items ++ item ∷ []))
           (sym (acts_next_same lines (record { by = by; act = act.Test index }) by (eq-eqb by.0 by.0 refl)))
           (append-nil (own history by))
           plays;
@@ -146,7 +140,7 @@ all_tested connectors lines run by index within all =
       legal = all.legal;
       callers = length_shown by item run.transcripts ∙ all.callers;
       each =
-        each_shown (HasDone lines run.history) (HasDone (lines ++ line ∷ []) run.history) by item run.transcripts
+          each_shown (HasDone lines run.history) (HasDone (lines ++ line ∷ []) run.history) by item run.transcripts
           (omega (arith, all.callers))
           (λ items. done_tested lines run.history by index items)
           (λ conn items apart. test_by_other lines run.history line conn items apart)
@@ -166,9 +160,9 @@ all_started connectors =
       legal = λ i entry e. absurd cc;
       callers = length-replicate (connectors + 1) [];
       each = λ c bound.
-        let none : slice_index_or (replicate (connectors + 1) []) c [] ≡ [] =
+          let none : slice_index_or (replicate (connectors + 1) []) c [] ≡ [] =
           get_or-replicate (connectors + 1) c [] [] (subst (λ n. c < n) (length-replicate (connectors + 1) []) bound) in
-        subst (HasDone [] [] (record { 0 = c })) (sym none) (record { plays = tt; sees = seen_nothing (record { 0 = c }) });
+          subst (HasDone [] [] (record { 0 = c })) (sym none) (record { plays = tt; sees = seen_nothing (record { 0 = c }) });
     }
 
 all_lines_from : (connectors : ℕ) (done lines : List Line) (run : Run) → AllByRecursion (λ line. line.by.0 ≤ connectors) lines
@@ -176,7 +170,7 @@ all_lines_from : (connectors : ℕ) (done lines : List Line) (run : Run) → All
 all_lines_from connectors done [] run within all = subst (λ lines. AllHaveDone connectors lines run) (sym (append-nil done)) all
 all_lines_from connectors done (line ∷ lines) run within all =
     subst (λ whole. AllHaveDone connectors whole (fold after_line (after_line run line) lines)) (append_assoc done (line ∷ []) lines)
-      (all_lines_from connectors (done ++ line ∷ []) lines (after_line run line) within.1 (all_acted connectors done run line.by line.act within.0 all))
+    (all_lines_from connectors (done ++ line ∷ []) lines (after_line run line) within.1 (all_acted connectors done run line.by line.act within.0 all))
 
 -- after the lines of a script all callers have done them
 pub all_lines : (connectors : ℕ) (lines : List Line) → AllByRecursion (λ line. line.by.0 ≤ connectors) lines

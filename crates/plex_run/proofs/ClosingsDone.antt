@@ -1,9 +1,8 @@
 -- The closings of a script's connectors, one after the other.
-use Rattle.std.proofs.Common.{◌≡◌, ℕ, zero, suc, ◌+◌, ◌<◌, ◌≤◌, ◌==◌, ◌⊎◌, inl, inr, Bool, true, false, if◌then◌else◌, List, [], ◌∷◌, ◌++◌, length, fold, refl, ap, sym, subst, subst₂, ◌∙◌, arith, eq-eqb, eqb-true, append-nil}
+use Rattle.std.proofs.Common.{◌≡◌, ℕ, zero, suc, ◌+◌, ◌<◌, ◌≤◌, ◌==◌, ◌⊎◌, inl, inr, Bool, true, false, if◌then◌else◌, List, [], ◌∷◌, ◌++◌, length, fold, refl, sym, subst, ◌∙◌, arith, eq-eqb, eqb-true, append-nil}
 use borrow.Author.Tests.{eqb-false}
 use Rattle.cf_types.specs.declared.numbers.ConnId.{ConnId}
 use Rattle.cf_types.specs.declared.shell_commands.ShellCmd.TheVariants.{Disconnect}
-use Rattle.plex_run.specs.declared.histories.Ask.{Ask}
 use Rattle.plex_run.specs.declared.histories.Ask.TheVariants.{Shell}
 use Rattle.plex_run.specs.declared.histories.Entry.{Entry}
 use Rattle.plex_run.specs.declared.scripts.Act.TheVariants as act
@@ -18,7 +17,7 @@ use Rattle.plex_run.proofs.Replay.{legal_next, own_next_same, own_next_other}
 use Rattle.plex_run.proofs.Linked.{linked_legal}
 use Rattle.plex_run.proofs.Telling.{HasSeen, seen_longer}
 use Rattle.plex_run.proofs.Callers.{EachCaller, length_shown, each_shown}
-use Rattle.plex_run.proofs.Lines.{acts_of, plays_called, sees_called}
+use Rattle.plex_run.proofs.LinesDone.{acts_of, sees_called}
 
 -- a caller has closed, if its number is below this, and else it has only done its lines
 abbrev pub ClosedBelow : Plan → ℕ → List Entry → ConnId → List Shown → Type 0
@@ -39,7 +38,7 @@ pub record AreClosedBelow (script : Plan) (first : ℕ) (run : Run) : Type 0 whe
 follows_called : (script : Plan) (history : List Entry) (by : ConnId) (items : List Shown) → is_linked (own history by) ≡ true
     → Plays (acts_of script.lines by) (own history by) items
     → Follows script (history ++ next_entry history by (Shell Disconnect) ∷ []) by
-        (items ++ shown.Call (next_entry history by (Shell Disconnect)).no ∷ [])
+    (items ++ shown.Call (next_entry history by (Shell Disconnect)).no ∷ [])
 follows_called script history by items linked plays =
     let entry = next_entry history by (Shell Disconnect) in
     let closing : closing_of (own history by) ≡ act.Call (Shell Disconnect) ∷ [] = rw linked in
@@ -99,7 +98,7 @@ closed_other script history entry conn items apart (inr h) =
 closed_own : (script : Plan) (history : List Entry) (by : ConnId) (items : List Shown) → is_linked (own history by) ≡ true
     → ClosedBelow script by.0 history by items
     → ClosedBelow script (by.0 + 1) (history ++ next_entry history by (Shell Disconnect) ∷ []) by
-        (items ++ shown.Call (next_entry history by (Shell Disconnect)).no ∷ [])
+    (items ++ shown.Call (next_entry history by (Shell Disconnect)).no ∷ [])
 closed_own script history by items linked (inl h) = absurd (omega arith)
 closed_own script history by items linked (inr h) = inl (omega arith, follows_called script history by items linked h.1)
 
@@ -114,12 +113,12 @@ closed_active script run by within active are =
       legal = legal_next run.history by (Shell Disconnect) are.legal;
       callers = length_shown by item run.transcripts ∙ are.callers;
       each =
-        each_shown (ClosedBelow script by.0 run.history) (ClosedBelow script (by.0 + 1) (run.history ++ entry ∷ [])) by item run.transcripts bound
+          each_shown (ClosedBelow script by.0 run.history) (ClosedBelow script (by.0 + 1) (run.history ++ entry ∷ [])) by item run.transcripts bound
           (λ items. closed_own script run.history by items linked)
           (λ conn items. closed_other script run.history entry conn items)
           are.each;
       sees =
-        each_shown (HasSeen run.history) (HasSeen (run.history ++ entry ∷ [])) by item run.transcripts bound
+          each_shown (HasSeen run.history) (HasSeen (run.history ++ entry ∷ [])) by item run.transcripts bound
           (λ items. sees_called run.history by (Shell Disconnect) items)
           (λ conn items apart. seen_longer run.history (entry ∷ []) conn items)
           are.sees;
@@ -170,5 +169,5 @@ closed_all script first zero run within are =
 closed_all script first (suc n) run within are =
     let next : first + 1 + n ≡ first + suc n = omega arith in
     subst (λ (k : ℕ). AreClosedBelow script k (fold closed run (numbers_from first (suc n)))) next
-      (closed_all script (first + 1) n (closed run (record { 0 = first })) (omega arith)
-        (closed_next script run (record { 0 = first }) (omega arith) are))
+    (closed_all script (first + 1) n (closed run (record { 0 = first })) (omega arith)
+    (closed_next script run (record { 0 = first }) (omega arith) are))
