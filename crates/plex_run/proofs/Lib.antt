@@ -7,3 +7,4 @@ pub mod Callers
 pub mod LinesDone
 pub mod ClosingsDone
 pub mod OneHistory
+pub mod ByConnectors

@@ -1,8 +1,7 @@
 -- A history with one more entry: its machine, its legality, and the calls of each caller.
-use Rattle.std.proofs.Common.{◌≡◌, ◌==◌, true, false, inl, inr, List, [], ◌∷◌, ◌++◌, take, refl, sym, subst, le_of_lt, append-nil, take_at}
+use Rattle.std.proofs.Common.{◌≡◌, ◌==◌, true, false, inl, inr, List, [], ◌∷◌, ◌++◌, take, refl, sym, subst, le_of_lt, take_at}
 use Rattle.std.proofs.lemmas.List.{take-append-le}
 use Rattle.std.proofs.lemmas.List.Sums.{fold_push}
-use Rattle.std.proofs.lemmas.List.Elements.{filter-append}
 use Rattle.cf_types.specs.declared.numbers.ConnId.{ConnId}
 use Rattle.plex_run.specs.declared.histories.Ask.{Ask}
 use Rattle.plex_run.specs.declared.histories.Entry.{Entry}
