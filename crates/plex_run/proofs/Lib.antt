@@ -1,3 +1,13 @@
 pub mod Turns
 pub mod Gained
 pub mod Singles
+pub mod Pushed
+pub mod Replay
+pub mod Linked
+pub mod Playing
+pub mod Telling
+pub mod Callers
+pub mod LinesDone
+pub mod ClosingsDone
+pub mod OneHistory
+pub mod ByConnectors

@@ -2,6 +2,7 @@
 #![tactic(auto)]
 
 mod histories;
+mod laws;
 mod run;
 mod scripts;
 mod serial;
@@ -9,5 +10,6 @@ mod structure;
 mod transcripts;
 
 pub use histories::{Ask, Entry, Reply};
+pub use laws::one_history;
 pub use scripts::{Act, Line, ReadFault, Script};
 pub use transcripts::{Shown, Transcript};

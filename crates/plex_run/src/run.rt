@@ -103,6 +103,8 @@ fn reported<K: Sink>(alloc: Global, script: &Script, sink: &mut K) -> u8
 fn served<S: Source, K: Sink>(alloc: Global, source: &mut S, sink: &mut K) -> u8
     ensures served { result ≡ 0 → IfSome (S.left source.old) (WritesReport (K.held sink.old) (K.held sink.new)) }
     ensures read_fault { result ≡ 4 → Rises (S.faults source.old) (S.faults source.new) }
+    ensures too_long { result ≡ 7 → IfSome (S.left source.old) (λ text. script_limit < length text) }
+    ensures not_yet { result ≡ 3 → IfSome (S.left source.old) IsNoScript }
     ensures sink_fault { result ≡ 5 → Rises (K.faults sink.old) (K.faults sink.new)
         × IfSome (S.left source.old) (WritesFront (K.held sink.old) (K.held sink.new)) }
     ensures no_memory { result ≡ 6 →
