@@ -1,9 +1,8 @@
-ghost use Rattle.std.specs.Prelude.{◌≡◌, ℕ, ◌≤◌, length, OnErr, OnOk, IfOk, is_some};
-ghost use Rattle.cache_core.specs.Registrations.{registered_at};
+ghost use Rattle.std.specs.Prelude.{◌≡◌, ℕ, ◌≤◌, length, OnErr, IfOk};
 
 use crate::items::CacheItem;
 use crate::registrations::Registration;
-use cf_types::{CacheCmd, CacheReply, Caps, ConnId, Name16, NoMemory, Refusal, StrForm};
+use cf_types::{CacheCmd, CacheReply, Caps, ConnId, NoMemory, Refusal, StrForm};
 use std::alloc::Global;
 use std::marker::Model;
 
@@ -29,7 +28,7 @@ impl Model for CacheEngine {
 
 impl CacheEngine {
     ghost use Rattle.cache_core.specs.Content.{nothing};
-    ghost use Rattle.cache_core.specs.Step.{stands, left, cache_step};
+    ghost use Rattle.cache_core.specs.Step.{stands, left};
 
     /// A structure of this form with nothing in it. It takes no memory yet.
     pub fn empty(alloc: Global, form: &StrForm) -> Result<CacheEngine, NoMemory>
@@ -43,40 +42,12 @@ impl CacheEngine {
         })
     }
 
-    /// STUB.
-    pub fn apply(
-        &mut self,
-        alloc: Global,
-        by: ConnId,
-        cmd: &CacheCmd,
-    ) -> Result<Result<CacheReply, Refusal>, NoMemory>
-        ensures reply { IfOk result (λ reply. reply ≡ (cache_step self.old by cmd.now).reply) }
-        ensures content { OnOk result (self.new ≡ record self.old { content = (cache_step self.old by cmd.now).content }) }
-        ensures no_memory { OnErr result (self.new ≡ self.old) }
-    {
-        Err(NoMemory)
-    }
-
-    /// STUB.
-    pub fn leave(&mut self, conn: ConnId)
-        requires { self.old.content ≡ left conn self.old.content }
-        ensures { self.new ≡ record self.old { content = left conn self.old.content } }
-    {
-    }
-
     /// Whether the bit of a connector's vector at an index tells a valid copy.
     pub fn stands(&self, conn: ConnId, index: u32) -> bool
         ensures { result ≡ stands self.now.content conn index }
     {
-        let regs = &self.regs;
-        name_at(regs, conn, index).is_some()
+        self.regs
+            .iter()
+            .any(|reg| reg.conn == conn && reg.index == index)
     }
-}
-
-fn name_at(regs: &[Registration], conn: ConnId, index: u32) -> Option<Name16>
-    ensures { result ≡ registered_at regs.now conn index }
-{
-    regs.iter()
-        .find(|reg| reg.conn == conn && reg.index == index)
-        .map(|reg| reg.name)
 }
