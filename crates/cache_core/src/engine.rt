@@ -1,7 +1,7 @@
 ghost use Rattle.std.specs.Prelude.{◌≡◌, ℕ, ◌≤◌, length, OnErr, IfOk};
 
 use crate::items::CacheItem;
-use crate::registrations::Registration;
+use crate::registrations::{Registration, registered_at};
 use cf_types::{CacheCmd, CacheReply, Caps, ConnId, NoMemory, Refusal, StrForm};
 use std::alloc::Global;
 use std::marker::Model;
@@ -46,8 +46,6 @@ impl CacheEngine {
     pub fn stands(&self, conn: ConnId, index: u32) -> bool
         ensures { result ≡ stands self.now.content conn index }
     {
-        self.regs
-            .iter()
-            .any(|reg| reg.conn == conn && reg.index == index)
+        registered_at(&self.regs, conn, index).is_some()
     }
 }

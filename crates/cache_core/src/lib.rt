@@ -5,6 +5,7 @@
 mod engine;
 mod items;
 mod registrations;
+mod rows;
 
 pub use engine::CacheEngine;
 pub use items::{CacheItem, Holder};
