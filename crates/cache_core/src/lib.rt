@@ -5,6 +5,7 @@
 mod engine;
 mod items;
 mod registrations;
+mod room;
 mod rows;
 
 pub use engine::CacheEngine;

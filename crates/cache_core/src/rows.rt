@@ -1,5 +1,5 @@
 //! The rows of the directory.
-ghost use Rattle.std.specs.Prelude.{◌≡◌, ℕ, ◌<◌, ◌≤◌, IsTrue, Some, position, option_map};
+ghost use Rattle.std.specs.Prelude.{◌≡◌, ℕ, ◌<◌, ◌≤◌, IsTrue, Some, position, option_map, map};
 ghost use Rattle.std.specs.List.{prefix_len};
 ghost use Rattle.std.specs.Vec.{vec_len, vec_capacity};
 ghost use Rattle.cache_core.specs.Row.{is_row_of, is_changed, elements_of, row_of, rows_without, one_row_each, stands_before, rows_with, rows_replaced, new_row, row_or_new, written, released};
@@ -50,6 +50,15 @@ fn take_row(rows: &mut Vec<CacheItem>, name: &Name16) -> Option<CacheItem>
         Some(at) => Some(rows.remove(at)),
         None => None,
     }
+}
+
+/// Ends the row of a name.
+pub(crate) fn end_row(rows: &mut Vec<CacheItem>, name: &Name16)
+    ensures items { rows.new.items ≡ rows_without name.now rows.old.items }
+    ensures bound { vec_len rows.new ≤ vec_len rows.old }
+    ensures capacity { vec_capacity rows.new ≡ vec_capacity rows.old }
+{
+    rows.retain(|row| row.name != *name);
 }
 
 // Takes out the row of a name, or makes one: unchanged, without data, of this storage class.
@@ -144,4 +153,24 @@ pub(crate) fn write_row(
     let old = take_or_make_row(rows, name, stg);
     let row = written(old, body, class, adj);
     put_row(rows, row);
+}
+
+// Releases the castout lock of a row, where it is this connector's.
+fn release(row: &mut CacheItem, conn: ConnId)
+    ensures { row.new ≡ released conn row.old }
+{
+    if let Some(holder) = row.holder
+        && holder.conn == conn
+    {
+        row.holder = None;
+    }
+}
+
+/// Releases all castout locks of a connector.
+pub(crate) fn release_all(rows: &mut Vec<CacheItem>, conn: ConnId)
+    ensures { rows.new.items ≡ map (released conn) rows.old.items }
+{
+    for row in rows.iter_mut() {
+        release(row, conn);
+    }
 }
