@@ -74,7 +74,7 @@ contra : (a b : Bool) → (a ≡ true → b ≡ true) → b ≡ false → a ≡ 
 contra true b h e = absurd (let wrong : b ≡ true = h refl in cc)
 contra false b h e = refl
 
-and_both : (a b : Bool) → a ≡ true → b ≡ true → a && b ≡ true
+pub and_both : (a b : Bool) → a ≡ true → b ≡ true → a && b ≡ true
 and_both true b e f = f
 and_both false b e f = e
 
@@ -280,6 +280,7 @@ pub record Decided (caps : Caps) (name : Name16) (need : ℕ) (before after : Li
   pub no_room : has_room caps name need (lasting name before) ≡ false → after ≡ lasting name before
   pub same_row : row_of name after ≡ row_of name before
   pub one_each : one_row_each after ≡ true
+  pub bound : length after ≤ length before
 
 abbrev head_of : {X : Type 0} → List X → Option X
 head_of [] = None
@@ -305,6 +306,7 @@ room_at_end caps name need stg content u h =
       no_room = λ _. sym all;
       same_row = refl;
       one_each = u;
+      bound = omega arith;
     }
 
 roomy_now : (caps : Caps) (name : Name16) (need : ℕ) (rows : List CacheItem) → one_row_each rows ≡ true → has_room caps name need rows ≡ true → Decided caps name need rows rows
@@ -315,6 +317,7 @@ roomy_now caps name need rows u h =
       no_room = λ none. absurd (cc);
       same_row = refl;
       one_each = u;
+      bound = omega arith;
     }
 
 room_later : (caps : Caps) (name : Name16) (need stg : ℕ) (rows after : List CacheItem) (v : CacheItem) (rest : List CacheItem) → NextGoes name stg rows v rest → Decided caps name need (rows_without v.name rows) after → Decided caps name need rows after
@@ -324,6 +327,7 @@ room_later caps name need stg rows after v rest next ih =
       no_room = λ none. ih.no_room (ap (λ (l : List CacheItem). has_room caps name need l) next.last ∙ none) ∙ next.last;
       same_row = ih.same_row ∙ find_first (is_row_of name) (rows_without v.name rows) rows next.named;
       one_each = ih.one_each;
+      bound = omega (arith, ih.bound, length-filter-le (λ x. not (is_row_of v.name x)) rows);
     }
 
 decided_step : (caps : Caps) (name : Name16) (need stg : ℕ) (content : Content) (v : CacheItem) (order : List CacheItem) → one_row_each content.rows ≡ true → reclaim_order name stg content.rows ≡ v ∷ order → (b : Bool) → has_room caps name need content.rows ≡ b
@@ -387,7 +391,7 @@ some_kept : {X : Type 0} (p : X → Bool) (b : Bool) (x : X) (xs : List X) → b
 some_kept p true x xs h ih = omega arith
 some_kept p false x xs h ih = ih h
 
-any_kept : {X : Type 0} (p : X → Bool) (xs : List X) → list_any p xs ≡ true → 0 < length (filter p xs)
+pub any_kept : {X : Type 0} (p : X → Bool) (xs : List X) → list_any p xs ≡ true → 0 < length (filter p xs)
 any_kept p [] h = absurd (cc)
 any_kept p (x ∷ xs) h = some_kept p (p x) x xs h (any_kept p xs)
 

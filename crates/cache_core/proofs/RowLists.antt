@@ -1,14 +1,16 @@
 -- Lists of rows: the row of a name, and the rows of all others.
-use Rattle.std.proofs.Common.{◌≡◌, ℕ, ◌+◌, Bool, true, false, IsTrue, not, ◌&&◌, ◌||◌, cond, List, [], ◌∷◌, ◌++◌, Option, Some, None, length, take, drop, filter, find, position, get_or, nat_lt, is_some, unwrap_or, refl, sym, ap, ◌∙◌, subst, arith, zero, suc}
+use Rattle.std.proofs.Common.{◌≡◌, ℕ, ◌+◌, ◌<◌, Bool, true, false, IsTrue, not, ◌&&◌, ◌||◌, cond, List, [], ◌∷◌, ◌++◌, Option, Some, None, length, length-drop, take, drop, set, drop-cons, map, filter, find, position, get_or, nat_lt, is_some, unwrap_or, refl, sym, ap, ◌∙◌, subst, arith, zero, suc}
 use Rattle.std.specs.List.{list_any, position_or_len, slice_get, prefix_len, remove, insert}
 use Rattle.std.specs.Cmp.Lexicographic.{bytes_decides}
 use Rattle.cf_types.specs.declared.names.Name16.{Name16}
+use Rattle.cf_types.specs.declared.numbers.ConnId.{ConnId}
 use Rattle.cf_types.specs.Name.{same_name}
 use Rattle.cache_core.specs.declared.items.CacheItem.{CacheItem}
-use Rattle.cache_core.specs.Row.{is_row_of, row_of, has_row, rows_without, one_row_each, new_row, row_or_new, rows_with, rows_replaced}
+use Rattle.cache_core.specs.Row.{is_row_of, row_of, has_row, rows_without, one_row_each, new_row, row_or_new, rows_with, rows_replaced, released}
 use Rattle.std.proofs.lemmas.List.Quantifiers.{position-Some}
 use Rattle.std.proofs.lemmas.List.Folds.{find_at}
 use Rattle.std.proofs.lemmas.Option.{slice_get-get_or}
+use Rattle.std.proofs.lemmas.List.{take_more, take_more_set, map-append, drop-set-lt}
 use Rattle.std.proofs.lemmas.Bool.{lt-ltb}
 use Rattle.std.proofs.lemmas.Bool.Decides.{nat_tests}
 
@@ -149,3 +151,28 @@ name-row_or_new name stg rows = named_or_new name stg (row_of name rows) (name-r
 pub rows_replaced-named : (name : Name16) (row : CacheItem) (rows rest : List CacheItem) → row.name ≡ name → rest ≡ rows_without name rows → rows_with row rest ≡ rows_replaced row rows
 rows_replaced-named name row rows rest named is =
     ap (λ (others : List CacheItem). rows_with row others) (is ∙ ap (λ (n : Name16). rows_without n rows) (sym named))
+
+-- ---- a loop that changes each element
+
+pub mapped_more : {X : Type 0} (f : X → X) (xs ys : List X) (i : ℕ) (x y : X) → i < length ys → y ≡ f (get_or ys i x) → take i ys ≡ map f (take i xs) → drop i ys ≡ drop i xs → (take (i + 1) (set ys i y) ≡ map f (take (i + 1) xs)) × (drop (i + 1) (set ys i y) ≡ drop (i + 1) xs)
+mapped_more {X} f xs ys i x y within is front back =
+    let lengths : length (drop i ys) ≡ length (drop i xs) = ap (λ (l : List X). length l) back in
+    let long : i < length xs = omega (arith, lengths, length-drop i ys, length-drop i xs) in
+    let tail_of_ys : drop i ys ≡ get_or ys i x ∷ drop (suc i) ys = drop-cons ys i x within in
+    let tail_of_xs : drop i xs ≡ get_or xs i x ∷ drop (suc i) xs = drop-cons xs i x long in
+    let same : get_or ys i x ≡ get_or xs i x = cc in
+    let rest : drop (suc i) ys ≡ drop (suc i) xs = cc in
+    let next : i + 1 ≡ suc i = omega arith in
+    let image : y ≡ f (get_or xs i x) = is ∙ ap f same in (
+      take_more_set ys i y within ∙ (λ j. front j ++ image j ∷ []) ∙ sym (ap (λ (l : List X). map f l) (take_more xs i x long) ∙ map-append f (take i xs) (get_or xs i x ∷ [])),
+      rw next (drop-set-lt (suc i) ys i y (omega arith) ∙ rest),
+    )
+
+kept_name : (conn : ConnId) (name : Name16) (rows : List CacheItem) → has_row name (map (released conn) rows) ≡ has_row name rows
+kept_name conn name [] = refl
+kept_name conn name (row ∷ rows) = ap (λ b. same_name row.name name || b) (kept_name conn name rows)
+
+-- release changes no name
+pub one_row_each-released : (conn : ConnId) (rows : List CacheItem) → one_row_each (map (released conn) rows) ≡ one_row_each rows
+one_row_each-released conn [] = refl
+one_row_each-released conn (row ∷ rows) = λ i. not (kept_name conn row.name rows i) && one_row_each-released conn rows i

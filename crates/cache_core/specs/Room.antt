@@ -52,3 +52,9 @@ with_room caps name need stg content = reclaimed (has_room caps name need) (recl
 abbrev pub room_refusal : Caps → Name16 → ℕ → List CacheItem → Refusal
 room_refusal caps name need rows =
     if has_place caps name rows then NoElements need (free_elements caps name rows) else DirectoryFull caps.entries
+
+-- what is lacking, where there is no room
+abbrev pub want_of_room : Caps → Name16 → ℕ → ℕ → Content → Option Refusal
+want_of_room caps name need stg content =
+    let roomy = with_room caps name need stg content in
+    if has_room caps name need roomy.rows then None else Some (room_refusal caps name need roomy.rows)

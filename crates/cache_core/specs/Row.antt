@@ -24,6 +24,11 @@ elements_of (Some body) = (length body + 255) / 256
 abbrev pub row_of : Name16 → List CacheItem → Option CacheItem
 row_of name rows = find (is_row_of name) rows
 
+-- whether the row of a name, if there is one, is changed
+abbrev pub is_changed_row : Option CacheItem → Bool
+is_changed_row None = false
+is_changed_row (Some row) = is_changed row
+
 -- the name has a row
 abbrev pub has_row : Name16 → List CacheItem → Bool
 has_row name rows = list_any (is_row_of name) rows

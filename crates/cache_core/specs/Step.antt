@@ -10,7 +10,7 @@ use Rattle.cf_types.specs.declared.cache_commands.CacheReply.{CacheReply}
 use Rattle.cf_types.specs.declared.cache_commands.CacheReply.TheVariants as replies
 use Rattle.cf_types.specs.Name.{same_name}
 use Rattle.cache_core.specs.declared.items.CacheItem.{CacheItem}
-use Rattle.cache_core.specs.Row.{is_changed, elements_of, row_of, row_or_new, rows_replaced, written, released}
+use Rattle.cache_core.specs.Row.{is_changed, is_changed_row, elements_of, row_of, row_or_new, rows_replaced, written, released}
 use Rattle.cache_core.specs.Registrations.{is_of, registered_at, is_registered, regs_without, regs_with, regs_of_others_ended}
 use Rattle.cache_core.specs.Content.{Content, Cache}
 use Rattle.cache_core.specs.Room.{has_room, with_room, room_refusal}
@@ -65,10 +65,6 @@ registration_refusal cache conn name when_reg =
     if when_reg && not (is_registered cache.content.regs conn name) then Some NotRegistered else None
 
 -- a changed row isn't written as unchanged
-abbrev pub is_changed_row : Option CacheItem → Bool
-is_changed_row None = false
-is_changed_row (Some row) = is_changed row
-
 abbrev pub change_refusal : Cache → Name16 → Option ℕ → Option Refusal
 change_refusal cache name class =
     if is_none class && is_changed_row (row_of name cache.content.rows) then Some IsChanged else None

@@ -4,12 +4,13 @@ ghost use Rattle.std.specs.Vec.{vec_len, vec_capacity};
 ghost use Rattle.cache_core.specs.Row.{is_row_of, is_changed, rows_without, one_row_each};
 ghost use Rattle.cache_core.specs.Registrations.{regs_without_name};
 ghost use Rattle.cache_core.specs.Content.{Content};
+ghost use Rattle.cache_core.specs.Request.{asked};
 ghost use Rattle.cache_core.specs.Room.{free_elements, has_place, has_room, is_reclaimable, lasting, reclaim_order, first_name, with_room, room_refusal};
 
 use crate::items::CacheItem;
 use crate::registrations::{Registration, end_all_for};
-use crate::rows::{elements_of, end_row, row_of};
-use cf_types::{Caps, Name16, Refusal};
+use crate::rows::{elements_of, elements_of_body, end_row, row_of};
+use cf_types::{CacheCmd, Caps, Name16, Refusal};
 
 /// What a request asks room for: the row of a name, and elements for its data. Rows of its storage
 /// class are reclaimed before others.
@@ -18,6 +19,29 @@ pub(crate) struct Request {
     pub name: Name16,
     pub elements: u32,
     pub stg: u32,
+}
+
+/// What a command asks room for.
+pub(crate) fn asked(cmd: &CacheCmd) -> Request
+    ensures { result ≡ asked cmd.now }
+{
+    match cmd {
+        CacheCmd::Read { name, stg, .. } => Request {
+            name: *name,
+            elements: 0,
+            stg: *stg,
+        },
+        CacheCmd::Write {
+            name,
+            body,
+            stg,
+            ..
+        } => Request {
+            name: *name,
+            elements: elements_of_body(body),
+            stg: *stg,
+        },
+    }
 }
 
 // The elements that are free for the name's data.

@@ -1,11 +1,13 @@
 //! The rows of the directory.
-ghost use Rattle.std.specs.Prelude.{◌≡◌, ℕ, ◌<◌, ◌≤◌, IsTrue, Some, position, option_map, map};
+ghost use Rattle.std.specs.Prelude.{◌≡◌, ℕ, ◌<◌, ◌≤◌, IsTrue, IfOk, Some, position, option_map, map};
 ghost use Rattle.std.specs.List.{prefix_len};
 ghost use Rattle.std.specs.Vec.{vec_len, vec_capacity};
-ghost use Rattle.cache_core.specs.Row.{is_row_of, is_changed, elements_of, row_of, rows_without, one_row_each, stands_before, rows_with, rows_replaced, new_row, row_or_new, written, released};
+ghost use Rattle.cache_core.specs.Step.{data_reply};
+ghost use Rattle.cache_core.specs.Row.{is_row_of, is_changed_row, elements_of, row_of, rows_without, one_row_each, stands_before, rows_with, rows_replaced, new_row, row_or_new, written, released};
 
 use crate::items::{CacheItem, Holder};
-use cf_types::{Adjunct, Body, ConnId, Name16};
+use cf_types::{Adjunct, Body, CacheReply, ConnId, Name16, NoMemory, copy_body};
+use std::alloc::Global;
 
 /// How many elements of 256 bytes a body takes.
 pub(crate) fn elements_of_body(body: &Body) -> u32
@@ -29,6 +31,45 @@ pub(crate) fn row_of<'a>(rows: &'a [CacheItem], name: &Name16) -> Option<&'a Cac
     ensures { option_map (λ row. row.now) result ≡ row_of name.now rows.now }
 {
     rows.iter().find(|row| row.name == *name)
+}
+
+/// Whether the row of a name is changed.
+pub(crate) fn has_changed_row(rows: &[CacheItem], name: &Name16) -> bool
+    ensures { result ≡ is_changed_row (row_of name.now rows.now) }
+{
+    match row_of(rows, name) {
+        Some(row) => row.class.is_some(),
+        None => false,
+    }
+}
+
+// The answer of READ to a row.
+fn data_reply(alloc: Global, row: &CacheItem) -> Result<CacheReply, NoMemory>
+    ensures { IfOk result (λ reply. reply ≡ data_reply row.now row.now.body) }
+{
+    match &row.body {
+        None => Ok(CacheReply::NoData),
+        Some(body) => Ok(CacheReply::Data {
+            body: copy_body(alloc, body)?,
+            adj: row.adj,
+            changed: row.class.is_some(),
+        }),
+    }
+}
+
+/// The answer of READ for a name: a name without a row has no data, in whatever storage class its
+/// row is made.
+pub(crate) fn answer(
+    alloc: Global,
+    rows: &[CacheItem],
+    name: &Name16,
+) -> Result<CacheReply, NoMemory>
+    ensures { (stg : ℕ) → let row = row_or_new name.now stg rows.now in IfOk result (λ reply. reply ≡ data_reply row row.body) }
+{
+    match row_of(rows, name) {
+        Some(row) => data_reply(alloc, row),
+        None => Ok(CacheReply::NoData),
+    }
 }
 
 // Where the row of a name stands.
