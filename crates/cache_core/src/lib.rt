@@ -5,6 +5,8 @@
 mod engine;
 mod items;
 mod registrations;
+mod room;
+mod rows;
 
 pub use engine::CacheEngine;
 pub use items::{CacheItem, Holder};
