@@ -2,7 +2,10 @@
 #![tactic(auto)]
 
 mod histories;
+mod line_text;
+mod report;
 mod scripts;
+mod spelling;
 mod transcripts;
 
 pub use histories::{Ask, Entry, Reply};

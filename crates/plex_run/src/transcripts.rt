@@ -1,3 +1,5 @@
+ghost use Rattle.std.specs.Prelude.{◌≡◌};
+
 use std::marker::Model;
 
 /// What a connector's transcript shows of one of its lines.
@@ -22,4 +24,13 @@ impl Model for Transcript {
     ghost Value = { List Shown };
 
     ghost view = { λ t. t.items.items };
+}
+
+impl Transcript {
+    /// What the caller saw, in order.
+    pub fn items(&self) -> &[Shown]
+        ensures { result.now ≡ self.now }
+    {
+        self.items.as_slice()
+    }
 }
