@@ -1,7 +1,8 @@
 //! Lines that are put together word by word. Where there is no memory for a word, the line is left in the middle of it.
 
-ghost use Rattle.std.specs.Prelude.{◌≡◌, ℕ, ◌∷◌, ◌++◌, [], decimal, OnOk, IfOk};
+ghost use Rattle.std.specs.Prelude.{◌≡◌, ℕ, ◌==◌, ◌∷◌, ◌++◌, [], decimal, position, OnOk, IfOk};
 ghost use Rattle.cf_types.specs.declared.numbers.ConnId.{ConnId};
+ghost use Rattle.cf_types.specs.Term.{unpadded};
 ghost use Rattle.plex_run.specs.Spelling.{name_word, caller_word};
 ghost use Rattle.plex_run.specs.Words.{spaced};
 
@@ -9,12 +10,26 @@ use cf_types::{Name16, NoMemory};
 use itoa::Buffer;
 use std::alloc::Global;
 
+// The place of the first blank.
+fn blank_place(bytes: &[u8]) -> Option<usize>
+    ensures { result ≡ position (λ b. b == 32) bytes.now }
+{
+    bytes.iter().position(|byte| *byte == b' ')
+}
+
+// The bytes before the first blank.
+fn unpadded_text(bytes: &[u8]) -> &[u8]
+    ensures { result.now ≡ unpadded bytes.now }
+{
+    let len = blank_place(bytes).unwrap_or(bytes.len());
+    &bytes[..len]
+}
+
 /// The text of a name.
 pub(crate) fn name_text(name: &Name16) -> &[u8]
     ensures { result.now ≡ name_word name.now }
 {
-    let len = name.0.iter().position(|byte| *byte == b' ').unwrap_or(16);
-    &name.0[..len]
+    unpadded_text(&name.0)
 }
 
 /// The name of the caller with this number: the operator is 0, and the connectors follow from 1. A number of no caller has

@@ -1,7 +1,7 @@
 //! Commands, replies and refusals as words of a line.
 
-ghost use Rattle.std.specs.Prelude.{◌≡◌, ◌∷◌, ◌++◌, [], OnOk};
-ghost use Rattle.plex_run.specs.Spelling.{adjunct_words, old_words, storage_words, when_words, class_words, shell_words, cache_words, ask_words, facility_word, state_word, refusal_words, shell_reply_words, cache_reply_words, changed_word, reply_words};
+ghost use Rattle.std.specs.Prelude.{◌≡◌, ◌∷◌, ◌++◌, [], decimal, OnOk};
+ghost use Rattle.plex_run.specs.Spelling.{name_word, adjunct_words, old_words, storage_words, when_words, class_words, shell_words, cache_words, ask_words, facility_word, state_word, refusal_words, shell_reply_words, cache_reply_words, changed_word, reply_words};
 ghost use Rattle.plex_run.specs.Words.{spaced};
 
 use crate::histories::{Ask, Reply};
@@ -71,24 +71,37 @@ fn put_cache_cmd(line: &mut Vec<u8>, cmd: &CacheCmd) -> Result<(), NoMemory>
 {
     match cmd {
         CacheCmd::Read { name, index, old, stg } => {
-            put_word(line, b"READ")?;
-            put_name(line, name)?;
-            put_number(line, u64::from(*index))?;
+            put_use(line, b"READ", name, *index)?;
             put_old(line, old)?;
             put_storage(line, *stg)
         }
         CacheCmd::Write { name, index, body, class, adj, old, stg, when_reg } => {
-            put_word(line, b"WRITE")?;
-            put_name(line, name)?;
-            put_number(line, u64::from(*index))?;
+            put_use(line, b"WRITE", name, *index)?;
             put_word(line, body.bytes())?;
             put_class(line, *class)?;
             put_adjunct(line, adj)?;
-            put_old(line, old)?;
-            put_storage(line, *stg)?;
-            put_when(line, *when_reg)
+            put_options(line, old, *stg, *when_reg)
         }
     }
+}
+
+fn put_options(line: &mut Vec<u8>, old: &Option<Name16>, stg: u32, when_reg: bool) -> Result<(), NoMemory>
+    ensures { OnOk result (line.new.items ≡ line.old.items
+        ++ spaced (old_words old.now ++ storage_words stg ++ when_words when_reg)) }
+{
+    put_old(line, old)?;
+    put_storage(line, stg)?;
+    put_when(line, when_reg)
+}
+
+// The command's word, and the name and the index that it is about.
+fn put_use(line: &mut Vec<u8>, word: &[u8], name: &Name16, index: u32) -> Result<(), NoMemory>
+    ensures { OnOk result (line.new.items ≡ line.old.items
+        ++ spaced (word.now ∷ name_word name.now ∷ decimal index ∷ [])) }
+{
+    put_word(line, word)?;
+    put_name(line, name)?;
+    put_number(line, u64::from(index))
 }
 
 fn put_class(line: &mut Vec<u8>, class: Option<u32>) -> Result<(), NoMemory>
@@ -183,8 +196,7 @@ fn put_refusal(line: &mut Vec<u8>, refusal: &Refusal) -> Result<(), NoMemory>
         }
         Refusal::BadIndex { index, len } => {
             put_word(line, b"3 BADINDEX")?;
-            put_number(line, u64::from(*index))?;
-            put_number(line, u64::from(*len))
+            put_numbers(line, *index, *len)
         }
         Refusal::IsChanged => put_word(line, b"4 ISCHANGED"),
         Refusal::DirectoryFull { entries } => {
@@ -193,8 +205,7 @@ fn put_refusal(line: &mut Vec<u8>, refusal: &Refusal) -> Result<(), NoMemory>
         }
         Refusal::NoElements { need, free } => {
             put_word(line, b"10 NOELEMENTS")?;
-            put_number(line, u64::from(*need))?;
-            put_number(line, u64::from(*free))
+            put_numbers(line, *need, *free)
         }
         Refusal::BadClass { class } => {
             put_word(line, b"11 BADCLASS")?;
@@ -206,6 +217,13 @@ fn put_refusal(line: &mut Vec<u8>, refusal: &Refusal) -> Result<(), NoMemory>
             put_state(line, *state)
         }
     }
+}
+
+fn put_numbers(line: &mut Vec<u8>, first: u32, second: u32) -> Result<(), NoMemory>
+    ensures { OnOk result (line.new.items ≡ line.old.items ++ spaced (decimal first ∷ decimal second ∷ [])) }
+{
+    put_number(line, u64::from(first))?;
+    put_number(line, u64::from(second))
 }
 
 fn put_state(line: &mut Vec<u8>, state: StateWord) -> Result<(), NoMemory>
