@@ -7,3 +7,4 @@ pub mod History
 pub mod Serial
 pub mod Report
 pub mod Headline
+pub mod Written

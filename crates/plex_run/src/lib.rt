@@ -4,6 +4,7 @@
 mod histories;
 mod line_text;
 mod report;
+mod report_writing;
 mod scripts;
 mod spelling;
 mod transcripts;

@@ -1,4 +1,4 @@
-use Rattle.std.proofs.Common.{◌==◌, ap, take, rules}
+use Rattle.std.proofs.Common.{◌==◌, ap, take}
 use Rattle.plex_run.proofs.Names.{place_or_length}
 use Rattle.plex_run.proofs.line_text.unpadded_text.Goals as goal
 

@@ -1,7 +1,4 @@
 use Rattle.std.proofs.Common.{◌-◌, Some, length, sym, ap, ◌∙◌, arith}
-use Rattle.std.proofs.lemmas.Result.{IfOk-weaker}
-use Rattle.plex_run.specs.Form.{connector_line}
-use Rattle.plex_run.specs.Report.{report_lines, history_lines, transcripts_lines}
 use Rattle.plex_run.proofs.ReportLines.{connector_at, history_at, closing_at}
 use Rattle.plex_run.proofs.report.bare_line.Goals as goal
 

@@ -1,4 +1,4 @@
-use Rattle.std.proofs.Common.{◌≡◌, ◌+◌, ◌-◌, Some, length, [], ◌∷◌, codes, sym, ap, ◌∙◌, arith}
+use Rattle.std.proofs.Common.{◌≡◌, ◌+◌, ◌-◌, length, [], ◌∷◌, codes, ap, ◌∙◌, arith}
 use Rattle.plex_run.proofs.ReportLines.{in_transcript, past_transcript}
 use Rattle.plex_run.proofs.report.closing_line.Goals as goal
 
