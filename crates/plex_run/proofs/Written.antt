@@ -1,11 +1,12 @@
 -- What a sink gains by several writes.
-use Rattle.std.proofs.Common.{◌≡◌, ℕ, ◌+◌, ◌<◌, ◌≤◌, zero, suc, List, [], ◌∷◌, ◌++◌, length, take, drop, map, Option, None, Some, refl, sym, ap, ◌∙◌, subst, arith, append_assoc, append-nil, add-one}
+use Rattle.std.proofs.Common.{◌≡◌, ℕ, ◌+◌, ◌<◌, ◌≤◌, zero, suc, List, [], ◌∷◌, ◌++◌, length, take, drop, map, Option, None, Some, Result, Ok, Err, refl, sym, ap, ◌∙◌, subst, arith, append_assoc, append-nil, add-one}
 use Rattle.std.proofs.Math.Seq.{take-append_seam}
 use Rattle.std.proofs.lemmas.List.{take-append-drop}
 use Rattle.std.proofs.KnownBytes.{Appends-trans, Appends-nil}
 use Rattle.std.proofs.lemmas.Grind.{flat_map-append}
 use Rattle.std.proofs.lemmas.Option.{same_Some}
 use Rattle.std.specs.List.{slice_get}
+use Rattle.std.specs.Result.{OnErr}
 use Rattle.plex_run.specs.Words.{ended, text_of}
 use Rattle.plex_run.specs.Written.{Gains, GainsPrefix}
 
@@ -66,3 +67,8 @@ GainsPrefix-in_line old mid new lines k n line h gains more =
     ∙ ap (λ t. t ++ rest) (append_assoc front (take n line) (drop n line) ∙ ap (λ t. front ++ t) (take-append-drop n line)) in
     GainsPrefix-part old new (front ++ take n line) (drop n line ++ rest) (text_of lines) (split ∙ sym cut)
     (Appends-trans old mid new front (take n line) gains more)
+
+-- what holds anyway holds at an error
+pub OnErr-always : {T E P : Type 0} (r : Result T E) → P → OnErr r P
+OnErr-always (Ok x) p = tt
+OnErr-always (Err e) p = p
