@@ -49,7 +49,7 @@ shown_at name items k n d e h = under_heading shown_line _ items k n (get_or ite
 pub next_transcript : (connectors : List Name16) (i : ℕ) (transcripts : List (List Shown)) (items : List Shown)
     → i < length transcripts → items ≡ get_or transcripts i items
     → transcripts_lines connectors i (drop i transcripts)
-      ≡ transcript_lines (caller_word connectors (record { 0 = i })) items ++ transcripts_lines connectors (i + 1) (drop (i + 1) transcripts)
+    ≡ transcript_lines (caller_word connectors (record { 0 = i })) items ++ transcripts_lines connectors (i + 1) (drop (i + 1) transcripts)
 next_transcript connectors i transcripts items h at =
     ap (transcripts_lines connectors i) (drop_more transcripts i items h ∙ ap (λ (x : List Shown). x ∷ drop (i + 1) transcripts) (sym at))
 
@@ -60,7 +60,7 @@ length-transcript_lines name items = let len : length (map shown_line items) ≡
 pub in_transcript : (connectors : List Name16) (i k : ℕ) (transcripts : List (List Shown)) (items : List Shown) (rest : List (List ℕ))
     → i < length transcripts → items ≡ get_or transcripts i items → k ≤ length items
     → slice_get (transcripts_lines connectors i (drop i transcripts) ++ rest) k
-      ≡ slice_get (transcript_lines (caller_word connectors (record { 0 = i })) items) k
+    ≡ slice_get (transcript_lines (caller_word connectors (record { 0 = i })) items) k
 in_transcript connectors i k transcripts items rest h at within =
     let lines = transcript_lines (caller_word connectors (record { 0 = i })) items in
     let others = transcripts_lines connectors (i + 1) (drop (i + 1) transcripts) in
@@ -73,7 +73,7 @@ in_transcript connectors i k transcripts items rest h at within =
 pub past_transcript : (connectors : List Name16) (i k n : ℕ) (transcripts : List (List Shown)) (items : List Shown) (rest : List (List ℕ))
     → i < length transcripts → items ≡ get_or transcripts i items → k ≡ length items + 1 + n
     → slice_get (transcripts_lines connectors i (drop i transcripts) ++ rest) k
-      ≡ slice_get (transcripts_lines connectors (i + 1) (drop (i + 1) transcripts) ++ rest) n
+    ≡ slice_get (transcripts_lines connectors (i + 1) (drop (i + 1) transcripts) ++ rest) n
 past_transcript connectors i k n transcripts items rest h at e =
     let lines = transcript_lines (caller_word connectors (record { 0 = i })) items in
     let others = transcripts_lines connectors (i + 1) (drop (i + 1) transcripts) in

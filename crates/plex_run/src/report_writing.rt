@@ -65,3 +65,6 @@ pub(crate) fn write_report<K: Sink>(
     // So many lines have no place in memory.
     Err(ReportEnd::NoMemory)
 }
+
+#[cfg(test)]
+mod tests;

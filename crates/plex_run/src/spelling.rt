@@ -70,12 +70,26 @@ fn put_cache_cmd(line: &mut Vec<u8>, cmd: &CacheCmd) -> Result<(), NoMemory>
     ensures { OnOk result (line.new.items ≡ line.old.items ++ spaced (cache_words cmd.now)) }
 {
     match cmd {
-        CacheCmd::Read { name, index, old, stg } => {
+        CacheCmd::Read {
+            name,
+            index,
+            old,
+            stg,
+        } => {
             put_use(line, b"READ", name, *index)?;
             put_old(line, old)?;
             put_storage(line, *stg)
         }
-        CacheCmd::Write { name, index, body, class, adj, old, stg, when_reg } => {
+        CacheCmd::Write {
+            name,
+            index,
+            body,
+            class,
+            adj,
+            old,
+            stg,
+            when_reg,
+        } => {
             put_use(line, b"WRITE", name, *index)?;
             put_word(line, body.bytes())?;
             put_class(line, *class)?;
@@ -85,7 +99,12 @@ fn put_cache_cmd(line: &mut Vec<u8>, cmd: &CacheCmd) -> Result<(), NoMemory>
     }
 }
 
-fn put_options(line: &mut Vec<u8>, old: &Option<Name16>, stg: u32, when_reg: bool) -> Result<(), NoMemory>
+fn put_options(
+    line: &mut Vec<u8>,
+    old: &Option<Name16>,
+    stg: u32,
+    when_reg: bool,
+) -> Result<(), NoMemory>
     ensures { OnOk result (line.new.items ≡ line.old.items
         ++ spaced (old_words old.now ++ storage_words stg ++ when_words when_reg)) }
 {
