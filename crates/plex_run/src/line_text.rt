@@ -1,7 +1,6 @@
 //! Lines that are put together word by word. Where there is no memory for a word, the line is left in the middle of it.
 
-ghost use Rattle.std.specs.Prelude.{◌≡◌, ℕ, ◌==◌, ◌∷◌, ◌++◌, [], decimal, position, OnOk, IfOk};
-ghost use Rattle.cf_types.specs.declared.numbers.ConnId.{ConnId};
+ghost use Rattle.std.specs.Prelude.{◌≡◌, ◌==◌, ◌∷◌, ◌++◌, [], decimal, position, OnOk, IfOk};
 ghost use Rattle.cf_types.specs.Term.{unpadded};
 ghost use Rattle.plex_run.specs.Spelling.{name_word, caller_word};
 ghost use Rattle.plex_run.specs.Words.{spaced};

@@ -1,6 +1,6 @@
 //! The lines of the report.
 
-ghost use Rattle.std.specs.Prelude.{◌≡◌, ◌<◌, ◌≤◌, ◌∷◌, ◌++◌, [], Some, length, slice_get, option_map, IfOk, OnOk, map, codes, decimal};
+ghost use Rattle.std.specs.Prelude.{◌≡◌, ◌<◌, ◌≤◌, ◌∷◌, ◌++◌, [], length, slice_get, option_map, IfOk, OnOk, map, codes, decimal};
 ghost use Rattle.plex_run.specs.Form.{policy_lines, connector_line};
 ghost use Rattle.plex_run.specs.Report.{heading, entry_line, valid_word, shown_line, history_lines, transcript_lines, transcripts_lines, report_lines};
 ghost use Rattle.plex_run.specs.Words.{ended, spaced};

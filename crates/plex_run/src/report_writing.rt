@@ -14,7 +14,7 @@ use std::alloc::Global;
 /// Why a report wasn't written whole.
 #[derive(Clone, Copy, Debug, PartialEq, Eq)]
 pub(crate) enum ReportEnd {
-    /// There was no memory for a line.
+    /// There was no memory for a line, or the report has more lines than memory could hold.
     NoMemory,
     /// A write failed.
     SinkFault,
@@ -62,7 +62,7 @@ pub(crate) fn write_report<K: Sink>(
         };
         write_all(sink, text.as_slice())?;
     }
-    // So many lines have no place in memory.
+    // No memory holds a report of so many lines.
     Err(ReportEnd::NoMemory)
 }
 
