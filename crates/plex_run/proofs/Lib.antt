@@ -11,3 +11,6 @@ pub mod LinesDone
 pub mod ClosingsDone
 pub mod OneHistory
 pub mod ByConnectors
+pub mod Names
+pub mod ReportLines
+pub mod Written

@@ -9,4 +9,5 @@ pub mod Serial
 pub mod Report
 pub mod Headline
 pub mod Kept
+pub mod Written
 pub mod Outcome

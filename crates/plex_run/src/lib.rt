@@ -3,13 +3,18 @@
 
 mod histories;
 mod laws;
+mod line_text;
+mod report;
+mod report_writing;
 mod run;
 mod scripts;
 mod serial;
+mod spelling;
 mod structure;
 mod transcripts;
 
 pub use histories::{Ask, Entry, Reply};
 pub use laws::one_history;
+pub use run::run as run_program;
 pub use scripts::{Act, Line, ReadFault, Script};
 pub use transcripts::{Shown, Transcript};

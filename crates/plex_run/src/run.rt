@@ -4,25 +4,17 @@ ghost use Rattle.cf_io.specs.Count.{Rises};
 ghost use Rattle.plex_run.specs.Plan.{Plan};
 ghost use Rattle.plex_run.specs.Form.{IsScript, InForm};
 ghost use Rattle.plex_run.specs.Report.{report};
-ghost use Rattle.plex_run.specs.Outcome.{serial_report, memory_line, IsSerial, IsStatus, Gains, GainsFront, status_line, script_limit, WritesReport, WritesOneHistory, WritesFront, WritesMemoryLine, IsNoScript, IsExact, IsComplete};
+ghost use Rattle.plex_run.specs.Written.{Gains, GainsPrefix};
+ghost use Rattle.plex_run.specs.Outcome.{serial_report, memory_line, IsSerial, IsStatus, status_line, script_limit, WritesReport, WritesOneHistory, WritesFront, WritesMemoryLine, IsNoScript, IsExact, IsComplete};
 
-use crate::histories::Entry;
+use crate::report_writing::{ReportEnd, write_report};
 use crate::scripts::{ReadFault, Script};
 use crate::serial::serial;
-use crate::transcripts::Transcript;
 use cf_io::{ReadEnd, Sink, Source, read_all, write_all};
-use cf_types::Name16;
 use std::alloc::Global;
 
 /// The greatest length of a script, in bytes.
 const SCRIPT_LIMIT: usize = 1_048_576;
-
-/// Why a report was not written whole.
-#[derive(Clone, Copy, Debug, PartialEq, Eq)]
-pub enum ReportEnd {
-    NoMemory,
-    SinkFault,
-}
 
 // STUB
 fn read(alloc: Global, text: &[u8]) -> Result<Script, ReadFault>
@@ -30,22 +22,6 @@ fn read(alloc: Global, text: &[u8]) -> Result<Script, ReadFault>
     ensures not_yet { IsErrOf result ReadFault.NotYet → (script : Plan) → IsScript text.now script → ⊥ }
 {
     Err(ReadFault::NoMemory)
-}
-
-// STUB
-fn write_report<K: Sink>(
-    alloc: Global,
-    connectors: &[Name16],
-    history: &[Entry],
-    transcripts: &[Transcript],
-    sink: &mut K,
-) -> Result<(), ReportEnd>
-    ensures whole { OnOk result (Appends (K.held sink.old) (K.held sink.new) (report connectors.now history.now transcripts.now)) }
-    ensures front { OnErr result (GainsFront (K.held sink.old) (K.held sink.new) (report connectors.now history.now transcripts.now)) }
-    ensures cause { IsErrOf result ReportEnd.SinkFault → Rises (K.faults sink.old) (K.faults sink.new) }
-    ensures faults { K.faults sink.old ≤ K.faults sink.new }
-{
-    Err(ReportEnd::NoMemory)
 }
 
 // Whether a word is `serial`.
@@ -78,7 +54,7 @@ fn reported<K: Sink>(alloc: Global, script: &Script, sink: &mut K) -> u8
     requires { InForm script.now }
     ensures whole { result ≡ 0 → Appends (K.held sink.old) (K.held sink.new) (serial_report script.now) }
     ensures sink_fault { result ≡ 5 → Rises (K.faults sink.old) (K.faults sink.new)
-        × GainsFront (K.held sink.old) (K.held sink.new) (serial_report script.now) }
+        × GainsPrefix (K.held sink.old) (K.held sink.new) (serial_report script.now) }
     ensures no_memory { result ≡ 6 → (n : ℕ) × Gains (K.held sink.old) (K.held sink.new) (K.faults sink.old) (K.faults sink.new)
         (take n (serial_report script.now) ++ memory_line) }
     ensures statuses { (result ≡ 0) ⊎ ((result ≡ 5) ⊎ (result ≡ 6)) }
