@@ -4,9 +4,9 @@
 mod histories;
 mod laws;
 mod line_text;
+mod program;
 mod report;
 mod report_writing;
-mod run;
 mod scripts;
 mod serial;
 mod spelling;
@@ -15,6 +15,6 @@ mod transcripts;
 
 pub use histories::{Ask, Entry, Reply};
 pub use laws::one_history;
-pub use run::run as run_program;
+pub use program::run;
 pub use scripts::{Act, Line, ReadFault, Script};
 pub use transcripts::{Shown, Transcript};

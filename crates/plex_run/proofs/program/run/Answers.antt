@@ -1,7 +1,7 @@
 use Rattle.std.proofs.Common.{◌≡◌, ℕ, List, Option, Some, None, IfSome, arith, rules}
 use Rattle.plex_run.specs.Outcome.{WritesReport, WritesOneHistory}
 use Rattle.plex_run.proofs.OneHistory.{serial_is_one_history}
-use Rattle.plex_run.proofs.run.run.Goals as goal
+use Rattle.plex_run.proofs.program.run.Goals as goal
 
 -- what is written shows one history, since the run of a script is one
 shows_history : (held now left : Option (List ℕ)) → IfSome left (WritesReport held now) → IfSome left (WritesOneHistory held now)

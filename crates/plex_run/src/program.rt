@@ -179,3 +179,6 @@ pub fn run<S: Source, K: Sink>(
     }
     served(alloc, source, sink)
 }
+
+#[cfg(test)]
+mod tests;

@@ -4,7 +4,7 @@ use Rattle.plex_run.specs.Report.{report}
 use Rattle.plex_run.specs.Outcome.{serial_report, memory_line}
 use Rattle.plex_run.specs.Written.{GainsPrefix}
 use Rattle.plex_run.proofs.Gained.{Gains-after, report-serial}
-use Rattle.plex_run.proofs.run.reported.Goals as goal
+use Rattle.plex_run.proofs.program.reported.Goals as goal
 
 pub returns-in-Ok-write_report-clause-whole : goal.returns-in-Ok-write_report-clause-whole
 returns-in-Ok-write_report-clause-whole g c = λ _.

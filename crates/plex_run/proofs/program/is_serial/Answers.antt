@@ -1,7 +1,7 @@
 use Rattle.std.proofs.Common.{◌≡◌, ◌∷◌, [], map, ap, ◌∙◌, sym, rules, arith, get_or}
 use Rattle.std.specs.Prelude.{string_bytes, codes}
 use Rattle.plex_run.proofs.Singles.{only_one}
-use Rattle.plex_run.proofs.run.is_serial.Goals as goal
+use Rattle.plex_run.proofs.program.is_serial.Goals as goal
 
 pub returns-in-len1 : goal.returns-in-len1
 returns-in-len1 c =
