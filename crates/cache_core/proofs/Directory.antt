@@ -1,5 +1,5 @@
 -- A directory stays one when a row takes the place of the row of its name.
-use Rattle.std.proofs.Common.{◌≡◌, ℕ, ◌+◌, ◌≤◌, ◌<◌, Bool, true, false, not, ◌&&◌, ◌||◌, cond, List, [], ◌∷◌, ◌++◌, length, length-append, append-nil, take, drop, filter, is_some, nat_lt, nat_le, refl, sym, ap, ◌∙◌, subst, arith}
+use Rattle.std.proofs.Common.{◌≡◌, ℕ, ◌+◌, ◌≤◌, ◌<◌, Bool, true, false, not, ◌||◌, cond, List, [], ◌∷◌, ◌++◌, length, length-append, append-nil, take, drop, filter, is_some, nat_lt, nat_le, refl, sym, ap, ◌∙◌, subst, arith}
 use Rattle.std.specs.List.{list_any, prefix_len, insert}
 use Rattle.std.proofs.Math.ListN.{take-append-drop}
 use Rattle.std.proofs.lemmas.Bool.Decides.{nat_tests}
@@ -8,7 +8,7 @@ use Rattle.cf_types.specs.declared.forms.Caps.{Caps}
 use Rattle.cf_types.specs.declared.names.Name16.{Name16}
 use Rattle.cf_types.specs.Name.{same_name}
 use Rattle.cache_core.specs.declared.items.CacheItem.{CacheItem}
-use Rattle.cache_core.specs.Row.{is_row_of, is_changed, row_of, has_row, rows_without, one_row_each, stands_before, rows_with, rows_replaced}
+use Rattle.cache_core.specs.Row.{is_row_of, is_changed, row_of, has_row, rows_without, one_row_each, stands_before, rows_replaced}
 use Rattle.cache_core.specs.Content.{Content, IsDirectory}
 use Rattle.cache_core.specs.Room.{has_place, has_room, free_elements, with_room}
 use Rattle.cache_core.proofs.RowLists.{same_name-eq, same_name-refl, first_alone, rest_each, any-find, and_first}

@@ -1,5 +1,5 @@
 -- Reclaiming: what goes next, what stays, and whether there is room in the end.
-use Rattle.std.proofs.Common.{◌≡◌, ℕ, ◌+◌, ◌-◌, ◌≤◌, ◌<◌, Bool, true, false, not, ◌&&◌, ◌||◌, ◌==◌, cond, List, [], ◌∷◌, ◌++◌, Option, Some, None, length, filter, find, sum_by, is_some, nat_lt, nat_le, option_map, refl, sym, ap, ◌∙◌, subst, arith}
+use Rattle.std.proofs.Common.{◌≡◌, ℕ, ◌-◌, ◌≤◌, ◌<◌, Bool, true, false, not, ◌&&◌, ◌||◌, ◌==◌, cond, List, [], ◌∷◌, ◌++◌, Option, Some, None, length, filter, find, sum_by, is_some, nat_lt, nat_le, option_map, refl, sym, ap, ◌∙◌, subst, arith}
 use Rattle.std.specs.List.{list_any}
 use Rattle.std.proofs.lemmas.Bool.Decides.{nat_tests}
 use Rattle.std.proofs.lemmas.List.Elements.{filter_agree}
@@ -11,7 +11,7 @@ use Rattle.cache_core.specs.declared.items.CacheItem.{CacheItem}
 use Rattle.cache_core.specs.Row.{is_row_of, is_changed, row_of, has_row, rows_without, one_row_each, elements_of}
 use Rattle.cache_core.specs.Content.{Content, evicted}
 use Rattle.cache_core.specs.Room.{free_elements, has_place, has_room, is_reclaimable, lasting, reclaim_order, first_name, reclaimed, with_room}
-use Rattle.cache_core.proofs.RowLists.{same_name-eq, same_name-refl, first_alone, rest_each, rows_without-absent, not_true, and_first, and_second}
+use Rattle.cache_core.proofs.RowLists.{same_name-eq, same_name-refl, first_alone, rest_each, rows_without-absent, and_first, and_second}
 
 -- ---- filters
 

@@ -1,6 +1,6 @@
 -- Lists of rows: the row of a name, and the rows of all others.
-use Rattle.std.proofs.Common.{◌≡◌, ℕ, ◌+◌, ◌<◌, Bool, true, false, IsTrue, not, ◌&&◌, ◌||◌, cond, List, [], ◌∷◌, ◌++◌, Option, Some, None, length, length-drop, take, drop, set, drop-cons, map, filter, find, position, get_or, nat_lt, is_some, unwrap_or, refl, sym, ap, ◌∙◌, subst, arith, zero, suc}
-use Rattle.std.specs.List.{list_any, position_or_len, slice_get, prefix_len, remove, insert}
+use Rattle.std.proofs.Common.{◌≡◌, ℕ, ◌+◌, ◌<◌, Bool, true, false, not, ◌&&◌, ◌||◌, cond, List, [], ◌∷◌, ◌++◌, Option, Some, None, length, length-drop, take, drop, set, drop-cons, map, filter, find, position, get_or, nat_lt, is_some, unwrap_or, refl, sym, ap, ◌∙◌, subst, arith, suc}
+use Rattle.std.specs.List.{list_any, position_or_len, slice_get, remove}
 use Rattle.std.specs.Cmp.Lexicographic.{bytes_decides}
 use Rattle.cf_types.specs.declared.names.Name16.{Name16}
 use Rattle.cf_types.specs.declared.numbers.ConnId.{ConnId}

@@ -1,5 +1,5 @@
 -- The step of a command that is refused, and of one that isn't.
-use Rattle.std.proofs.Common.{◌≡◌, ℕ, Bool, true, false, cond, List, [], ◌∷◌, Option, Some, None, Result, Ok, Err, unwrap_or, refl, sym, ap, ◌∙◌}
+use Rattle.std.proofs.Common.{◌≡◌, ℕ, Bool, true, false, cond, List, [], ◌∷◌, Option, Some, None, Ok, unwrap_or, refl, sym, ap, ◌∙◌}
 use Rattle.std.specs.Option.{option_or}
 use Rattle.std.specs.Result.{result_err}
 use Rattle.cf_types.specs.declared.names.Name16.{Name16}
@@ -15,7 +15,7 @@ use Rattle.cache_core.specs.Registrations.{regs_with}
 use Rattle.cache_core.specs.Content.{Content, Cache}
 use Rattle.cache_core.specs.Room.{has_room, lasting, with_room, room_refusal, want_of_room}
 use Rattle.cache_core.specs.Step.{Stepped, refused, first_refusal, unless_refused, index_refusal, storage_refusal, castout_refusal, registration_refusal, change_refusal, in_room, data_reply, read_done, write_done, cache_step}
-use Rattle.cache_core.proofs.Reclaim.{Decided, with_room-decided}
+use Rattle.cache_core.proofs.Reclaim.{with_room-decided}
 
 -- what is lacking, told by the rows that last
 want_step : (b c : Bool) (r q : Refusal) → b ≡ c → (c ≡ false → r ≡ q) → cond c None (Some q) ≡ cond b None (Some r)

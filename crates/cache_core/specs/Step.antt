@@ -1,5 +1,5 @@
 -- The one-thread machine of a cache structure: what each command answers and leaves.
-use Rattle.std.specs.Prelude.{ℕ, Bool, true, false, not, ◌&&◌, ◌||◌, nat_le, if◌then◌else◌, List, [], ◌∷◌, ◌++◌, Option, Some, None, Result, Ok, Err, option_map, is_some, is_none, unwrap_or, map, ◌==◌}
+use Rattle.std.specs.Prelude.{ℕ, Bool, false, not, ◌&&◌, ◌||◌, nat_le, if◌then◌else◌, List, [], ◌∷◌, Option, Some, None, Result, Ok, Err, is_some, is_none, map}
 use Rattle.cf_types.specs.declared.names.Name16.{Name16}
 use Rattle.cf_types.specs.declared.numbers.ConnId.{ConnId}
 use Rattle.cf_types.specs.declared.refusals.Refusal.{Refusal}
@@ -11,7 +11,7 @@ use Rattle.cf_types.specs.declared.cache_commands.CacheReply.TheVariants as repl
 use Rattle.cf_types.specs.Name.{same_name}
 use Rattle.cache_core.specs.declared.items.CacheItem.{CacheItem}
 use Rattle.cache_core.specs.Row.{is_changed, is_changed_row, elements_of, row_of, row_or_new, rows_replaced, written, released}
-use Rattle.cache_core.specs.Registrations.{is_of, registered_at, is_registered, regs_without, regs_with, regs_of_others_ended}
+use Rattle.cache_core.specs.Registrations.{registered_at, is_registered, regs_without, regs_with, regs_of_others_ended}
 use Rattle.cache_core.specs.Content.{Content, Cache}
 use Rattle.cache_core.specs.Room.{has_room, with_room, room_refusal}
 

@@ -50,14 +50,16 @@ impl CacheEngine {
         })
     }
 
-    /// Whether the bit of a connector's vector at an index tells a valid copy.
+    /// Whether the bit of a connector's vector at an index (from 0) tells a valid copy (IXLVECTR). It
+    /// does exactly where the connector is registered at the index.
     pub fn stands(&self, conn: ConnId, index: u32) -> bool
         ensures { result ≡ stands self.now.content conn index }
     {
         registered_at(&self.regs, conn, index).is_some()
     }
 
-    /// A connector departs: its registrations end, and its castout locks are released.
+    /// A connector departs (IXLDISC): its registrations end, and its castout locks are released. The
+    /// rows that it held stay changed.
     pub fn leave(&mut self, conn: ConnId)
         ensures content { self.new.content ≡ left conn self.old.content }
         ensures form { (self.new.vector ≡ self.old.vector) × (self.new.caps ≡ self.old.caps) }
@@ -136,8 +138,8 @@ impl CacheEngine {
         }
     }
 
-    /// Does a command for a connector: its reply, or why it was refused. A refused command changes
-    /// nothing, and neither does one that finds no memory.
+    /// Does a command for a connector (IXLCACHE): its reply, or why it was refused. A refused command
+    /// changes nothing, and neither does one that finds no memory.
     pub fn apply(
         &mut self,
         alloc: Global,

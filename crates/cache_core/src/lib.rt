@@ -7,6 +7,8 @@ mod items;
 mod registrations;
 mod room;
 mod rows;
+#[cfg(test)]
+mod tests;
 
 pub use engine::CacheEngine;
 pub use items::{CacheItem, Holder};

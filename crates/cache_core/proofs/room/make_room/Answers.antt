@@ -1,4 +1,4 @@
-use Rattle.std.proofs.Common.{◌≡◌, ◌∙◌, not, arith}
+use Rattle.std.proofs.Common.{◌∙◌, not, arith}
 use Rattle.cache_core.specs.Row.{is_row_of}
 use Rattle.cache_core.proofs.Reclaim.{next_is, fewer_rows, with_room-step, one_row_each-filter}
 use Rattle.cache_core.proofs.room.make_room.Goals as goal

@@ -1,4 +1,3 @@
-use Rattle.std.proofs.Common.{◌≡◌, ◌∙◌}
 use Rattle.cache_core.specs.Row.{row_or_new}
 use Rattle.cache_core.proofs.RowLists.{name-row_or_new, rows_replaced-named}
 use Rattle.cache_core.proofs.rows.use_row.Goals as goal

@@ -1,8 +1,6 @@
-use Rattle.std.proofs.Common.{◌≡◌, ℕ, Some, ap}
-use Rattle.cf_types.specs.declared.names.Name16.{Name16}
+use Rattle.std.proofs.Common.{◌≡◌, Some, ap}
 use Rattle.cache_core.specs.declared.room.Request.{Request}
 use Rattle.cache_core.specs.Row.{elements_of}
-use Rattle.cache_core.specs.Request.{asked}
 use Rattle.cache_core.proofs.Steps.{refusal-write}
 use Rattle.cache_core.proofs.engine.CacheEngine.refusal.Goals as goal
 
