@@ -1,3 +1,5 @@
+ghost use Rattle.std.specs.Prelude.{◌<◌};
+
 use super::run;
 use cf_io::{MemSink, MemSource};
 use std::alloc::{AllocError, Global};
@@ -41,7 +43,9 @@ fn sink_of(alloc: Global, piece: usize, fails: &[u64]) -> Result<MemSink, Fail>
 }
 
 fn serial(alloc: Global) -> Result<Vec<String>, AllocError> {
-    vec![in alloc; String::from_str(alloc, "serial")?]
+    let mut words = Vec::new(alloc);
+    words.push(String::from_str(alloc, "serial")?)?;
+    Ok(words)
 }
 
 // The status of `serial` over these lines behind the policy, and what it wrote.
