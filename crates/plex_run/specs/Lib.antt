@@ -7,3 +7,5 @@ pub mod History
 pub mod Serial
 pub mod Report
 pub mod Headline
+pub mod Cut
+pub mod Reading

@@ -1,9 +1,13 @@
 //! The program's one call: a script comes in from a source, and the report of its run goes out to a sink.
 #![tactic(auto)]
 
+mod cuts;
+mod fields;
 mod histories;
+mod numbers;
 mod scripts;
 mod transcripts;
+mod words;
 
 pub use histories::{Ask, Entry, Reply};
 pub use scripts::{Act, Line, ReadFault, Script};

@@ -1,0 +1,4 @@
+pub mod CutLemmas
+pub mod Names
+pub mod Numerals
+pub mod WordLists
