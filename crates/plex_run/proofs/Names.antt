@@ -1,5 +1,5 @@
 -- The word of a name, and the name of a word.
-use Rattle.std.proofs.Common.{◌≡◌, ℕ, ◌+◌, ◌-◌, ◌<◌, ◌≤◌, ◌==◌, Bool, true, false, not, cond, List, [], ◌∷◌, ◌++◌, length, take, replicate, refl, sym, ap, ◌∙◌, arith, ◌&&◌, ◌||◌}
+use Rattle.std.proofs.Common.{◌≡◌, ℕ, ◌+◌, ◌-◌, ◌<◌, ◌≤◌, ◌==◌, Bool, true, false, not, cond, List, [], ◌∷◌, ◌++◌, length, take, replicate, refl, sym, ap, ◌∙◌, arith, zero, suc, ◌&&◌, ◌||◌}
 use Rattle.std.specs.List.{list_all, take_while, prefix_len}
 use Rattle.std.specs.Char.{is_ascii_alphanumeric}
 use Rattle.std.proofs.lemmas.Bool.{and_parts}
@@ -14,7 +14,8 @@ pub term_byte-above : (b : ℕ) → term_byte b ≡ true → 32 < b
 term_byte-above b h = grind (arith, nat_tests)
 
 blanks : (n : ℕ) → unpadded (replicate n 32) ≡ []
-blanks n = ?
+blanks zero = refl
+blanks (suc n) = refl
 
 pub unpadded-append : (text : List ℕ) (n : ℕ) → list_all term_byte text ≡ true → unpadded (text ++ replicate n 32) ≡ text
 unpadded-append [] n h = blanks n

@@ -7,5 +7,6 @@ pub mod History
 pub mod Serial
 pub mod Report
 pub mod Headline
+pub mod Connectors
 pub mod Cut
 pub mod Reading

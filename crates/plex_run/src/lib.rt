@@ -1,6 +1,8 @@
 //! The program's one call: a script comes in from a source, and the report of its run goes out to a sink.
 #![tactic(auto)]
 
+mod act_reader;
+mod connectors;
 mod cuts;
 mod fields;
 mod histories;

@@ -18,8 +18,7 @@ impl<'a> Model for Words<'a> {
 }
 
 impl<'a> Words<'a> {
-    ghost use Rattle.std.specs.Prelude.{◌≡◌, ◌↔◌, IsTrue, [], ◌++◌};
-    ghost use Rattle.std.specs.Option.{option_copied, option_to_list};
+    ghost use Rattle.std.specs.Prelude.{◌≡◌, ◌↔◌, IsTrue, IfSome, IfNone, [], ◌∷◌};
     ghost use Rattle.plex_run.specs.Cut.{words_of};
 
     /// All words of a line: what stands between its blanks.
@@ -31,7 +30,8 @@ impl<'a> Words<'a> {
 
     /// Takes the next word.
     pub(crate) fn next(&mut self) -> Option<&'a [u8]>
-        ensures { self.old ≡ option_to_list (option_copied result) ++ self.new }
+        ensures word { IfSome result (λ word. self.old ≡ word.now ∷ self.new) }
+        ensures none { IfNone result ((self.old ≡ []) × (self.new ≡ [])) }
     {
         let line = self.rest?;
         match cut(line, b' ') {
