@@ -11,3 +11,14 @@ pub mod LinesDone
 pub mod ClosingsDone
 pub mod OneHistory
 pub mod ByConnectors
+pub mod Acts
+pub mod CallerNames
+pub mod CutLemmas
+pub mod Items
+pub mod Names
+pub mod Numerals
+pub mod PlainWords
+pub mod WordLists
+pub mod TermWords
+pub mod LinesBack
+pub mod AskWords

@@ -10,3 +10,6 @@ pub mod Report
 pub mod Headline
 pub mod Kept
 pub mod Outcome
+pub mod Connectors
+pub mod Cut
+pub mod Reading

@@ -1,15 +1,21 @@
 //! The program's one call: a script comes in from a source, and the report of its run goes out to a sink.
 #![tactic(auto)]
 
+mod act_reader;
+mod connectors;
+mod cuts;
+mod fields;
 mod histories;
 mod laws;
+mod numbers;
 mod run;
 mod scripts;
 mod serial;
 mod structure;
 mod transcripts;
+mod words;
 
 pub use histories::{Ask, Entry, Reply};
-pub use laws::one_history;
+pub use laws::{one_history, only_reading};
 pub use scripts::{Act, Line, ReadFault, Script};
 pub use transcripts::{Shown, Transcript};
