@@ -88,18 +88,18 @@ same_in_bounds (Writes name index body class) (Writes name' index' body' class')
     let bodies : body ≡ body' = cc e in
     let classes : class ≡ class' = decimal_injective class class' (omega (arith, h.3)) (omega (arith, k.3)) (cc e) in
     cc
-same_in_bounds Joins Departs h k e = let clash : 67 ≡ 68 = ap letter e in absurd (omega arith)
-same_in_bounds Joins (Reads name index) h k e = let clash : 67 ≡ 82 = ap letter e in absurd (omega arith)
-same_in_bounds Joins (Writes name index body class) h k e = let clash : 67 ≡ 87 = ap letter e in absurd (omega arith)
-same_in_bounds Departs Joins h k e = let clash : 68 ≡ 67 = ap letter e in absurd (omega arith)
-same_in_bounds Departs (Reads name index) h k e = let clash : 68 ≡ 82 = ap letter e in absurd (omega arith)
-same_in_bounds Departs (Writes name index body class) h k e = let clash : 68 ≡ 87 = ap letter e in absurd (omega arith)
-same_in_bounds (Reads name index) Joins h k e = let clash : 82 ≡ 67 = ap letter e in absurd (omega arith)
-same_in_bounds (Reads name index) Departs h k e = let clash : 82 ≡ 68 = ap letter e in absurd (omega arith)
-same_in_bounds (Reads name index) (Writes name' index' body class) h k e = let clash : 82 ≡ 87 = ap letter e in absurd (omega arith)
-same_in_bounds (Writes name index body class) Joins h k e = let clash : 87 ≡ 67 = ap letter e in absurd (omega arith)
-same_in_bounds (Writes name index body class) Departs h k e = let clash : 87 ≡ 68 = ap letter e in absurd (omega arith)
-same_in_bounds (Writes name index body class) (Reads name' index') h k e = let clash : 87 ≡ 82 = ap letter e in absurd (omega arith)
+same_in_bounds Joins Departs h k e = let clash : 67 ≡ 68 = ap letter e in absurd (omega (arith, clash))
+same_in_bounds Joins (Reads name index) h k e = let clash : 67 ≡ 82 = ap letter e in absurd (omega (arith, clash))
+same_in_bounds Joins (Writes name index body class) h k e = let clash : 67 ≡ 87 = ap letter e in absurd (omega (arith, clash))
+same_in_bounds Departs Joins h k e = let clash : 68 ≡ 67 = ap letter e in absurd (omega (arith, clash))
+same_in_bounds Departs (Reads name index) h k e = let clash : 68 ≡ 82 = ap letter e in absurd (omega (arith, clash))
+same_in_bounds Departs (Writes name index body class) h k e = let clash : 68 ≡ 87 = ap letter e in absurd (omega (arith, clash))
+same_in_bounds (Reads name index) Joins h k e = let clash : 82 ≡ 67 = ap letter e in absurd (omega (arith, clash))
+same_in_bounds (Reads name index) Departs h k e = let clash : 82 ≡ 68 = ap letter e in absurd (omega (arith, clash))
+same_in_bounds (Reads name index) (Writes name' index' body class) h k e = let clash : 82 ≡ 87 = ap letter e in absurd (omega (arith, clash))
+same_in_bounds (Writes name index body class) Joins h k e = let clash : 87 ≡ 67 = ap letter e in absurd (omega (arith, clash))
+same_in_bounds (Writes name index body class) Departs h k e = let clash : 87 ≡ 68 = ap letter e in absurd (omega (arith, clash))
+same_in_bounds (Writes name index body class) (Reads name' index') h k e = let clash : 87 ≡ 82 = ap letter e in absurd (omega (arith, clash))
 
 pub same_ask : (a b : Ask) → IsPlain a → IsPlain b → ask_words a ≡ ask_words b → a ≡ b
 same_ask a b h k e =

@@ -22,3 +22,8 @@ pub mod WordLists
 pub mod TermWords
 pub mod LinesBack
 pub mod AskWords
+pub mod Each
+pub mod EntryLines
+pub mod ShownLines
+pub mod Followed
+pub mod ReportFixes

@@ -29,12 +29,12 @@ same_line l m xs ys free_l free_m e = same_divided 10 l [] m [] (text_of xs) (te
 
 -- ---- headings
 
-heading-number : (word name : List ℕ) (n : ℕ) → heading word name n ≡ (word ++ 32 ∷ name ++ 32 ∷ []) ++ decimal n
+heading-number : (word name : List ℕ) (n : ℕ) → heading word name n ≡ (word ++ (32 ∷ name ++ 32 ∷ [])) ++ decimal n
 heading-number word name n =
-    ap (λ (ds : List ℕ). word ++ 32 ∷ name ++ 32 ∷ ds) (append-nil (decimal n)) ∙ sym (joined word name (decimal n))
+    ap (λ (ds : List ℕ). word ++ (32 ∷ name ++ 32 ∷ ds)) (append-nil (decimal n)) ∙ sym (joined word name (decimal n))
   where
-    joined : (a b c : List ℕ) → (a ++ 32 ∷ b ++ 32 ∷ []) ++ c ≡ a ++ 32 ∷ b ++ 32 ∷ c
-    joined a b c = append_assoc a (32 ∷ b ++ 32 ∷ []) c ∙ ap (λ (t : List ℕ). a ++ 32 ∷ t) (append_assoc b (32 ∷ []) c)
+    joined : (a b c : List ℕ) → (a ++ (32 ∷ b ++ 32 ∷ [])) ++ c ≡ a ++ (32 ∷ b ++ 32 ∷ c)
+    joined a b c = append_assoc a (32 ∷ b ++ 32 ∷ []) c ∙ ap (λ (t : List ℕ). a ++ (32 ∷ t)) (append_assoc b (32 ∷ []) c)
 
 same_number : (front : List ℕ) (m n : ℕ) (xs ys : List (List ℕ)) → m < 2 ^ 64 → n < 2 ^ 64
     → text_of ((front ++ decimal m) ∷ xs) ≡ text_of ((front ++ decimal n) ∷ ys) → (m ≡ n) × (text_of xs ≡ text_of ys)
@@ -53,7 +53,7 @@ same_number front m n xs ys small_m small_n e =
 pub same_count : (word name : List ℕ) (m n : ℕ) (xs ys : List (List ℕ)) → m < 2 ^ 64 → n < 2 ^ 64
     → text_of (heading word name m ∷ xs) ≡ text_of (heading word name n ∷ ys) → (m ≡ n) × (text_of xs ≡ text_of ys)
 same_count word name m n xs ys small_m small_n e =
-    let front : List ℕ = word ++ 32 ∷ name ++ 32 ∷ [] in
+    let front : List ℕ = word ++ (32 ∷ name ++ 32 ∷ []) in
     same_number front m n xs ys small_m small_n
     (ap (λ (line : List ℕ). text_of (line ∷ xs)) (sym (heading-number word name m)) ∙ e
      ∙ ap (λ (line : List ℕ). text_of (line ∷ ys)) (heading-number word name n))
