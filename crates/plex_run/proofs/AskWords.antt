@@ -1,6 +1,5 @@
 -- The words of a command fix it, where it stands in a script's form or is a departure.
-use Rattle.std.proofs.Common.{◌≡◌, ℕ, ◌<◌, ◌≤◌, ◌^◌, true, false, List, [], ◌∷◌, ◌++◌, Option, Some, None, codes, get_or, refl, sym, ap, ◌∙◌, arith}
-use Rattle.std.specs.Fmt.{decimal}
+use Rattle.std.proofs.Common.{◌≡◌, ℕ, ◌<◌, ◌≤◌, true, false, List, [], ◌∷◌, Some, None, get_or, refl, sym, ap, ◌∙◌, arith}
 use Rattle.std.proofs.lemmas.Fmt.{decimal_injective}
 use Rattle.cf_types.specs.declared.names.Name16.{Name16}
 use Rattle.cf_types.specs.declared.cache_commands.CacheCmd.TheVariants.{Read, Write}
@@ -9,9 +8,9 @@ use Rattle.cf_types.specs.Term.{IsPadded, IsTerm}
 use Rattle.plex_run.specs.declared.histories.Ask.{Ask}
 use Rattle.plex_run.specs.declared.histories.Ask.TheVariants.{Shell, Content}
 use Rattle.plex_run.specs.Form.{IsAsk}
-use Rattle.plex_run.specs.Spelling.{ask_words, name_word}
+use Rattle.plex_run.specs.Spelling.{ask_words}
 use Rattle.plex_run.proofs.Names.{same_by_word}
-use Rattle.plex_run.proofs.TermWords.{is_term, are_terms, is_term-decimal, is_term-name}
+use Rattle.plex_run.proofs.TermWords.{are_terms, is_term-decimal, is_term-name}
 
 -- the commands without options
 pub data PlainAsk : Type 0 where

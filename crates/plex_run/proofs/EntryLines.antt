@@ -1,6 +1,6 @@
 -- The lines of a legal history fix it.
-use Rattle.std.proofs.Common.{◌≡◌, ℕ, zero, suc, ◌+◌, ◌-◌, ◌<◌, ◌≤◌, ◌^◌, ◌&&◌, Bool, true, List, [], ◌∷◌, ◌++◌, length, map, take, slice_get, Option, Some, position, codes, refl, sym, ap, subst, ◌∙◌, arith, append_assoc, length-append}
-use Rattle.std.specs.List.{AllByRecursion, list_all}
+use Rattle.std.proofs.Common.{◌≡◌, ℕ, ◌+◌, ◌-◌, ◌<◌, ◌≤◌, ◌^◌, true, List, [], ◌∷◌, ◌++◌, length, map, take, slice_get, Some, position, codes, refl, sym, ap, subst, ◌∙◌, arith, append_assoc, length-append}
+use Rattle.std.specs.List.{AllByRecursion}
 use Rattle.std.specs.Fmt.{decimal}
 use Rattle.std.proofs.Math.Seq.{take-append_seam}
 use Rattle.std.proofs.lemmas.Bool.{and_from}
@@ -12,7 +12,6 @@ use Rattle.cf_types.specs.Name.{same_name}
 use Rattle.plex_run.specs.declared.histories.Ask.{Ask}
 use Rattle.plex_run.specs.declared.histories.Entry.{Entry}
 use Rattle.plex_run.specs.Connectors.{AreConnectors}
-use Rattle.plex_run.specs.Cut.{is_free}
 use Rattle.plex_run.specs.Headline.{IsConnNumber}
 use Rattle.plex_run.specs.History.{next_entry, IsLegal}
 use Rattle.plex_run.specs.Report.{entry_line}
@@ -64,7 +63,8 @@ front_line names entry = line_of (decimal entry.no ∷ asked_words names entry)
 spaced-arrow : (words reply : List (List ℕ)) → spaced (words ++ codes "->" ∷ reply) ≡ spaced (words ++ (45 ∷ []) ∷ []) ++ 62 ∷ spaced reply
 spaced-arrow [] reply = refl
 spaced-arrow (word ∷ words) reply =
-    ap (λ (t : List ℕ). (32 ∷ word) ++ t) (spaced-arrow words reply) ∙ sym (append_assoc (32 ∷ word) (spaced (words ++ (45 ∷ []) ∷ [])) (62 ∷ spaced reply))
+    ap (λ (t : List ℕ). (32 ∷ word) ++ t) (spaced-arrow words reply)
+    ∙ sym (append_assoc (32 ∷ word) (spaced (words ++ (45 ∷ []) ∷ [])) (62 ∷ spaced reply))
 
 entry_line-divided : (names : List Name16) (entry : Entry)
     → entry_line names entry ≡ front_line names entry ++ 62 ∷ spaced (reply_words entry.reply)
@@ -98,15 +98,16 @@ same_call names a b xs ys good h k e =
     let terms_a = terms_front names a good h in
     let terms_b = terms_front names b good k in
     let fronts = same_divided 62 (front_line names a) (spaced (reply_words a.reply)) (front_line names b) (spaced (reply_words b.reply))
-        (10 ∷ text_of xs) (10 ∷ text_of ys)
-        (is_free-terms 62 (decimal a.no ∷ asked_words names a) refl refl terms_a)
-        (is_free-terms 62 (decimal b.no ∷ asked_words names b) refl refl terms_b)
-        (sym (text-divided names a xs) ∙ e ∙ text-divided names b ys) in
+    (10 ∷ text_of xs) (10 ∷ text_of ys)
+    (is_free-terms 62 (decimal a.no ∷ asked_words names a) refl refl terms_a)
+    (is_free-terms 62 (decimal b.no ∷ asked_words names b) refl refl terms_b)
+    (sym (text-divided names a xs) ∙ e ∙ text-divided names b ys) in
     let words = same_words (decimal a.no) (decimal b.no) (asked_words names a) (asked_words names b) terms_a terms_b fronts.0 in
     let parts = behind_first (decimal a.no) (caller_word names a.by) (decimal b.no) (caller_word names b.by)
-        (ask_words a.ask ++ (45 ∷ []) ∷ []) (ask_words b.ask ++ (45 ∷ []) ∷ []) words in
-    (same_caller names a.by b.by good h.by k.by parts.0,
-     same_ask a.ask b.ask h.ask k.ask (append_cancel_right (ask_words a.ask) (ask_words b.ask) ((45 ∷ []) ∷ []) parts.1))
+    (ask_words a.ask ++ (45 ∷ []) ∷ []) (ask_words b.ask ++ (45 ∷ []) ∷ []) words in (
+      same_caller names a.by b.by good h.by k.by parts.0,
+      same_ask a.ask b.ask h.ask k.ask (append_cancel_right (ask_words a.ask) (ask_words b.ask) ((45 ∷ []) ∷ []) parts.1),
+    )
 
 -- ---- legal histories, entry by entry
 
@@ -124,9 +125,10 @@ continues_behind before [] legal = tt
 continues_behind before (entry ∷ entries) legal =
     let next : entry ≡ next_entry (take (length before) (before ++ entry ∷ entries)) entry.by entry.ask =
     legal (length before) entry (slice_get-seam before entries entry) in
-    let front : take (length before) (before ++ entry ∷ entries) ≡ before = take-append_seam before (entry ∷ entries) in
-    (subst (λ (history : List Entry). entry ≡ next_entry history entry.by entry.ask) front next,
-     continues_behind (before ++ entry ∷ []) entries (subst IsLegal (sym (append_assoc before (entry ∷ []) entries)) legal))
+    let front : take (length before) (before ++ entry ∷ entries) ≡ before = take-append_seam before (entry ∷ entries) in (
+      subst (λ (history : List Entry). entry ≡ next_entry history entry.by entry.ask) front next,
+      continues_behind (before ++ entry ∷ []) entries (subst IsLegal (sym (append_assoc before (entry ∷ []) entries)) legal),
+    )
 
 pub continues_legal : (history : List Entry) → IsLegal history → Continues [] history
 continues_legal history legal = continues_behind [] history legal
@@ -156,8 +158,8 @@ same_entries names before (entry ∷ history) (entry' ∷ history') xs ys good s
     continues.0 ∙ ap (λ (by : ConnId). next_entry before by entry.ask) call.0 ∙ ap (λ (asked : Ask). next_entry before entry'.by asked) call.1
     ∙ sym continues'.0 in
     let behind = same_behind (entry_line names entry' ∷ []) (map (entry_line names) history ++ xs) (map (entry_line names) history' ++ ys)
-        (ap (λ (first : Entry). text_of (entry_line names first ∷ map (entry_line names) history ++ xs)) (sym same) ∙ e) in
+    (ap (λ (first : Entry). text_of (entry_line names first ∷ map (entry_line names) history ++ xs)) (sym same) ∙ e) in
     let more = same_entries names (before ++ entry' ∷ []) history history' xs ys good (omega arith)
-        (subst (λ (first : Entry). Continues (before ++ first ∷ []) history) same continues.1) continues'.1 each.1 each'.1 behind in
+    (subst (λ (first : Entry). Continues (before ++ first ∷ []) history) same continues.1) continues'.1 each.1 each'.1 behind in
     let rest : history ≡ history' = more.0 in
     (cc, more.1)

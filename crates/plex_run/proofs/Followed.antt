@@ -1,12 +1,11 @@
 -- What the commands and the items are, where transcripts follow a script in form.
-use Rattle.std.proofs.Common.{◌≡◌, ℕ, zero, suc, ◌+◌, ◌<◌, ◌≤◌, ◌==◌, ◌^◌, Bool, true, false, not, if◌then◌else◌, cond, List, [], ◌∷◌, ◌++◌, length, map, filter, slice_get, slice_index_or, Some, All, refl, sym, ap, subst, ◌∙◌, arith, eq-eqb, length-append}
+use Rattle.std.proofs.Common.{◌≡◌, ℕ, suc, ◌+◌, ◌<◌, ◌≤◌, ◌==◌, ◌^◌, Bool, true, false, not, if◌then◌else◌, cond, List, [], ◌∷◌, ◌++◌, length, map, filter, slice_get, slice_index_or, Some, refl, sym, ap, subst, ◌∙◌, arith, eq-eqb, length-append}
 use Rattle.std.specs.List.{AllByRecursion}
 use Rattle.std.proofs.lemmas.List.{length-map}
 use Rattle.std.proofs.lemmas.List.Elements.{recursion_from_All, All-from_get_or}
 use Rattle.std.proofs.lemmas.List.Filters.{length-filter_both}
 use Rattle.cf_types.specs.declared.numbers.ConnId.{ConnId}
 use Rattle.cf_types.specs.declared.shell_commands.ShellCmd.TheVariants.{Disconnect}
-use Rattle.plex_run.specs.declared.histories.Ask.{Ask}
 use Rattle.plex_run.specs.declared.histories.Ask.TheVariants.{Shell}
 use Rattle.plex_run.specs.declared.histories.Entry.{Entry}
 use Rattle.plex_run.specs.declared.scripts.Act.{Act}
@@ -17,7 +16,7 @@ use Rattle.plex_run.specs.declared.transcripts.Shown.TheVariants as shown
 use Rattle.plex_run.specs.Plan.{Plan}
 use Rattle.plex_run.specs.Form.{InForm, IsAct}
 use Rattle.plex_run.specs.History.{own}
-use Rattle.plex_run.specs.Headline.{lines_of, Plays, is_linked, closing_of, Follows, TestsTell, IsConnNumber, IsOneHistory}
+use Rattle.plex_run.specs.Headline.{Plays, is_linked, closing_of, Follows, TestsTell, IsConnNumber, IsOneHistory}
 use Rattle.plex_run.proofs.AskWords.{IsPlain, plain_ask, plain_departs}
 use Rattle.plex_run.proofs.Each.{each_both, each_append, each_front, each_back, each_kept}
 use Rattle.plex_run.proofs.EntryLines.{IsReadable, continues_legal, numbers_within}
@@ -153,9 +152,10 @@ short_item n small (shown.Test index bit at) placed within = (placed, omega arit
 each_by_caller : (P : Entry → Type 0) (n : ℕ) (history : List Entry) → AllByRecursion (λ entry. entry.by.0 ≤ n) history
     → ((c : ℕ) → c ≤ n → AllByRecursion P (own history (record { 0 = c }))) → AllByRecursion P history
 each_by_caller P n [] known own_each = tt
-each_by_caller P n (entry ∷ history) known own_each =
-    (first (entry.by.0 == entry.by.0) (eq-eqb entry.by.0 entry.by.0 refl) (own_each entry.by.0 known.0),
-     each_by_caller P n history known.1 (λ c within. rest c (entry.by.0 == c) (own_each c within)))
+each_by_caller P n (entry ∷ history) known own_each = (
+  first (entry.by.0 == entry.by.0) (eq-eqb entry.by.0 entry.by.0 refl) (own_each entry.by.0 known.0),
+  each_by_caller P n history known.1 (λ c within. rest c (entry.by.0 == c) (own_each c within)),
+)
   where
     first : (same : Bool) → same ≡ true
         → AllByRecursion P (cond same (entry ∷ own history entry.by) (own history entry.by)) → P entry
@@ -208,4 +208,4 @@ short_transcripts script history transcripts form small one =
     recursion_from_All AreShort transcripts
     (All-from_get_or AreShort transcripts []
     (λ c bound. short_items script history (record { 0 = c }) (slice_index_or transcripts c []) form small
-      (numbers_of script history transcripts one) (one.follows c bound) (one.tests c bound)))
+    (numbers_of script history transcripts one) (one.follows c bound) (one.tests c bound)))

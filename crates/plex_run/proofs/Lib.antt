@@ -27,3 +27,4 @@ pub mod EntryLines
 pub mod ShownLines
 pub mod Followed
 pub mod ReportFixes
+pub mod SerialLength

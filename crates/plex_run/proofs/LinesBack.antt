@@ -4,11 +4,10 @@ use Rattle.std.specs.Fmt.{decimal}
 use Rattle.std.proofs.lemmas.List.{append_cancel_left}
 use Rattle.std.proofs.lemmas.Fmt.{decimal_injective}
 use Rattle.plex_run.specs.Cut.{is_free}
-use Rattle.plex_run.specs.Words.{line_of, text_of}
+use Rattle.plex_run.specs.Words.{text_of}
 use Rattle.plex_run.specs.Report.{heading}
 use Rattle.plex_run.proofs.CutLemmas.{same_cut}
-use Rattle.plex_run.proofs.WordLists.{words_of-line_of}
-use Rattle.plex_run.proofs.TermWords.{is_term, is_term-decimal, is_free-term}
+use Rattle.plex_run.proofs.TermWords.{is_term-decimal, is_free-term}
 
 -- behind a front that is the same
 pub same_behind : (front xs ys : List (List ℕ)) → text_of (front ++ xs) ≡ text_of (front ++ ys) → text_of xs ≡ text_of ys
@@ -43,7 +42,7 @@ same_number front m n xs ys small_m small_n e =
     append_cancel_left front ((decimal m ++ 10 ∷ []) ++ text_of xs) ((decimal n ++ 10 ∷ []) ++ text_of ys)
     (sym (moved (decimal m) (text_of xs)) ∙ e ∙ moved (decimal n) (text_of ys)) in
     let parts = same_line (decimal m) (decimal n) xs ys
-        (is_free-term 10 (decimal m) refl (is_term-decimal m small_m)) (is_free-term 10 (decimal n) refl (is_term-decimal n small_n)) behind in
+    (is_free-term 10 (decimal m) refl (is_term-decimal m small_m)) (is_free-term 10 (decimal n) refl (is_term-decimal n small_n)) behind in
     (decimal_injective m n small_m small_n parts.0, parts.1)
   where
     moved : (b c : List ℕ) → ((front ++ b) ++ 10 ∷ []) ++ c ≡ front ++ ((b ++ 10 ∷ []) ++ c)
@@ -56,4 +55,4 @@ same_count word name m n xs ys small_m small_n e =
     let front : List ℕ = word ++ (32 ∷ name ++ 32 ∷ []) in
     same_number front m n xs ys small_m small_n
     (ap (λ (line : List ℕ). text_of (line ∷ xs)) (sym (heading-number word name m)) ∙ e
-     ∙ ap (λ (line : List ℕ). text_of (line ∷ ys)) (heading-number word name n))
+    ∙ ap (λ (line : List ℕ). text_of (line ∷ ys)) (heading-number word name n))

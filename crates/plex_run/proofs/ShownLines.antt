@@ -1,5 +1,5 @@
 -- The lines of transcripts fix them.
-use Rattle.std.proofs.Common.{◌≡◌, ℕ, ◌+◌, ◌<◌, ◌≤◌, ◌^◌, Bool, true, false, List, [], ◌∷◌, ◌++◌, length, map, codes, get_or, refl, sym, ap, ◌∙◌, arith, append_assoc}
+use Rattle.std.proofs.Common.{◌≡◌, ℕ, ◌+◌, ◌<◌, ◌^◌, Bool, true, false, List, [], ◌∷◌, ◌++◌, length, map, codes, get_or, refl, sym, ap, ◌∙◌, arith, append_assoc}
 use Rattle.std.specs.List.{AllByRecursion}
 use Rattle.std.specs.Fmt.{decimal}
 use Rattle.std.proofs.lemmas.Fmt.{decimal_injective}
@@ -77,7 +77,7 @@ same_items [] (item' ∷ items') xs ys same_length each each' e = absurd (omega 
 same_items (item ∷ items) [] xs ys same_length each each' e = absurd (omega arith)
 same_items (item ∷ items) (item' ∷ items') xs ys same_length each each' e =
     let lines = same_line (shown_line item) (shown_line item') (map shown_line items ++ xs) (map shown_line items' ++ ys)
-        (free_item item each.0) (free_item item' each'.0) e in
+    (free_item item each.0) (free_item item' each'.0) e in
     let same : item ≡ item' = same_shown item item' each.0 each'.0 lines.0 in
     let more = same_items items items' xs ys (omega arith) each.1 each'.1 lines.1 in
     let rest : items ≡ items' = more.0 in
@@ -104,9 +104,9 @@ same_transcripts names first (items ∷ transcripts) (items' ∷ transcripts') x
     let more = transcripts_lines names (first + 1) transcripts in
     let more' = transcripts_lines names (first + 1) transcripts' in
     let counts = same_count (codes "TRANSCRIPT") (caller_word names (record { 0 = first })) (length items) (length items')
-        (map shown_line items ++ more ++ xs) (map shown_line items' ++ more' ++ ys) each.0.few each'.0.few e in
+    (map shown_line items ++ more ++ xs) (map shown_line items' ++ more' ++ ys) each.0.few each'.0.few e in
     let shows = same_items items items' (more ++ xs) (more' ++ ys) counts.0 each.0.each each'.0.each
-        (sym (text-joined (map shown_line items) more xs) ∙ counts.1 ∙ text-joined (map shown_line items') more' ys) in
+    (sym (text-joined (map shown_line items) more xs) ∙ counts.1 ∙ text-joined (map shown_line items') more' ys) in
     let same : items ≡ items' = shows.0 in
     let rest : transcripts ≡ transcripts' =
     same_transcripts names (first + 1) transcripts transcripts' xs ys (omega arith) each.1 each'.1 shows.1 in

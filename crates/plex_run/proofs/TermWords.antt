@@ -1,5 +1,5 @@
 -- Words of term characters: a line of such words fixes them.
-use Rattle.std.proofs.Common.{◌≡◌, ℕ, ◌+◌, ◌<◌, ◌≤◌, ◌==◌, ◌^◌, ◌&&◌, Bool, true, false, not, List, [], ◌∷◌, refl, sym, ap, ◌∙◌, arith, eqb-true}
+use Rattle.std.proofs.Common.{◌≡◌, ℕ, ◌<◌, ◌≤◌, ◌==◌, ◌^◌, Bool, true, false, not, List, [], ◌∷◌, refl, sym, ap, ◌∙◌, arith, eqb-true}
 use Rattle.std.specs.List.{list_all}
 use Rattle.std.specs.Fmt.{decimal}
 use Rattle.std.specs.Str.Parse.{AllDigits}
@@ -56,7 +56,8 @@ are_free at (word ∷ words) none h =
     and_from (is_free at word) (list_all (is_free at) words) (is_free-term at word none parts.0) (are_free at words none parts.1)
 
 -- of the bytes that are no term characters only the blank stands in a line
-pub is_free-terms : (at : ℕ) (words : List (List ℕ)) → term_byte at ≡ false → at == 32 ≡ false → are_terms words ≡ true → is_free at (line_of words) ≡ true
+pub is_free-terms : (at : ℕ) (words : List (List ℕ)) → term_byte at ≡ false → at == 32 ≡ false → are_terms words ≡ true
+    → is_free at (line_of words) ≡ true
 is_free-terms at words none other h = is_free-line_of at words other (are_free at words none h)
 
 -- lines of such words are equal only where the words are
