@@ -11,7 +11,7 @@ use Rattle.plex_run.specs.declared.scripts.Act.{Act}
 use Rattle.plex_run.specs.declared.scripts.Act.TheVariants.{Call, Test}
 use Rattle.plex_run.specs.Form.{IsAct, act_words}
 use Rattle.plex_run.specs.Spelling.{name_word}
-use Rattle.plex_run.proofs.Names.{same_by_word}
+use Rattle.plex_run.proofs.NameWords.{same_by_word}
 
 -- the first byte of the first word
 abbrev first_byte : List (List ℕ) → ℕ

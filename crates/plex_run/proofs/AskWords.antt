@@ -9,7 +9,7 @@ use Rattle.plex_run.specs.declared.histories.Ask.{Ask}
 use Rattle.plex_run.specs.declared.histories.Ask.TheVariants.{Shell, Content}
 use Rattle.plex_run.specs.Form.{IsAsk}
 use Rattle.plex_run.specs.Spelling.{ask_words}
-use Rattle.plex_run.proofs.Names.{same_by_word}
+use Rattle.plex_run.proofs.NameWords.{same_by_word}
 use Rattle.plex_run.proofs.TermWords.{are_terms, is_term-decimal, is_term-name}
 
 -- the commands without options

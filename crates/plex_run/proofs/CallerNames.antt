@@ -13,7 +13,7 @@ use Rattle.cf_types.specs.Term.{IsPadded}
 use Rattle.plex_run.specs.Connectors.{AreConnectors}
 use Rattle.plex_run.specs.Form.{IsConnector, are_distinct}
 use Rattle.plex_run.specs.Spelling.{name_word, caller_word}
-use Rattle.plex_run.proofs.Names.{same_by_word}
+use Rattle.plex_run.proofs.NameWords.{same_by_word}
 
 -- ---- names that are the same
 

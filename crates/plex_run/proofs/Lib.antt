@@ -15,7 +15,7 @@ pub mod Acts
 pub mod CallerNames
 pub mod CutLemmas
 pub mod Items
-pub mod Names
+pub mod NameWords
 pub mod Numerals
 pub mod PlainWords
 pub mod WordLists
@@ -28,3 +28,6 @@ pub mod ShownLines
 pub mod Followed
 pub mod ReportFixes
 pub mod SerialLength
+pub mod Names
+pub mod ReportLines
+pub mod Written

@@ -21,7 +21,7 @@ use Rattle.plex_run.specs.Form.{IsAct, IsConnector, IsLine, act_words, line_word
 use Rattle.plex_run.specs.Spelling.{name_word, caller_word}
 use Rattle.plex_run.specs.Words.{line_of}
 use Rattle.plex_run.proofs.CallerNames.{IsCaller-place, IsConnector-at}
-use Rattle.plex_run.proofs.Names.{term_byte-above}
+use Rattle.plex_run.proofs.NameWords.{term_byte-above}
 use Rattle.plex_run.proofs.WordLists.{words_of-line_of, is_free-line_of}
 
 -- each byte stands behind the blank

@@ -9,6 +9,7 @@ pub mod Serial
 pub mod Report
 pub mod Headline
 pub mod Kept
+pub mod Written
 pub mod Outcome
 pub mod Connectors
 pub mod Cut

@@ -2,8 +2,8 @@
 use Rattle.std.specs.Prelude.{◌≡◌, ◌≢◌, ◌⊎◌, ◌↔◌, ℕ, ◌≤◌, ◌<◌, ◌==◌, Bool, if◌then◌else◌, List, [], ◌∷◌, ◌++◌, take, length, map, Option, None, Some, IfSome, codes, String, string_bytes, nat_eq, IsTrue}
 use Rattle.std.specs.List.{list_any}
 use Rattle.std.specs.Io.KnownBytes.{Appends}
-use Rattle.cf_io.specs.Count.{Rises}
 use Rattle.plex_run.specs.Plan.{Plan}
+use Rattle.plex_run.specs.Written.{Gains, GainsPrefix}
 use Rattle.plex_run.specs.Form.{IsScript}
 use Rattle.plex_run.specs.Serial.{serial_run}
 use Rattle.plex_run.specs.Report.{report}
@@ -20,15 +20,6 @@ IsSerial words = map string_bytes words ≡ codes "serial" ∷ []
 -- the statuses of the program
 abbrev pub IsStatus : ℕ → Type 0
 IsStatus status = IsTrue (list_any (nat_eq status) (0 ∷ 2 ∷ 3 ∷ 4 ∷ 5 ∷ 6 ∷ 7 ∷ []))
-
--- a sink gained a text: whole, unless its count of faults rose, and then a front of it
-abbrev pub Gains : Option (List ℕ) → Option (List ℕ) → ℕ → ℕ → List ℕ → Type 0
-Gains held held_now faults faults_now text =
-    Appends held held_now text ⊎ (Rises faults faults_now × ((n : ℕ) × Appends held held_now (take n text)))
-
--- a sink gained a front of a text
-abbrev pub GainsFront : Option (List ℕ) → Option (List ℕ) → List ℕ → Type 0
-GainsFront held held_now text = (n : ℕ) × Appends held held_now (take n text)
 
 -- what is written with the statuses that have no report
 abbrev pub status_line : ℕ → Option (List ℕ)
@@ -64,7 +55,7 @@ WritesOneHistory held held_now text =
 
 -- a front of the report of the text's script was written
 abbrev pub WritesFront : Option (List ℕ) → Option (List ℕ) → List ℕ → Type 0
-WritesFront held held_now text = (script : Plan) × IsScript text script × GainsFront held held_now (serial_report script)
+WritesFront held held_now text = (script : Plan) × IsScript text script × GainsPrefix held held_now (serial_report script)
 
 -- nothing, or a front of the report of the text's script
 abbrev pub IsReportFront : List ℕ → List ℕ → Type 0

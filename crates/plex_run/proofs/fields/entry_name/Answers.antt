@@ -4,7 +4,7 @@ use Rattle.cf_types.specs.declared.names.Name16.{Name16}
 use Rattle.cf_types.specs.declared.names.NameFault.{NameFault}
 use Rattle.cf_types.specs.Term.{IsTerm, IsPadded, padded, unpadded}
 use Rattle.plex_run.specs.Spelling.{name_word}
-use Rattle.plex_run.proofs.Names.{IsPadded-padded, unpadded-padded}
+use Rattle.plex_run.proofs.NameWords.{IsPadded-padded, unpadded-padded}
 use Rattle.plex_run.proofs.fields.entry_name.Goals as goal
 
 found_name : (word : List ℕ) (r : Result Name16 NameFault) → (IsOk r ↔ IsTerm 16 word) → IfOk r (λ name. name.0 ≡ padded word)

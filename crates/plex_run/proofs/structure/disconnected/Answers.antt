@@ -1,4 +1,0 @@
-use Rattle.plex_run.proofs.structure.disconnected.Goals as goal
-
-pub leave-requires : goal.leave-requires
-leave-requires c = ?
