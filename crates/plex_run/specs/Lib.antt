@@ -11,3 +11,6 @@ pub mod Headline
 pub mod Kept
 pub mod Written
 pub mod Outcome
+pub mod Connectors
+pub mod Cut
+pub mod Reading

@@ -7,7 +7,7 @@ use Rattle.plex_run.specs.Written.{Gains, GainsPrefix}
 use Rattle.plex_run.specs.Form.{IsScript}
 use Rattle.plex_run.specs.Serial.{serial_run}
 use Rattle.plex_run.specs.Report.{report}
-use Rattle.plex_run.specs.Headline.{IsOneHistory}
+use Rattle.plex_run.specs.Headline.{IsOneHistory, IsOnlyReading}
 
 -- the greatest length of a script, in bytes
 abbrev pub script_limit : ℕ
@@ -46,12 +46,12 @@ abbrev pub WritesReport : Option (List ℕ) → Option (List ℕ) → List ℕ �
 WritesReport held held_now text = (script : Plan) × IsScript text script × Appends held held_now (serial_report script)
 
 -- what was written shows one history: it is legal, holds each caller's calls once and in their order, and each test tells what stood at
--- a numbered point of it
+-- a numbered point of it. No other history and transcripts of the script have this report
 abbrev pub WritesOneHistory : Option (List ℕ) → Option (List ℕ) → List ℕ → Type 0
 WritesOneHistory held held_now text =
     (script : Plan) × (let run = serial_run script in
-      IsScript text script × IsOneHistory script run.history run.transcripts
-      × Appends held held_now (report script.connectors run.history run.transcripts))
+    IsScript text script × IsOneHistory script run.history run.transcripts × IsOnlyReading script run.history run.transcripts
+    × Appends held held_now (report script.connectors run.history run.transcripts))
 
 -- a front of the report of the text's script was written
 abbrev pub WritesFront : Option (List ℕ) → Option (List ℕ) → List ℕ → Type 0

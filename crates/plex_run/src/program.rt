@@ -146,6 +146,7 @@ pub fn run<S: Source, K: Sink>(
     // The bytes that the source had left are a script, and what is written is the report of its run on one thread, whole and nothing else.
     ensures served { result ≡ 0 → IfSome (S.left source.old) (WritesReport (K.held sink.old) (K.held sink.new)) }
     // That report shows one legal history, each caller's calls in it once and in their order, and tests that tell what stood at a numbered point of it.
+    // No other history and transcripts of the script have that report.
     ensures headline { result ≡ 0 → IfSome (S.left source.old) (WritesOneHistory (K.held sink.old) (K.held sink.new)) }
 
     // Each other status has its cause.

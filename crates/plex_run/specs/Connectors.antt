@@ -1,0 +1,10 @@
+-- The names that a script's connectors may have together.
+use Rattle.std.specs.Prelude.{ℕ, ◌≤◌, IsTrue, List, length, All}
+use Rattle.cf_types.specs.declared.names.Name16.{Name16}
+use Rattle.plex_run.specs.Form.{IsConnector, are_distinct}
+
+-- at most 4 names of connectors, each once
+pub record AreConnectors (names : List Name16) : Type 0 where
+  pub few : length names ≤ 4
+  pub each : All IsConnector names
+  pub distinct : IsTrue (are_distinct names)
