@@ -30,9 +30,6 @@ pub false_if_not : (b : Bool) → (b ≡ true → ⊥) → b ≡ false
 false_if_not true h = absurd (h refl)
 false_if_not false h = refl
 
-pub some_is_not_none : {X : Type 0} (x : X) → Some x ≡ None → ⊥
-some_is_not_none x h = cc
-
 -- ---- places
 
 any_at : (p : Name16 → Bool) (xs : List Name16) (j : ℕ) (x : Name16) → slice_get xs j ≡ Some x → p x ≡ true → list_any p xs ≡ true

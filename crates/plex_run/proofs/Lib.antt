@@ -4,5 +4,6 @@ pub mod CutLemmas
 pub mod Items
 pub mod Names
 pub mod Numerals
+pub mod Options
 pub mod PlainWords
 pub mod WordLists

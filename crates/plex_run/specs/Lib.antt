@@ -7,6 +7,7 @@ pub mod History
 pub mod Serial
 pub mod Report
 pub mod Headline
+pub mod Bodies
 pub mod Connectors
 pub mod Cut
 pub mod Reading

@@ -2,10 +2,13 @@
 #![tactic(auto)]
 
 mod act_reader;
+mod body_reader;
+mod connector_reader;
 mod connectors;
 mod cuts;
 mod fields;
 mod histories;
+mod line_reader;
 mod numbers;
 mod scripts;
 mod transcripts;

@@ -1,0 +1,9 @@
+-- Facts on options.
+use Rattle.std.proofs.Common.{◌≡◌, Option, Some, None, IfSome}
+
+pub some_is_not_none : {X : Type 0} (x : X) → Some x ≡ None → ⊥
+some_is_not_none x h = cc
+
+pub IfSome-weaker : {X : Type 0} (o : Option X) (P Q : X → Type 0) → ((x : X) → P x → Q x) → IfSome o P → IfSome o Q
+IfSome-weaker None P Q f h = tt
+IfSome-weaker (Some x) P Q f h = f x h
