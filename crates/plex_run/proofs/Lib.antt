@@ -1,6 +1,8 @@
 pub mod Acts
 pub mod Callers
+pub mod ConnectorsRead
 pub mod CutLemmas
+pub mod Entries
 pub mod Items
 pub mod Names
 pub mod Numerals
