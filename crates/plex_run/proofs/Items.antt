@@ -27,7 +27,7 @@ pub IsRead-none : {X : Type 0} (f : X → List ℕ) (Valid : X → Type 0) (text
 IsRead-none f Valid text = record { each = All-nil Valid; read = refl; only = λ all tail each ends e. (all, refl, each, e) }
 
 -- the front of a spelling is its first line
-spelled-first : {X : Type 0} (f : X → List ℕ) (y : X) (ys : List X) (tail : List ℕ) → spelled f (y ∷ ys) ++ tail ≡ f y ++ 10 ∷ (spelled f ys ++ tail)
+pub spelled-first : {X : Type 0} (f : X → List ℕ) (y : X) (ys : List X) (tail : List ℕ) → spelled f (y ∷ ys) ++ tail ≡ f y ++ 10 ∷ (spelled f ys ++ tail)
 spelled-first f y ys tail = ap (λ (t : List ℕ). t ++ tail) (append_assoc (f y) (10 ∷ []) (spelled f ys)) ∙ append_assoc (f y) (10 ∷ spelled f ys) tail
 
 pub spelled-append : {X : Type 0} (f : X → List ℕ) (xs ys : List X) → spelled f (xs ++ ys) ≡ spelled f xs ++ spelled f ys

@@ -4,6 +4,7 @@ pub mod ConnectorsRead
 pub mod CutLemmas
 pub mod Entries
 pub mod Items
+pub mod LinesRead
 pub mod Names
 pub mod Numerals
 pub mod Options

@@ -1,4 +1,4 @@
-use Rattle.std.proofs.Common.{◌≡◌, true, sym, ap, ◌∙◌, Err, ◌∷◌}
+use Rattle.std.proofs.Common.{◌≡◌, true, sym, ap, ◌∙◌, Result, Err, ◌∷◌}
 use Rattle.std.proofs.lemmas.Result.{err_from_is_err_and}
 use Rattle.plex_run.specs.declared.scripts.Line.{Line}
 use Rattle.plex_run.specs.declared.scripts.ReadFault.{ReadFault}
@@ -14,6 +14,9 @@ gives_none : (told : Line) (fault : ReadFault) → fault ≡ NotYet → Gives to
 gives_none told NotYet same h = h
 gives_none told NoMemory same h = cc
 
+same_errors : {T : Type 0} (a b : ReadFault) → ◌≡◌ {A = Result T ReadFault} (Err a) (Err b) → a ≡ b
+same_errors a b h = cc
+
 pub returns-in_err-line-clause-not_yet : goal.returns-in_err-line-clause-not_yet
 returns-in_err-line-clause-not_yet c fault told rest good e =
     let names = c.args.connectors.now in
@@ -21,4 +24,5 @@ returns-in_err-line-clause-not_yet c fault told rest good e =
     let same = IsCut-same 10 c.args.text.now (body_line names told) rest c.in-Some.line.now c.in-Some.rest.now line c.in-Some.ensures.found in
     let p = err_from_is_err_and c.from_residual.result c.from_residual.ensures.1 in
     let gives = c.in_err-line.ensures.only told good same.0 in
-    gives_none told c.in_err-line.field-0.0 ? gives
+    let not_yet : p.0 ≡ NotYet = same_errors p.0 NotYet (sym p.1 ∙ fault) in
+    gives_none told c.in_err-line.field-0.0 (sym p.2 ∙ not_yet) gives
