@@ -3,6 +3,7 @@ pub mod Callers
 pub mod ConnectorsRead
 pub mod CutLemmas
 pub mod Entries
+pub mod Faults
 pub mod Items
 pub mod LinesRead
 pub mod Names
