@@ -11,3 +11,7 @@ same_faults a b h = cc
 pub gives_not_yet : {T : Type 0} (value : T) (fault : ReadFault) → fault ≡ NotYet → Gives value (Err fault) → ⊥
 gives_not_yet value NotYet same h = h
 gives_not_yet value NoMemory same h = cc
+
+pub not_both : (fault : ReadFault) → fault ≡ NotYet → fault ≡ NoMemory → ⊥
+not_both NotYet h k = cc
+not_both NoMemory h k = cc

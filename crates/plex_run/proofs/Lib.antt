@@ -10,4 +10,5 @@ pub mod Names
 pub mod Numerals
 pub mod Options
 pub mod PlainWords
+pub mod ScriptTexts
 pub mod WordLists

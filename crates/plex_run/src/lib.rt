@@ -10,6 +10,7 @@ mod fields;
 mod histories;
 mod line_reader;
 mod numbers;
+mod reader;
 mod scripts;
 mod transcripts;
 mod words;

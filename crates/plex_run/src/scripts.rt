@@ -33,6 +33,17 @@ impl Model for Script {
     ghost view = { λ s. record { connectors = s.connectors.items; lines = s.lines.items } };
 }
 
+impl Script {
+    ghost use Rattle.std.specs.Prelude.{◌≡◌};
+
+    /// A script of these connectors and lines.
+    pub(crate) fn new(connectors: Vec<Name16>, lines: Vec<Line>) -> Script
+        ensures { result ≡ record { connectors = connectors.items; lines = lines.items } }
+    {
+        Script { connectors, lines }
+    }
+}
+
 /// Why a text is no script.
 #[derive(Clone, Copy, Debug, PartialEq, Eq)]
 pub enum ReadFault {
