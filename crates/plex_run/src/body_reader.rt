@@ -46,9 +46,7 @@ fn note(entries: &mut Vec<Name16>, line: &Line) -> Result<(), ReadFault>
     if entries.len() == ENTRY_LIMIT {
         return Err(ReadFault::NotYet);
     }
-    if entries.push(name).is_err() {
-        return Err(ReadFault::NoMemory);
-    }
+    entries.push(name)?;
     Ok(())
 }
 
@@ -96,9 +94,7 @@ pub(crate) fn read_lines(
         }
         let (line, more) = first_line(alloc, connectors, rest)?;
         note(&mut entries, &line)?;
-        if lines.push(line).is_err() {
-            return Err(ReadFault::NoMemory);
-        }
+        lines.push(line)?;
         rest = more;
     }
     Ok(lines)

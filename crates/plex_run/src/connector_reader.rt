@@ -17,13 +17,12 @@ use std::alloc::Global;
 const CONNECTOR_LIMIT: usize = 4;
 
 // The name that the words of a line declare.
-fn declared_name(words: Words) -> Option<Name16>
+fn declared_name(mut words: Words) -> Option<Name16>
     ensures found { IfSome result (λ name. IsConnector name
         × (words.entry ≡ codes "CONNECTOR" ∷ name_word name ∷ [])) }
     ensures only { (name : Name16) → IsConnector name
         → words.entry ≡ codes "CONNECTOR" ∷ name_word name ∷ [] → result ≡ Some name }
 {
-    let mut words = words;
     take_word(&mut words, b"CONNECTOR")?;
     let name = connector_name(words.next()?)?;
     if words.is_done() { Some(name) } else { None }
@@ -67,9 +66,7 @@ pub(crate) fn read_connectors(
         if names.len() == CONNECTOR_LIMIT || names.contains(&name) {
             return Err(ReadFault::NotYet);
         }
-        if names.push(name).is_err() {
-            return Err(ReadFault::NoMemory);
-        }
+        names.push(name)?;
         rest = more;
     }
     Ok((names, rest))

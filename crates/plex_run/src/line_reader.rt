@@ -25,14 +25,13 @@ fn take_caller(connectors: &[Name16], words: &mut Words) -> Option<ConnId>
 }
 
 // Reads a line from its words.
-fn line(alloc: Global, connectors: &[Name16], words: Words) -> Result<Line, ReadFault>
+fn line(alloc: Global, connectors: &[Name16], mut words: Words) -> Result<Line, ReadFault>
     requires { AreConnectors connectors.now }
     ensures found { IfOk result (λ told. IsLine (length connectors.now) told
         × (line_words connectors.now told ≡ words.entry)) }
     ensures only { (told : Line) → IsLine (length connectors.now) told
         → line_words connectors.now told ≡ words.entry → Gives told result }
 {
-    let mut words = words;
     let by = take_caller(connectors, &mut words).ok_or(ReadFault::NotYet)?;
     take_word(&mut words, b"GBP").ok_or(ReadFault::NotYet)?;
     let act = act(alloc, words)?;

@@ -1,5 +1,6 @@
 use crate::histories::Ask;
 use cf_types::{ConnId, Name16};
+use std::alloc::AllocFailed;
 use std::marker::Model;
 
 /// What a line of a script does.
@@ -51,4 +52,15 @@ pub enum ReadFault {
     NotYet,
     /// There was no memory for the script.
     NoMemory,
+}
+
+impl<T: Drop> From<AllocFailed<T>> for ReadFault {
+    ghost use Rattle.std.specs.Prelude.{◌≡◌};
+    ghost use Rattle.plex_run.specs.declared.scripts.ReadFault.TheVariants.{NoMemory};
+
+    ghost from_gives = { λ _ fault. fault ≡ NoMemory };
+
+    fn from(_: AllocFailed<T>) -> Self {
+        ReadFault::NoMemory
+    }
 }

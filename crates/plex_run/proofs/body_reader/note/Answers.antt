@@ -25,5 +25,5 @@ returns-clause-noted c =
     let seen : List Name16 = c.args.entries.now.items in
     let new : has_name c.in-Some.name seen ≡ false = rw c.deref.ensures.value at (sym c.contains.ensures.value ∙ c.if-contains.false) in
     let all : noted seen (entry_name c.args.line.now) ≡ seen ++ c.in-Some.name ∷ [] = ap (noted seen) (sym c.in-Some.ensures) ∙ noted-new seen c.in-Some.name new in
-    let pushed : c.push.new.self.items ≡ seen ++ c.in-Some.name ∷ [] = rw c.if-is_err.ensures.negation at c.push.ensures.items in
+    let pushed : c.push.new.self.items ≡ seen ++ c.in-Some.name ∷ [] = c.in_ok-push.ensures.items in
     pushed ∙ sym all

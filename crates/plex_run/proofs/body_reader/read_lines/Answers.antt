@@ -39,7 +39,7 @@ loop-rest-preserved c =
     let found = c.in_ok-line.ensures.found in
     let first : IsFirst c.args.connectors.now c.loop-rest.rest.now c.in_ok-line.line c.in_ok-line.more.now =
       record { valid = found.0; here = found.1; one = c.in_ok-line.ensures.one } in
-    let pushed : c.push.new.self.items ≡ lines ++ c.in_ok-line.line ∷ [] = rw c.if-is_err.ensures.negation at c.push.ensures.items in
+    let pushed : c.push.new.self.items ≡ lines ++ c.in_ok-line.line ∷ [] = c.in_ok-push.ensures.items in
     let short : length lines < 1000 = omega (arith, c.loop-rest.lines.ok.0, c.len.ensures, c.if-len-eq-LINE_LIMIT.false, c.loop-rest.invariant.short) in
     rw pushed (LinesAreRead-more c.args.connectors.now c.args.text.now lines c.loop-rest.entries.items c.loop-rest.rest.now c.in_ok-line.line c.in_ok-line.more.now
       c.note.new.entries.items c.requires c.loop-rest.invariant first short c.in_ok-note.ensures.noted c.in_ok-note.ensures.few)

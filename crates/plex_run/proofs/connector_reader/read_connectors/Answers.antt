@@ -25,7 +25,7 @@ loop-name-preserved c =
     let names : List Name16 = c.loop-name.names.items in
     let found = c.in-Some.ensures.found in
     let new : has_name c.in-Some.name names ≡ false = rw c.deref.ensures.value at (sym c.contains.ensures.value ∙ c.if-contains.false) in
-    let pushed : c.push.new.self.items ≡ names ++ c.in-Some.name ∷ [] = rw c.if-is_err.ensures.negation at c.push.ensures.items in
+    let pushed : c.push.new.self.items ≡ names ++ c.in-Some.name ∷ [] = c.in_ok-push.ensures.items in
     let good = c.loop-name.invariant.good in
     rw pushed (AreRead-more c.args.text.now names c.loop-name.rest.now c.in-Some.name c.in-Some.more.now c.loop-name.invariant found.0 found.1
       (omega (arith, c.loop-name.names.ok.0, c.len.ensures, c.if-len-eq-CONNECTOR_LIMIT.false, good.few)) new)
