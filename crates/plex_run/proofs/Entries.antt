@@ -44,8 +44,8 @@ once-same seen others [] h = refl
 once-same seen others (name ∷ names) h =
     rw (h.same name)
     (once_at (list_any (same_name name) others) (once seen names) (once (name ∷ seen) names) (once others names) (once (name ∷ others) names) name
-      (once-same seen others names h)
-      (once-same (name ∷ seen) (name ∷ others) names (record { same = λ other. ap (λ (b : Bool). same_name other name || b) (h.same other) })))
+    (once-same seen others names h)
+    (once-same (name ∷ seen) (name ∷ others) names (record { same = λ other. ap (λ (b : Bool). same_name other name || b) (h.same other) })))
 
 or_swapped : (a b c : Bool) → (a || (b || c)) ≡ (b || (a || c))
 or_swapped true true c = refl
@@ -64,7 +64,7 @@ SeeSame-last seen name = record { same = λ other. list_any-last (same_name othe
 
 counted : (b : Bool) (seen names : List Name16) (name : Name16)
     → length seen + length (cond b (once seen names) (name ∷ once (name ∷ seen) names))
-      ≡ length (cond b seen (seen ++ name ∷ [])) + length (once (cond b seen (seen ++ name ∷ [])) names)
+    ≡ length (cond b seen (seen ++ name ∷ [])) + length (once (cond b seen (seen ++ name ∷ [])) names)
 counted true seen names name = refl
 counted false seen names name =
     let same = ap (λ (ns : List Name16). length ns) (once-same (name ∷ seen) (seen ++ name ∷ []) names (SeeSame-last seen name)) in

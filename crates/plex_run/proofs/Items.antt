@@ -21,7 +21,7 @@ pub record IsRead {X : Type 0} (f : X → List ℕ) (Valid : X → Type 0) (text
   pub each : All Valid xs
   pub read : text ≡ spelled f xs ++ rest
   pub only : (all : List X) (tail : List ℕ) → All Valid all → Ends f Valid tail → text ≡ spelled f all ++ tail
-    → (more : List X) × (all ≡ xs ++ more) × All Valid more × (rest ≡ spelled f more ++ tail)
+      → (more : List X) × (all ≡ xs ++ more) × All Valid more × (rest ≡ spelled f more ++ tail)
 
 pub IsRead-none : {X : Type 0} (f : X → List ℕ) (Valid : X → Type 0) (text : List ℕ) → IsRead f Valid text [] text
 IsRead-none f Valid text = record { each = All-nil Valid; read = refl; only = λ all tail each ends e. (all, refl, each, e) }
@@ -73,8 +73,8 @@ IsRead-more f Valid text xs rest x after h next =
       each = All-push Valid xs x h.each next.valid;
       read = h.read ∙ (ap (λ (t : List ℕ). spelled f xs ++ t) next.line ∙ sym (spelled-more f xs x after));
       only = λ all tail each ends e.
-        let so = IsRead-next f Valid text xs rest x after h next all tail each ends e in
-        (so.0, so.1 ∙ sym (append_assoc xs (x ∷ []) so.0), so.2, so.3);
+          let so = IsRead-next f Valid text xs rest x after h next all tail each ends e in
+          (so.0, so.1 ∙ sym (append_assoc xs (x ∷ []) so.0), so.2, so.3);
     }
 
 ends_there : {X : Type 0} (f : X → List ℕ) (Valid : X → Type 0) (xs all : List X) (rest tail : List ℕ) → Ends f Valid rest

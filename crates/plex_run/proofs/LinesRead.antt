@@ -54,10 +54,10 @@ LinesAreRead-more connectors text lines entries rest line more new good h first 
       short = omega (arith, length-append lines (line ∷ []));
       few = few;
       counted = λ others.
-        let regrouped : (lines ++ line ∷ []) ++ others ≡ lines ++ line ∷ others = append_assoc lines (line ∷ []) others in
-        let count : new_entries [] (lines ++ line ∷ others) ≡ length (noted entries (entry_name line)) + new_entries (noted entries (entry_name line)) others =
+          let regrouped : (lines ++ line ∷ []) ++ others ≡ lines ++ line ∷ others = append_assoc lines (line ∷ []) others in
+          let count : new_entries [] (lines ++ line ∷ others) ≡ length (noted entries (entry_name line)) + new_entries (noted entries (entry_name line)) others =
           h.counted (line ∷ others) ∙ length-once_noted entries (entry_name line) (filter_map entry_name others) in
-        rw (regrouped, noted_so) count;
+          rw (regrouped, noted_so) count;
     }
 
 -- ---- the whole
@@ -99,7 +99,7 @@ pub not_crowded : (connectors : List Name16) (text : List ℕ) (lines : List Lin
     → (all : List Line) → AreLines connectors all → text ≡ text_of (map (body_line connectors) all) → ⊥
 not_crowded connectors text lines entries rest line more good h first many all are e =
     let so = IsRead-next (body_line connectors) (IsLine (length connectors)) text lines rest line more h.read (IsNext-line connectors rest line more good first)
-      all [] are.each (Ends-nil connectors) (whole connectors text all e) in
+    all [] are.each (Ends-nil connectors) (whole connectors text all e) in
     let count = h.counted (line ∷ so.0) ∙ length-once_noted entries (entry_name line) (filter_map entry_name so.0) in
     let same = ap (λ (ls : List Line). new_entries [] ls) so.1 in
     omega (arith, are.entries, same, count)

@@ -47,7 +47,7 @@ BeginsOtherwise-lines names [] good are name rest named e = not_empty (connector
 BeginsOtherwise-lines names (line ∷ lines) good are name rest named e =
     let valid = All-head (IsLine (length names)) line lines are.each in
     let same = same_cut 10 (body_line names line) (spelled (body_line names) lines) (connector_line name) rest (is_free-body_line names line good valid) (is_free-connector_line name named)
-      (sym (append_assoc (body_line names line) (10 ∷ []) (spelled (body_line names) lines)) ∙ e) in
+    (sym (append_assoc (body_line names line) (10 ∷ []) (spelled (body_line names) lines)) ∙ e) in
     other_line names line name good valid named same.0
 
 -- ---- the parts of a script
@@ -73,4 +73,4 @@ pub rest_told : (text rest : List ℕ) (script : Plan) → text ≡ text_of poli
     → rest ≡ spelled connector_line script.connectors ++ spelled (body_line script.connectors) script.lines
 rest_told text rest script policy h =
     append_cancel_left (text_of policy_lines) rest (spelled connector_line script.connectors ++ spelled (body_line script.connectors) script.lines)
-      (sym policy ∙ (h.spelled ∙ script_text script))
+    (sym policy ∙ (h.spelled ∙ script_text script))

@@ -50,10 +50,7 @@ fn first_declared(text: &[u8]) -> Option<(Name16, &[u8])>
 
 /// Reads the lines at the front of a text that declare connectors, and gives what stands behind
 /// them.
-pub(crate) fn read_connectors(
-    alloc: Global,
-    text: &[u8],
-) -> Result<(Vec<Name16>, &[u8]), ReadFault>
+pub(crate) fn read_connectors(alloc: Global, text: &[u8]) -> Result<(Vec<Name16>, &[u8]), ReadFault>
     ensures found { IfOk result (λ parts. AreConnectors parts.0.items
         × (text.now ≡ text_of (map connector_line parts.0.items) ++ parts.1.now)) }
     ensures only { (names : List Name16) (rest : List ℕ) → AreConnectors names → BeginsOtherwise rest

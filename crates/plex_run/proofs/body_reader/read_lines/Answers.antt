@@ -29,20 +29,20 @@ returns-in_err-note-clause-not_yet c fault all are e =
     let not_yet = sym p.2 ∙ same_faults p.0 NotYet (sym p.1 ∙ fault) in
     let found = c.in_ok-line.ensures.found in
     let first : IsFirst c.args.connectors.now c.loop-rest.rest.now c.in_ok-line.line c.in_ok-line.more.now =
-      record { valid = found.0; here = found.1; one = c.in_ok-line.ensures.one } in
+    record { valid = found.0; here = found.1; one = c.in_ok-line.ensures.one } in
     not_crowded c.args.connectors.now c.args.text.now c.loop-rest.lines.items c.loop-rest.entries.items c.loop-rest.rest.now c.in_ok-line.line c.in_ok-line.more.now
-      c.requires c.loop-rest.invariant first (c.in_err-note.ensures.many (ap Err not_yet)) all are e
+    c.requires c.loop-rest.invariant first (c.in_err-note.ensures.many (ap Err not_yet)) all are e
 
 pub loop-rest-preserved : goal.loop-rest-preserved
 loop-rest-preserved c =
     let lines : List Line = c.loop-rest.lines.items in
     let found = c.in_ok-line.ensures.found in
     let first : IsFirst c.args.connectors.now c.loop-rest.rest.now c.in_ok-line.line c.in_ok-line.more.now =
-      record { valid = found.0; here = found.1; one = c.in_ok-line.ensures.one } in
+    record { valid = found.0; here = found.1; one = c.in_ok-line.ensures.one } in
     let pushed : c.push.new.self.items ≡ lines ++ c.in_ok-line.line ∷ [] = c.in_ok-push.ensures.items in
     let short : length lines < 1000 = omega (arith, c.loop-rest.lines.ok.0, c.len.ensures, c.if-len-eq-LINE_LIMIT.false, c.loop-rest.invariant.short) in
     rw pushed (LinesAreRead-more c.args.connectors.now c.args.text.now lines c.loop-rest.entries.items c.loop-rest.rest.now c.in_ok-line.line c.in_ok-line.more.now
-      c.note.new.entries.items c.requires c.loop-rest.invariant first short c.in_ok-note.ensures.noted c.in_ok-note.ensures.few)
+    c.note.new.entries.items c.requires c.loop-rest.invariant first short c.in_ok-note.ensures.noted c.in_ok-note.ensures.few)
 
 pub returns-clause-found : goal.returns-clause-found
 returns-clause-found c =

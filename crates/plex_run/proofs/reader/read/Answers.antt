@@ -25,8 +25,8 @@ returns-in_err-connectors-clause-not_yet c fault script h =
     let not_yet = sym p.2 ∙ same_faults p.0 NotYet (sym p.1 ∙ fault) in
     let are = AreConnectors-form script h.in_form in
     let no_memory = c.in_err-connectors.ensures.only script.connectors (spelled (body_line script.connectors) script.lines) are
-      (BeginsOtherwise-lines script.connectors script.lines are (AreLines-form script h.in_form))
-      (rest_told c.args.text.now c.in_ok-rest.rest.now script policy h) in
+    (BeginsOtherwise-lines script.connectors script.lines are (AreLines-form script h.in_form))
+    (rest_told c.args.text.now c.in_ok-rest.rest.now script policy h) in
     not_both c.in_err-connectors.field-0.0 not_yet no_memory
 
 pub returns-then-is_empty-clause-not_yet : goal.returns-then-is_empty-clause-not_yet
@@ -35,8 +35,8 @@ returns-then-is_empty-clause-not_yet c fault script h =
     let policy = rw some at c.behind_policy.ensures.found in
     let are = AreConnectors-form script h.in_form in
     let same = c.in_ok-connectors.ensures.only script.connectors (spelled (body_line script.connectors) script.lines) are
-      (BeginsOtherwise-lines script.connectors script.lines are (AreLines-form script h.in_form))
-      (rest_told c.args.text.now c.in_ok-rest.rest.now script policy h) in
+    (BeginsOtherwise-lines script.connectors script.lines are (AreLines-form script h.in_form))
+    (rest_told c.args.text.now c.in_ok-rest.rest.now script policy h) in
     let names : List Name16 = c.in_ok-connectors.connectors.items in
     let as_many : length names ≡ length script.connectors = ap (λ (ns : List Name16). length ns) same.0 in
     let empty : c.in_ok-connectors.connectors.len ≡ 0 = grind (arith, nat_tests) in
@@ -49,8 +49,8 @@ returns-in_err-lines-clause-not_yet c fault script h =
     let are = AreConnectors-form script h.in_form in
     let are_lines = AreLines-form script h.in_form in
     let same = c.in_ok-connectors.ensures.only script.connectors (spelled (body_line script.connectors) script.lines) are
-      (BeginsOtherwise-lines script.connectors script.lines are are_lines)
-      (rest_told c.args.text.now c.in_ok-rest.rest.now script policy h) in
+    (BeginsOtherwise-lines script.connectors script.lines are are_lines)
+    (rest_told c.args.text.now c.in_ok-rest.rest.now script policy h) in
     let p = err_from_is_err_and c.from_residual-in_err-lines.result c.from_residual-in_err-lines.ensures.1 in
     let not_yet = sym p.2 ∙ same_faults p.0 NotYet (sym p.1 ∙ fault) in
     let names : c.as_slice.result.now ≡ script.connectors = c.as_slice.ensures.value ∙ same.0 in
