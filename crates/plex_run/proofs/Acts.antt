@@ -28,8 +28,8 @@ same_write (Call (Content (Read n i old stg))) name index text class good padded
 same_write (Call (Content (Write n i body None adj old stg when))) name index text class good padded low most e = absurd (good.3)
 same_write (Call (Content (Write n i body (Some k) adj old stg when))) name index text class good padded low most e =
     let words : codes "WRITE" ∷ name_word n ∷ decimal i ∷ body ∷ codes "CHANGED" ∷ decimal k ∷ []
-      ≡ codes "WRITE" ∷ name_word name ∷ decimal index ∷ text ∷ codes "CHANGED" ∷ decimal class ∷ [] =
-      rw (good.4, good.5, good.6, good.7) at e in
+    ≡ codes "WRITE" ∷ name_word name ∷ decimal index ∷ text ∷ codes "CHANGED" ∷ decimal class ∷ [] =
+    rw (good.4, good.5, good.6, good.7) at e in
     let names : n ≡ name = same_by_word n name good.0 padded (cc words) in
     let indexes : i ≡ index = decimal_injective i index (omega (arith, good.1)) (omega arith) (cc words) in
     let texts : body ≡ text = cc words in

@@ -30,9 +30,6 @@ pub false_if_not : (b : Bool) → (b ≡ true → ⊥) → b ≡ false
 false_if_not true h = absurd (h refl)
 false_if_not false h = refl
 
-pub some_is_not_none : {X : Type 0} (x : X) → Some x ≡ None → ⊥
-some_is_not_none x h = cc
-
 -- ---- places
 
 any_at : (p : Name16 → Bool) (xs : List Name16) (j : ℕ) (x : Name16) → slice_get xs j ≡ Some x → p x ≡ true → list_any p xs ≡ true
@@ -65,11 +62,11 @@ position-name xs j name h at =
     let within : j < length xs = slice_get_within xs j name at in
     let here : get_or xs j name ≡ name = get_or_from_slice_get xs j name name at in
     let place : position_or_len p xs ≡ j = position_or_len_is p xs j name (omega arith)
-      (λ k below. false_if_not (p (get_or xs k name)) (λ same.
-        let equal = same_name-equal (get_or xs k name) name same in
-        let at_k : slice_get xs k ≡ Some name = slice_get-get_or xs k name (omega arith) ∙ ap Some equal in
-        distinct_places xs k j name h below at_k at))
-      (λ _. rw here (same_name-itself name)) in
+    (λ k below. false_if_not (p (get_or xs k name)) (λ same.
+    let equal = same_name-equal (get_or xs k name) name same in
+    let at_k : slice_get xs k ≡ Some name = slice_get-get_or xs k name (omega arith) ∙ ap Some equal in
+    distinct_places xs k j name h below at_k at))
+    (λ _. rw here (same_name-itself name)) in
     rw place (rw (below_is j (length xs) within) refl)
   where
     below_is : (m n : ℕ) → m < n → nat_lt m n ≡ true

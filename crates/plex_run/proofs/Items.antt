@@ -1,5 +1,5 @@
 -- Reading the lines of a text from its front, one after another, where the spelling of an item is one line.
-use Rattle.std.proofs.Common.{◌≡◌, ℕ, ◌+◌, ◌<◌, List, [], ◌∷◌, ◌++◌, length, map, All, refl, sym, ap, ◌∙◌, append_assoc, arith, length-append}
+use Rattle.std.proofs.Common.{◌≡◌, true, ℕ, ◌+◌, ◌<◌, List, [], ◌∷◌, ◌++◌, length, map, All, refl, sym, ap, ◌∙◌, append_assoc, arith, length-append}
 use Rattle.std.specs.List.{flat_map}
 use Rattle.std.proofs.lemmas.List.{append-nil, map-append}
 use Rattle.std.proofs.lemmas.List.Concat.{flat_map-append}
@@ -21,14 +21,24 @@ pub record IsRead {X : Type 0} (f : X → List ℕ) (Valid : X → Type 0) (text
   pub each : All Valid xs
   pub read : text ≡ spelled f xs ++ rest
   pub only : (all : List X) (tail : List ℕ) → All Valid all → Ends f Valid tail → text ≡ spelled f all ++ tail
-    → (more : List X) × (all ≡ xs ++ more) × All Valid more × (rest ≡ spelled f more ++ tail)
+      → (more : List X) × (all ≡ xs ++ more) × All Valid more × (rest ≡ spelled f more ++ tail)
 
 pub IsRead-none : {X : Type 0} (f : X → List ℕ) (Valid : X → Type 0) (text : List ℕ) → IsRead f Valid text [] text
 IsRead-none f Valid text = record { each = All-nil Valid; read = refl; only = λ all tail each ends e. (all, refl, each, e) }
 
 -- the front of a spelling is its first line
-spelled-first : {X : Type 0} (f : X → List ℕ) (y : X) (ys : List X) (tail : List ℕ) → spelled f (y ∷ ys) ++ tail ≡ f y ++ 10 ∷ (spelled f ys ++ tail)
+pub spelled-first : {X : Type 0} (f : X → List ℕ) (y : X) (ys : List X) (tail : List ℕ) → spelled f (y ∷ ys) ++ tail ≡ f y ++ 10 ∷ (spelled f ys ++ tail)
 spelled-first f y ys tail = ap (λ (t : List ℕ). t ++ tail) (append_assoc (f y) (10 ∷ []) (spelled f ys)) ∙ append_assoc (f y) (10 ∷ spelled f ys) tail
+
+pub spelled-append : {X : Type 0} (f : X → List ℕ) (xs ys : List X) → spelled f (xs ++ ys) ≡ spelled f xs ++ spelled f ys
+spelled-append f [] ys = refl
+spelled-append f (x ∷ xs) ys =
+    ap (λ (t : List ℕ). (f x ++ 10 ∷ []) ++ t) (spelled-append f xs ys) ∙ sym (append_assoc (f x ++ 10 ∷ []) (spelled f xs) (spelled f ys))
+
+spelled-more : {X : Type 0} (f : X → List ℕ) (xs : List X) (x : X) (after : List ℕ) → spelled f (xs ++ x ∷ []) ++ after ≡ spelled f xs ++ (f x ++ 10 ∷ after)
+spelled-more f xs x after =
+    ap (λ (t : List ℕ). t ++ after) (spelled-append f xs (x ∷ []))
+    ∙ (append_assoc (spelled f xs) (spelled f (x ∷ [])) after ∙ ap (λ (t : List ℕ). spelled f xs ++ t) (spelled-first f x [] after))
 
 -- one item more
 pub record IsNext {X : Type 0} (f : X → List ℕ) (Valid : X → Type 0) (rest : List ℕ) (x : X) (more : List ℕ) : Type 0 where
@@ -61,14 +71,22 @@ pub IsRead-more : {X : Type 0} (f : X → List ℕ) (Valid : X → Type 0) (text
 IsRead-more f Valid text xs rest x after h next =
     record {
       each = All-push Valid xs x h.each next.valid;
-      read = h.read ∙ ?;
+      read = h.read ∙ (ap (λ (t : List ℕ). spelled f xs ++ t) next.line ∙ sym (spelled-more f xs x after));
       only = λ all tail each ends e.
-        let so = IsRead-next f Valid text xs rest x after h next all tail each ends e in
-        (so.0, so.1 ∙ sym (append_assoc xs (x ∷ []) so.0), so.2, so.3);
+          let so = IsRead-next f Valid text xs rest x after h next all tail each ends e in
+          (so.0, so.1 ∙ sym (append_assoc xs (x ∷ []) so.0), so.2, so.3);
     }
+
+ends_there : {X : Type 0} (f : X → List ℕ) (Valid : X → Type 0) (xs all : List X) (rest tail : List ℕ) → Ends f Valid rest
+    → (more : List X) → all ≡ xs ++ more → All Valid more → rest ≡ spelled f more ++ tail → (all ≡ xs) × (tail ≡ rest)
+ends_there f Valid xs all rest tail done [] same each e = (same ∙ append-nil xs, sym e)
+ends_there f Valid xs all rest tail done (y ∷ ys) same each e =
+    absurd (done.none y (spelled f ys ++ tail) (All-head Valid y ys each) (e ∙ spelled-first f y ys tail))
 
 -- where nothing more stands, these are all the items
 pub IsRead-end : {X : Type 0} (f : X → List ℕ) (Valid : X → Type 0) (text : List ℕ) (xs : List X) (rest : List ℕ)
     → IsRead f Valid text xs rest → Ends f Valid rest
     → (all : List X) (tail : List ℕ) → All Valid all → Ends f Valid tail → text ≡ spelled f all ++ tail → (all ≡ xs) × (tail ≡ rest)
-IsRead-end f Valid text xs rest h done all tail each ends e = ?
+IsRead-end f Valid text xs rest h done all tail each ends e =
+    let so = h.only all tail each ends e in
+    ends_there f Valid xs all rest tail done so.0 so.1 so.2 so.3

@@ -13,11 +13,18 @@ pub mod OneHistory
 pub mod ByConnectors
 pub mod Acts
 pub mod CallerNames
+pub mod ConnectorsRead
 pub mod CutLemmas
+pub mod Entries
+pub mod Faults
 pub mod Items
 pub mod NameWords
+pub mod LinesRead
+pub mod Names
 pub mod Numerals
+pub mod Options
 pub mod PlainWords
+pub mod ScriptTexts
 pub mod WordLists
 pub mod TermWords
 pub mod LinesBack
@@ -28,6 +35,5 @@ pub mod ShownLines
 pub mod Followed
 pub mod ReportFixes
 pub mod SerialLength
-pub mod Names
 pub mod ReportLines
 pub mod Written

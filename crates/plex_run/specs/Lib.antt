@@ -11,6 +11,7 @@ pub mod Headline
 pub mod Kept
 pub mod Written
 pub mod Outcome
+pub mod Bodies
 pub mod Connectors
 pub mod Cut
 pub mod Reading

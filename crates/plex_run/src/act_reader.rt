@@ -35,21 +35,19 @@ fn take_index(words: &mut Words) -> Option<u32>
 }
 
 // Takes the castout class that is the last word.
-fn last_class(words: Words) -> Option<u32>
+fn last_class(mut words: Words) -> Option<u32>
     ensures found { IfSome result (λ n. (1 ≤ n) × (n ≤ 16) × (words.entry ≡ decimal n ∷ [])) }
     ensures only { (n : ℕ) → 1 ≤ n → n ≤ 16 → words.entry ≡ decimal n ∷ [] → result ≡ Some n }
 {
-    let mut words = words;
     let class = class(words.next()?)?;
     if words.is_done() { Some(class) } else { None }
 }
 
 // Takes the index of a bit that is the last word.
-fn last_index(words: Words) -> Option<u32>
+fn last_index(mut words: Words) -> Option<u32>
     ensures found { IfSome result (λ n. (n < 64) × (words.entry ≡ decimal n ∷ [])) }
     ensures only { (n : ℕ) → n < 64 → words.entry ≡ decimal n ∷ [] → result ≡ Some n }
 {
-    let mut words = words;
     let index = take_index(&mut words)?;
     if words.is_done() { Some(index) } else { None }
 }
@@ -82,18 +80,14 @@ fn body(alloc: Global, word: &[u8]) -> Result<Body, ReadFault>
     if word.len() > DATA_LIMIT {
         return Err(ReadFault::NotYet);
     }
-    match parse_body(alloc, word) {
-        Ok(body) => Ok(body),
-        Err(fault) => Err(read_fault(fault)),
-    }
+    parse_body(alloc, word).map_err(read_fault)
 }
 
 // The words behind CONNECT.
-fn connect(words: Words) -> Option<Act>
+fn connect(mut words: Words) -> Option<Act>
     ensures found { IfSome result (λ act. IsAct act × (act_words act ≡ codes "CONNECT" ∷ words.entry)) }
     ensures only { (act : Act) → IsAct act → act_words act ≡ codes "CONNECT" ∷ words.entry → result ≡ Some act }
 {
-    let mut words = words;
     take_word(&mut words, b"DELETE")?;
     if words.is_done() {
         Some(Act::Call(Ask::Shell(ShellCmd::Connect { keep: false })))
@@ -112,11 +106,10 @@ fn test(words: Words) -> Option<Act>
 }
 
 // The words behind READ.
-fn read(words: Words) -> Option<Act>
+fn read(mut words: Words) -> Option<Act>
     ensures found { IfSome result (λ act. IsAct act × (act_words act ≡ codes "READ" ∷ words.entry)) }
     ensures only { (act : Act) → IsAct act → act_words act ≡ codes "READ" ∷ words.entry → result ≡ Some act }
 {
-    let mut words = words;
     let name = take_name(&mut words)?;
     let index = last_index(words)?;
     let read = CacheCmd::Read {
@@ -129,13 +122,12 @@ fn read(words: Words) -> Option<Act>
 }
 
 // The words of data that are written, and of the castout class.
-fn written(alloc: Global, words: Words) -> Result<(Body, u32), ReadFault>
+fn written(alloc: Global, mut words: Words) -> Result<(Body, u32), ReadFault>
     ensures found { IfOk result (λ parts. IsTerm 256 parts.0 × (1 ≤ parts.1) × (parts.1 ≤ 16)
         × (words.entry ≡ parts.0 ∷ codes "CHANGED" ∷ decimal parts.1 ∷ [])) }
     ensures only { (text : List ℕ) (n : ℕ) → IsTerm 256 text → 1 ≤ n → n ≤ 16
         → words.entry ≡ text ∷ codes "CHANGED" ∷ decimal n ∷ [] → Gives (text, n) result }
 {
-    let mut words = words;
     let word = words.next().ok_or(ReadFault::NotYet)?;
     take_word(&mut words, b"CHANGED").ok_or(ReadFault::NotYet)?;
     let class = last_class(words).ok_or(ReadFault::NotYet)?;
@@ -144,11 +136,10 @@ fn written(alloc: Global, words: Words) -> Result<(Body, u32), ReadFault>
 }
 
 // The words behind WRITE.
-fn write(alloc: Global, words: Words) -> Result<Act, ReadFault>
+fn write(alloc: Global, mut words: Words) -> Result<Act, ReadFault>
     ensures found { IfOk result (λ act. IsAct act × (act_words act ≡ codes "WRITE" ∷ words.entry)) }
     ensures only { (act : Act) → IsAct act → act_words act ≡ codes "WRITE" ∷ words.entry → Gives act result }
 {
-    let mut words = words;
     let name = take_name(&mut words).ok_or(ReadFault::NotYet)?;
     let index = take_index(&mut words).ok_or(ReadFault::NotYet)?;
     let (body, class) = written(alloc, words)?;
@@ -166,11 +157,10 @@ fn write(alloc: Global, words: Words) -> Result<Act, ReadFault>
 }
 
 /// Reads what a line does, from the words behind the structure.
-pub(crate) fn act(alloc: Global, words: Words) -> Result<Act, ReadFault>
+pub(crate) fn act(alloc: Global, mut words: Words) -> Result<Act, ReadFault>
     ensures found { IfOk result (λ act. IsAct act × (act_words act ≡ words.entry)) }
     ensures only { (act : Act) → IsAct act → act_words act ≡ words.entry → Gives act result }
 {
-    let mut words = words;
     let verb = words.next().ok_or(ReadFault::NotYet)?;
     if verb == b"WRITE".as_slice() {
         return write(alloc, words);

@@ -15,8 +15,7 @@ use cf_types::{ConnId, Name16};
 fn are_capital(text: &[u8]) -> bool
     ensures { result ≡ list_all (λ c. is_ascii_uppercase c || is_ascii_digit c || c == 95) text.now }
 {
-    text.iter()
-        .all(|byte| byte.is_ascii_uppercase() || byte.is_ascii_digit() || *byte == b'_')
+    text.iter().all(|byte| byte.is_ascii_uppercase() || byte.is_ascii_digit() || *byte == b'_')
 }
 
 // Whether a word is made of these, first a letter.

@@ -2,14 +2,18 @@
 #![tactic(auto)]
 
 mod act_reader;
+mod body_reader;
+mod connector_reader;
 mod connectors;
 mod cuts;
 mod fields;
 mod histories;
 mod laws;
+mod line_reader;
 mod line_text;
 mod numbers;
 mod program;
+mod reader;
 mod report;
 mod report_writing;
 mod scripts;

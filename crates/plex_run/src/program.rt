@@ -7,6 +7,7 @@ ghost use Rattle.plex_run.specs.Report.{report};
 ghost use Rattle.plex_run.specs.Written.{Gains, GainsPrefix};
 ghost use Rattle.plex_run.specs.Outcome.{serial_report, memory_line, IsSerial, IsStatus, status_line, script_limit, WritesReport, WritesOneHistory, WritesFront, WritesMemoryLine, IsNoScript, IsExact, IsComplete};
 
+use crate::reader::read;
 use crate::report_writing::{ReportEnd, write_report};
 use crate::scripts::{ReadFault, Script};
 use crate::serial::serial;
@@ -15,14 +16,6 @@ use std::alloc::Global;
 
 /// The greatest length of a script, in bytes.
 const SCRIPT_LIMIT: usize = 1_048_576;
-
-// STUB
-fn read(alloc: Global, text: &[u8]) -> Result<Script, ReadFault>
-    ensures script { IfOk result (IsScript text.now) }
-    ensures not_yet { IsErrOf result ReadFault.NotYet → (script : Plan) → IsScript text.now script → ⊥ }
-{
-    Err(ReadFault::NoMemory)
-}
 
 // Whether a word is `serial`.
 fn is_serial_word(word: &String) -> bool

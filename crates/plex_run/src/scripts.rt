@@ -2,6 +2,7 @@ ghost use Rattle.std.specs.Prelude.{◌≡◌};
 
 use crate::histories::Ask;
 use cf_types::{ConnId, Name16};
+use std::alloc::AllocFailed;
 use std::marker::Model;
 
 /// What a line of a script does.
@@ -49,6 +50,13 @@ impl Script {
     {
         self.lines.as_slice()
     }
+
+    /// A script of these connectors and lines.
+    pub(crate) fn new(connectors: Vec<Name16>, lines: Vec<Line>) -> Script
+        ensures { result ≡ record { connectors = connectors.items; lines = lines.items } }
+    {
+        Script { connectors, lines }
+    }
 }
 
 /// Why a text is no script.
@@ -58,4 +66,15 @@ pub enum ReadFault {
     NotYet,
     /// There was no memory for the script.
     NoMemory,
+}
+
+impl<T: Drop> From<AllocFailed<T>> for ReadFault {
+    ghost use Rattle.std.specs.Prelude.{◌≡◌};
+    ghost use Rattle.plex_run.specs.declared.scripts.ReadFault.TheVariants.{NoMemory};
+
+    ghost from_gives = { λ _ fault. fault ≡ NoMemory };
+
+    fn from(_: AllocFailed<T>) -> Self {
+        ReadFault::NoMemory
+    }
 }

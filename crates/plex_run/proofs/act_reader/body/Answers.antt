@@ -1,10 +1,12 @@
-use Rattle.std.proofs.Common.{◌≡◌, ℕ, ◌<◌, ◌≤◌, ◌==◌, Bool, true, false, not, cond, List, length, Option, Some, Err, position, refl, arith}
+use Rattle.std.proofs.Common.{◌≡◌, ℕ, ◌<◌, ◌≤◌, ◌==◌, Bool, true, false, not, cond, List, length, Option, Some, Result, Ok, Err, IfOk, IfErr, IsErrAnd, MatchResult, position, refl, arith}
 use Rattle.std.proofs.lemmas.Bool.Decides.{nat_tests}
+use Rattle.std.proofs.lemmas.Result.{err_from_is_err_and}
 use Rattle.cf_types.specs.declared.bodies.BodyFault.{BodyFault}
 use Rattle.cf_types.specs.declared.bodies.BodyFault.TheVariants.{BadName, TooLong, NoMemory}
 use Rattle.cf_types.specs.Stored.{IsBodyFaultOf}
 use Rattle.cf_types.specs.Term.{IsTerm, term_byte, fault_at}
 use Rattle.cf_types.proofs.TermFaults.{fails_at_some}
+use Rattle.plex_run.specs.declared.scripts.ReadFault.{ReadFault}
 use Rattle.plex_run.specs.Reading.{Gives, read_fault_of}
 use Rattle.plex_run.proofs.act_reader.body.Goals as goal
 
@@ -21,5 +23,10 @@ only_faulty text (BadName at) is term = faulty text at is.1 term
 only_faulty text (TooLong len) is term = absurd (omega (arith, is.0, term.short))
 only_faulty text NoMemory is term = tt
 
-pub returns-in-Err-clause-only : goal.returns-in-Err-clause-only
-returns-in-Err-clause-only c term = rw c.read_fault.ensures (only_faulty c.args.word.now c.in-Err.fault c.in-Err.ensures.fault term)
+told : (text : List ℕ) (r : Result (List ℕ) BodyFault) (s : Result (List ℕ) ReadFault) → IfOk r (λ body. body ≡ text) → IfErr r (IsBodyFaultOf text)
+    → MatchResult r (λ body. s ≡ Ok body) (λ fault. IsErrAnd s (λ out. out ≡ read_fault_of fault)) → IsTerm 256 text → Gives text s
+told text (Ok body) s same is out term = rw out same
+told text (Err fault) s same is out term = let p = err_from_is_err_and s out in rw (p.1, p.2) (only_faulty text fault is term)
+
+pub returns-clause-only : goal.returns-clause-only
+returns-clause-only c term = told c.args.word.now c.parse_body.result c.map_err.result c.parse_body.ensures.body c.parse_body.ensures.fault c.map_err.ensures.cases term

@@ -16,6 +16,6 @@ returns-clause-only c act good e =
     let from_index : c.take_name.new.words ≡ decimal c.in_ok-index.index ∷ c.take_index.new.words = index.1 in
     let from_text : c.take_index.new.words ≡ text ∷ codes "CHANGED" ∷ decimal c.in_ok-body.class ∷ [] = written.3 in
     let words : c.args.words ≡ name_word c.in_ok-name.name ∷ decimal c.in_ok-index.index ∷ text ∷ codes "CHANGED" ∷ decimal c.in_ok-body.class ∷ [] =
-      from_name ∙ ap (λ (ws : List (List ℕ)). name_word c.in_ok-name.name ∷ ws) (from_index ∙ ap (λ (ws : List (List ℕ)). decimal c.in_ok-index.index ∷ ws) from_text) in
+    from_name ∙ ap (λ (ws : List (List ℕ)). name_word c.in_ok-name.name ∷ ws) (from_index ∙ ap (λ (ws : List (List ℕ)). decimal c.in_ok-index.index ∷ ws) from_text) in
     same_write act c.in_ok-name.name c.in_ok-index.index text c.in_ok-body.class good name.0 index.0 written.2
-      (e ∙ ap (λ (ws : List (List ℕ)). codes "WRITE" ∷ ws) words)
+    (e ∙ ap (λ (ws : List (List ℕ)). codes "WRITE" ∷ ws) words)

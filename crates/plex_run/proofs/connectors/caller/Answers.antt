@@ -1,7 +1,8 @@
 use Rattle.std.proofs.Common.{◌≡◌, ℕ, ◌-◌, ◌+◌, Some, None, arith, sym, ◌∙◌, ap}
 use Rattle.std.proofs.lemmas.Option.{slice_get_within}
 use Rattle.cf_types.specs.declared.numbers.ConnId.{ConnId}
-use Rattle.plex_run.proofs.CallerNames.{caller_word-at, name-position, position-caller, some_is_not_none}
+use Rattle.plex_run.proofs.CallerNames.{caller_word-at, name-position, position-caller}
+use Rattle.plex_run.proofs.Options.{some_is_not_none}
 use Rattle.plex_run.proofs.connectors.caller.Goals as goal
 
 pub returns-in_err-place-clause-only : goal.returns-in_err-place-clause-only

@@ -9,7 +9,7 @@ returns-in-Some-clause-found c =
     let text = c.args.text.now in
     let i = c.in-Some.place in
     let rest : take (length text - (i + 1)) (drop (i + 1) text) ≡ drop (i + 1) text =
-      take_all (length text - (i + 1)) (drop (i + 1) text) (omega (arith, length-drop (i + 1) text)) in
+    take_all (length text - (i + 1)) (drop (i + 1) text) (omega (arith, length-drop (i + 1) text)) in
     rw rest (IsCut-at_position c.args.at text i (sym c.in-Some.ensures)).1
 
 pub returns-in-None-clause-none : goal.returns-in-None-clause-none

@@ -15,10 +15,11 @@ returns-then-first-eq43-clause-only c n small e =
     let plain : IsPlain c.args.word.now = rw e (IsPlain-decimal n (omega arith)) in
     let first : c.in_ok-first.field-0.now ≡ get_or c.args.word.now 0 0 = c.in_ok-first.ensures.item.4 (omega arith) 0 in
     elim c.then-first-eq43.branch [
-      then-first-eq43-via-then-first-eq43 w ↦ absurd (plain.unsigned (sym first ∙ w.if-first-eq43.true))
-    | then-first-eq43-via-else-first-eq43+then-word-gt1 w ↦
-        let zero : get_or c.args.word.now 0 0 ≡ 48 = sym first ∙ w.if-word-gt1.true.0 in
-        absurd (omega (arith, w.if-word-gt1.true.1, plain.short zero)) ]
+      | then-first-eq43-via-then-first-eq43 w ↦ absurd (plain.unsigned (sym first ∙ w.if-first-eq43.true))
+      | then-first-eq43-via-else-first-eq43+then-word-gt1 w ↦
+          let zero : get_or c.args.word.now 0 0 ≡ 48 = sym first ∙ w.if-word-gt1.true.0 in
+          absurd (omega (arith, w.if-word-gt1.true.1, plain.short zero))
+    ]
 
 pub returns-in_default-clause-only : goal.returns-in_default-clause-only
 returns-in_default-clause-only c n small e =
