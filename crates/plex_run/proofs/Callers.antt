@@ -1,5 +1,5 @@
 -- Connectors by their names: each name stands at one place.
-use Rattle.std.proofs.Common.{◌≡◌, ℕ, ◌+◌, ◌-◌, ◌<◌, ◌≤◌, ◌==◌, Bool, true, false, not, cond, List, [], ◌∷◌, length, get_or, Option, None, Some, position, nat_lt, nat_eq, refl, sym, ap, ◌∙◌, arith, zero, suc, ◌&&◌, ◌||◌, All, slice_get, option_map, unwrap_or}
+use Rattle.std.proofs.Common.{◌≡◌, ℕ, ◌+◌, ◌-◌, ◌<◌, ◌≤◌, ◌==◌, Bool, true, false, not, cond, List, [], ◌∷◌, length, get_or, None, Some, position, nat_lt, refl, sym, ap, ◌∙◌, arith, zero, suc, ◌||◌, All, slice_get}
 use Rattle.std.specs.List.{list_any, position_or_len}
 use Rattle.std.proofs.lemmas.Bool.{and_parts}
 use Rattle.std.proofs.lemmas.Bool.Decides.{nat_tests}

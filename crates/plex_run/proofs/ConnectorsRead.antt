@@ -1,7 +1,7 @@
 -- Reading the lines that declare connectors, one after another.
-use Rattle.std.proofs.Common.{◌≡◌, ℕ, ◌+◌, ◌<◌, ◌≤◌, Bool, true, false, not, List, [], ◌∷◌, ◌++◌, length, codes, All, refl, sym, ap, ◌∙◌, arith, ◌&&◌, ◌||◌, length-append}
+use Rattle.std.proofs.Common.{◌≡◌, ℕ, ◌<◌, Bool, true, false, not, List, [], ◌∷◌, ◌++◌, length, codes, refl, sym, ap, ◌∙◌, arith, ◌||◌, length-append}
 use Rattle.std.specs.List.{list_any}
-use Rattle.std.proofs.lemmas.Bool.{and_parts, and_from}
+use Rattle.std.proofs.lemmas.Bool.{and_parts}
 use Rattle.std.proofs.lemmas.List.Elements.{All-nil, All-push}
 use Rattle.cf_types.specs.declared.names.Name16.{Name16}
 use Rattle.cf_types.specs.Name.{same_name}
@@ -9,7 +9,6 @@ use Rattle.plex_run.specs.Connectors.{AreConnectors, BeginsOtherwise}
 use Rattle.plex_run.specs.Cut.{words_of}
 use Rattle.plex_run.specs.Form.{IsConnector, are_distinct, connector_line}
 use Rattle.plex_run.specs.Spelling.{name_word}
-use Rattle.plex_run.proofs.Callers.{same_name-itself, same_name-equal}
 use Rattle.plex_run.proofs.Items.{Ends, IsNext, IsRead, IsRead-more, IsRead-next, IsRead-none, spelled}
 use Rattle.plex_run.proofs.Names.{same_by_word}
 use Rattle.plex_run.proofs.PlainWords.{are_plain-connector, is_free-connector_line, words_of-plain}

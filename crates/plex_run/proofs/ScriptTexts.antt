@@ -1,5 +1,5 @@
 -- The text of a script: the policy, the connectors, and the lines.
-use Rattle.std.proofs.Common.{◌≡◌, ℕ, ◌≤◌, List, [], ◌∷◌, ◌++◌, length, map, codes, refl, sym, ap, ◌∙◌, append_assoc, arith}
+use Rattle.std.proofs.Common.{◌≡◌, ℕ, List, [], ◌∷◌, ◌++◌, length, map, codes, sym, ap, ◌∙◌, append_assoc}
 use Rattle.std.proofs.lemmas.List.{append_cancel_left}
 use Rattle.std.proofs.lemmas.List.Concat.{flat_map-append}
 use Rattle.std.proofs.lemmas.List.Elements.{All-head}
@@ -13,12 +13,12 @@ use Rattle.plex_run.specs.declared.scripts.Line.{Line}
 use Rattle.plex_run.specs.Bodies.{AreLines}
 use Rattle.plex_run.specs.Connectors.{AreConnectors, BeginsOtherwise}
 use Rattle.plex_run.specs.Cut.{words_of}
-use Rattle.plex_run.specs.Form.{InForm, IsConnector, IsLine, IsScript, act_words, body_line, connector_line, line_words, policy_lines, script_lines}
+use Rattle.plex_run.specs.Form.{InForm, IsConnector, IsLine, IsScript, act_words, body_line, connector_line, policy_lines, script_lines}
 use Rattle.plex_run.specs.Plan.{Plan}
 use Rattle.plex_run.specs.Spelling.{name_word, caller_word}
 use Rattle.plex_run.specs.Words.{text_of}
 use Rattle.plex_run.proofs.CutLemmas.{same_cut}
-use Rattle.plex_run.proofs.Items.{spelled, spelled-first}
+use Rattle.plex_run.proofs.Items.{spelled}
 use Rattle.plex_run.proofs.PlainWords.{are_plain-connector, are_plain-line, is_free-body_line, is_free-connector_line, words_of-plain}
 
 -- ---- a line is none that declares a connector

@@ -1,4 +1,4 @@
-use Rattle.std.proofs.Common.{◌≡◌, List, [], ◌∷◌, ◌++◌, length, Some, sym, ap, ◌∙◌, true, false, arith, length-append}
+use Rattle.std.proofs.Common.{◌≡◌, List, [], ◌∷◌, ◌++◌, length, sym, ap, ◌∙◌, true, false, arith, length-append}
 use Rattle.cf_types.specs.declared.names.Name16.{Name16}
 use Rattle.plex_run.specs.Bodies.{noted}
 use Rattle.plex_run.specs.Form.{entry_name}
