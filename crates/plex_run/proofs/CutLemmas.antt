@@ -87,3 +87,8 @@ is_free-at_none at text h = none_at (nat_lt (position_or_len (λ b. b == at) tex
         → is_free at text ≡ true
     none_at true below e = absurd (cc)
     none_at false below e = is_free-past at text (grind (arith, nat_tests))
+
+-- a text with a line feed isn't empty
+pub not_empty-line : (line more : List ℕ) → [] ≡ line ++ 10 ∷ more → ⊥
+not_empty-line [] more e = cc
+not_empty-line (b ∷ line) more e = cc

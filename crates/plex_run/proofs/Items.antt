@@ -21,9 +21,6 @@ pub record IsRead {X : Type 0} (f : X → List ℕ) (Valid : X → Type 0) (text
   pub only : (all : List X) (tail : List ℕ) → All Valid all → Ends f Valid tail → text ≡ spelled f all ++ tail
       → (more : List X) × (all ≡ xs ++ more) × All Valid more × (rest ≡ spelled f more ++ tail)
 
-pub IsRead-none : {X : Type 0} (f : X → List ℕ) (Valid : X → Type 0) (text : List ℕ) → IsRead f Valid text [] text
-IsRead-none f Valid text = record { each = All-nil Valid; read = refl; only = λ all tail each ends e. (all, refl, each, e) }
-
 -- the front of a spelling is its first line
 pub spelled-first : {X : Type 0} (f : X → List ℕ) (y : X) (ys : List X) (tail : List ℕ) → spelled f (y ∷ ys) ++ tail ≡ f y ++ 10 ∷ (spelled f ys ++ tail)
 spelled-first f y ys tail = ap (λ (t : List ℕ). t ++ tail) (append_assoc (f y) (10 ∷ []) (spelled f ys)) ∙ append_assoc (f y) (10 ∷ spelled f ys) tail

@@ -2,6 +2,7 @@ pub mod Acts
 pub mod Callers
 pub mod ConnectorsRead
 pub mod CutLemmas
+pub mod Distinct
 pub mod Entries
 pub mod Faults
 pub mod Items
