@@ -1,11 +1,11 @@
 -- What a line does, from its words: no two acts have the same.
-use Rattle.std.proofs.Common.{◌≡◌, ℕ, ◌<◌, ◌≤◌, ◌^◌, Bool, true, false, List, [], ◌∷◌, Option, Some, None, codes, get_or, refl, sym, ap, ◌∙◌, arith}
+use Rattle.std.proofs.Common.{◌≡◌, ℕ, ◌<◌, ◌≤◌, false, List, [], ◌∷◌, Some, None, codes, get_or, ap, arith}
 use Rattle.std.specs.Fmt.{decimal}
 use Rattle.std.proofs.lemmas.Fmt.{decimal_injective}
 use Rattle.cf_types.specs.declared.names.Name16.{Name16}
 use Rattle.cf_types.specs.declared.cache_commands.CacheCmd.TheVariants.{Read, Write}
 use Rattle.cf_types.specs.declared.shell_commands.ShellCmd.TheVariants.{Connect, Disconnect}
-use Rattle.cf_types.specs.Term.{IsPadded, IsTerm}
+use Rattle.cf_types.specs.Term.{IsPadded}
 use Rattle.plex_run.specs.declared.histories.Ask.TheVariants.{Shell, Content}
 use Rattle.plex_run.specs.declared.scripts.Act.{Act}
 use Rattle.plex_run.specs.declared.scripts.Act.TheVariants.{Call, Test}

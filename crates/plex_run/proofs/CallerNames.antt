@@ -1,5 +1,5 @@
 -- Connectors by their names: each name stands at one place.
-use Rattle.std.proofs.Common.{◌≡◌, ℕ, ◌+◌, ◌-◌, ◌<◌, ◌≤◌, ◌==◌, Bool, true, false, not, cond, List, [], ◌∷◌, length, get_or, Option, None, Some, position, nat_lt, nat_eq, refl, sym, ap, ◌∙◌, arith, zero, suc, ◌&&◌, ◌||◌, All, slice_get, option_map, unwrap_or}
+use Rattle.std.proofs.Common.{◌≡◌, ℕ, ◌+◌, ◌-◌, ◌<◌, ◌≤◌, ◌==◌, Bool, true, false, not, cond, List, [], ◌∷◌, length, get_or, None, Some, position, nat_lt, refl, sym, ap, ◌∙◌, arith, zero, suc, ◌||◌, All, slice_get}
 use Rattle.std.specs.List.{list_any, position_or_len}
 use Rattle.std.proofs.lemmas.Bool.{and_parts}
 use Rattle.std.proofs.lemmas.Bool.Decides.{nat_tests}
@@ -13,47 +13,10 @@ use Rattle.cf_types.specs.Term.{IsPadded}
 use Rattle.plex_run.specs.Connectors.{AreConnectors}
 use Rattle.plex_run.specs.Form.{IsConnector, are_distinct}
 use Rattle.plex_run.specs.Spelling.{name_word, caller_word}
+use Rattle.plex_run.proofs.Distinct.{distinct_places, false_if_not, same_name-equal, same_name-itself}
 use Rattle.plex_run.proofs.NameWords.{same_by_word}
 
--- ---- names that are the same
-
-pub same_name-itself : (a : Name16) → same_name a a ≡ true
-same_name-itself a = (bytes_eq-Decides a.0 a.0).1 refl
-
-pub same_name-equal : (a b : Name16) → same_name a b ≡ true → a ≡ b
-same_name-equal a b h =
-    let bytes : a.0 ≡ b.0 = (bytes_eq-Decides a.0 b.0).0 h in
-    ap (λ (bs : List ℕ). (let name : Name16 = record { 0 = bs } in name)) bytes
-
--- a test that isn't true is false
-pub false_if_not : (b : Bool) → (b ≡ true → ⊥) → b ≡ false
-false_if_not true h = absurd (h refl)
-false_if_not false h = refl
-
 -- ---- places
-
-any_at : (p : Name16 → Bool) (xs : List Name16) (j : ℕ) (x : Name16) → slice_get xs j ≡ Some x → p x ≡ true → list_any p xs ≡ true
-any_at p [] j x at h = absurd (cc)
-any_at p (y ∷ ys) zero x at h = let same : y ≡ x = cc in rw (same, h) refl
-any_at p (y ∷ ys) (suc j) x at h = rw (any_at p ys j x at h) (or-true (p y))
-  where
-    or-true : (b : Bool) → (b || true) ≡ true
-    or-true true = refl
-    or-true false = refl
-
--- a name stands at one place among names that are distinct
-distinct_places : (xs : List Name16) (k j : ℕ) (x : Name16) → are_distinct xs ≡ true → k < j → slice_get xs k ≡ Some x → slice_get xs j ≡ Some x → ⊥
-distinct_places [] k j x h below at_k at_j = cc
-distinct_places (y ∷ ys) zero zero x h below at_k at_j = omega arith
-distinct_places (y ∷ ys) zero (suc j) x h below at_k at_j =
-    let same : y ≡ x = cc in
-    let parts = and_parts (not (list_any (same_name y) ys)) (are_distinct ys) h in
-    let found : list_any (same_name y) ys ≡ true = any_at (same_name y) ys j x at_j (rw same (same_name-itself x)) in
-    let none = rw found at parts.0 in
-    cc
-distinct_places (y ∷ ys) (suc k) zero x h below at_k at_j = omega arith
-distinct_places (y ∷ ys) (suc k) (suc j) x h below at_k at_j =
-    distinct_places ys k j x (and_parts (not (list_any (same_name y) ys)) (are_distinct ys) h).1 (omega arith) at_k at_j
 
 pub position-name : (xs : List Name16) (j : ℕ) (name : Name16) → are_distinct xs ≡ true → slice_get xs j ≡ Some name
     → position (λ known. same_name known name) xs ≡ Some j

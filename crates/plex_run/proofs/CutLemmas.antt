@@ -1,6 +1,6 @@
 -- Cutting a text at a byte: where the byte first stands is one place.
-use Rattle.std.proofs.Common.{◌≡◌, ℕ, ◌+◌, ◌<◌, ◌==◌, Bool, true, false, IsTrue, not, cond, List, [], ◌∷◌, ◌++◌, length, get_or, take, drop, Option, None, Some, position, refl, sym, ap, ◌∙◌, arith, nat_lt, ◌&&◌, ◌≤◌, suc}
-use Rattle.std.specs.List.{list_all, position_or_len, prefix_len, take_while}
+use Rattle.std.proofs.Common.{◌≡◌, ℕ, ◌+◌, ◌<◌, ◌==◌, Bool, true, false, not, cond, List, [], ◌∷◌, ◌++◌, length, get_or, take, drop, None, Some, position, refl, sym, ap, ◌∙◌, arith, nat_lt, ◌&&◌, ◌≤◌, suc}
+use Rattle.std.specs.List.{list_all, position_or_len, take_while}
 use Rattle.std.proofs.lemmas.Bool.{and_parts, and_from}
 use Rattle.std.proofs.lemmas.Bool.Decides.{nat_tests}
 use Rattle.std.proofs.lemmas.List.Sums.{take_while-cons, split_at_first, passes_at_first}
@@ -87,3 +87,8 @@ is_free-at_none at text h = none_at (nat_lt (position_or_len (λ b. b == at) tex
         → is_free at text ≡ true
     none_at true below e = absurd (cc)
     none_at false below e = is_free-past at text (grind (arith, nat_tests))
+
+-- a text with a line feed isn't empty
+pub not_empty-line : (line more : List ℕ) → [] ≡ line ++ 10 ∷ more → ⊥
+not_empty-line [] more e = cc
+not_empty-line (b ∷ line) more e = cc

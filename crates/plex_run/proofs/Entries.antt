@@ -1,28 +1,11 @@
 -- Names of entries, each noted where it first stands.
-use Rattle.std.proofs.Common.{◌≡◌, ℕ, ◌+◌, ◌<◌, ◌≤◌, Bool, true, false, not, cond, List, [], ◌∷◌, ◌++◌, length, Option, None, Some, refl, sym, ap, ◌∙◌, arith, ◌||◌, length-append}
-use Rattle.std.specs.List.{list_any, cons_option, filter_map}
+use Rattle.std.proofs.Common.{◌≡◌, ◌+◌, Bool, true, false, cond, List, [], ◌∷◌, ◌++◌, length, Option, None, Some, refl, sym, ap, ◌∙◌, arith, ◌||◌, length-append}
+use Rattle.std.specs.List.{list_any, cons_option}
 use Rattle.cf_types.specs.declared.names.Name16.{Name16}
 use Rattle.cf_types.specs.Name.{same_name}
 use Rattle.plex_run.specs.Bodies.{noted}
 use Rattle.plex_run.specs.Form.{once}
-use Rattle.plex_run.proofs.CallerNames.{same_name-itself, same_name-equal}
-use Rattle.plex_run.proofs.ConnectorsRead.{has_name}
-
--- tests that are true together are the same
-same_tests : (a b : Bool) → (a ≡ true → b ≡ true) → (b ≡ true → a ≡ true) → a ≡ b
-same_tests true b f g = sym (f refl)
-same_tests false true f g = g refl
-same_tests false false f g = refl
-
-same_name-swapped : (a b : Name16) → same_name a b ≡ same_name b a
-same_name-swapped a b =
-    same_tests (same_name a b) (same_name b a)
-    (λ h. let equal = same_name-equal a b h in rw equal (same_name-itself b))
-    (λ h. let equal = same_name-equal b a h in rw equal (same_name-itself a))
-
-pub has_name-swapped : (name : Name16) (names : List Name16) → list_any (same_name name) names ≡ has_name name names
-has_name-swapped name [] = refl
-has_name-swapped name (x ∷ names) = rw (same_name-swapped name x, has_name-swapped name names) refl
+use Rattle.plex_run.proofs.Distinct.{has_name, has_name-swapped}
 
 pub noted-known : (seen : List Name16) (name : Name16) → has_name name seen ≡ true → noted seen (Some name) ≡ seen
 noted-known seen name h = rw (has_name-swapped name seen, h) refl

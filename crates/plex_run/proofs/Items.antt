@@ -1,9 +1,7 @@
 -- Reading the lines of a text from its front, one after another, where the spelling of an item is one line.
-use Rattle.std.proofs.Common.{◌≡◌, true, ℕ, ◌+◌, ◌<◌, List, [], ◌∷◌, ◌++◌, length, map, All, refl, sym, ap, ◌∙◌, append_assoc, arith, length-append}
-use Rattle.std.specs.List.{flat_map}
-use Rattle.std.proofs.lemmas.List.{append-nil, map-append}
-use Rattle.std.proofs.lemmas.List.Concat.{flat_map-append}
-use Rattle.std.proofs.lemmas.List.Elements.{All-nil, All-cons, All-push, All-head, All-tail, All-append}
+use Rattle.std.proofs.Common.{◌≡◌, true, ℕ, List, [], ◌∷◌, ◌++◌, map, All, refl, sym, ap, ◌∙◌, append_assoc}
+use Rattle.std.proofs.lemmas.List.{append-nil}
+use Rattle.std.proofs.lemmas.List.Elements.{All-nil, All-push, All-head, All-tail}
 use Rattle.plex_run.specs.Cut.{is_free}
 use Rattle.plex_run.specs.Words.{text_of}
 use Rattle.plex_run.proofs.CutLemmas.{same_cut}
@@ -22,9 +20,6 @@ pub record IsRead {X : Type 0} (f : X → List ℕ) (Valid : X → Type 0) (text
   pub read : text ≡ spelled f xs ++ rest
   pub only : (all : List X) (tail : List ℕ) → All Valid all → Ends f Valid tail → text ≡ spelled f all ++ tail
       → (more : List X) × (all ≡ xs ++ more) × All Valid more × (rest ≡ spelled f more ++ tail)
-
-pub IsRead-none : {X : Type 0} (f : X → List ℕ) (Valid : X → Type 0) (text : List ℕ) → IsRead f Valid text [] text
-IsRead-none f Valid text = record { each = All-nil Valid; read = refl; only = λ all tail each ends e. (all, refl, each, e) }
 
 -- the front of a spelling is its first line
 pub spelled-first : {X : Type 0} (f : X → List ℕ) (y : X) (ys : List X) (tail : List ℕ) → spelled f (y ∷ ys) ++ tail ≡ f y ++ 10 ∷ (spelled f ys ++ tail)

@@ -15,6 +15,7 @@ pub mod Acts
 pub mod CallerNames
 pub mod ConnectorsRead
 pub mod CutLemmas
+pub mod Distinct
 pub mod Entries
 pub mod Faults
 pub mod Items

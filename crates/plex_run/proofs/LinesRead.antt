@@ -1,5 +1,5 @@
 -- Reading the lines behind the policy, one after another.
-use Rattle.std.proofs.Common.{◌≡◌, true, ℕ, ◌+◌, ◌<◌, ◌≤◌, List, [], ◌∷◌, ◌++◌, length, map, All, Option, refl, sym, ap, ◌∙◌, append_assoc, arith, length-append}
+use Rattle.std.proofs.Common.{◌≡◌, ℕ, ◌+◌, ◌<◌, ◌≤◌, List, [], ◌∷◌, ◌++◌, length, map, All, sym, ap, ◌∙◌, append_assoc, arith, length-append}
 use Rattle.std.specs.List.{filter_map}
 use Rattle.std.proofs.lemmas.List.{append-nil}
 use Rattle.std.proofs.lemmas.List.Elements.{All-head}
@@ -10,7 +10,8 @@ use Rattle.plex_run.specs.Connectors.{AreConnectors}
 use Rattle.plex_run.specs.Form.{IsLine, body_line, entry_name, once}
 use Rattle.plex_run.specs.Words.{text_of}
 use Rattle.plex_run.proofs.Entries.{length-once_noted}
-use Rattle.plex_run.proofs.Items.{Ends, IsNext, IsRead, IsRead-more, IsRead-next, IsRead-none, spelled, spelled-first}
+use Rattle.plex_run.proofs.CutLemmas.{not_empty-line}
+use Rattle.plex_run.proofs.Items.{Ends, IsNext, IsRead, IsRead-more, IsRead-next, spelled, spelled-first}
 use Rattle.plex_run.proofs.PlainWords.{is_free-body_line}
 
 -- how many entries the lines name that aren't among those seen
@@ -24,16 +25,7 @@ pub record LinesAreRead (connectors : List Name16) (text : List ℕ) (lines : Li
   pub few : length entries ≤ 8
   pub counted : (more : List Line) → new_entries [] (lines ++ more) ≡ length entries + new_entries entries more
 
-pub LinesAreRead-none : (connectors : List Name16) (text : List ℕ) → LinesAreRead connectors text [] [] text
-LinesAreRead-none connectors text =
-    record {
-      read = IsRead-none (body_line connectors) (IsLine (length connectors)) text;
-      short = omega arith;
-      few = omega arith;
-      counted = λ more. omega arith;
-    }
-
--- what `one` says: no other line is spelled so
+-- this line stands first, and no other is spelled so
 pub record IsFirst (connectors : List Name16) (rest : List ℕ) (line : Line) (more : List ℕ) : Type 0 where
   pub valid : IsLine (length connectors) line
   pub here : rest ≡ body_line connectors line ++ 10 ∷ more
@@ -63,11 +55,7 @@ LinesAreRead-more connectors text lines entries rest line more new good h first 
 -- ---- the whole
 
 Ends-nil : (connectors : List Name16) → Ends (body_line connectors) (IsLine (length connectors)) []
-Ends-nil connectors = record { none = λ line more valid e. empty (body_line connectors line) more e }
-  where
-    empty : (front more : List ℕ) → [] ≡ front ++ 10 ∷ more → ⊥
-    empty [] more e = cc
-    empty (b ∷ front) more e = cc
+Ends-nil connectors = record { none = λ line more valid e. not_empty-line (body_line connectors line) more e }
 
 whole : (connectors : List Name16) (text : List ℕ) (all : List Line) → text ≡ text_of (map (body_line connectors) all) → text ≡ spelled (body_line connectors) all ++ []
 whole connectors text all e = e ∙ sym (append-nil (spelled (body_line connectors) all))

@@ -1,5 +1,5 @@
 -- The words of a script have neither blanks nor line feeds, so lines are told from their words, and a text from its lines.
-use Rattle.std.proofs.Common.{◌≡◌, ℕ, ◌+◌, ◌-◌, ◌<◌, ◌≤◌, ◌==◌, ◌^◌, Bool, true, false, not, List, [], ◌∷◌, ◌++◌, length, codes, Option, None, Some, nat_lt, refl, sym, ap, ◌∙◌, arith, ◌&&◌, All}
+use Rattle.std.proofs.Common.{◌≡◌, ℕ, ◌-◌, ◌<◌, ◌≤◌, ◌==◌, ◌^◌, Bool, true, not, List, [], ◌∷◌, length, codes, None, Some, nat_lt, refl, arith}
 use Rattle.std.specs.List.{list_all}
 use Rattle.std.specs.Fmt.{decimal}
 use Rattle.std.specs.Str.Parse.{AllDigits}
@@ -10,7 +10,7 @@ use Rattle.std.proofs.lemmas.Str.Parse.{digit_from_value}
 use Rattle.cf_types.specs.declared.names.Name16.{Name16}
 use Rattle.cf_types.specs.declared.cache_commands.CacheCmd.TheVariants.{Read, Write}
 use Rattle.cf_types.specs.declared.shell_commands.ShellCmd.TheVariants.{Connect, Disconnect}
-use Rattle.cf_types.specs.Term.{IsPadded, IsTerm, term_byte}
+use Rattle.cf_types.specs.Term.{IsPadded, term_byte}
 use Rattle.plex_run.specs.declared.histories.Ask.TheVariants.{Shell, Content}
 use Rattle.plex_run.specs.declared.scripts.Act.{Act}
 use Rattle.plex_run.specs.declared.scripts.Act.TheVariants.{Call, Test}

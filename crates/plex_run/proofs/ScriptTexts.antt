@@ -1,5 +1,5 @@
 -- The text of a script: the policy, the connectors, and the lines.
-use Rattle.std.proofs.Common.{◌≡◌, ℕ, ◌≤◌, List, [], ◌∷◌, ◌++◌, length, map, codes, refl, sym, ap, ◌∙◌, append_assoc, arith}
+use Rattle.std.proofs.Common.{◌≡◌, ℕ, List, [], ◌∷◌, ◌++◌, length, map, codes, sym, ap, ◌∙◌, append_assoc}
 use Rattle.std.proofs.lemmas.List.{append_cancel_left}
 use Rattle.std.proofs.lemmas.List.Concat.{flat_map-append}
 use Rattle.std.proofs.lemmas.List.Elements.{All-head}
@@ -13,12 +13,12 @@ use Rattle.plex_run.specs.declared.scripts.Line.{Line}
 use Rattle.plex_run.specs.Bodies.{AreLines}
 use Rattle.plex_run.specs.Connectors.{AreConnectors, BeginsOtherwise}
 use Rattle.plex_run.specs.Cut.{words_of}
-use Rattle.plex_run.specs.Form.{InForm, IsConnector, IsLine, IsScript, act_words, body_line, connector_line, line_words, policy_lines, script_lines}
+use Rattle.plex_run.specs.Form.{InForm, IsConnector, IsLine, IsScript, act_words, body_line, connector_line, policy_lines, script_lines}
 use Rattle.plex_run.specs.Plan.{Plan}
 use Rattle.plex_run.specs.Spelling.{name_word, caller_word}
 use Rattle.plex_run.specs.Words.{text_of}
-use Rattle.plex_run.proofs.CutLemmas.{same_cut}
-use Rattle.plex_run.proofs.Items.{spelled, spelled-first}
+use Rattle.plex_run.proofs.CutLemmas.{not_empty-line, same_cut}
+use Rattle.plex_run.proofs.Items.{spelled}
 use Rattle.plex_run.proofs.PlainWords.{are_plain-connector, are_plain-line, is_free-body_line, is_free-connector_line, words_of-plain}
 
 -- ---- a line is none that declares a connector
@@ -38,12 +38,8 @@ other_line names line name good valid named e =
     let words : caller_word names line.by ∷ codes "GBP" ∷ act_words line.act ≡ codes "CONNECTOR" ∷ name_word name ∷ [] = sym words_line ∙ (ap words_of e ∙ words_name) in
     some_act line.act (cc words)
 
-not_empty : (front more : List ℕ) → [] ≡ front ++ 10 ∷ more → ⊥
-not_empty [] more e = cc
-not_empty (b ∷ front) more e = cc
-
 pub BeginsOtherwise-lines : (names : List Name16) (lines : List Line) → AreConnectors names → AreLines names lines → BeginsOtherwise (spelled (body_line names) lines)
-BeginsOtherwise-lines names [] good are name rest named e = not_empty (connector_line name) rest e
+BeginsOtherwise-lines names [] good are name rest named e = not_empty-line (connector_line name) rest e
 BeginsOtherwise-lines names (line ∷ lines) good are name rest named e =
     let valid = All-head (IsLine (length names)) line lines are.each in
     let same = same_cut 10 (body_line names line) (spelled (body_line names) lines) (connector_line name) rest (is_free-body_line names line good valid) (is_free-connector_line name named)

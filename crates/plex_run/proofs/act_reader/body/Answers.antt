@@ -1,4 +1,4 @@
-use Rattle.std.proofs.Common.{◌≡◌, ℕ, ◌<◌, ◌≤◌, ◌==◌, Bool, true, false, not, cond, List, length, Option, Some, Result, Ok, Err, IfOk, IfErr, IsErrAnd, MatchResult, position, refl, arith}
+use Rattle.std.proofs.Common.{◌≡◌, ℕ, ◌==◌, Bool, true, false, not, cond, List, length, Some, Result, Ok, Err, IfOk, IfErr, IsErrAnd, MatchResult, position, refl, arith}
 use Rattle.std.proofs.lemmas.Bool.Decides.{nat_tests}
 use Rattle.std.proofs.lemmas.Result.{err_from_is_err_and}
 use Rattle.cf_types.specs.declared.bodies.BodyFault.{BodyFault}

@@ -1,8 +1,7 @@
-use Rattle.std.proofs.Common.{◌≡◌, true, sym, ap, ◌∙◌, Result, Err, ◌∷◌}
+use Rattle.std.proofs.Common.{◌≡◌, sym, ◌∙◌}
 use Rattle.std.proofs.lemmas.Result.{err_from_is_err_and}
-use Rattle.plex_run.specs.declared.scripts.Line.{Line}
 use Rattle.plex_run.specs.declared.scripts.ReadFault.TheVariants.{NotYet}
-use Rattle.plex_run.specs.Cut.{is_free, IsCut}
+use Rattle.plex_run.specs.Cut.{IsCut}
 use Rattle.plex_run.specs.Form.{body_line}
 use Rattle.plex_run.proofs.CutLemmas.{IsCut-same}
 use Rattle.plex_run.proofs.Faults.{gives_not_yet, same_faults}

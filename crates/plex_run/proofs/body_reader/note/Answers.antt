@@ -1,8 +1,8 @@
-use Rattle.std.proofs.Common.{◌≡◌, List, [], ◌∷◌, ◌++◌, length, Some, sym, ap, ◌∙◌, true, false, arith, length-append}
+use Rattle.std.proofs.Common.{◌≡◌, List, [], ◌∷◌, ◌++◌, length, sym, ap, ◌∙◌, true, false, arith, length-append}
 use Rattle.cf_types.specs.declared.names.Name16.{Name16}
 use Rattle.plex_run.specs.Bodies.{noted}
 use Rattle.plex_run.specs.Form.{entry_name}
-use Rattle.plex_run.proofs.ConnectorsRead.{has_name}
+use Rattle.plex_run.proofs.Distinct.{has_name}
 use Rattle.plex_run.proofs.Entries.{noted-known, noted-new}
 use Rattle.plex_run.proofs.body_reader.note.Goals as goal
 

@@ -1,7 +1,6 @@
-use Rattle.std.proofs.Common.{◌≡◌, ◌<◌, List, [], ◌∷◌, ◌++◌, length, Err, sym, ap, ◌∙◌, true, false, arith}
+use Rattle.std.proofs.Common.{◌≡◌, ◌<◌, List, [], ◌∷◌, ◌++◌, length, Err, sym, ap, ◌∙◌, arith}
 use Rattle.std.proofs.lemmas.Bool.Decides.{nat_tests}
 use Rattle.std.proofs.lemmas.Result.{err_from_is_err_and}
-use Rattle.cf_types.specs.declared.names.Name16.{Name16}
 use Rattle.plex_run.specs.declared.scripts.Line.{Line}
 use Rattle.plex_run.specs.declared.scripts.ReadFault.TheVariants.{NotYet}
 use Rattle.plex_run.proofs.Faults.{same_faults}

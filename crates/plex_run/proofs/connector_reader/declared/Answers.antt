@@ -1,4 +1,4 @@
-use Rattle.std.proofs.Common.{◌≡◌, ℕ, List, [], ◌∷◌, codes, sym, ap, ◌∙◌}
+use Rattle.std.proofs.Common.{[], ◌∷◌, codes, sym, ap, ◌∙◌}
 use Rattle.plex_run.proofs.Options.{IfSome-weaker}
 use Rattle.plex_run.specs.Cut.{words_of}
 use Rattle.plex_run.specs.Spelling.{name_word}

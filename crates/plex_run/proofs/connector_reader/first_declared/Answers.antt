@@ -1,5 +1,5 @@
-use Rattle.std.proofs.Common.{◌≡◌, true, sym, ◌∙◌}
-use Rattle.plex_run.specs.Cut.{is_free, IsCut}
+use Rattle.std.proofs.Common.{sym, ◌∙◌}
+use Rattle.plex_run.specs.Cut.{IsCut}
 use Rattle.plex_run.specs.Form.{connector_line}
 use Rattle.plex_run.proofs.Options.{some_is_not_none}
 use Rattle.plex_run.proofs.CutLemmas.{IsCut-not_free, IsCut-same}

@@ -1,7 +1,8 @@
-use Rattle.std.proofs.Common.{◌≡◌, List, [], ◌∷◌, ◌++◌, length, sym, ap, ◌∙◌, true, false, arith}
+use Rattle.std.proofs.Common.{◌≡◌, List, [], ◌∷◌, ◌++◌, length, sym, ◌∙◌, true, false, arith}
 use Rattle.cf_types.specs.declared.names.Name16.{Name16}
 use Rattle.plex_run.specs.Form.{IsConnector, connector_line}
-use Rattle.plex_run.proofs.ConnectorsRead.{AreRead, AreRead-more, Ends-otherwise, has_name, not_many, not_again}
+use Rattle.plex_run.proofs.ConnectorsRead.{AreRead-more, Ends-otherwise, not_many, not_again}
+use Rattle.plex_run.proofs.Distinct.{has_name}
 use Rattle.plex_run.proofs.Items.{Ends, IsRead-end}
 use Rattle.plex_run.proofs.Options.{none_is_not_some}
 use Rattle.plex_run.proofs.connector_reader.read_connectors.Goals.{then-len-eq-CONNECTOR_LIMIT-via-then-len-eq-CONNECTOR_LIMIT, then-len-eq-CONNECTOR_LIMIT-via-else-len-eq-CONNECTOR_LIMIT+then-contains}

@@ -1,4 +1,4 @@
-use Rattle.std.proofs.Common.{◌≡◌, List, length}
+use Rattle.std.proofs.Common.{length}
 use Rattle.plex_run.proofs.ConnectorsRead.{AreRead}
 use Rattle.plex_run.proofs.connector_reader.read_connectors.Given as goal
 

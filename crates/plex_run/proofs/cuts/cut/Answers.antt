@@ -1,6 +1,5 @@
-use Rattle.std.proofs.Common.{◌≡◌, ℕ, ◌-◌, ◌+◌, length, take, drop, sym, arith, length-drop}
+use Rattle.std.proofs.Common.{◌≡◌, ◌-◌, ◌+◌, length, take, drop, sym, arith, length-drop}
 use Rattle.std.proofs.lemmas.List.{take_all}
-use Rattle.plex_run.specs.Cut.{IsCut}
 use Rattle.plex_run.proofs.CutLemmas.{IsCut-at_position, is_free-at_none}
 use Rattle.plex_run.proofs.cuts.cut.Goals as goal
 

@@ -1,4 +1,4 @@
-use Rattle.std.proofs.Common.{◌≡◌, ℕ, List, ◌∷◌, Some, codes, sym, ap, ◌∙◌, arith}
+use Rattle.std.proofs.Common.{◌≡◌, ◌∷◌, Some, codes, sym, ap, ◌∙◌, arith}
 use Rattle.cf_types.specs.declared.numbers.ConnId.{ConnId}
 use Rattle.plex_run.specs.declared.scripts.Act.{Act}
 use Rattle.plex_run.specs.declared.scripts.Line.{Line}

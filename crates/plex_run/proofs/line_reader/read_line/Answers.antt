@@ -1,7 +1,7 @@
-use Rattle.std.proofs.Common.{◌≡◌, ℕ, List, ◌∷◌, codes, sym, ap, ◌∙◌}
+use Rattle.std.proofs.Common.{◌∷◌, codes, sym, ap, ◌∙◌}
 use Rattle.std.proofs.lemmas.Result.{IfOk-weaker}
 use Rattle.plex_run.specs.Cut.{words_of}
-use Rattle.plex_run.specs.Form.{act_words, line_words}
+use Rattle.plex_run.specs.Form.{act_words}
 use Rattle.plex_run.specs.Spelling.{caller_word}
 use Rattle.plex_run.specs.Words.{line_of}
 use Rattle.plex_run.proofs.PlainWords.{are_plain-line, words_of-plain}

@@ -1,4 +1,4 @@
-use Rattle.std.proofs.Common.{◌≡◌, ℕ, ◌<◌, ◌^◌, length, get_or, sym, ◌∙◌, ap, arith, ⊎_elim}
+use Rattle.std.proofs.Common.{◌≡◌, get_or, sym, ◌∙◌, arith, ⊎_elim}
 use Rattle.std.specs.Str.{IsUtf8}
 use Rattle.plex_run.proofs.Numerals.{IsPlain, IsPlain-decimal, IsUtf8-decimal, parsed-decimal, decimal-parsed}
 use Rattle.plex_run.proofs.numbers.number.Goals.{then-first-eq43-via-then-first-eq43, then-first-eq43-via-else-first-eq43+then-word-gt1}

@@ -1,11 +1,9 @@
-use Rattle.std.proofs.Common.{◌≡◌, ◌<◌, ℕ, List, ◌++◌, length, Some, None, Err, sym, ap, ◌∙◌, arith}
+use Rattle.std.proofs.Common.{◌≡◌, List, ◌++◌, length, Some, None, Err, sym, ap, ◌∙◌, arith}
 use Rattle.std.proofs.lemmas.Bool.Decides.{nat_tests}
 use Rattle.std.proofs.lemmas.Result.{err_from_is_err_and}
 use Rattle.cf_types.specs.declared.names.Name16.{Name16}
-use Rattle.plex_run.specs.declared.scripts.ReadFault.TheVariants.{NotYet, NoMemory}
-use Rattle.plex_run.specs.Bodies.{AreLines}
-use Rattle.plex_run.specs.Form.{policy_lines, body_line, connector_line}
-use Rattle.plex_run.specs.Words.{text_of}
+use Rattle.plex_run.specs.declared.scripts.ReadFault.TheVariants.{NotYet}
+use Rattle.plex_run.specs.Form.{body_line, connector_line}
 use Rattle.plex_run.proofs.Faults.{not_both, same_faults}
 use Rattle.plex_run.proofs.Items.{spelled}
 use Rattle.plex_run.proofs.ScriptTexts.{AreConnectors-form, AreLines-form, BeginsOtherwise-lines, rest_told, script_text}
