@@ -38,3 +38,4 @@ pub mod ReportFixes
 pub mod SerialLength
 pub mod ReportLines
 pub mod Written
+pub mod PlainLines

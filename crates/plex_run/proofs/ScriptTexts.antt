@@ -13,7 +13,7 @@ use Rattle.plex_run.specs.declared.scripts.Line.{Line}
 use Rattle.plex_run.specs.Bodies.{AreLines}
 use Rattle.plex_run.specs.Connectors.{AreConnectors, BeginsOtherwise}
 use Rattle.plex_run.specs.Cut.{words_of}
-use Rattle.plex_run.specs.Form.{InForm, IsConnector, IsLine, IsScript, act_words, body_line, connector_line, policy_lines, script_lines}
+use Rattle.plex_run.specs.Form.{InForm, IsConnector, IsLine, IsPlainScript, act_words, body_line, connector_line, policy_lines, script_lines}
 use Rattle.plex_run.specs.Plan.{Plan}
 use Rattle.plex_run.specs.Spelling.{name_word, caller_word}
 use Rattle.plex_run.specs.Words.{text_of}
@@ -65,7 +65,7 @@ pub AreLines-form : (script : Plan) → InForm script → AreLines script.connec
 AreLines-form script h = record { short = h.short; each = h.lines; entries = h.entries }
 
 -- what stands behind the policy in the text of a script
-pub rest_told : (text rest : List ℕ) (script : Plan) → text ≡ text_of policy_lines ++ rest → IsScript text script
+pub rest_told : (text rest : List ℕ) (script : Plan) → text ≡ text_of policy_lines ++ rest → IsPlainScript text script
     → rest ≡ spelled connector_line script.connectors ++ spelled (body_line script.connectors) script.lines
 rest_told text rest script policy h =
     append_cancel_left (text_of policy_lines) rest (spelled connector_line script.connectors ++ spelled (body_line script.connectors) script.lines)

@@ -1,5 +1,6 @@
 pub mod Plan
 pub mod Words
+pub mod Comments
 pub mod Spelling
 pub mod Form
 pub mod Machine

@@ -3,6 +3,7 @@
 
 mod act_reader;
 mod body_reader;
+mod comments;
 mod connector_reader;
 mod connectors;
 mod cuts;

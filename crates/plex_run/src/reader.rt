@@ -1,9 +1,10 @@
 ghost use Rattle.std.specs.Prelude.{◌≡◌, ℕ, List, ◌++◌, IfSome, IfNone, IfOk, IsErrOf};
-ghost use Rattle.plex_run.specs.Form.{IsScript, policy_lines};
+ghost use Rattle.plex_run.specs.Form.{IsScript, IsPlainScript, policy_lines};
 ghost use Rattle.plex_run.specs.Plan.{Plan};
 ghost use Rattle.plex_run.specs.Words.{text_of};
 
 use crate::body_reader::read_lines;
+use crate::comments::uncommented;
 use crate::connector_reader::read_connectors;
 use crate::scripts::{ReadFault, Script};
 use std::alloc::Global;
@@ -27,6 +28,15 @@ pub(crate) fn read(alloc: Global, text: &[u8]) -> Result<Script, ReadFault>
 
     // Nothing in the form is refused.
     ensures not_yet { IsErrOf result ReadFault.NotYet → (script : Plan) → IsScript text.now script → ⊥ }
+{
+    let plain = uncommented(alloc, text)?;
+    read_plain(alloc, plain.as_slice())
+}
+
+// Reads a script that has no comments.
+fn read_plain(alloc: Global, text: &[u8]) -> Result<Script, ReadFault>
+    ensures script { IfOk result (λ script. IsPlainScript text.now script) }
+    ensures not_yet { IsErrOf result ReadFault.NotYet → (script : Plan) → IsPlainScript text.now script → ⊥ }
 {
     let rest = behind_policy(text).ok_or(ReadFault::NotYet)?;
     let (connectors, rest) = read_connectors(alloc, rest)?;

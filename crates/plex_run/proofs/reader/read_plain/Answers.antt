@@ -7,7 +7,7 @@ use Rattle.plex_run.specs.Form.{body_line, connector_line}
 use Rattle.plex_run.proofs.Faults.{not_both, same_faults}
 use Rattle.plex_run.proofs.Items.{spelled}
 use Rattle.plex_run.proofs.ScriptTexts.{AreConnectors-form, AreLines-form, BeginsOtherwise-lines, rest_told, script_text}
-use Rattle.plex_run.proofs.reader.read.Goals as goal
+use Rattle.plex_run.proofs.reader.read_plain.Goals as goal
 
 pub returns-in_err-rest-clause-not_yet : goal.returns-in_err-rest-clause-not_yet
 returns-in_err-rest-clause-not_yet c fault script h =
