@@ -1,13 +1,10 @@
 -- Reading the lines that declare connectors, one after another.
-use Rattle.std.proofs.Common.{◌≡◌, ℕ, ◌<◌, Bool, true, false, not, List, [], ◌∷◌, ◌++◌, length, codes, refl, sym, ap, ◌∙◌, arith, ◌||◌, length-append}
-use Rattle.std.specs.List.{list_any}
-use Rattle.std.proofs.lemmas.Bool.{and_parts}
-use Rattle.std.proofs.lemmas.List.Elements.{All-nil, All-push}
+use Rattle.std.proofs.Common.{◌≡◌, ℕ, ◌<◌, true, false, List, [], ◌∷◌, ◌++◌, length, codes, sym, ap, ◌∙◌, arith, length-append}
+use Rattle.std.proofs.lemmas.List.Elements.{All-push}
 use Rattle.cf_types.specs.declared.names.Name16.{Name16}
-use Rattle.cf_types.specs.Name.{same_name}
 use Rattle.plex_run.specs.Connectors.{AreConnectors, BeginsOtherwise}
 use Rattle.plex_run.specs.Cut.{words_of}
-use Rattle.plex_run.specs.Form.{IsConnector, are_distinct, connector_line}
+use Rattle.plex_run.specs.Form.{IsConnector, connector_line}
 use Rattle.plex_run.specs.Spelling.{name_word}
 use Rattle.plex_run.proofs.Distinct.{are_distinct-push, has_name, not_distinct-again}
 use Rattle.plex_run.proofs.Items.{Ends, IsNext, IsRead, IsRead-more, IsRead-next, spelled}

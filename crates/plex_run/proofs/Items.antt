@@ -1,7 +1,7 @@
 -- Reading the lines of a text from its front, one after another, where the spelling of an item is one line.
 use Rattle.std.proofs.Common.{◌≡◌, true, ℕ, List, [], ◌∷◌, ◌++◌, map, All, refl, sym, ap, ◌∙◌, append_assoc}
 use Rattle.std.proofs.lemmas.List.{append-nil}
-use Rattle.std.proofs.lemmas.List.Elements.{All-nil, All-push, All-head, All-tail}
+use Rattle.std.proofs.lemmas.List.Elements.{All-push, All-head, All-tail}
 use Rattle.plex_run.specs.Cut.{is_free}
 use Rattle.plex_run.specs.Words.{text_of}
 use Rattle.plex_run.proofs.CutLemmas.{same_cut}

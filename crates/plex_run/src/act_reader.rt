@@ -162,17 +162,11 @@ pub(crate) fn act(alloc: Global, mut words: Words) -> Result<Act, ReadFault>
     ensures only { (act : Act) → IsAct act → act_words act ≡ words.entry → Gives act result }
 {
     let verb = words.next().ok_or(ReadFault::NotYet)?;
-    if verb == b"WRITE".as_slice() {
-        return write(alloc, words);
+    match verb {
+        b"WRITE" => write(alloc, words),
+        b"READ" => read(words).ok_or(ReadFault::NotYet),
+        b"TEST" => test(words).ok_or(ReadFault::NotYet),
+        b"CONNECT" => connect(words).ok_or(ReadFault::NotYet),
+        _ => Err(ReadFault::NotYet),
     }
-    if verb == b"READ".as_slice() {
-        return read(words).ok_or(ReadFault::NotYet);
-    }
-    if verb == b"TEST".as_slice() {
-        return test(words).ok_or(ReadFault::NotYet);
-    }
-    if verb == b"CONNECT".as_slice() {
-        return connect(words).ok_or(ReadFault::NotYet);
-    }
-    Err(ReadFault::NotYet)
 }
