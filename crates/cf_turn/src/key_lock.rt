@@ -1,0 +1,133 @@
+// The lock and its ticket.
+ghost use Rattle.std.specs.Prelude.{◌≡◌, IfOk, IfErr};
+
+use crate::chosen::Chosen;
+use crate::keeps::Keeps;
+use crate::turns::{Back, Stand, Start, Try, Turns};
+use atomic_table::{Refused, Seat, Table};
+use std::alloc::Global;
+use std::hint::spin_loop;
+use std::marker::Model;
+use std::sync::Wait;
+use std::sync::atomic::AtomicU64;
+use std::sync::atomic::Ordering::SeqCst;
+
+/// A lock round one value, with a key that never changes. Contracts see it as its name and its key.
+#[derive(Drop)]
+pub struct KeyLock<F: Keeps> {
+    table: Table<Option<F::Value>, Stand<F::Key>, Chosen<F::Key>, Turns<F>, Global>,
+    sleepers: AtomicU64,
+}
+
+impl<F: Keeps> Model for KeyLock<F> {
+    ghost use Rattle.std.specs.Prelude.{◌≡◌};
+    ghost use Rattle.cf_turn.specs.Locks.{Lock, lock_code};
+
+    ghost Value = { Lock F.Key };
+
+    ghost coded = { lock_code F.Key.code };
+
+    ghost view = { λ lock. record { name = lock.table.shared.table_id; key = lock.table.shared.key.key } };
+
+    ghost invariant = { λ lock. (lock.table.shared.table_id.words ≡ 1) × (lock.table.shared.table_id.slots ≡ 1) };
+}
+
+/// The right to give a value back to a lock. Contracts see it as the lock's name.
+pub struct Ticket<F: Keeps> {
+    seat: Seat<Option<F::Value>, Stand<F::Key>>,
+}
+
+impl<F: Keeps> Model for Ticket<F> {
+    ghost use Rattle.atomic_table.specs.Seated.{TableId, table_id_coded};
+    ghost use Rattle.cf_turn.specs.Turns.{HasTurn};
+
+    ghost Value = { TableId };
+
+    ghost coded = { table_id_coded };
+
+    ghost view = { λ ticket. ticket.seat.table_id };
+
+    ghost invariant = { λ ticket. HasTurn ticket.seat.me };
+}
+
+/// How often a thread looks at the word before it sleeps.
+const LOOKS: u32 = 100;
+
+impl<F: Keeps> KeyLock<F> {
+    /// A free lock round the value. Where there is no memory the value comes back.
+    pub fn new(alloc: Global, value: F::Value) -> Result<KeyLock<F>, F::Value>
+        ghost key: { F.Key }
+        requires { F.stands key value }
+        ensures made { IfOk result (λ lock. lock.key ≡ key) }
+        ensures refused { IfErr result (λ back. back ≡ value) }
+    {
+        let Ok(mut slots) = Vec::with_capacity(alloc, 1) else {
+            return Err(value);
+        };
+        slots.push_reserved(Some(value));
+        let chosen: Chosen<F::Key> = Chosen::new();
+        match Table::new(alloc, &[0], slots, &chosen) {
+            Ok((table, _seat)) => Ok(KeyLock {
+                table,
+                sleepers: AtomicU64::new(0),
+            }),
+            Err(Refused { mut slots }) => Err(slots.pop().unwrap().unwrap()),
+        }
+    }
+
+    /// Waits for the turn, and takes the value out. The ticket gives it back.
+    pub fn take(&self, rt: &impl Wait) -> (F::Value, Ticket<F>)
+        ensures value { F.stands self.now.key result.0 }
+        ensures ticket { result.1 ≡ self.now.name }
+    {
+        let (_, mut seat) = self.table.shared.load_new_seat::<Start>(0);
+        for _ in rt.forever() {
+            let found = self
+                .table
+                .shared
+                .compare_exchange::<Try<F>>(&mut seat, 0, 0, 1);
+            if found == 0 {
+                break;
+            }
+            self.wait(rt);
+        }
+        let value = self.table.shared.exchange(&mut seat, 0, None).unwrap();
+        (value, Ticket { seat })
+    }
+
+    /// Gives a value back, and the turn with it. It wakes a thread that sleeps, if there is one.
+    pub fn give(&self, ticket: Ticket<F>, value: F::Value)
+        requires ticket { ticket ≡ self.now.name }
+        requires value { F.stands self.now.key value }
+    {
+        let Ticket { mut seat } = ticket;
+        drop(self.table.shared.exchange(&mut seat, 0, Some(value)));
+        self.table.shared.store::<Back>(&mut seat, 0, 0);
+        if self.sleepers.load(SeqCst) > 0 {
+            self.table.shared.wake_one(0);
+        }
+    }
+
+    /// Waits for the turn, ends the lock and gives its value.
+    pub fn end(self, rt: &impl Wait) -> F::Value
+        ensures { F.stands self.key result }
+    {
+        let (value, ticket) = self.take(rt);
+        let Ticket { seat } = ticket;
+        drop(seat);
+        value
+    }
+
+    // Looks at the word for a while, and then sleeps until it may have changed.
+    fn wait(&self, rt: &impl Wait) {
+        for _ in 0..LOOKS {
+            if self.table.shared.peek(0) == 0 {
+                return;
+            }
+            spin_loop();
+        }
+        self.sleepers.fetch_add(1, SeqCst);
+        self.table.shared.park(rt, 0, 1);
+        self.sleepers.fetch_sub(1, SeqCst);
+    }
+}

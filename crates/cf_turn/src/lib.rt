@@ -1,0 +1,9 @@
+#![tactic(auto)]
+//! A lock that knows its key.
+mod chosen;
+mod keeps;
+mod key_lock;
+mod turns;
+
+pub use keeps::Keeps;
+pub use key_lock::{KeyLock, Ticket};

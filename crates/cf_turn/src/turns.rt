@@ -1,0 +1,49 @@
+// The rule of the lock's table, and what each step on its word tells.
+ghost use Rattle.cf_turn.specs.Turns.{Kept, waiting, Starts, Tries};
+
+use crate::chosen::Chosen;
+use crate::keeps::Keeps;
+use atomic_table::{Play, TableRule};
+use std::marker::PhantomData;
+
+/// What a seat at the lock knows. No value of it is made.
+pub struct Stand<K> {
+    /// How many turns the seat has: 1 while it has the value, else 0.
+    pub turns: u64,
+    /// The lock's key.
+    pub key: K,
+}
+
+/// The lock's rule.
+pub struct Turns<F> {
+    of: PhantomData<F>,
+}
+
+impl<F: Keeps> TableRule<Option<F::Value>, Stand<F::Key>, Chosen<F::Key>> for Turns<F> {
+    ghost holds = { λ about. Kept F.stands about.key };
+
+    ghost first = { λ about. waiting about.key };
+}
+
+/// A seat is made, with no turn.
+pub struct Start;
+
+impl<V, K> Play<Option<V>, Stand<K>> for Start {
+    ghost then = { Starts };
+}
+
+/// The turn is tried for.
+pub struct Try<F> {
+    of: PhantomData<F>,
+}
+
+impl<F: Keeps> Play<Option<F::Value>, Stand<F::Key>> for Try<F> {
+    ghost then = { Tries F.stands };
+}
+
+/// The turn is given back.
+pub struct Back;
+
+impl<V, K> Play<Option<V>, Stand<K>> for Back {
+    ghost then = { λ _ _ _ _. Unit {0} };
+}
