@@ -1,11 +1,11 @@
 -- `new` makes a value of no bytes, whose ghost field is the key that was picked.
-use mathlib.Core.Path.{refl}
+use Rattle.std.proofs.Common.{◌≡◌, refl}
 use mathlib.Core.List.{List, [], ◌∷◌}
 use seplogic.Ra.Ura.{Ura}
 use mir.Syntax.{Fn, a_type}
 use mir.Val.{Val, vstruct, vcons, vnil}
 use mir.MapTy.{inst_fn}
-use base.Logic.{SProp}
+use base.Logic.{SProp, emp}
 use base.Fml.{Fml}
 use types.Kit.{‵, raw, ◌⊛◌, ◌$◌, ◌∵◌, !, qed, by, keep, split, fjoin, use0}
 use types.Run.{no_more, and_then, returns, enter}
@@ -21,10 +21,27 @@ use denote.Steps.{nothing}
 use denote.Triple.Entry.{alive}
 use denote.Triple.Walked.{Stays, walk_of}
 use Rattle.atomic_table.proofs.Walks.{proved, leaves}
+use Rattle.cf_turn.specs.contracts.chosen.Chosen.{the_row}
 use Rattle.cf_turn.specs.contracts.chosen.Chosen.new.{ended, clauses}
 use Rattle.cf_turn.specs.contracts.chosen.Chosen.new.Key.{name as #self}
 use Rattle.cf_turn.proofs.chosen.Chosen.new.Statement.{statement}
 use Rattle.cf_turn.proofs.chosen.Chosen.new.Code as code
 
 pub new_spec : {M : Type 1} → statement M
-new_spec 𝓤 𝓛 𝓜 𝓡 wired U _ = ?
+new_spec 𝓤 𝓛 𝓜 𝓡 wired U _ =
+    let H = 𝓛.H in let 𝓣 = tables 𝓤 H 𝓜 𝓡 𝓡.env in let En = ended U in let c = clauses U 𝓛 𝓜.mem 𝓡.returns in
+    let inst = layouts (a_type ∷ []) (U, tt) in let fn = inst_fn inst code.function in let closed = code.unfolded 𝓤 H 𝓜 𝓡 wired (U, tt) in
+    let hs : Stays En.signature.params En.kept = tt in let v : Val = vstruct (vcons (vstruct vnil) vnil) in
+    proved 𝓛 En hs c 𝓜 𝓡 tt (#self inst) fn closed (λ κs. tt) (λ κs. tt) (λ κs qs bounds a gh are.
+    let r : (the_row (param 0 U)).Denot = record { of = record {}; key = gh } in
+    let y : (walk_of 𝓛 En hs c).Ghost = ((κs, qs, bounds, a, tt), gh) in let Post : Val → SProp 𝓤 = (walk_of 𝓛 En hs c).post y in
+    let Told : Type 0 = r.key ≡ gh in
+    let O : Fml = (type_at En.signature.result κs).own_val r (v ∷ []) in
+    qed 𝓛 ((raw (alive 𝓛 En.signature κs qs) ⊛ ‵ (owns (types_at En.signature.params κs) a y.0.4)) ∷ raw ((c κs a).requires gh) ∷ []) ∵
+    split ! $ keep ! (0 ∷ []) $ nothing ! $
+    enter ! 𝓣.C 𝓣.Λ fn [] Post $ alloc_all ! (λ l. pass_all ! refl tt $
+    sets ! (agg ! (no_more !)) refl (tt, tt) $ sets ! (agg ! (and_then ! (get ! refl) (no_more !))) refl (tt, (tt, tt)) $
+    returns ! (look_at ! 0 refl) $ free_all ! refl $
+    use0 𝓛 (‵ O) (makes_shadow 𝓛 O ((λ vss. (tt, ((λ uss. (tt, tt)), tt))), tt) (((vstruct vnil ∷ [], tt), (refl, ((tt, (refl, tt)), tt))), tt)) $
+    use0 𝓛 (raw (fact 𝓤 Told)) (fact_i 𝓤 Told (emp 𝓤) refl) $ nothing ! $
+    keep ! (4 ∷ 3 ∷ 2 ∷ 1 ∷ []) $ by ! (leaves 𝓛 En hs c y v r tt tt)))
