@@ -1,5 +1,6 @@
 // The lock and its ticket.
 ghost use Rattle.std.specs.Prelude.{◌≡◌, IfOk, IfErr};
+ghost use Rattle.cf_turn.specs.Turns.{HasValue};
 
 use crate::chosen::Chosen;
 use crate::keeps::Keeps;
@@ -80,17 +81,7 @@ impl<F: Keeps> KeyLock<F> {
         ensures value { F.stands self.now.key result.0 }
         ensures ticket { result.1 ≡ self.now.name }
     {
-        let (_, mut seat) = self.table.shared.load_new_seat::<Start>(0);
-        for _ in rt.forever() {
-            let found = self
-                .table
-                .shared
-                .compare_exchange::<Try<F>>(&mut seat, 0, 0, 1);
-            if found == 0 {
-                break;
-            }
-            self.wait(rt);
-        }
+        let mut seat = self.win(rt);
         let value = self.table.shared.exchange(&mut seat, 0, None).unwrap();
         (value, Ticket { seat })
     }
@@ -112,10 +103,27 @@ impl<F: Keeps> KeyLock<F> {
     pub fn end(self, rt: &impl Wait) -> F::Value
         ensures { F.stands self.key result }
     {
-        let (value, ticket) = self.take(rt);
-        let Ticket { seat } = ticket;
-        drop(seat);
-        value
+        let mut last = self.win(rt);
+        self.table.shared.exchange(&mut last, 0, None).unwrap()
+    }
+
+    // Tries for the turn until it comes.
+    fn win(&self, rt: &impl Wait) -> Seat<Option<F::Value>, Stand<F::Key>>
+        ensures name { result.table_id ≡ self.now.name }
+        ensures turn { HasValue (F.stands self.now.key) result.me }
+    {
+        let (_, mut seat) = self.table.shared.load_new_seat::<Start>(0);
+        for _ in rt.forever() {
+            let found = self
+                .table
+                .shared
+                .compare_exchange::<Try<F>>(&mut seat, 0, 0, 1);
+            if found == 0 {
+                return seat;
+            }
+            self.wait(rt);
+        }
+        unreachable!()
     }
 
     // Looks at the word for a while, and then sleeps until it may have changed.
