@@ -1,6 +1,6 @@
 // The lock and its ticket.
 ghost use Rattle.std.specs.Prelude.{◌≡◌, IfOk, IfErr};
-ghost use Rattle.cf_turn.specs.Turns.{HasValue};
+ghost use Rattle.cf_turn.specs.Turns.{HasTurn, HasValue};
 
 use crate::chosen::Chosen;
 use crate::keeps::Keeps;
@@ -82,7 +82,7 @@ impl<F: Keeps> KeyLock<F> {
         ensures ticket { result.1 ≡ self.now.name }
     {
         let mut seat = self.win(rt);
-        let value = self.table.shared.exchange(&mut seat, 0, None).unwrap();
+        let value = self.draw(&mut seat);
         (value, Ticket { seat })
     }
 
@@ -104,7 +104,7 @@ impl<F: Keeps> KeyLock<F> {
         ensures { F.stands self.key result }
     {
         let mut last = self.win(rt);
-        self.table.shared.exchange(&mut last, 0, None).unwrap()
+        self.draw(&mut last)
     }
 
     // Tries for the turn until it comes.
@@ -124,6 +124,17 @@ impl<F: Keeps> KeyLock<F> {
             self.wait(rt);
         }
         unreachable!()
+    }
+
+    // Takes the value out of the slot.
+    fn draw(&self, seat: &mut Seat<Option<F::Value>, Stand<F::Key>>) -> F::Value
+        requires name { seat.old.table_id ≡ self.now.name }
+        requires turn { HasValue (F.stands self.now.key) seat.old.me }
+        ensures value { F.stands self.now.key result }
+        ensures name { seat.new.table_id ≡ seat.old.table_id }
+        ensures turn { HasTurn seat.new.me }
+    {
+        self.table.shared.exchange(seat, 0, None).unwrap()
     }
 
     // Looks at the word for a while, and then sleeps until it may have changed.
