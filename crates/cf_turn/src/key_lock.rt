@@ -4,7 +4,7 @@ ghost use Rattle.cf_turn.specs.Turns.{HasTurn, HasValue};
 
 use crate::chosen::Chosen;
 use crate::keeps::Keeps;
-use crate::turns::{Back, Stand, Start, Try, Turns};
+use crate::turns::{Back, Stand, Start, Try, Turns, Two};
 use atomic_table::{Refused, Seat, Table};
 use std::alloc::Global;
 use std::hint::spin_loop;
@@ -105,6 +105,19 @@ impl<F: Keeps> KeyLock<F> {
     {
         let mut last = self.win(rt);
         self.draw(&mut last)
+    }
+
+    /// Two tickets of one lock never exist at once: nobody can make this call.
+    pub fn never_two(&self, first: Ticket<F>, second: Ticket<F>)
+        requires first { first ≡ self.now.name }
+        requires second { second ≡ self.now.name }
+        ensures { ⊥ }
+    {
+        let Ticket { mut seat } = first;
+        let Ticket { seat: mut other } = second;
+        let turns = self.table.shared.split_seat::<Two>(&mut other);
+        self.table.shared.join_seat::<Two>(&mut seat, turns);
+        self.table.shared.load::<Two>(&mut seat, 0);
     }
 
     // Tries for the turn until it comes.

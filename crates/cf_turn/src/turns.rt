@@ -1,17 +1,18 @@
 // The rule of the lock's table, and what each step on its word tells.
-ghost use Rattle.cf_turn.specs.Turns.{Kept, waiting, Starts, Tries};
+ghost use Rattle.std.specs.Prelude.{None};
+ghost use Rattle.cf_turn.specs.Turns.{Kept, waiting, spent, cut, both, Starts, Tries};
 
 use crate::chosen::Chosen;
 use crate::keeps::Keeps;
-use atomic_table::{Play, TableRule};
+use atomic_table::{Join, Play, Split, TableRule};
 use std::marker::PhantomData;
 
 /// What a seat at the lock knows. No value of it is made.
 pub struct Stand<K> {
     /// How many turns the seat has: 1 while it has the value, else 0.
     pub turns: u64,
-    /// The lock's key.
-    pub key: K,
+    /// The lock's key, which every seat knows but one that another took in.
+    pub key: Option<K>,
 }
 
 /// The lock's rule.
@@ -46,4 +47,23 @@ pub struct Back;
 
 impl<V, K> Play<Option<V>, Stand<K>> for Back {
     ghost then = { λ _ _ _ _. Unit {0} };
+}
+
+/// The turns of two seats in one hand, which can't be.
+pub struct Two;
+
+impl<K> Split<Stand<K>> for Two {
+    ghost left = { cut };
+
+    ghost right = { λ v. v };
+}
+
+impl<K> Join<Stand<K>> for Two {
+    ghost both = { both };
+
+    ghost spent = { spent };
+}
+
+impl<V, K> Play<Option<V>, Stand<K>> for Two {
+    ghost then = { λ _ _ _ _. ⊥ };
 }

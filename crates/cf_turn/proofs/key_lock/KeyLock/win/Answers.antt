@@ -1,11 +1,10 @@
-use Rattle.std.proofs.Common.{rules, ◌≡◌, [], ap, sym, ◌∙◌, subst, refl, arith}
-use Rattle.cf_turn.specs.Turns.{waiting, HasValue}
+use Rattle.std.proofs.Common.{rules, ◌≡◌, [], Some, ap, sym, ◌∙◌, subst, refl, arith}
 use Rattle.cf_turn.proofs.Steps.{enters, tries}
 use Rattle.cf_turn.proofs.key_lock.KeyLock.win.Goals as goal
 
 pub load_new_seat-seat-requires : goal.load_new_seat-seat-requires
 load_new_seat-seat-requires g c =
-    let key = c.self.inside.table.shared.key.key in (search rules, enters g.F.Keeps.stands key _ (waiting key, []) refl)
+    (search rules, enters g.F.Keeps.stands c.self.inside.table.shared.key.key _)
 
 pub loop-init : goal.loop-init
 loop-init g c = let made = c.load_new_seat-seat.ensures in (made.0, λ k. (made.2 k, made.1 k))
@@ -19,9 +18,9 @@ returns-then-found-eq0-clause-name g c = c.compare_exchange-found.ensures.0 ∙ 
 
 pub returns-then-found-eq0-clause-turn : goal.returns-then-found-eq0-clause-turn
 returns-then-found-eq0-clause-turn g c =
-    let same : c.loop.seat.me.0.key ≡ c.args.self.now.key = ap (λ m. m.0.key) c.loop.invariant.1 ∙ ap (λ l. l.key) c.self.view_is in
-    let got = c.compare_exchange-found.ensures.2.0 c.if-found-eq0.true in subst (λ k. HasValue (g.F.Keeps.stands k) c.compare_exchange-found.new.seat.me) same got
+    let knows = ap (λ m. m.0.key) c.loop.invariant.1 ∙ ap (λ l. Some l.key) c.self.view_is in
+    c.compare_exchange-found.ensures.2.0 c.if-found-eq0.true c.args.self.now.key knows
 
 pub loop-preserved : goal.loop-preserved
 loop-preserved g c =
-    let told = c.compare_exchange-found.ensures in (told.0 ∙ c.loop.invariant.0, told.2.1 (search rules) ∙ c.loop.invariant.1)
+    let told = c.compare_exchange-found.ensures in let same = told.2.1 (search rules) in (told.0 ∙ c.loop.invariant.0, rw same c.loop.invariant.1)
