@@ -7,3 +7,6 @@ mod turns;
 
 pub use keeps::Keeps;
 pub use key_lock::{KeyLock, Ticket};
+
+#[cfg(test)]
+mod tests;
