@@ -4,7 +4,8 @@ use crate::{Keeps, KeyLock};
 use std::alloc::Global;
 use std::sync::Wait;
 use std::test::*;
-use std::thread::join;
+use std::thread::{join, sleep};
+use std::time::{Clock, Duration};
 
 /// Two numbers that are one.
 struct Twins;
@@ -109,5 +110,25 @@ fn sum_of_three(rt: HostRuntime) -> Result<(), Fail> {
     assert_eq!(rt; added, 5_050 + 20_100 + 45_150);
     assert_eq!(rt; added, account.amounts.iter().sum::<u64>());
     assert_eq!(rt; account.amounts.len(), 603);
+    Ok(())
+}
+
+fn hold_twins(rt: &(impl Wait + Clock), lock: &KeyLock<Twins>) {
+    let (pair, ticket) = lock.take(rt);
+    sleep(rt, Duration::from_millis(30));
+    lock.give(ticket, pair);
+}
+
+#[test]
+fn sleepers_wake(rt: HostRuntime) -> Result<(), Fail> {
+    let Ok(lock) = KeyLock::<Twins>::new(rt.alloc(), (1, 1)) else {
+        panic!(rt; "no memory")
+    };
+    join(
+        &rt,
+        || hold_twins(&rt, &lock),
+        || join(&rt, || hold_twins(&rt, &lock), || hold_twins(&rt, &lock)),
+    );
+    assert_eq!(rt; lock.end(&rt), (1, 1));
     Ok(())
 }
