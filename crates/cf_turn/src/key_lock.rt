@@ -1,6 +1,6 @@
 // The lock and its ticket.
-ghost use Rattle.std.specs.Prelude.{◌≡◌, IfOk, IfErr};
-ghost use Rattle.cf_turn.specs.Turns.{HasTurn, HasValue};
+ghost use Rattle.std.specs.Prelude.{◌≡◌, [], IfOk, IfErr};
+ghost use Rattle.cf_turn.specs.Turns.{waiting, HasTurn, HasValue};
 
 use crate::chosen::Chosen;
 use crate::keeps::Keeps;
@@ -120,12 +120,20 @@ impl<F: Keeps> KeyLock<F> {
         self.table.shared.load::<Two>(&mut seat, 0);
     }
 
+    // Comes to the lock, with no turn yet.
+    fn enter(&self) -> Seat<Option<F::Value>, Stand<F::Key>>
+        ensures name { result.table_id ≡ self.now.name }
+        ensures waits { result.me ≡ (waiting self.now.key, []) }
+    {
+        self.table.shared.load_new_seat::<Start>(0).1
+    }
+
     // Tries for the turn until it comes.
     fn win(&self, rt: &impl Wait) -> Seat<Option<F::Value>, Stand<F::Key>>
         ensures name { result.table_id ≡ self.now.name }
         ensures turn { HasValue (F.stands self.now.key) result.me }
     {
-        let (_, mut seat) = self.table.shared.load_new_seat::<Start>(0);
+        let mut seat = self.enter();
         for _ in rt.forever() {
             let found = self
                 .table

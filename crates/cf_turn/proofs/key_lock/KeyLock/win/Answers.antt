@@ -1,25 +1,19 @@
-use Rattle.std.proofs.Common.{rules, ◌≡◌, [], Some, ap, sym, ◌∙◌, subst, refl, arith}
-use Rattle.cf_turn.proofs.Steps.{enters, tries}
+use Rattle.std.proofs.Common.{rules, ◌≡◌, [], ap, sym, ◌∙◌}
+use Rattle.cf_turn.specs.Turns.{waiting}
+use Rattle.cf_turn.proofs.Steps.{tries}
 use Rattle.cf_turn.proofs.key_lock.KeyLock.win.Goals as goal
-
-pub load_new_seat-seat-requires : goal.load_new_seat-seat-requires
-load_new_seat-seat-requires g c =
-    (search rules, enters g.F.Keeps.stands c.self.inside.table.shared.key.key _)
-
-pub loop-init : goal.loop-init
-loop-init g c = let made = c.load_new_seat-seat.ensures in (made.0, λ k. (made.2 k, made.1 k))
 
 pub compare_exchange-found-requires : goal.compare_exchange-found-requires
 compare_exchange-found-requires g c =
-    (c.loop.invariant.0, search rules, tries g.F.Keeps.stands c.self.inside.table.shared.key.key _ c.loop.seat.id c.loop.seat.me c.loop.invariant.1)
-
-pub returns-then-found-eq0-clause-name : goal.returns-then-found-eq0-clause-name
-returns-then-found-eq0-clause-name g c = c.compare_exchange-found.ensures.0 ∙ (c.loop.invariant.0 ∙ ap (λ l. l.name) c.self.view_is)
+    let inside = sym c.self.view_is in let waits = c.loop.invariant.1 ∙ ap (λ l. (waiting l.key, [])) inside in (
+      c.loop.invariant.0 ∙ ap (λ l. l.name) inside,
+      search rules,
+      tries g.F.Keeps.stands c.self.inside.table.shared.key.key _ c.loop.seat.id c.loop.seat.me waits,
+    )
 
 pub returns-then-found-eq0-clause-turn : goal.returns-then-found-eq0-clause-turn
 returns-then-found-eq0-clause-turn g c =
-    let knows = ap (λ m. m.0.key) c.loop.invariant.1 ∙ ap (λ l. Some l.key) c.self.view_is in
-    c.compare_exchange-found.ensures.2.0 c.if-found-eq0.true c.args.self.now.key knows
+    c.compare_exchange-found.ensures.2.0 c.if-found-eq0.true c.args.self.now.key (ap (λ m. m.0.key) c.loop.invariant.1)
 
 pub loop-preserved : goal.loop-preserved
 loop-preserved g c =
