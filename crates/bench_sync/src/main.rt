@@ -4,11 +4,10 @@
 mod turns;
 
 use std::alloc::Global;
-use std::env;
-use std::io;
 use std::sync::Wait;
 use std::thread::Threads;
 use std::time::{Clock, Instant};
+use std::{env, io};
 use turns::{Crowd, count};
 
 /// The turns of all threads together, where they are timed.
@@ -26,10 +25,7 @@ fn main(rt: HostRuntime) -> io::Result<()> {
     }
 }
 
-fn print_times(
-    rt: &(impl Threads + Wait + Sync + Clock + Print),
-    alloc: Global,
-) -> io::Result<()> {
+fn print_times(rt: &(impl Threads + Wait + Sync + Clock + Print), alloc: Global) -> io::Result<()> {
     for crowd in [Crowd::One, Crowd::Two, Crowd::Four] {
         let threads = crowd.threads();
         let start = Instant::now(rt)?;

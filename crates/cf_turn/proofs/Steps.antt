@@ -1,13 +1,13 @@
 -- Each step on the lock's word keeps the rule.
-use Rattle.std.proofs.Common.{◌≡◌, ◌≢◌, ℕ, zero, suc, ◌+◌, ◌-◌, ◌<◌, ◌≤◌, ◌⊎◌, eqb, List, [], ◌∷◌, ◌++◌, set, get_or, Option, Some, unwrap_or, sum_by, sym, refl, ap, ◌∙◌, subst, inl, inr, ⊎_elim, arith}
+use Rattle.std.proofs.Common.{◌≡◌, ℕ, zero, suc, ◌+◌, ◌<◌, ◌≤◌, eqb, List, [], ◌∷◌, ◌++◌, set, get_or, Option, Some, unwrap_or, sym, refl, ap, ◌∙◌, subst, inl, inr, ⊎_elim, arith}
 use Rattle.std.proofs.lemmas.List.Sums.{sum_by-cons, sum_by-append}
 use mathlib.Core.Option.{some, none, some-injective, some-ne-none}
 use prog.Atomic.{either}
 use lib.ListN.{get_elem?}
 use Rattle.atomic_table.proofs.Lists.{at_set, at_snoc, set_else}
-use Rattle.atomic_table.specs.Table.{State, Me, Act, step, keeps, takes, gives, Valid, carried_after, stepped, opening, homes_after, put_back, Allows, Enters, Splits, Joins}
+use Rattle.atomic_table.specs.Table.{State, Me, Act, step, keeps, takes, gives, Valid, carried_after, opening, homes_after, put_back, Allows, Enters, Splits, Joins}
 use Rattle.cf_turn.specs.declared.turns.Stand.{Stand}
-use Rattle.cf_turn.specs.Turns.{waiting, having, spent, cut, both, turns_of, Knows, AllKnow, IsFree, IsTaken, Kept, HasTurn, HasValue, Starts, Tries}
+use Rattle.cf_turn.specs.Turns.{waiting, having, spent, cut, both, turns_of, Knows, AllKnow, IsFree, IsTaken, Kept, Starts, Tries}
 
 module _ {K : Type 0} where
   abbrev turns : Stand K → ℕ

@@ -4,7 +4,7 @@ use crate::{Keeps, KeyLock};
 use std::alloc::Global;
 use std::sync::Wait;
 use std::test::*;
-use std::thread::{join, sleep};
+use std::thread::{Threads, join, sleep};
 use std::time::{Clock, Duration};
 
 /// Two numbers that are one.
@@ -113,22 +113,23 @@ fn sum_of_three(rt: HostRuntime) -> Result<(), Fail> {
     Ok(())
 }
 
-fn hold_twins(rt: &(impl Wait + Clock), lock: &KeyLock<Twins>) {
-    let (pair, ticket) = lock.take(rt);
+fn hold<F: Keeps>(rt: &(impl Wait + Clock), lock: &KeyLock<F>) {
+    let (value, ticket) = lock.take(rt);
     sleep(rt, Duration::from_millis(30));
-    lock.give(ticket, pair);
+    lock.give(ticket, value);
+}
+
+// Any lock may be shared. One of the two sleeps while the other holds it.
+fn hold_in_two<F: Keeps + Sync, R: Threads + Wait + Clock + Sync>(rt: &R, lock: &KeyLock<F>) {
+    join(rt, || hold(rt, lock), || hold(rt, lock));
 }
 
 #[test]
-fn sleepers_wake(rt: HostRuntime) -> Result<(), Fail> {
+fn a_sleeper_wakes(rt: HostRuntime) -> Result<(), Fail> {
     let Ok(lock) = KeyLock::<Twins>::new(rt.alloc(), (1, 1)) else {
         panic!(rt; "no memory")
     };
-    join(
-        &rt,
-        || hold_twins(&rt, &lock),
-        || join(&rt, || hold_twins(&rt, &lock), || hold_twins(&rt, &lock)),
-    );
+    hold_in_two(&rt, &lock);
     assert_eq!(rt; lock.end(&rt), (1, 1));
     Ok(())
 }

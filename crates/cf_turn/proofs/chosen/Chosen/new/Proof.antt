@@ -1,19 +1,18 @@
 -- `new` makes a value of no bytes, whose ghost field is the key that was picked.
 use Rattle.std.proofs.Common.{◌≡◌, refl}
-use mathlib.Core.List.{List, [], ◌∷◌}
-use seplogic.Ra.Ura.{Ura}
-use mir.Syntax.{Fn, a_type}
+use mathlib.Core.List.{[], ◌∷◌}
+use mir.Syntax.{a_type}
 use mir.Val.{Val, vstruct, vcons, vnil}
 use mir.MapTy.{inst_fn}
 use base.Logic.{SProp, emp}
 use base.Fml.{Fml}
-use types.Kit.{‵, raw, ◌⊛◌, ◌$◌, ◌∵◌, !, qed, by, keep, split, fjoin, use0}
+use types.Kit.{‵, raw, ◌⊛◌, ◌$◌, ◌∵◌, !, qed, by, keep, split, use0}
 use types.Run.{no_more, and_then, returns, enter}
 use types.Part.{agg}
 use types.ByLocal.{alloc_all, pass_all, free_all, look_at, get, sets}
 use contract.Monad.{fact, fact_i}
 use contract.Running.{tables}
-use denote.RattleType.{RattleType, owns}
+use denote.RattleType.{owns}
 use denote.Param.{param, layouts}
 use denote.Shadow.{makes_shadow}
 use denote.Signature.{types_at, type_at}

@@ -1,4 +1,4 @@
-use Rattle.std.proofs.Common.{rules, ◌≡◌, [], ap, ◌∙◌}
+use Rattle.std.proofs.Common.{rules, [], ap, ◌∙◌}
 use Rattle.cf_turn.specs.Turns.{waiting}
 use Rattle.cf_turn.proofs.Steps.{enters}
 use Rattle.cf_turn.proofs.key_lock.KeyLock.enter.Goals as goal

@@ -1,4 +1,4 @@
-use Rattle.std.proofs.Common.{rules, ◌≡◌, [], ◌∷◌, Some, ap, sym, ◌∙◌, subst, refl, arith}
+use Rattle.std.proofs.Common.{rules, ◌≡◌, [], ◌∷◌, Some, ap, sym, ◌∙◌, subst}
 use Rattle.atomic_table.specs.Table.{rest}
 use Rattle.cf_turn.proofs.Steps.{gives-back}
 use Rattle.cf_turn.proofs.key_lock.KeyLock.give.Goals as goal

@@ -1,4 +1,4 @@
-use Rattle.std.proofs.Common.{rules, ◌≡◌, [], ap, sym, ◌∙◌}
+use Rattle.std.proofs.Common.{rules, [], ap, sym, ◌∙◌}
 use Rattle.cf_turn.specs.Turns.{waiting}
 use Rattle.cf_turn.proofs.Steps.{tries}
 use Rattle.cf_turn.proofs.key_lock.KeyLock.win.Goals as goal
