@@ -34,6 +34,8 @@ impl Keeps for Twice {
 
     type Key = ();
 
+    ghost key_of = { λ _. tt };
+
     ghost stands = { λ _ counts. counts.0 ≡ counts.1 };
 }
 

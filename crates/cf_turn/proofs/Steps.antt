@@ -45,10 +45,6 @@ module _ {V K : Type 0} (stands : K → V → Type 0) (key : K) where
   abbrev hall : List ℕ → List (mathlib.Core.Option.Option (Option V)) → List (Stand K) → Hall
   hall ws hs vs = record { words = ws; homes = hs; views = vs }
 
-  -- a new lock is free
-  pub opens : (value : V) → stands key value → Kept stands key (opening (0 ∷ []) (Some value ∷ []) (waiting key))
-  opens value ok = (know-snoc key [] (waiting key) (λ j u e. absurd (some-ne-none u (sym e))) (knows key), inl (refl, refl, (value, refl, ok)))
-
   -- a load makes a seat
   pub enters : (n : ℕ) → Enters (Kept stands key) n 0 (λ found w. Starts {V = V} (step n 0 0 0 none) (waiting key, []) found (w, []))
   enters n s kept wide _ =

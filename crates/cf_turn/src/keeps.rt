@@ -7,6 +7,9 @@ pub trait Keeps {
     /// What the fact is told besides. No value of it is made: contracts alone see it.
     type Key;
 
+    /// The key of a lock that begins with this value.
+    ghost key_of: { Self.Value → Self.Key };
+
     /// The value stands to the key.
     ghost stands: { Self.Key → Self.Value → Type 0 };
 }

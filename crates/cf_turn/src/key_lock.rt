@@ -2,13 +2,13 @@
 ghost use Rattle.std.specs.Prelude.{◌≡◌, [], IfOk, IfErr};
 ghost use Rattle.cf_turn.specs.Turns.{waiting, HasTurn, HasValue};
 
-use crate::chosen::Chosen;
 use crate::keeps::Keeps;
 use crate::turns::{Back, Stand, Start, Try, Turns, Two};
 use atomic_table::{Refused, Seat, Table};
 use std::alloc::Global;
 use std::hint::spin_loop;
 use std::marker::Model;
+use std::snapshot::Snapshot;
 use std::sync::Wait;
 use std::sync::atomic::AtomicU64;
 use std::sync::atomic::Ordering::SeqCst;
@@ -16,7 +16,7 @@ use std::sync::atomic::Ordering::SeqCst;
 /// A lock round one value, with a key that never changes. Contracts see it as its name and its key.
 #[derive(Drop)]
 pub struct KeyLock<F: Keeps> {
-    table: Table<Option<F::Value>, Stand<F::Key>, Chosen<F::Key>, Turns<F>, Global>,
+    table: Table<Option<F::Value>, Stand<F::Key>, Snapshot<F::Value>, Turns<F>, Global>,
     sleepers: AtomicU64,
 }
 
@@ -28,7 +28,7 @@ impl<F: Keeps> Model for KeyLock<F> {
 
     ghost coded = { lock_code F.Key.code };
 
-    ghost view = { λ lock. record { name = lock.table.shared.table_id; key = lock.table.shared.key.key } };
+    ghost view = { λ lock. record { name = lock.table.shared.table_id; key = F.key_of lock.table.shared.key.value } };
 
     ghost invariant = { λ lock. (lock.table.shared.table_id.words ≡ 1) × (lock.table.shared.table_id.slots ≡ 1) };
 }
@@ -55,19 +55,18 @@ impl<F: Keeps> Model for Ticket<F> {
 const LOOKS: u32 = 100;
 
 impl<F: Keeps> KeyLock<F> {
-    /// A free lock round the value. Where there is no memory the value comes back.
+    /// A free lock round the value, whose key is the value's. Where there is no memory the value comes back.
     pub fn new(alloc: Global, value: F::Value) -> Result<KeyLock<F>, F::Value>
-        ghost key: { F.Key }
-        requires { F.stands key value }
-        ensures made { IfOk result (λ lock. lock.key ≡ key) }
+        requires { F.stands (F.key_of value) value }
+        ensures made { IfOk result (λ lock. lock.key ≡ F.key_of value) }
         ensures refused { IfErr result (λ back. back ≡ value) }
     {
         let Ok(mut slots) = Vec::with_capacity(alloc, 1) else {
             return Err(value);
         };
+        let start = Snapshot::of(&value);
         slots.push_reserved(Some(value));
-        let chosen: Chosen<F::Key> = Chosen::new();
-        match Table::new(alloc, &[0], slots, &chosen) {
+        match Table::new(alloc, &[0], slots, &start) {
             Ok((table, _seat)) => Ok(KeyLock {
                 table,
                 sleepers: AtomicU64::new(0),

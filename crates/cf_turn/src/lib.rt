@@ -1,6 +1,5 @@
 #![tactic(auto)]
 //! A lock that knows its key.
-mod chosen;
 mod keeps;
 mod key_lock;
 mod turns;

@@ -15,6 +15,8 @@ impl Keeps for Twins {
 
     type Key = ();
 
+    ghost key_of = { λ _. tt };
+
     ghost stands = { λ _ pair. pair.0 ≡ pair.1 };
 }
 
@@ -53,6 +55,8 @@ impl Keeps for Adds {
     type Value = Account;
 
     type Key = u64;
+
+    ghost key_of = { λ account. account.total };
 
     ghost stands = { λ start account. account.total ≡ start + sum account.amounts.items };
 }

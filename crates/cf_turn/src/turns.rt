@@ -2,10 +2,10 @@
 ghost use Rattle.std.specs.Prelude.{None};
 ghost use Rattle.cf_turn.specs.Turns.{Kept, waiting, spent, cut, both, Starts, Tries};
 
-use crate::chosen::Chosen;
 use crate::keeps::Keeps;
 use atomic_table::{Join, Play, Split, TableRule};
 use std::marker::PhantomData;
+use std::snapshot::Snapshot;
 
 /// What a seat at the lock knows. No value of it is made.
 pub struct Stand<K> {
@@ -20,10 +20,10 @@ pub struct Turns<F> {
     of: PhantomData<F>,
 }
 
-impl<F: Keeps> TableRule<Option<F::Value>, Stand<F::Key>, Chosen<F::Key>> for Turns<F> {
-    ghost holds = { λ about. Kept F.stands about.key };
+impl<F: Keeps> TableRule<Option<F::Value>, Stand<F::Key>, Snapshot<F::Value>> for Turns<F> {
+    ghost holds = { λ start. Kept F.stands (F.key_of start.value) };
 
-    ghost first = { λ about. waiting about.key };
+    ghost first = { λ start. waiting (F.key_of start.value) };
 }
 
 /// A seat is made, with no turn.

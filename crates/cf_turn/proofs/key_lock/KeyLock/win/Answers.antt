@@ -8,7 +8,7 @@ compare_exchange-found-requires g c =
     let inside = sym c.self.view_is in let waits = c.loop.invariant.1 ∙ ap (λ l. (waiting l.key, [])) inside in (
       c.loop.invariant.0 ∙ ap (λ l. l.name) inside,
       search rules,
-      tries g.F.Keeps.stands c.self.inside.table.shared.key.key _ c.loop.seat.id c.loop.seat.me waits,
+      tries g.F.Keeps.stands (g.F.Keeps.key_of c.self.inside.table.shared.key.value) _ c.loop.seat.id c.loop.seat.me waits,
     )
 
 pub returns-then-found-eq0-clause-turn : goal.returns-then-found-eq0-clause-turn

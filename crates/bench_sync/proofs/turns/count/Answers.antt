@@ -1,7 +1,0 @@
-use Rattle.std.proofs.Common.{rules}
-use denote.Param.Send.{sendable}
-use Rattle.std.proofs.Crossing.{crosses}
-use Rattle.bench_sync.proofs.turns.count.Goals as goal
-
-pub new-requires-send-F-Value : goal.new-requires-send-F-Value
-new-requires-send-F-Value g c κs = (search rules, (search rules, (search rules, (search (sendable, crosses) depth 20, search rules))))
