@@ -5,7 +5,7 @@ use mathlib.Core.Option.{some, none, some-injective, some-ne-none}
 use prog.Atomic.{either}
 use lib.ListN.{get_elem?}
 use Rattle.atomic_table.proofs.Lists.{at_set, at_snoc, set_else}
-use Rattle.atomic_table.specs.Table.{State, Me, Act, step, keeps, takes, gives, Valid, carried_after, opening, homes_after, put_back, Allows, Enters, Splits, Joins}
+use Rattle.atomic_table.specs.Table.{State, Me, Act, step, keeps, takes, gives, Valid, carried_after, homes_after, put_back, Allows, Enters, Splits, Joins}
 use Rattle.cf_turn.specs.declared.turns.Stand.{Stand}
 use Rattle.cf_turn.specs.Turns.{waiting, having, spent, cut, both, turns_of, Knows, AllKnow, IsFree, IsTaken, Kept, Starts, Tries}
 
