@@ -15,19 +15,19 @@ plain_lines-some [] h = absurd (omega arith)
 plain_lines-some (last ∷ []) h = omega arith
 plain_lines-some (line ∷ next ∷ lines) h =
     elim (is_comment line) as (λ b. 0 < length (cond b (plain_lines (next ∷ lines)) (line ∷ plain_lines (next ∷ lines)))) [
-      true ↦ plain_lines-some (next ∷ lines) (omega arith)
-    | false ↦ omega arith
+      | true ↦ plain_lines-some (next ∷ lines) (omega arith)
+      | false ↦ omega arith
     ]
 
 joined : (line : List ℕ) (lines : List (List ℕ)) → 0 < length lines
     → join_with_byte 10 (plain_lines (line ∷ lines))
-      ≡ cond (is_comment line) (join_with_byte 10 (plain_lines lines)) (line ++ 10 ∷ join_with_byte 10 (plain_lines lines))
+    ≡ cond (is_comment line) (join_with_byte 10 (plain_lines lines)) (line ++ 10 ∷ join_with_byte 10 (plain_lines lines))
 joined line [] h = absurd (omega arith)
 joined line (next ∷ lines) h =
     elim (is_comment line) as (λ b. join_with_byte 10 (cond b (plain_lines (next ∷ lines)) (line ∷ plain_lines (next ∷ lines)))
-      ≡ cond b (join_with_byte 10 (plain_lines (next ∷ lines))) (line ++ 10 ∷ join_with_byte 10 (plain_lines (next ∷ lines)))) [
-      true ↦ refl
-    | false ↦ join-cons line (plain_lines (next ∷ lines)) (plain_lines-some (next ∷ lines) (omega arith))
+    ≡ cond b (join_with_byte 10 (plain_lines (next ∷ lines))) (line ++ 10 ∷ join_with_byte 10 (plain_lines (next ∷ lines)))) [
+      | true ↦ refl
+      | false ↦ join-cons line (plain_lines (next ∷ lines)) (plain_lines-some (next ∷ lines) (omega arith))
     ]
 
 not_so : (b : Bool) → not b ≡ true → b ≡ false

@@ -34,8 +34,8 @@ line_grows run line = acted_grows run line.by line.act
 pub closed_grows : (run : Run) (conn : ConnId) → Grows run (closed run conn)
 closed_grows run conn =
     elim (is_active (replay run.history) conn) as (λ b. Grows run (cond b (called run conn (Shell Disconnect)) run)) [
-      true ↦ called_grows run conn (Shell Disconnect)
-    | false ↦ record { entries = omega arith; callers = refl }
+      | true ↦ called_grows run conn (Shell Disconnect)
+      | false ↦ record { entries = omega arith; callers = refl }
     ]
 
 -- the numbers from here on are this one and those behind it

@@ -80,7 +80,7 @@ abbrev pub TestsTell : List Entry → ConnId → List Shown → Type 0
 TestsTell history conn items =
     (k index at : ℕ) (bit : Bool) → slice_get items k ≡ Some (shown.Test index bit at)
     → (at ≤ length history) × (seen (take k items) ≤ at) × (seen_complete (take k items) ≤ at)
-      × (bit ≡ stands_after (take at history) conn index)
+    × (bit ≡ stands_after (take at history) conn index)
 
 -- ---- the whole
 

@@ -58,7 +58,13 @@ fn reported<K: Sink>(alloc: Global, script: &Script, sink: &mut K) -> u8
         return 6;
     };
     let connectors = script.connectors();
-    match write_report(alloc, connectors, &finished.history, &finished.transcripts, sink) {
+    match write_report(
+        alloc,
+        connectors,
+        &finished.history,
+        &finished.transcripts,
+        sink,
+    ) {
         Ok(()) => 0,
         Err(ReportEnd::SinkFault) => 5,
         Err(ReportEnd::NoMemory) => {
@@ -130,12 +136,7 @@ fn served<S: Source, K: Sink>(alloc: Global, source: &mut S, sink: &mut K) -> u8
 /// | 7 | more than 1,048,576 bytes came | `TOOLONG 1048576` |
 ///
 /// The causes are tried in the order 2, 4, 7, 3, 5; want of memory may stand in place of any but 2.
-pub fn run<S: Source, K: Sink>(
-    alloc: Global,
-    words: &[String],
-    source: &mut S,
-    sink: &mut K,
-) -> u8
+pub fn run<S: Source, K: Sink>(alloc: Global, words: &[String], source: &mut S, sink: &mut K) -> u8
     // The bytes that the source had left are a script, and what is written is the report of its run on one thread, whole and nothing else.
     ensures served { result ≡ 0 → IfSome (S.left source.old) (WritesReport (K.held sink.old) (K.held sink.new)) }
     // That report shows one legal history, each caller's calls in it once and in their order, and tests that tell what stood at a numbered point of it.

@@ -7,7 +7,8 @@ ghost use Rattle.plex_run.specs.Connections.{is_active_in, machine_of};
 use crate::histories::{Ask, Entry, Reply};
 use cache_core::CacheEngine;
 use cf_types::{
-    CacheCmd, Caps, CfId, ConnId, Kind, Name16, NoMemory, Refusal, ShellCmd, ShellReply, StateWord, StrForm,
+    CacheCmd, Caps, CfId, ConnId, Kind, Name16, NoMemory, Refusal, ShellCmd, ShellReply, StateWord,
+    StrForm,
 };
 use std::alloc::Global;
 use std::marker::Model;
@@ -152,12 +153,7 @@ impl Structure {
         self.journal.reserve(1)?;
         let reply = answered(alloc, &mut self.active, &mut self.engine, by, &ask)?;
         let no = self.journal.len() as u32 + 1;
-        self.journal.push_reserved(Entry {
-            no,
-            by,
-            ask,
-            reply,
-        });
+        self.journal.push_reserved(Entry { no, by, ask, reply });
         Ok(no)
     }
 

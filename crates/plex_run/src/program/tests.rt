@@ -34,12 +34,7 @@ fn source_of(
 fn sink_of(alloc: Global, piece: usize, fails: &[u64]) -> Result<MemSink, Fail>
     requires { 0 < piece }
 {
-    Ok(MemSink::new(
-        alloc,
-        4096,
-        piece,
-        Vec::from_slice(alloc, fails)?,
-    )?)
+    Ok(MemSink::new(alloc, 4096, piece, Vec::from_slice(alloc, fails)?)?)
 }
 
 fn serial(alloc: Global) -> Result<Vec<String>, AllocError> {
@@ -61,12 +56,12 @@ fn ran(alloc: Global, lines: &str) -> Result<(u8, Vec<u8>), Fail> {
 fn policy_alone(rt: HostRuntime) -> Result<(), Fail> {
     let (status, text) = ran(rt.alloc(), "")?;
     assert_eq!(rt; status, 0);
-    assert_eq!(
-        rt;
+    assert_eq!(rt;
         text.as_slice(),
         b"FACILITY CF1 100\nFACILITY CF2 100\nSTRUCTURE GBP CACHE 8 8 4 64 DELETE\nPREF GBP CF1 40\n\
           PREF GBP CF2 40\nCONNECTOR A\nCONNECTOR B\nHISTORY GBP 0\nTRANSCRIPT OP 0\nTRANSCRIPT A 0\n\
-          TRANSCRIPT B 0\nEND\n".as_slice()
+          TRANSCRIPT B 0\nEND\n"
+            .as_slice()
     );
     Ok(())
 }
@@ -78,10 +73,12 @@ fn read_and_test(rt: HostRuntime) -> Result<(), Fail> {
         "A GBP CONNECT DELETE\nA GBP READ P1 0\nA GBP TEST 0\n",
     )?;
     assert_eq!(rt; status, 0);
-    assert!(rt; text.as_slice().ends_with(
-        b"HISTORY GBP 3\n1 A CONNECT DELETE -> OK NEW CF1\n2 A READ P1 0 -> NODATA\n3 A DISCONNECT -> OK\n\
+    assert!(rt;
+        text.as_slice().ends_with(
+            b"HISTORY GBP 3\n1 A CONNECT DELETE -> OK NEW CF1\n2 A READ P1 0 -> NODATA\n3 A DISCONNECT -> OK\n\
           TRANSCRIPT OP 0\nTRANSCRIPT A 4\nGBP 1\nGBP 2\nGBP TEST 0 VALID 2\nGBP 3\nTRANSCRIPT B 0\nEND\n"
-    ));
+        )
+    );
     Ok(())
 }
 
@@ -93,12 +90,14 @@ fn write_invalidates_the_others(rt: HostRuntime) -> Result<(), Fail> {
          B GBP WRITE P1 5 abc CHANGED 3\nA GBP TEST 0\nB GBP TEST 5\n",
     )?;
     assert_eq!(rt; status, 0);
-    assert!(rt; text.as_slice().ends_with(
-        b"HISTORY GBP 7\n1 A CONNECT DELETE -> OK NEW CF1\n2 B CONNECT DELETE -> OK NEW CF1\n\
+    assert!(rt;
+        text.as_slice().ends_with(
+            b"HISTORY GBP 7\n1 A CONNECT DELETE -> OK NEW CF1\n2 B CONNECT DELETE -> OK NEW CF1\n\
           3 A READ P1 0 -> NODATA\n4 B READ P1 5 -> NODATA\n5 B WRITE P1 5 abc CHANGED 3 -> OK\n\
           6 A DISCONNECT -> OK\n7 B DISCONNECT -> OK\nTRANSCRIPT OP 0\nTRANSCRIPT A 4\nGBP 1\nGBP 3\n\
           GBP TEST 0 INVALID 5\nGBP 6\nTRANSCRIPT B 5\nGBP 2\nGBP 4\nGBP 5\nGBP TEST 5 VALID 5\nGBP 7\nEND\n"
-    ));
+        )
+    );
     Ok(())
 }
 
@@ -109,12 +108,14 @@ fn first_refusals(rt: HostRuntime) -> Result<(), Fail> {
         "A GBP READ P1 0\nA GBP CONNECT DELETE\nA GBP CONNECT DELETE\nA GBP READ P1 0\nA GBP READ P2 0\n",
     )?;
     assert_eq!(rt; status, 0);
-    assert!(rt; text.as_slice().ends_with(
-        b"HISTORY GBP 6\n1 A READ P1 0 -> REFUSED 60 NOTCONNECTED\n2 A CONNECT DELETE -> OK NEW CF1\n\
+    assert!(rt;
+        text.as_slice().ends_with(
+            b"HISTORY GBP 6\n1 A READ P1 0 -> REFUSED 60 NOTCONNECTED\n2 A CONNECT DELETE -> OK NEW CF1\n\
           3 A CONNECT DELETE -> REFUSED 61 NAMEACTIVE ACTIVE\n4 A READ P1 0 -> NODATA\n\
           5 A READ P2 0 -> REFUSED 2 INDEXINUSE P1\n6 A DISCONNECT -> OK\nTRANSCRIPT OP 0\nTRANSCRIPT A 6\n\
           GBP 1\nGBP 2\nGBP 3\nGBP 4\nGBP 5\nGBP 6\nTRANSCRIPT B 0\nEND\n"
-    ));
+        )
+    );
     Ok(())
 }
 
@@ -165,7 +166,10 @@ fn missing_words(rt: HostRuntime) -> Result<(), Fail> {
     let mut sink = sink_of(rt.alloc(), 64, &[])?;
     let words = Vec::<String>::new(rt.alloc());
     assert_eq!(rt; run(rt.alloc(), &words, &mut source, &mut sink), 2);
-    assert_eq!(rt; sink.bytes.as_slice(), b"USAGE plexrun serial or threads or load N\n".as_slice());
+    assert_eq!(rt;
+        sink.bytes.as_slice(),
+        b"USAGE plexrun serial or threads or load N\n".as_slice()
+    );
     assert_eq!(rt; source.calls, 0);
     Ok(())
 }
