@@ -1,6 +1,6 @@
 -- How the bytes of an adjunct are kept: in an array of 64, with zeros behind them.
 use Rattle.std.specs.Prelude.{◌≡◌, ℕ, ◌-◌, ◌≤◌, List, ◌++◌, length, take, drop, replicate}
-use Rattle.std.proofs.Common.{arith, ap, sym, ◌∙◌}
+use Rattle.std.proofs.Common.{arith, ap, ◌∙◌}
 use Rattle.std.proofs.lemmas.List.{length-take, take-append-drop}
 use Rattle.cf_types.specs.Filled.{filled}
 use Rattle.cf_types.specs.declared.adjuncts.Adjunct.TheInside.{Inside}

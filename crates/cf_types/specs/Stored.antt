@@ -1,6 +1,6 @@
 -- Data that is kept as bytes and seen as a list.
-use Rattle.std.specs.Prelude.{◌≡◌, ℕ, ◌-◌, ◌≤◌, ◌<◌, List, ◌++◌, length, take, drop, replicate}
-use Rattle.cf_types.specs.Term.{IsTerm, IsFaultOf, fault_at}
+use Rattle.std.specs.Prelude.{◌≡◌, ℕ, ◌≤◌, ◌<◌, List, length}
+use Rattle.cf_types.specs.Term.{fault_at}
 use Rattle.std.specs.Prelude.{Some}
 use Rattle.cf_types.specs.declared.bodies.BodyFault.{BodyFault}
 use Rattle.cf_types.specs.declared.bodies.BodyFault.TheVariants.{BadName, TooLong, NoMemory}

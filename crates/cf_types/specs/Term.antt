@@ -1,5 +1,5 @@
 -- Texts of term characters: names, keys, adjuncts and data are such texts.
-use Rattle.std.specs.Prelude.{if◌then◌else◌, ◌≡◌, ℕ, ◌+◌, ◌-◌, ◌≤◌, ◌<◌, Bool, IsTrue, not, ◌||◌, ◌==◌, List, [], ◌∷◌, ◌++◌, length, Option, Some, None, position, replicate, take_while}
+use Rattle.std.specs.Prelude.{if◌then◌else◌, ◌≡◌, ℕ, ◌-◌, ◌≤◌, ◌<◌, Bool, IsTrue, not, ◌||◌, ◌==◌, List, ◌++◌, length, Option, Some, position, replicate, take_while}
 use Rattle.std.specs.List.{list_all}
 use Rattle.std.specs.Char.{is_ascii_alphanumeric}
 use Rattle.cf_types.specs.declared.names.NameFault.{NameFault}

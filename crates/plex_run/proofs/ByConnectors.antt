@@ -1,11 +1,10 @@
 -- Each entry of the serial run's history is a call by a connector of the script.
-use Rattle.std.proofs.Common.{ℕ, zero, suc, ◌+◌, ◌≤◌, Bool, true, false, List, [], ◌∷◌, length, fold, All, if◌then◌else◌, arith}
+use Rattle.std.proofs.Common.{ℕ, zero, suc, ◌+◌, ◌≤◌, Bool, true, false, List, [], ◌∷◌, length, fold, if◌then◌else◌, arith}
 use Rattle.std.specs.List.{AllByRecursion}
 use Rattle.std.proofs.lemmas.List.Elements.{All-push, recursion_from_All}
 use Rattle.cf_types.specs.declared.numbers.ConnId.{ConnId}
 use Rattle.cf_types.specs.declared.shell_commands.ShellCmd.TheVariants.{Disconnect}
 use Rattle.plex_run.specs.declared.histories.Ask.TheVariants.{Shell}
-use Rattle.plex_run.specs.declared.histories.Entry.{Entry}
 use Rattle.plex_run.specs.declared.scripts.Act.{Act}
 use Rattle.plex_run.specs.declared.scripts.Act.TheVariants as act
 use Rattle.plex_run.specs.declared.scripts.Line.{Line}

@@ -1,5 +1,5 @@
 -- What a sink gained by writes one after the other.
-use Rattle.std.proofs.Common.{◌≡◌, ℕ, ◌+◌, ◌≤◌, ◌<◌, ◌⊎◌, inl, inr, Option, None, Some, List, [], ◌++◌, length, take, refl, sym, ap, ◌∙◌, subst, arith, append_assoc}
+use Rattle.std.proofs.Common.{◌≡◌, ℕ, ◌≤◌, inl, inr, Option, List, ◌++◌, ap, ◌∙◌, arith}
 use Rattle.std.proofs.KnownBytes.{Appends-trans}
 use Rattle.std.specs.Io.KnownBytes.{Appends}
 use Rattle.plex_run.proofs.Written.{GainsPrefix-after}
@@ -10,7 +10,7 @@ use Rattle.plex_run.specs.declared.transcripts.Shown.{Shown}
 use Rattle.plex_run.specs.Plan.{Plan}
 use Rattle.plex_run.specs.Serial.{serial_run}
 use Rattle.plex_run.specs.Report.{report}
-use Rattle.plex_run.specs.Written.{Gains, GainsPrefix}
+use Rattle.plex_run.specs.Written.{Gains}
 use Rattle.plex_run.specs.Outcome.{serial_report}
 
 -- a count that rose later rose

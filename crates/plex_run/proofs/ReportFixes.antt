@@ -1,5 +1,5 @@
 -- The text of a report fixes the history and the transcripts.
-use Rattle.std.proofs.Common.{◌≡◌, ℕ, ◌+◌, ◌<◌, ◌^◌, List, [], ◌∷◌, ◌++◌, length, map, codes, sym, ap, ◌∙◌, arith, append_assoc}
+use Rattle.std.proofs.Common.{◌≡◌, ℕ, ◌<◌, ◌^◌, List, [], ◌∷◌, ◌++◌, length, map, codes, sym, ap, ◌∙◌, arith, append_assoc}
 use Rattle.cf_types.specs.declared.names.Name16.{Name16}
 use Rattle.plex_run.specs.declared.histories.Entry.{Entry}
 use Rattle.plex_run.specs.declared.transcripts.Shown.{Shown}

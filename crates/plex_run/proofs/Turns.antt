@@ -1,5 +1,5 @@
 -- What each turn of a run does to the counts: a line adds at most one entry, and there are as many transcripts as before.
-use Rattle.std.proofs.Common.{◌≡◌, ℕ, ◌+◌, ◌≤◌, Bool, true, false, List, [], ◌∷◌, ◌++◌, length, refl, arith, rules, cond, suc, add-one}
+use Rattle.std.proofs.Common.{◌≡◌, ℕ, ◌+◌, ◌≤◌, true, false, ◌∷◌, length, refl, arith, cond, add-one}
 use Rattle.std.proofs.lemmas.List.{length-append}
 use Rattle.std.proofs.Math.ListN.{length-set}
 use Rattle.cf_types.specs.declared.numbers.ConnId.{ConnId}

@@ -1,5 +1,5 @@
 -- The connectors whose connection is active, as a list.
-use Rattle.std.specs.Prelude.{ℕ, ◌==◌, Bool, not, List, filter}
+use Rattle.std.specs.Prelude.{◌==◌, Bool, List}
 use Rattle.std.specs.List.{list_any}
 use Rattle.cf_types.specs.declared.numbers.ConnId.{ConnId}
 use Rattle.cache_core.specs.Content.{Cache}

@@ -1,9 +1,8 @@
 -- The one-thread machine of a structure: its connections, and its content.
-use Rattle.std.specs.Prelude.{ℕ, ◌==◌, Bool, not, if◌then◌else◌, List, [], ◌∷◌, ◌++◌, Result, Ok, Err, filter}
+use Rattle.std.specs.Prelude.{◌==◌, Bool, not, if◌then◌else◌, List, [], ◌∷◌, ◌++◌, Result, Ok, Err, filter}
 use Rattle.std.specs.List.{list_any}
 use Rattle.cf_types.specs.declared.numbers.ConnId.{ConnId}
 use Rattle.cf_types.specs.declared.numbers.CfId.{CfId}
-use Rattle.cf_types.specs.declared.shell_commands.ShellCmd.{ShellCmd}
 use Rattle.cf_types.specs.declared.shell_commands.ShellCmd.TheVariants.{Connect, Disconnect}
 use Rattle.cf_types.specs.declared.shell_commands.ShellReply.TheVariants as shell
 use Rattle.cf_types.specs.declared.cache_commands.CacheCmd.{CacheCmd}
@@ -12,7 +11,7 @@ use Rattle.cf_types.specs.declared.refusals.Refusal.{Refusal}
 use Rattle.cf_types.specs.declared.refusals.Refusal.TheVariants.{NotConnected, NameActive}
 use Rattle.cf_types.specs.declared.refusals.StateWord.TheVariants.{Active}
 use Rattle.cache_core.specs.Content.{Cache, nothing}
-use Rattle.cache_core.specs.Step.{Stepped, cache_step, left}
+use Rattle.cache_core.specs.Step.{cache_step, left}
 use Rattle.plex_run.specs.declared.histories.Ask.{Ask}
 use Rattle.plex_run.specs.declared.histories.Ask.TheVariants as ask
 use Rattle.plex_run.specs.declared.histories.Reply.{Reply}

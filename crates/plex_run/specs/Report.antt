@@ -2,7 +2,6 @@
 use Rattle.std.specs.Prelude.{ℕ, ◌+◌, Bool, true, false, List, [], ◌∷◌, ◌++◌, length, map, codes}
 use Rattle.std.specs.Fmt.{decimal}
 use Rattle.cf_types.specs.declared.names.Name16.{Name16}
-use Rattle.cf_types.specs.declared.numbers.ConnId.{ConnId}
 use Rattle.plex_run.specs.declared.histories.Entry.{Entry}
 use Rattle.plex_run.specs.declared.transcripts.Shown.{Shown}
 use Rattle.plex_run.specs.declared.transcripts.Shown.TheVariants as shown

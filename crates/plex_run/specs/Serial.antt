@@ -1,5 +1,5 @@
 -- The run of a script on one thread: its lines in their order, then each connector that is still active departs, in number order.
-use Rattle.std.specs.Prelude.{ℕ, zero, suc, ◌+◌, List, [], ◌∷◌, ◌++◌, if◌then◌else◌, length, fold, map, replicate, slice_set, slice_index_or}
+use Rattle.std.specs.Prelude.{ℕ, zero, suc, ◌+◌, List, [], ◌∷◌, ◌++◌, if◌then◌else◌, length, fold, replicate, slice_set, slice_index_or}
 use Rattle.cf_types.specs.declared.numbers.ConnId.{ConnId}
 use Rattle.cf_types.specs.declared.shell_commands.ShellCmd.TheVariants.{Disconnect}
 use Rattle.plex_run.specs.declared.histories.Ask.{Ask}

@@ -1,6 +1,5 @@
-use Rattle.std.proofs.Common.{◌≡◌, ℕ, ◌-◌, length, ◌++◌, drop, replicate, refl, ap, ◌∙◌}
+use Rattle.std.proofs.Common.{◌≡◌, ◌-◌, length, ◌++◌, drop, replicate, ap}
 use Rattle.std.proofs.lemmas.List.{drop-replicate}
-use Rattle.cf_types.specs.Filled.{filled}
 use Rattle.cf_types.proofs.adjuncts.filled_bytes.Goals as goal
 
 pub returns : goal.returns

@@ -1,4 +1,4 @@
-use Rattle.std.proofs.Common.{rules, ◌≡◌, ℕ, ◌-◌, length, ◌++◌, drop, replicate, arith, refl}
+use Rattle.std.proofs.Common.{arith, refl}
 use Rattle.std.proofs.Math.Seq.{drop-append_seam}
 use Rattle.std.proofs.lemmas.List.{length-append, length-replicate}
 use Rattle.cf_types.proofs.adjuncts.parse_adjunct.Goals as goal

@@ -1,4 +1,4 @@
-use Rattle.std.proofs.Common.{◌≡◌, Bool, true, false, List, ℕ, ◌++◌, ◌∷◌, [], sym, ap, ◌∙◌}
+use Rattle.std.proofs.Common.{◌≡◌, true, false, List, ℕ, ◌++◌, ◌∷◌, [], sym, ap, ◌∙◌}
 use Rattle.plex_run.specs.Comments.{is_comment, uncommented}
 use Rattle.plex_run.proofs.PlainLines.{uncommented-comment, uncommented-kept, uncommented-last, kept_with}
 use Rattle.plex_run.proofs.comments.uncommented.Goals as goal

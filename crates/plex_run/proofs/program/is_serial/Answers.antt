@@ -1,5 +1,5 @@
-use Rattle.std.proofs.Common.{◌≡◌, ◌∷◌, [], map, ap, ◌∙◌, sym, rules, arith, get_or}
-use Rattle.std.specs.Prelude.{string_bytes, codes}
+use Rattle.std.proofs.Common.{◌∷◌, [], map, ap, ◌∙◌, sym, arith}
+use Rattle.std.specs.Prelude.{string_bytes}
 use Rattle.plex_run.proofs.Singles.{only_one}
 use Rattle.plex_run.proofs.program.is_serial.Goals as goal
 

@@ -1,7 +1,5 @@
-use Rattle.std.proofs.Common.{◌≡◌, ℕ, ◌≤◌, ◌++◌, [], take, sym, ap, ◌∙◌, subst, arith, refl, inl, rules}
+use Rattle.std.proofs.Common.{◌∙◌, subst, rules}
 use Rattle.std.specs.Io.KnownBytes.{Appends}
-use Rattle.plex_run.specs.Report.{report}
-use Rattle.plex_run.specs.Outcome.{serial_report, memory_line}
 use Rattle.plex_run.specs.Written.{GainsPrefix}
 use Rattle.plex_run.proofs.Gained.{Gains-after, report-serial}
 use Rattle.plex_run.proofs.program.reported.Goals as goal

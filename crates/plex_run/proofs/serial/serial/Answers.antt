@@ -1,7 +1,7 @@
-use Rattle.std.proofs.Common.{◌≡◌, ℕ, ◌+◌, ◌-◌, ◌≤◌, suc, length, arith, sym, ◌∙◌, ap}
+use Rattle.std.proofs.Common.{◌+◌, ◌-◌, length, arith, sym, ◌∙◌, ap}
 use Rattle.std.specs.Prelude.{fold}
-use Rattle.plex_run.specs.Serial.{start, after_line, closed, numbers_from, serial_run}
-use Rattle.plex_run.proofs.Turns.{line_grows, closed_grows, numbers_from-next}
+use Rattle.plex_run.specs.Serial.{closed}
+use Rattle.plex_run.proofs.Turns.{closed_grows, numbers_from-next}
 use Rattle.plex_run.proofs.serial.serial.Goals as goal
 
 pub loop-number-preserved : goal.loop-number-preserved

@@ -1,4 +1,4 @@
-use Rattle.std.proofs.Common.{◌≡◌, ℕ, ◌+◌, ◌-◌, ◌≤◌, length, drop}
+use Rattle.std.proofs.Common.{◌≡◌, ◌+◌, ◌-◌, ◌≤◌, length, drop}
 use Rattle.std.specs.Prelude.{fold}
 use Rattle.plex_run.specs.Serial.{start, after_line, closed, numbers_from, serial_run}
 use Rattle.plex_run.proofs.serial.serial.Given as goal
