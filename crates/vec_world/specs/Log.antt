@@ -1,0 +1,43 @@
+-- A log is the list of the stores and commits that acted, the oldest first.
+-- What is said here of a log speaks of no machine, so it holds of any list of steps; steps of other kinds in it count for nothing.
+use Rattle.std.specs.Prelude.{◌≡◌, ◌<◌, ◌≤◌, ◌==◌, ◌&&◌, ⊤, ℕ, Bool, List, All, Contains, fold, nat_le, if◌then◌else◌}
+use Rattle.vec_world.specs.declared.step.Step.{Step}
+use Rattle.vec_world.specs.declared.step.Step.TheVariants.{Store, Commit, Load, LoadCount, Split, Join}
+
+-- the bits of a word at a number after one more step: a store to that word with a stamp of at most that number puts its own there
+abbrev pub bits_after : ℕ → ℕ → ℕ → Step → ℕ
+bits_after word number bits (Store to new stamp) = if (to == word) && nat_le stamp number then new else bits
+bits_after word number bits (Commit _) = bits
+bits_after word number bits (Load _ _) = bits
+bits_after word number bits (LoadCount _) = bits
+bits_after word number bits (Split _) = bits
+bits_after word number bits (Join _) = bits
+
+-- the bits of a word at a number: those of the last store to it with a stamp of at most that number, or 0 where there is none
+abbrev pub bits_at : List Step → ℕ → ℕ → ℕ
+bits_at log word number = fold (bits_after word number) 0 log
+
+-- the log has a store to the word with this stamp
+abbrev pub HasStore : List Step → ℕ → ℕ → Type 0
+HasStore log word stamp = (bits : ℕ) × Contains log (Store word bits stamp)
+
+-- the number was committed
+abbrev pub IsCommitted : List Step → ℕ → Type 0
+IsCommitted log number = Contains log (Commit number)
+
+-- a fact of the step's stamp, where it is a store to the word
+abbrev pub OnStoreTo : ℕ → (ℕ → Type 0) → Step → Type 0
+OnStoreTo word P (Store to _ stamp) = to ≡ word → P stamp
+OnStoreTo word P (Commit _) = ⊤
+OnStoreTo word P (Load _ _) = ⊤
+OnStoreTo word P (LoadCount _) = ⊤
+OnStoreTo word P (Split _) = ⊤
+OnStoreTo word P (Join _) = ⊤
+
+-- each store to the word has a stamp of at most this number
+abbrev pub StampsUpTo : List Step → ℕ → ℕ → Type 0
+StampsUpTo log word number = All (OnStoreTo word (λ stamp. stamp ≤ number)) log
+
+-- each store to the word has a stamp above this number
+abbrev pub StampsAbove : List Step → ℕ → ℕ → Type 0
+StampsAbove log word number = All (OnStoreTo word (λ stamp. number < stamp)) log
