@@ -1,2 +1,4 @@
-pub mod Seen
-pub mod Moves
+pub mod Logged
+pub mod Tokens
+pub mod View
+pub mod Rule
