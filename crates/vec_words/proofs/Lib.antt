@@ -1,0 +1,5 @@
+pub mod Changes
+pub mod Kept
+pub mod Logs
+pub mod Sound
+pub mod Steps
