@@ -35,7 +35,7 @@ module _ {D : Type 0} where
         length_is = length-set words (suc word) (word_of bits stamp) ∙ left.length_is;
         vectors = λ k below. dite (ℕ_discrete word k)
             (λ is. subst (λ j. slice_index (set words (suc word) (word_of bits stamp)) (suc j) ≡ left_in later j) is
-                (get_or-set_same words (suc word) (word_of bits stamp) 0 (omega arith) ∙ sym (left-here log word bits stamp)))
+            (get_or-set_same words (suc word) (word_of bits stamp) 0 (omega arith) ∙ sym (left-here log word bits stamp)))
             (λ apart. get_or-set_other words (suc word) (suc k) (word_of bits stamp) 0 (λ e. apart (omega arith)) ∙ left.vectors k below ∙ sym (left-other log word bits stamp k apart));
       }
 
@@ -68,8 +68,7 @@ module _ {D : Type 0} where
       let mine = kept.fit id v at in
       let held = mine.keeps has_log in
       let can' = subst (λ l. CanStore l word bits stamp) held.1 can in
-      let roll : Roll D = record old { log = old.log ++ Stored word bits stamp ∷ [] } in
-      (
+      let roll : Roll D = record old { log = old.log ++ Stored word bits stamp ∷ [] } in (
         stored_to word bits stamp v,
         keeps,
         tt,
@@ -96,14 +95,14 @@ module _ {D : Type 0} where
       ∙ by_test caller caller (λ b. calls_of caller log ++ (if b then (number, about) ∷ [] else []) ≡ calls_of caller log ++ (number, about) ∷ []) (λ _. refl) (λ apart. absurd (apart refl))
 
   -- the number is the one in flight, for the seat that holds the log
-  pub publishes : (shape : Shape) (slots id : ℕ) (me : Me ℕ (View D)) (number : ℕ) (about : List D) (x : D) → about ≡ x ∷ [] → me.0.keeps ≡ true → me.0.passes ≡ true → count_of me.0.log < number → IsFree me.0.log number
+  pub publishes : (shape : Shape) (slots id : ℕ) (me : Me ℕ (View D)) (number : ℕ) (about : List D) (x : D) → about ≡ x ∷ [] → me.0.keeps ≡ true → me.0.passes ≡ true → count_of me.0.log < number → number < 2 ^ 32 → IsFree me.0.log number
       → Allows (Kept shape) slots id me 0 (λ _. number) (λ _ after. Becomes me (committed_of number about me.0) after)
-  publishes shape slots id me number about x one has_log is_pass higher free =
-      subst (λ a. Allows (Kept shape) slots id me 0 (λ _. number) (λ _ after. Becomes me (committed_of number a me.0) after)) (sym one) (commits shape slots id me number x has_log is_pass higher free)
+  publishes shape slots id me number about x one has_log is_pass higher fits free =
+      subst (λ a. Allows (Kept shape) slots id me 0 (λ _. number) (λ _ after. Becomes me (committed_of number a me.0) after)) (sym one) (commits shape slots id me number x has_log is_pass higher fits free)
     where
-      commits : (shape : Shape) (slots id : ℕ) (me : Me ℕ (View D)) (number : ℕ) (x : D) → me.0.keeps ≡ true → me.0.passes ≡ true → count_of me.0.log < number → IsFree me.0.log number
+      commits : (shape : Shape) (slots id : ℕ) (me : Me ℕ (View D)) (number : ℕ) (x : D) → me.0.keeps ≡ true → me.0.passes ≡ true → count_of me.0.log < number → number < 2 ^ 32 → IsFree me.0.log number
           → Allows (Kept shape) slots id me 0 (λ _. number) (λ _ after. Becomes me (committed_of number (x ∷ []) me.0) after)
-      commits shape slots id me number x has_log is_pass higher free s kept width at small =
+      commits shape slots id me number x has_log is_pass higher fits free s kept width at small =
           let v = me.0 in
           let old = kept.roll in
           let mine = kept.fit id v at in
@@ -115,14 +114,13 @@ module _ {D : Type 0} where
           let count : count_of log' ≡ number = count-push old.log (Committed number v.owner x) in
           let roll : Roll D = record old { log = log' } in
           let tests : (u : View D) (j : ℕ) → Fits shape.len old j u → All (IsKept log' shape.len u.owner) u.tests
-              = λ u j f. All-weaker (IsKept old.log shape.len u.owner) (IsKept log' shape.len u.owner) (λ t k. kept-commit old.log number v.owner x shape.len u.owner t higher' free' k) u.tests f.tests in
-          (
+          = λ u j f. All-weaker (IsKept old.log shape.len u.owner) (IsKept log' shape.len u.owner) (λ t k. kept-commit old.log number v.owner x shape.len u.owner t higher' free' k) u.tests f.tests in (
             committed_of number (x ∷ []) v,
             keeps,
             tt,
             (record {
               roll = roll;
-              sound = sound-commit old.log number v.owner x kept.sound higher' free';
+              sound = sound-commit old.log number v.owner x kept.sound higher' fits free';
               left = left-commit shape old.log s.words number v.owner x kept.left;
               fit = all_set shape.len roll s.views id (committed_of number (x ∷ []) v)
                   (λ j u apart e. let f = kept.fit j u e in let seen : u.sure ≤ count_of old.log = f.sure in record {
@@ -138,7 +136,7 @@ module _ {D : Type 0} where
                     keeps = λ _. (held.0, ap (λ l. l ++ Committed number v.owner x ∷ []) held.1);
                     makes = mine.makes;
                     passes = λ _. (passed.0, passed.1, ap (λ l. l ++ (number, x) ∷ []) passed.2 ∙ sym (calls-here v.owner number x old.log));
-                    known = subst (λ k. IsIssued log' (flying_of log') k) count (counted log' (sound-commit old.log number v.owner x kept.sound higher' free'));
+                    known = subst (λ k. IsIssued log' (flying_of log') k) count (counted log' (sound-commit old.log number v.owner x kept.sound higher' fits free'));
                     sure = omega (arith, count);
                     tests = tests v id mine;
                   });
@@ -161,8 +159,7 @@ module _ {D : Type 0} where
       let n = slice_index s.words 0 in
       let found : n ≡ count_of roll.log = kept.left.count in
       let issued : IsIssued roll.log (flying_of roll.log) n = subst (IsIssued roll.log (flying_of roll.log)) (sym found) (⊎_elim (λ z. inl z) (λ c. inr (inl c)) kept.sound.counted) in
-      let seen : v.sure ≤ count_of roll.log = mine.sure in
-      (
+      let seen : v.sure ≤ count_of roll.log = mine.sure in (
         learned_of v n,
         keeps,
         tt,
@@ -177,6 +174,7 @@ module _ {D : Type 0} where
           (refl, refl),
           (record {
             count_is = found ∙ ap count_of (sym held.1);
+            small = subst (λ k. k < 2 ^ 32) (sym found) kept.sound.small;
             known = subst (λ l. IsIssued l (flying_of l) v.known) (sym held.1) mine.known;
             counted = subst (λ l. IsIssued l (flying_of l) n) (sym held.1) issued;
             mine = passed.2 ∙ ap (calls_of v.owner) (sym held.1);

@@ -63,8 +63,8 @@ module _ {D : Type 0} where
       ⊎_elim
       (λ (b : test.at < stamp). tells_same log later word test (bits-above log to bits stamp word test.at b) (bits-above log to bits stamp word (test.at - 1) (omega arith)) h)
       (λ (e : test.at ≡ stamp). dite (ℕ_discrete to word)
-          (λ is. subst (λ k. Tells later k test) is (tells_here log to bits stamp test sound can seen e (subst (λ k. Tells log k test) (sym is) h)))
-          (λ apart. tells_same log later word test (bits-other log to bits stamp word test.at apart) (bits-other log to bits stamp word (test.at - 1) apart) h))
+      (λ is. subst (λ k. Tells later k test) is (tells_here log to bits stamp test sound can seen e (subst (λ k. Tells log k test) (sym is) h)))
+      (λ apart. tells_same log later word test (bits-other log to bits stamp word test.at apart) (bits-other log to bits stamp word (test.at - 1) apart) h))
       (issued_below log test.at stamp sound can.higher can.free issued)
 
   pub kept-store : (log : List (Logged D)) (to bits stamp len conn : ℕ) (test : Sight) → IsSound log → CanStore log to bits stamp → IsKept log len conn test → IsKept (log ++ Stored to bits stamp ∷ []) len conn test

@@ -1,5 +1,7 @@
 pub mod Changes
 pub mod Kept
 pub mod Logs
+pub mod Places
 pub mod Sound
 pub mod Steps
+pub mod Tables

@@ -118,8 +118,8 @@ module _ {D : Type 0} where
       ⊎_elim
       (λ (z : n ≡ 0). inl z)
       (⊎_elim
-          (λ (c : IsCommitted (steps_of log) n). inr (inl (committed-push log (Stored to bits stamp) n c)))
-          (λ (e : n ≡ flying_of log). ⊎_elim (λ (z : flying_of log ≡ 0). inl (e ∙ z)) (λ (q : flying_of log ≡ stamp). inr (inr (e ∙ q ∙ sym (flying-push log (Stored to bits stamp))))) free))
+      (λ (c : IsCommitted (steps_of log) n). inr (inl (committed-push log (Stored to bits stamp) n c)))
+      (λ (e : n ≡ flying_of log). ⊎_elim (λ (z : flying_of log ≡ 0). inl (e ∙ z)) (λ (q : flying_of log ≡ stamp). inr (inr (e ∙ q ∙ sym (flying-push log (Stored to bits stamp))))) free))
       h
 
   pub issued-commit : (log : List (Logged D)) (m by : ℕ) (about : D) (n : ℕ) → IsFree log m → IsIssued log (flying_of log) n → IsIssued (log ++ Committed m by about ∷ []) (flying_of (log ++ Committed m by about ∷ [])) n
@@ -128,6 +128,6 @@ module _ {D : Type 0} where
       ⊎_elim
       (λ (z : n ≡ 0). inl z)
       (⊎_elim
-          (λ (c : IsCommitted (steps_of log) n). inr (inl (committed-push log (Committed m by about) n c)))
-          (λ (e : n ≡ flying_of log). ⊎_elim (λ (z : flying_of log ≡ 0). inl (e ∙ z)) (λ (q : flying_of log ≡ m). inr (inl (subst (λ k. IsCommitted (steps_of log') k) (sym (e ∙ q)) (committed-here log m by about)))) free))
+      (λ (c : IsCommitted (steps_of log) n). inr (inl (committed-push log (Committed m by about) n c)))
+      (λ (e : n ≡ flying_of log). ⊎_elim (λ (z : flying_of log ≡ 0). inl (e ∙ z)) (λ (q : flying_of log ≡ m). inr (inl (subst (λ k. IsCommitted (steps_of log') k) (sym (e ∙ q)) (committed-here log m by about)))) free))
       h

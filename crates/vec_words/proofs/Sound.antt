@@ -40,14 +40,15 @@ module _ {D : Type 0} where
       ⊎_elim
       (λ (l : stamp_of (left_in log to) < stamp). l)
       (λ (e : stamp_of (left_in log to) ≡ stamp).
-          ⊎_elim
-          (λ (z : stamp_of (left_in log to) ≡ 0). let h = can.higher in absurd (omega arith))
-          (λ (s : HasStore (steps_of log) to (stamp_of (left_in log to))). absurd (can.once (subst (HasStore (steps_of log) to) e s)))
-          (sound.stored to))
+      ⊎_elim
+      (λ (z : stamp_of (left_in log to) ≡ 0). let h = can.higher in absurd (omega arith))
+      (λ (s : HasStore (steps_of log) to (stamp_of (left_in log to))). absurd (can.once (subst (HasStore (steps_of log) to) e s)))
+      (sound.stored to))
       (issued_below log (stamp_of (left_in log to)) stamp sound can.higher can.free (sound.stamped to))
 
   pub sound-empty : IsSound {D = D} []
   sound-empty = record {
+    small = omega arith;
     in_flight = λ h. absurd (omega arith);
     bounded = λ n c. absurd (none n c);
     counted = inl refl;
@@ -67,6 +68,7 @@ module _ {D : Type 0} where
       let flying : flying_of log' ≡ stamp = flying-push log x in
       let higher : count_of log < stamp = can.higher in
       record {
+        small = omega (arith, count, sound.small);
         in_flight = λ h. omega (arith, count, flying, higher);
         bounded = λ n c. let b = sound.bounded n (committed-store log to bits stamp n c) in omega (arith, count, b);
         counted = ⊎_elim
@@ -82,21 +84,23 @@ module _ {D : Type 0} where
         stored = λ w. dite (ℕ_discrete to w)
             (λ e. inr (subst (λ k. HasStore (steps_of log') k (stamp_of (left_in log' k))) e (subst (HasStore (steps_of log') to) (sym left_stamp) (has_store-here log to bits stamp))))
             (λ apart. subst (λ k. (stamp_of k ≡ 0) ⊎ HasStore (steps_of log') w (stamp_of k)) (sym (left-other log to bits stamp w apart))
-                (⊎_elim (λ (z : stamp_of (left_in log w) ≡ 0). inl z) (λ (s : HasStore (steps_of log) w (stamp_of (left_in log w))). inr (has_store-push log x w (stamp_of (left_in log w)) s)) (sound.stored w)));
+            (⊎_elim (λ (z : stamp_of (left_in log w) ≡ 0). inl z) (λ (s : HasStore (steps_of log) w (stamp_of (left_in log w))). inr (has_store-push log x w (stamp_of (left_in log w)) s)) (sound.stored w)));
       }
     where
       left_stamp : stamp_of (left_in (log ++ Stored to bits stamp ∷ []) to) ≡ stamp
       left_stamp = ap stamp_of (left-here log to bits stamp) ∙ stamp_of-word_of bits stamp can.fits
+
       here : (n : ℕ) → stamp_of (left_in (log ++ Stored to bits stamp ∷ []) to) ≤ n → bits_at (steps_of (log ++ Stored to bits stamp ∷ [])) to n ≡ bits_of (left_in (log ++ Stored to bits stamp ∷ []) to)
       here n h = bits-here log to bits stamp n (subst (λ k. k ≤ n) left_stamp h) ∙ sym (ap bits_of (left-here log to bits stamp) ∙ bits_of-word_of bits stamp can.fits)
 
-  pub sound-commit : (log : List (Logged D)) (m by : ℕ) (about : D) → IsSound log → count_of log < m → IsFree log m → IsSound (log ++ Committed m by about ∷ [])
-  sound-commit log m by about sound higher free =
+  pub sound-commit : (log : List (Logged D)) (m by : ℕ) (about : D) → IsSound log → count_of log < m → m < 2 ^ 32 → IsFree log m → IsSound (log ++ Committed m by about ∷ [])
+  sound-commit log m by about sound higher fits free =
       let x : Logged D = Committed m by about in
       let log' = log ++ x ∷ [] in
       let count : count_of log' ≡ m = count-push log x in
       let flying : flying_of log' ≡ 0 = flying-push log x in
       record {
+        small = omega (arith, count, fits);
         in_flight = λ h. absurd (omega (arith, flying));
         bounded = λ n c. ⊎_elim
             (λ (b : IsCommitted (steps_of log) n). let k = sound.bounded n b in omega (arith, count, k, higher))

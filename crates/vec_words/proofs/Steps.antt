@@ -107,8 +107,8 @@ module _ {D : Type 0} where
         left = kept.left;
         fit = all_set shape.len roll (set s.views id (told_of v w)) other blank
             (λ j u _ e. all_set shape.len roll s.views id (told_of v w) (λ i y _ e'. kept.fit i y e')
-                (record { keeps = mine.keeps; makes = mine.makes; passes = mine.passes; known = issued_max roll.log (flying_of roll.log) v.known w.known mine.known theirs.known; sure = max_most v.sure w.sure (count_of roll.log) mine_seen their_seen; tests = mine.tests })
-                j u e)
+            (record { keeps = mine.keeps; makes = mine.makes; passes = mine.passes; known = issued_max roll.log (flying_of roll.log) v.known w.known mine.known theirs.known; sure = max_most v.sure w.sure (count_of roll.log) mine_seen their_seen; tests = mine.tests })
+            j u e)
             (fits_blank shape.len roll other);
       }
 
@@ -124,15 +124,15 @@ module _ {D : Type 0} where
       let seat_is : (o : ℕ) → o < old.next → roll.seat_of o ≡ old.seat_of o = λ o below. seat_before o old.next (length views) (old.seat_of o) below in
       let there : roll.seat_of v.next ≡ length views = seat_here v.next old.next (length views) (old.seat_of v.next) next_is in
       let passes : (j : ℕ) (u : View D) → Fits shape.len old j u → u.passes ≡ true → (j ≡ roll.seat_of u.owner) × (u.owner < roll.next) × (u.mine ≡ calls_of u.owner roll.log)
-          = λ j u f p. let t = f.passes p in let below : u.owner < old.next = t.1 in (t.0 ∙ sym (seat_is u.owner below), omega arith, t.2) in
+      = λ j u f p. let t = f.passes p in let below : u.owner < old.next = t.1 in (t.0 ∙ sym (seat_is u.owner below), omega arith, t.2) in
       record {
         roll = roll;
         sound = kept.sound;
         left = kept.left;
         fit = all_push shape.len roll views (next_pass v)
             (all_set shape.len roll s.views id (made_one v)
-                (λ j u apart e. let f = kept.fit j u e in record { keeps = f.keeps; makes = λ m. absurd (apart ((f.makes m).0 ∙ sym made)); passes = passes j u f; known = f.known; sure = f.sure; tests = f.tests })
-                (record { keeps = mine.keeps; makes = λ _. (made, ap (λ n. n + 1) next_is); passes = passes id v mine; known = mine.known; sure = mine.sure; tests = mine.tests }))
+            (λ j u apart e. let f = kept.fit j u e in record { keeps = f.keeps; makes = λ m. absurd (apart ((f.makes m).0 ∙ sym made)); passes = passes j u f; known = f.known; sure = f.sure; tests = f.tests })
+            (record { keeps = mine.keeps; makes = λ _. (made, ap (λ n. n + 1) next_is); passes = passes id v mine; known = mine.known; sure = mine.sure; tests = mine.tests }))
             (record {
               keeps = λ k. absurd (off k);
               makes = λ k. absurd (off k);
@@ -145,6 +145,7 @@ module _ {D : Type 0} where
     where
       seat_before : (o next new seat : ℕ) → o < next → (if o == next then new else seat) ≡ seat
       seat_before o next new seat below = by_test o next (λ b. (if b then new else seat) ≡ seat) (λ e. absurd (omega arith)) (λ _. refl)
+
       seat_here : (o next new seat : ℕ) → o ≡ next → (if o == next then new else seat) ≡ new
       seat_here o next new seat is = by_test o next (λ b. (if b then new else seat) ≡ new) (λ _. refl) (λ apart. absurd (apart is))
 
@@ -162,8 +163,8 @@ module _ {D : Type 0} where
         left = kept.left;
         fit = all_push shape.len roll views (log_alone v)
             (all_set shape.len roll s.views id (without_log v)
-                (λ j u apart e. let f = kept.fit j u e in record { keeps = λ k. absurd (apart ((f.keeps k).0 ∙ sym held.0)); makes = f.makes; passes = f.passes; known = f.known; sure = f.sure; tests = f.tests })
-                (record { keeps = λ k. absurd (off k); makes = mine.makes; passes = mine.passes; known = mine.known; sure = mine.sure; tests = mine.tests }))
+            (λ j u apart e. let f = kept.fit j u e in record { keeps = λ k. absurd (apart ((f.keeps k).0 ∙ sym held.0)); makes = f.makes; passes = f.passes; known = f.known; sure = f.sure; tests = f.tests })
+            (record { keeps = λ k. absurd (off k); makes = mine.makes; passes = mine.passes; known = mine.known; sure = mine.sure; tests = mine.tests }))
             (record {
               keeps = λ _. (refl, held.1);
               makes = λ k. absurd (off k);
@@ -188,11 +189,11 @@ module _ {D : Type 0} where
         left = kept.left;
         fit = all_set shape.len roll (set s.views id (with_log v w)) other blank
             (λ j u off_other e.
-                ⊎_elim
-                (λ (t : (j ≡ id) × (with_log v w ≡ u)). subst (λ (y : ℕ × View D). Fits shape.len roll y.0 y.1) (λ i. (sym t.0 i, t.1 i))
-                    (record { keeps = λ _. (refl, held.1); makes = mine.makes; passes = mine.passes; known = mine.known; sure = mine.sure; tests = mine.tests }))
-                (λ (t : (j ≢ id) × (get_elem? s.views j ≡ some u)). let f = kept.fit j u t.1 in record { keeps = λ k. absurd (off_other ((f.keeps k).0 ∙ sym held.0)); makes = f.makes; passes = f.passes; known = f.known; sure = f.sure; tests = f.tests })
-                (at_set s.views id j (with_log v w) u e))
+            ⊎_elim
+            (λ (t : (j ≡ id) × (with_log v w ≡ u)). subst (λ (y : ℕ × View D). Fits shape.len roll y.0 y.1) (λ i. (sym t.0 i, t.1 i))
+            (record { keeps = λ _. (refl, held.1); makes = mine.makes; passes = mine.passes; known = mine.known; sure = mine.sure; tests = mine.tests }))
+            (λ (t : (j ≢ id) × (get_elem? s.views j ≡ some u)). let f = kept.fit j u t.1 in record { keeps = λ k. absurd (off_other ((f.keeps k).0 ∙ sym held.0)); makes = f.makes; passes = f.passes; known = f.known; sure = f.sure; tests = f.tests })
+            (at_set s.views id j (with_log v w) u e))
             (fits_blank shape.len roll other);
       }
 
@@ -205,8 +206,7 @@ module _ {D : Type 0} where
       let mine = kept.fit id v at in
       let found : slice_index s.words (suc word) ≡ left_in roll.log word = kept.left.vectors word within in
       let now : (n : ℕ) → n ≡ left_in roll.log word → Fits shape.len roll id (tested_of asked v n)
-          = λ n is. subst (λ k. Fits shape.len roll id (tested_of asked v k)) (sym is) (tested_fits roll id v asked kept.sound mine ordered here) in
-      (
+      = λ n is. subst (λ k. Fits shape.len roll id (tested_of asked v k)) (sym is) (tested_fits roll id v asked kept.sound mine ordered here) in (
         tested_of asked v (slice_index s.words (suc word)),
         keeps,
         tt,
@@ -231,6 +231,6 @@ module _ {D : Type 0} where
             sure = mine.sure;
             tests = All-append (IsKept roll.log shape.len v.owner) v.tests (map (sight (bits_of w) at v.sure) asked) mine.tests
                 (All-map (IsKept roll.log shape.len v.owner) (sight (bits_of w) at v.sure) asked
-                    (All-weaker (λ k. word_number shape.len v.owner (k / 32) ≡ word) (λ k. IsKept roll.log shape.len v.owner (sight (bits_of w) at v.sure k))
-                        (λ k is. kept-now roll.log shape.len v.owner word v.known v.sure k sound mine.known ordered mine.sure is) asked here));
+                (All-weaker (λ k. word_number shape.len v.owner (k / 32) ≡ word) (λ k. IsKept roll.log shape.len v.owner (sight (bits_of w) at v.sure k))
+                (λ k is. kept-now roll.log shape.len v.owner word v.known v.sure k sound mine.known ordered mine.sure is) asked here));
           }

@@ -1,5 +1,5 @@
 -- The rule that holds between any two steps.
-use Rattle.std.specs.Prelude.{◌≡◌, ◌+◌, ◌*◌, ◌<◌, ◌≤◌, ◌⊎◌, ℕ, suc, List, [], ◌∷◌, true, All, length, slice_index}
+use Rattle.std.specs.Prelude.{◌≡◌, ◌+◌, ◌*◌, ◌^◌, ◌<◌, ◌≤◌, ◌⊎◌, ℕ, suc, List, [], ◌∷◌, true, All, length, slice_index}
 use mathlib.Core.Option.{some}
 use lib.ListN.{get_elem?}
 use Rattle.atomic_table.specs.Table.{State}
@@ -24,6 +24,7 @@ module _ {D : Type 0} where
   -- The numbers of a log. The one in flight is above the count, and no commit is. The count is a commit's number. At its stamp and above,
   -- a word has the bits that the log leaves in it, and the stamp is that of a store.
   pub record IsSound (log : List (Logged D)) : Type 0 where
+    pub small : count_of log < 2 ^ 32
     pub in_flight : 0 < flying_of log → count_of log < flying_of log
     pub bounded : (number : ℕ) → IsCommitted (steps_of log) number → number ≤ count_of log
     pub counted : (count_of log ≡ 0) ⊎ IsCommitted (steps_of log) (count_of log)
@@ -63,6 +64,7 @@ module _ {D : Type 0} where
   -- what `learn` tells of a view that holds the log, where it found this count
   pub record Shows (len : ℕ) (view : View D) (count : ℕ) : Type 0 where
     pub count_is : count ≡ count_of view.log
+    pub small : count < 2 ^ 32
     pub known : IsIssued view.log (flying_of view.log) view.known
     pub counted : IsIssued view.log (flying_of view.log) count
     pub mine : view.mine ≡ calls_of view.owner view.log

@@ -1,5 +1,5 @@
 //! The word table.
-ghost use Rattle.std.specs.Prelude.{◌≡◌, ◌+◌, ◌*◌, ◌<◌, ◌≤◌, ◌++◌, [], ◌∷◌, map, IfOk, true};
+ghost use Rattle.std.specs.Prelude.{◌≡◌, ◌+◌, ◌*◌, ◌^◌, ◌<◌, ◌≤◌, ◌++◌, [], ◌∷◌, map, IfOk, true};
 ghost use Rattle.std.specs.List.{range_with_len};
 ghost use Rattle.vec_world.specs.Log.{HasStore};
 ghost use Rattle.vec_words.specs.declared.logged.Logged.TheVariants.{Stored};
@@ -151,15 +151,26 @@ impl<D> Vectors<D> {
         requires once { ¬ HasStore (steps_of seat.old.log) (word_number self.now.len conn.0 word) seat.old.number }
         ensures { seat.new ≡ record seat.old { log = seat.old.log ++ Stored (word_number self.now.len conn.0 word) bits seat.old.number ∷ [] } }
     {
-        let at = usize::from(conn.0 - 1) * self.span + word as usize;
+        let at = self.word_number(conn, word);
         self.put::<Brand>(&mut seat.seat, at, bits, seat.number);
+    }
+
+    /// The number of a word of a connector's vector among all words.
+    pub(crate) fn word_number(&self, conn: ConnId, word: u32) -> usize
+        requires conn { (0 < conn.0) × (conn.0 ≤ self.now.conns) }
+        requires word { word < words_of self.now.len }
+        ensures number { result ≡ word_number self.now.len conn.0 word }
+        ensures within { result < self.now.conns * words_of self.now.len }
+        ensures small { result < 2 ^ 40 }
+    {
+        usize::from(conn.0 - 1) * self.span + word as usize
     }
 
     /// Stores a word of the table.
     fn put<P: Places>(&self, seat: &mut Seat<u8, View<D>>, word: usize, bits: u32, stamp: u32)
         requires table { seat.old.table_id ≡ self.now.id }
         requires log { seat.old.me.0.keeps ≡ true }
-        requires word { word < self.now.conns * words_of self.now.len }
+        requires word { (word < self.now.conns * words_of self.now.len) × (word < 2 ^ 40) }
         requires stamp { IsBegun stamp seat.old.me.0.log × (0 < stamp) }
         requires once { ¬ HasStore (steps_of seat.old.me.0.log) word stamp }
         requires step { (P.word ≡ word) × (P.bits ≡ bits) × (P.stamp ≡ stamp) }

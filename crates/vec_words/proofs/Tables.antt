@@ -1,0 +1,13 @@
+-- A token of this table has the table's number and form.
+use Rattle.std.proofs.Common.{◌≡◌, ℕ, sym, ap, ◌∙◌}
+use Rattle.atomic_table.specs.Seated.{TableId}
+use Rattle.vec_words.specs.Tokens.{WordTable}
+
+pub id_of : (x y z : WordTable) → x ≡ y → z ≡ y → x.id ≡ z.id
+id_of x y z p q = ap (λ (t : WordTable). t.id) p ∙ sym (ap (λ (t : WordTable). t.id) q)
+
+pub conns_of : (x y z : WordTable) → x ≡ y → z ≡ y → x.conns ≡ z.conns
+conns_of x y z p q = ap (λ (t : WordTable). t.conns) p ∙ sym (ap (λ (t : WordTable). t.conns) q)
+
+pub len_of : (x y z : WordTable) → x ≡ y → z ≡ y → x.len ≡ z.len
+len_of x y z p q = ap (λ (t : WordTable). t.len) p ∙ sym (ap (λ (t : WordTable). t.len) q)
