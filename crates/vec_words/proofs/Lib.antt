@@ -1,5 +1,6 @@
 pub mod Changes
 pub mod Kept
+pub mod Learned
 pub mod Logs
 pub mod Places
 pub mod Sound

@@ -234,3 +234,9 @@ module _ {D : Type 0} where
                 (All-weaker (λ k. word_number shape.len v.owner (k / 32) ≡ word) (λ k. IsKept roll.log shape.len v.owner (sight (bits_of w) at v.sure k))
                 (λ k is. kept-now roll.log shape.len v.owner word v.known v.sure k sound mine.known ordered mine.sure is) asked here));
           }
+
+  -- the same step as the call writes it
+  pub looks_at : (shape : Shape) (slots id : ℕ) (me : Me ℕ (View D)) (asked : List ℕ) (i word : ℕ) → i ≡ suc word → word < shape.conns * words_of shape.len → me.0.sure ≤ me.0.known → All (λ k. word_number shape.len me.0.owner (k / 32) ≡ word) asked
+      → Allows (Kept shape) slots id me i (λ n. n) (λ n after. Becomes me (tested_of asked me.0 n) after)
+  looks_at shape slots id me asked i word i_is within ordered here =
+      subst (λ k. Allows (Kept shape) slots id me k (λ n. n) (λ n after. Becomes me (tested_of asked me.0 n) after)) (sym i_is) (looks shape slots id me asked word within ordered here)

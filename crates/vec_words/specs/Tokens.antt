@@ -1,5 +1,5 @@
 -- What contracts see of the word table and of its tokens.
-use Rattle.std.specs.Prelude.{◌≡◌, ◌*◌, ◌<◌, ◌≤◌, ◌⊎◌, ℕ, suc, List, [], true, false}
+use Rattle.std.specs.Prelude.{◌≡◌, ◌*◌, ◌^◌, ◌<◌, ◌≤◌, ◌⊎◌, ℕ, suc, List, [], true, false}
 use Rattle.atomic_table.specs.Table.{Me}
 use Rattle.atomic_table.specs.declared.shared.Seat.{Seat}
 use Rattle.vec_words.specs.View.{first_view}
@@ -87,6 +87,7 @@ pub record IsVectors (conns len span : ℕ) (shape : Shape) (id : TableId) : Typ
   pub conns_is : shape.conns ≡ conns
   pub len_is : shape.len ≡ len
   pub span_is : span ≡ words_of len
+  pub fits : len < 2 ^ 32
   pub words_is : id.words ≡ suc (conns * words_of len)
 
 module _ {D : Type 0} where

@@ -34,6 +34,7 @@ impl<D> Vectors<D> {
         ensures later { pass.old.known ≤ result.at }
         ensures pass { pass.new ≡ record pass.old { known = result.at; tests = pass.old.tests ++ map (sight result.bits result.at pass.old.sure) (indices_of word) } }
     {
+        let _ = &self.len;
         self.look::<Brand>(pass, 32 * word)
     }
 
@@ -46,7 +47,7 @@ impl<D> Vectors<D> {
         ensures later { pass.old.known ≤ result.at }
         ensures pass { pass.new ≡ record pass.old { known = result.at; tests = pass.old.tests ++ map (sight result.bits result.at pass.old.sure) A.asked } }
     {
-        let word = self.word_number(pass.owner, index / 32);
+        let word = self.word_number(pass.owner.0, index / 32);
         let found = self.table.shared.load::<Look<A>>(&mut pass.seat, 1 + word);
         let at = pass.known.max((found / STAMP) as u32);
         pass.known = at;

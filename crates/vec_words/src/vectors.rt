@@ -23,7 +23,7 @@ pub(crate) const STAMP: u64 = 1 << 32;
 /// `D` is the data of one answered call. It is never stored.
 pub struct Vectors<D> {
     conns: u8,
-    len: u32,
+    pub(crate) len: u32,
     // The words of one connector's vector.
     pub(crate) span: usize,
     pub(crate) table: Table<u8, View<D>, Shape, Law, Global>,
@@ -151,19 +151,19 @@ impl<D> Vectors<D> {
         requires once { ¬ HasStore (steps_of seat.old.log) (word_number self.now.len conn.0 word) seat.old.number }
         ensures { seat.new ≡ record seat.old { log = seat.old.log ++ Stored (word_number self.now.len conn.0 word) bits seat.old.number ∷ [] } }
     {
-        let at = self.word_number(conn, word);
+        let at = self.word_number(conn.0, word);
         self.put::<Brand>(&mut seat.seat, at, bits, seat.number);
     }
 
     /// The number of a word of a connector's vector among all words.
-    pub(crate) fn word_number(&self, conn: ConnId, word: u32) -> usize
-        requires conn { (0 < conn.0) × (conn.0 ≤ self.now.conns) }
+    pub(crate) fn word_number(&self, conn: u8, word: u32) -> usize
+        requires conn { (0 < conn) × (conn ≤ self.now.conns) }
         requires word { word < words_of self.now.len }
-        ensures number { result ≡ word_number self.now.len conn.0 word }
+        ensures number { result ≡ word_number self.now.len conn word }
         ensures within { result < self.now.conns * words_of self.now.len }
         ensures small { result < 2 ^ 40 }
     {
-        usize::from(conn.0 - 1) * self.span + word as usize
+        usize::from(conn - 1) * self.span + word as usize
     }
 
     /// Stores a word of the table.
