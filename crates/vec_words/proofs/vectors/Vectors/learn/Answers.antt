@@ -3,6 +3,7 @@ use Rattle.std.specs.Prelude.{All}
 use Rattle.vec_words.specs.declared.view.View.{View}
 use Rattle.vec_words.specs.Logged.{IsHonest, IsIssued}
 use Rattle.vec_words.specs.Tokens.{WordTable, PassSeen, SeatSeen}
+use Rattle.vec_words.specs.View.{without_log, learned_of}
 use Rattle.vec_words.proofs.Learned.{learned_tests, learned_known}
 use Rattle.vec_words.proofs.vectors.Vectors.learn.Goals as goal
 
@@ -12,4 +13,10 @@ returns-clause-tests g c =
         (learned_tests c.args.self.now.len c.pass.inside.seat.me.0 c.seat.inside.seat.me.0 c.hand_log.new.to.me.0 c.load_count-count.result c.seat.inside.number c.hand_log.ensures.to.0 c.seat.invariant.begun c.load_count-count.ensures.shown)
 
 pub returns-clause-known : goal.returns-clause-known
-returns-clause-known g c = ?
+returns-clause-known g c =
+    let v = c.pass.inside.seat.me.0 in
+    let count = c.load_count-count.result in
+    let after = c.hand_log-2.ensures.from.0 ∙ ap without_log c.load_count-count.ensures.view.0 ∙ ap (λ (x : View g.row.D.Denot). without_log (learned_of x count)) c.hand_log.ensures.to.0 in
+    subst (λ (x : SeatSeen g.row.D.Denot). IsIssued x.log x.number c.hand_log-2.new.from.me.0.known) c.seat.view_is
+        (learned_known c.args.self.now.len v c.seat.inside.seat.me.0 c.hand_log.new.to.me.0 count c.seat.inside.number c.hand_log-2.new.from.me.0.known c.hand_log.ensures.to.0 c.seat.invariant.begun c.load_count-count.ensures.shown
+            (ap (λ (x : View g.row.D.Denot). x.known) after))
