@@ -1,6 +1,6 @@
 -- A log is the list of the stores and commits that acted, the oldest first.
 -- What is said here of a log speaks of no machine, so it holds of any list of steps; steps of other kinds in it count for nothing.
-use Rattle.std.specs.Prelude.{◌≡◌, ◌<◌, ◌≤◌, ◌==◌, ◌&&◌, ⊤, ℕ, Bool, List, All, Contains, fold, nat_le, if◌then◌else◌}
+use Rattle.std.specs.Prelude.{◌≡◌, ◌^◌, ◌<◌, ◌≤◌, ◌==◌, ◌&&◌, ⊤, ℕ, List, All, Contains, fold, nat_le, if◌then◌else◌}
 use Rattle.vec_world.specs.declared.step.Step.{Step}
 use Rattle.vec_world.specs.declared.step.Step.TheVariants.{Store, Commit, Load, LoadCount, Split, Join}
 
@@ -38,6 +38,24 @@ OnStoreTo word P (Join _) = ⊤
 abbrev pub StampsUpTo : List Step → ℕ → ℕ → Type 0
 StampsUpTo log word number = All (OnStoreTo word (λ stamp. stamp ≤ number)) log
 
+-- each store to the word has a stamp of at least this number
+abbrev pub StampsFrom : List Step → ℕ → ℕ → Type 0
+StampsFrom log word number = All (OnStoreTo word (λ stamp. number ≤ stamp)) log
+
 -- each store to the word has a stamp above this number
 abbrev pub StampsAbove : List Step → ℕ → ℕ → Type 0
 StampsAbove log word number = All (OnStoreTo word (λ stamp. number < stamp)) log
+
+-- the word carries these bits and this stamp: no store to it has a greater stamp, and from this one on its bits are these
+pub record Carries (log : List Step) (word bits stamp : ℕ) : Type 0 where
+  pub greatest : StampsUpTo log word stamp
+  pub there : bits_at log word stamp ≡ bits
+
+-- the bits of a store fill at most half a word
+abbrev pub FitsHalf : Step → Type 0
+FitsHalf (Store _ bits _) = bits < 2 ^ 32
+FitsHalf (Commit _) = ⊤
+FitsHalf (Load _ _) = ⊤
+FitsHalf (LoadCount _) = ⊤
+FitsHalf (Split _) = ⊤
+FitsHalf (Join _) = ⊤

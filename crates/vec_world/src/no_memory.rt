@@ -1,4 +1,5 @@
 //! The one error of the crate.
+ghost use Rattle.std.specs.Prelude.{Some, codes};
 
 use std::alloc::{AllocError, AllocFailed};
 use std::error::Error;
@@ -9,6 +10,8 @@ use std::fmt;
 pub struct NoMemory;
 
 impl fmt::Display for NoMemory {
+    ghost output = { λ _. Some (codes "no memory") };
+
     fn fmt<W: fmt::Write>(&self, f: &mut fmt::Formatter<W>) -> fmt::Result {
         write!(f, "no memory")
     }

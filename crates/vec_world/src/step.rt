@@ -1,25 +1,32 @@
 //! The steps of the machine.
 
-/// One step that a thread may take on the words of a vector, on the count, or on what a pass knows.
+/// One step on the words of a vector, on the count, or on what a pass knows.
 ///
-/// It stands for one load or store of a shared word, or for a number that goes from one pass to another.
-/// A step that can't act does nothing.
+/// A step stands for one load or store of a word that threads share, or for a number that one pass hands to another. Words
+/// and passes are numbered from 0. A step that can't act does nothing: that holds of each that names a word or a pass that
+/// isn't there. No step fails but for memory.
 #[derive(Clone, Copy, Debug, PartialEq, Eq)]
 pub enum Step {
-    /// Stores these bits and this stamp into the word: a bit vector's change as a structure's command
-    /// makes it (IXLCACHE or IXLLIST, for a vector of IXLVECTR). It acts where the stamp is above the
-    /// count, is the number in flight if there is one, and isn't the word's stamp already.
+    /// Stores 32 bits of the vector, and a stamp, into a word: a part of what a command of the coupling facility changes in a
+    /// connector's vector, as a cross-invalidation (IXLCACHE) or a list transition (IXLLIST). The stamp is the number of the
+    /// command, from 1.
+    ///
+    /// It acts where the stamp is above the count, is the number in flight if there is one, and isn't the word's stamp yet. The
+    /// stamp is in flight then.
     Store { word: u32, bits: u32, stamp: u32 },
-    /// Ends the change of this number: the command's answer. It acts where the number is above the
-    /// count, and is the number in flight if there is one.
+    /// Makes a number the count: the command of that number is complete.
+    ///
+    /// It acts where the number is above the count, and is the one in flight if there is one. Nothing is in flight then.
     Commit { number: u32 },
-    /// Loads the word, so that the pass knows its stamp: the test of a vector entry (IXLVECTR TESTLOCALCACHE
-    /// or TESTLISTSTATE).
+    /// Loads a word. The pass knows the word's stamp then, or what it knew, whichever is larger: a test of a vector's entries
+    /// (IXLVECTR, as TESTLOCALCACHE, TESTLISTSTATE or LTVECENTRIES).
     Load { pass: u8, word: u32 },
-    /// Loads the count, so that the pass knows it.
+    /// Loads the count. The pass knows it then, or what it knew, whichever is larger.
     LoadCount { pass: u8 },
-    /// Writes down what the pass knows, as a note.
+    /// Writes what the pass knows down, as the newest note.
     Split { pass: u8 },
-    /// Takes the last note away, and tells it to the pass.
+    /// Takes the newest note away. The pass knows its number then, or what it knew, whichever is larger.
+    ///
+    /// It can't act where there is no note.
     Join { into: u8 },
 }

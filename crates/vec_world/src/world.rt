@@ -1,6 +1,7 @@
 //! The world of the machine, and what each step does to it.
-ghost use Rattle.std.specs.Prelude.{◌≡◌, ◌<◌, max, length, IfOk, OnOk, OnErr, slice_get, slice_set, Option, option_map};
+ghost use Rattle.std.specs.Prelude.{◌≡◌, ◌^◌, ◌<◌, max, length, IfOk, OnOk, OnErr, slice_get, slice_set, Option, option_map};
 ghost use Rattle.vec_world.specs.declared.step.Step.TheVariants.{Store, Commit, Load, LoadCount, Split, Join};
+ghost use Rattle.vec_world.specs.Log.{FitsHalf};
 ghost use Rattle.vec_world.specs.World.{start, act, is_open, learned};
 
 use crate::word::{stamp_of, word_of};
@@ -43,6 +44,9 @@ impl World {
     pub(crate) fn act(&mut self, step: Step) -> Result<(), NoMemory>
         ensures ok { OnOk result (self.new ≡ act self.old step) }
         ensures err { OnErr result (self.new ≡ self.old) }
+
+        // The step's own type says so; whoever runs a list of steps learns it here.
+        ensures fits { FitsHalf step }
     {
         match step {
             Step::Store { word, bits, stamp } => self.store(word, bits, stamp),
@@ -70,9 +74,11 @@ impl World {
         self.count < number && (self.flying == 0 || self.flying == number)
     }
 
+    /// Puts bits and stamp into the word and logs that, where the stamp is open and isn't the word's already.
     fn store(&mut self, word: u32, bits: u32, stamp: u32) -> Result<(), NoMemory>
         ensures ok { OnOk result (self.new ≡ act self.old (Store word bits stamp)) }
         ensures err { OnErr result (self.new ≡ self.old) }
+        ensures fits { bits < 2 ^ 32 }
     {
         let at = word as usize;
         let Some(old) = self.words.get(at) else {
@@ -86,6 +92,7 @@ impl World {
         Ok(())
     }
 
+    /// Makes the number the count and logs that, where it is open.
     fn commit(&mut self, number: u32) -> Result<(), NoMemory>
         ensures ok { OnOk result (self.new ≡ act self.old (Commit number)) }
         ensures err { OnErr result (self.new ≡ self.old) }
@@ -98,6 +105,7 @@ impl World {
         Ok(())
     }
 
+    /// Tells the pass the word's stamp.
     fn load(&mut self, pass: u8, word: u32)
         ensures { self.new ≡ act self.old (Load pass word) }
     {
@@ -116,6 +124,7 @@ impl World {
         }
     }
 
+    /// Writes down what the pass knows.
     fn split(&mut self, pass: u8) -> Result<(), NoMemory>
         ensures ok { OnOk result (self.new ≡ act self.old (Split pass)) }
         ensures err { OnErr result (self.new ≡ self.old) }
@@ -126,6 +135,7 @@ impl World {
         }
     }
 
+    /// Takes the newest note away and tells it to the pass, where there is a note and such a pass.
     fn join(&mut self, into: u8)
         ensures { self.new ≡ act self.old (Join into) }
     {

@@ -1,0 +1,28 @@
+use Rattle.std.proofs.Common.{◌<◌, length, subst, sym, take}
+use Rattle.std.specs.Prelude.{All}
+use Rattle.std.proofs.lemmas.List.{take_all}
+use Rattle.std.proofs.lemmas.List.Elements.{All-more}
+use Rattle.vec_world.specs.Log.{FitsHalf}
+use Rattle.vec_world.proofs.WorldLaws.{IsSound, sound-world_of, genuine_from_sound}
+use Rattle.vec_world.proofs.LoadLaws.{each_load_tells, world_of-more}
+use Rattle.vec_world.proofs.machine.run.Goals as goal
+
+pub loop-step-preserved : goal.loop-step-preserved
+loop-step-preserved c =
+    let steps = c.args.steps.now in
+    let within : c.loop-step.step-index < length steps = c.loop-step-test.true in (
+      world_of-more c.args.words c.args.passes steps c.loop-step.step-index _ c.loop-step.world c.act.new.self within c.loop-step.invariant.0 c.in_ok-act.ensures.ok,
+      All-more FitsHalf steps c.loop-step.step-index _ within c.loop-step.invariant.1 c.in_ok-act.ensures.fits,
+    )
+
+pub returns-clause-fresh : goal.returns-clause-fresh
+returns-clause-fresh c =
+    let steps = c.args.steps.now in
+    each_load_tells c.args.words c.args.passes steps
+    (subst (All FitsHalf) (take_all c.loop-step.step-index steps c.loop-step-test.false) c.loop-step.invariant.1)
+
+pub returns-clause-genuine : goal.returns-clause-genuine
+returns-clause-genuine c =
+    let so_far = take c.loop-step.step-index c.args.steps.now in
+    genuine_from_sound c.loop-step.world
+    (subst IsSound (sym c.loop-step.invariant.0) (sound-world_of c.args.words c.args.passes so_far c.loop-step.invariant.1))
