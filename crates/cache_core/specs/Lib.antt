@@ -1,0 +1,5 @@
+pub mod Row
+pub mod Registrations
+pub mod Content
+pub mod Room
+pub mod Step

@@ -1,0 +1,14 @@
+use Rattle.std.proofs.Common.{rules, ◌≡◌, arith, refl}
+use Rattle.std.proofs.lemmas.Grind.{common_steps}
+use Rattle.cf_types.specs.Term.{IsTerm, term_byte}
+use Rattle.cf_types.proofs.TermFaults.{passes_at_none, fails_at_some}
+use Rattle.cf_types.proofs.names.checked.Goals as goal
+
+pub returns-in-Some-clause-term : goal.returns-in-Some-clause-term
+returns-in-Some-clause-term c =
+    let fails = fails_at_some term_byte c.args.text.now c.in-Some.at (cc) in
+    (λ wrong. absurd (cc), λ term. let passes = term.characters in cc)
+
+pub returns-in-None-clause-term : goal.returns-in-None-clause-term
+returns-in-None-clause-term c =
+    (λ _. record { nonempty = grind (arith, common_steps); short = omega arith; characters = passes_at_none term_byte c.args.text.now (cc) }, λ _. refl)

@@ -1,0 +1,6 @@
+-- The array that an adjunct is kept in.
+use Rattle.std.specs.Prelude.{ℕ, ◌-◌, List, ◌++◌, length, replicate}
+
+-- 64 bytes: those of the adjunct, then zeros
+abbrev pub filled : List ℕ → List ℕ
+filled text = text ++ replicate (64 - length text) 0

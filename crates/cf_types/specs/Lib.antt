@@ -1,0 +1,5 @@
+pub mod Term
+pub mod Name
+pub mod Stored
+pub mod Filled
+pub mod AdjunctBytes

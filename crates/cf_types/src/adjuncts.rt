@@ -1,0 +1,67 @@
+ghost use Rattle.std.specs.Prelude.{◌≡◌, ◌↔◌, ℕ, ◌≤◌, length, IsOk, IfOk, IfErr};
+ghost use Rattle.cf_types.specs.Term.{IsTerm, IsFaultOf};
+ghost use Rattle.cf_types.specs.Filled.{filled};
+
+use crate::names::{NameFault, checked};
+use std::marker::Model;
+
+/// The greatest length of an adjunct, in bytes.
+const ADJUNCT_LIMIT: usize = 64;
+
+/// An adjunct of an entry, or the record data of a lock: 1 to 64 bytes. It is copied, and takes no
+/// memory.
+#[derive(Clone, Copy, Debug)]
+pub struct Adjunct {
+    bytes: [u8; 64],
+    len: u8,
+}
+
+impl Model for Adjunct {
+    ghost use Rattle.std.specs.Prelude.{ℕ, List, take};
+
+    ghost Value = { List ℕ };
+
+    ghost use Rattle.cf_types.specs.AdjunctBytes.{IsFilled, refilled, refilled-take};
+
+    ghost view = { λ a. take a.len a.bytes };
+
+    ghost invariant = { IsFilled };
+
+    ghost inverse = { refilled };
+
+    ghost inverse_ok = { refilled-take };
+}
+
+impl Adjunct {
+    /// The bytes, 1 to 64 of them.
+    pub fn bytes(&self) -> &[u8]
+        ensures value { result.now ≡ self.now }
+    {
+        let len = self.len as usize;
+        &self.bytes[..len]
+    }
+}
+
+/// Reads an adjunct: 1 to 64 term characters.
+pub fn parse_adjunct(text: &[u8]) -> Result<Adjunct, NameFault>
+    ensures term { IsOk result ↔ IsTerm 64 text.now }
+    ensures adjunct { IfOk result (λ adjunct. adjunct ≡ text.now) }
+    ensures fault { IfErr result (IsFaultOf 64 text.now) }
+{
+    checked(text, ADJUNCT_LIMIT)?;
+    Ok(Adjunct {
+        bytes: filled_bytes(text),
+        len: text.len() as u8,
+    })
+}
+
+// The text, which has at most 64 bytes, and zeros behind it.
+fn filled_bytes(text: &[u8]) -> [u8; 64]
+    requires { length text.now ≤ 64 }
+    ensures { result ≡ filled text.now }
+{
+    let mut bytes = [0; 64];
+    let (front, _) = bytes.split_at_mut(text.len());
+    front.copy_from_slice(text);
+    bytes
+}

@@ -1,0 +1,71 @@
+ghost use Rattle.std.specs.Prelude.{◌≡◌, ℕ, OnOk, IfOk, IfErr};
+ghost use Rattle.cf_types.specs.Term.{IsTerm};
+ghost use Rattle.cf_types.specs.Stored.{IsBodyFaultOf};
+
+use crate::memory::NoMemory;
+use crate::names::{NameFault, checked};
+use std::alloc::Global;
+use std::marker::Model;
+
+/// The greatest length of a body, in bytes.
+const BODY_LIMIT: usize = 4096;
+
+/// The data of a cache entry or a list record: 1 to 4,096 bytes.
+#[derive(Debug, Drop)]
+pub struct Body {
+    bytes: Vec<u8>,
+}
+
+impl Model for Body {
+    ghost use Rattle.std.specs.Prelude.{ℕ, List, length, ◌≤◌};
+
+    ghost Value = { List ℕ };
+
+    ghost view = { λ b. b.bytes.items };
+
+    ghost invariant = { λ b. (1 ≤ length b.bytes.items) × (length b.bytes.items ≤ 4096) };
+}
+
+/// What is wrong with a text that should be data.
+#[derive(Clone, Copy, Debug, PartialEq, Eq)]
+pub enum BodyFault {
+    /// The text is empty (`at` is 0), or the byte at `at` is its first that is no term character.
+    BadName { at: usize },
+    /// The text has `len` bytes, which is more than 4,096.
+    TooLong { len: usize },
+    /// There was no memory for a copy of the text.
+    NoMemory,
+}
+
+impl Body {
+    /// The bytes, 1 to 4,096 of them.
+    pub fn bytes(&self) -> &[u8]
+        ensures value { result.now ≡ self.now }
+    {
+        self.bytes.as_slice()
+    }
+}
+
+/// Reads data: 1 to 4,096 term characters.
+pub fn parse_body(alloc: Global, text: &[u8]) -> Result<Body, BodyFault>
+    ensures term { OnOk result (IsTerm 4096 text.now) }
+    ensures body { IfOk result (λ body. body ≡ text.now) }
+    ensures fault { IfErr result (IsBodyFaultOf text.now) }
+{
+    match checked(text, BODY_LIMIT) {
+        Err(NameFault::BadName { at }) => Err(BodyFault::BadName { at }),
+        Err(NameFault::TooLong { len }) => Err(BodyFault::TooLong { len }),
+        Ok(()) => match Vec::from_slice(alloc, text) {
+            Ok(bytes) => Ok(Body { bytes }),
+            Err(_) => Err(BodyFault::NoMemory),
+        },
+    }
+}
+
+/// A second body of the same bytes.
+pub fn copy_body(alloc: Global, body: &Body) -> Result<Body, NoMemory>
+    ensures { IfOk result (λ copy. copy ≡ body.now) }
+{
+    let bytes = Vec::from_slice(alloc, body.bytes.as_slice())?;
+    Ok(Body { bytes })
+}

@@ -1,0 +1,9 @@
+pub mod Plan
+pub mod Words
+pub mod Spelling
+pub mod Form
+pub mod Machine
+pub mod History
+pub mod Serial
+pub mod Report
+pub mod Headline
