@@ -188,8 +188,8 @@ module _ {D : Type 0} where
       → Allows (Kept shape) slots id me i (λ _. n) (λ _ after. Becomes me (stored_to w b t me.0) after)
   puts_at shape slots id me i n word bits stamp w b t i_is n_is w_is b_is t_is has_log within can =
       subst (λ (x : ℕ × ℕ × ℕ × ℕ × ℕ). Allows (Kept shape) slots id me x.0 (λ _. x.1) (λ _ after. Becomes me (stored_to x.2 x.3 x.4 me.0) after))
-          (λ k. (sym i_is k, sym n_is k, sym w_is k, sym b_is k, sym t_is k))
-          (puts shape slots id me word bits stamp has_log within can)
+      (λ k. (sym i_is k, sym n_is k, sym w_is k, sym b_is k, sym t_is k))
+      (puts shape slots id me word bits stamp has_log within can)
 
   pub publishes_at : (shape : Shape) (slots id : ℕ) (me : Me ℕ (View D)) (n number : ℕ) (about : List D) (x : D) → n ≡ number → about ≡ x ∷ [] → me.0.keeps ≡ true → me.0.passes ≡ true → count_of me.0.log < number → number < 2 ^ 32 → IsFree me.0.log number
       → Allows (Kept shape) slots id me 0 (λ _. n) (λ _ after. Becomes me (committed_of n about me.0) after)

@@ -2,8 +2,6 @@
 use Rattle.std.proofs.Common.{◌≡◌, ◌≢◌, ◌⊎◌, ◌<◌, ◌≤◌, ℕ, List, refl, sym, ap, ◌∙◌, subst, inl, inr, ⊎_elim, arith}
 use Rattle.std.specs.Prelude.{All, max}
 use Rattle.std.proofs.lemmas.List.Elements.{All-weaker}
-use mathlib.Core.Logic.{dite}
-use native.Mathlib.Decide.{ℕ_discrete}
 use Rattle.vec_world.specs.Log.{IsCommitted}
 use Rattle.vec_words.specs.declared.logged.Logged.{Logged}
 use Rattle.vec_words.specs.declared.logged.Sight.{Sight}
@@ -15,23 +13,20 @@ use Rattle.vec_words.specs.Rule.{IsKept, Shows}
 use Rattle.vec_words.proofs.Kept.{issued_max}
 
 module _ {D : Type 0} where
-  pub flying_cases : (number : ℕ) (log : List (Logged D)) → IsBegun number log → (flying_of log ≡ 0) ⊎ (flying_of log ≡ number)
-  flying_cases number log begun = dite (ℕ_discrete number 0) (λ z. inl (begun.0 z)) (λ some. (begun.1 (omega arith)).1)
-
   pub issued_begun : (number n : ℕ) (log : List (Logged D)) → IsBegun number log → IsIssued log (flying_of log) n → IsIssued log number n
   issued_begun number n log begun h =
       ⊎_elim
       (λ (z : n ≡ 0). inl z)
       (⊎_elim
-          (λ (c : IsCommitted (steps_of log) n). inr (inl c))
-          (λ (e : n ≡ flying_of log). ⊎_elim (λ (z : flying_of log ≡ 0). inl (e ∙ z)) (λ (q : flying_of log ≡ number). inr (inr (e ∙ q))) (flying_cases number log begun)))
+      (λ (c : IsCommitted (steps_of log) n). inr (inl c))
+      (λ (e : n ≡ flying_of log). ⊎_elim (λ (z : flying_of log ≡ 0). inl (e ∙ z)) (λ (q : flying_of log ≡ number). inr (inr (e ∙ q))) begun.carried))
       h
 
   pub learned_tests : (len : ℕ) (v w view : View D) (count number : ℕ) → view ≡ with_log v w → IsBegun number w.log → Shows len view count → All (IsHonest w.log number len v.owner) v.tests
   learned_tests len v w view count number is begun shown =
       let shown' = subst (λ (x : View D). Shows len x count) is shown in
       All-weaker (IsKept w.log len v.owner) (IsHonest w.log number len v.owner)
-          (λ t k. record { not_before = k.honest.not_before; issued = issued_begun number t.at w.log begun k.honest.issued; tells = k.honest.tells }) v.tests shown'.tests
+      (λ t k. record { not_before = k.honest.not_before; issued = issued_begun number t.at w.log begun k.honest.issued; tells = k.honest.tells }) v.tests shown'.tests
 
   pub learned_known : (len : ℕ) (v w view : View D) (count number known : ℕ) → view ≡ with_log v w → IsBegun number w.log → Shows len view count → known ≡ max v.known count → IsIssued w.log number known
   learned_known len v w view count number known is begun shown known_is =

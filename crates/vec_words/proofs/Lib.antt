@@ -1,3 +1,4 @@
+pub mod Begun
 pub mod Changes
 pub mod Kept
 pub mod Learned

@@ -9,6 +9,7 @@ use native.Mathlib.Decide.{dec_le, ℕ_discrete}
 use Rattle.vec_world.specs.declared.step.Step.{Step}
 use Rattle.vec_world.specs.declared.step.Step.TheVariants.{Store, Commit}
 use Rattle.vec_world.specs.Log.{bits_at, bits_after, IsCommitted, HasStore}
+use Rattle.vec_world.proofs.LogLaws.{bits_at-push_store, bits_at-push_above, bits_at-push_other, bits_at-push_commit}
 use Rattle.vec_world.specs.World.{bits_of, stamp_of, word_of}
 use Rattle.vec_words.specs.declared.logged.Logged.{Logged}
 use Rattle.vec_words.specs.declared.logged.Logged.TheVariants.{Stored, Committed}
@@ -29,12 +30,6 @@ if_front : {A : Type 0} (b : Bool) (x : A) (xs ys : List A) → (if b then x ∷
 if_front true x xs ys = refl
 if_front false x xs ys = refl
 
-above : (a b : ℕ) → b < a → leb a b ≡ false
-above a b h = grind arith
-
-within : (a b : ℕ) → a ≤ b → leb a b ≡ true
-within a b h = grind arith
-
 module _ {D : Type 0} where
   pub steps-push : (log : List (Logged D)) (x : Logged D) → steps_of (log ++ x ∷ []) ≡ steps_of log ++ step_of x ∷ []
   steps-push log x = map-append step_of log (x ∷ [])
@@ -48,9 +43,6 @@ module _ {D : Type 0} where
   pub left-push : (log : List (Logged D)) (x : Logged D) (word : ℕ) → left_in (log ++ x ∷ []) word ≡ left_after word (left_in log word) x
   left-push log x word = fold-append (left_after word) 0 log (x ∷ [])
 
-  pub bits-push : (log : List (Logged D)) (x : Logged D) (word number : ℕ) → bits_at (steps_of (log ++ x ∷ [])) word number ≡ bits_after word number (bits_at (steps_of log) word number) (step_of x)
-  bits-push log x word number = ap (λ l. bits_at l word number) (steps-push log x) ∙ fold-append (bits_after word number) 0 (steps_of log) (step_of x ∷ [])
-
   pub calls_of-append : (caller : ℕ) (log more : List (Logged D)) → calls_of caller (log ++ more) ≡ calls_of caller log ++ calls_of caller more
   calls_of-append caller [] more = refl
   calls_of-append caller (Stored word bits stamp ∷ log) more = calls_of-append caller log more
@@ -59,26 +51,18 @@ module _ {D : Type 0} where
 
   -- a store to another word, or with a stamp above the number, leaves the bits at the number
   pub bits-other : (log : List (Logged D)) (to bits stamp word number : ℕ) → to ≢ word → bits_at (steps_of (log ++ Stored to bits stamp ∷ [])) word number ≡ bits_at (steps_of log) word number
-  bits-other log to bits stamp word number apart =
-      bits-push log (Stored to bits stamp) word number
-      ∙ by_test to word (λ b. (if b && nat_le stamp number then bits else bits_at (steps_of log) word number) ≡ bits_at (steps_of log) word number) (λ e. absurd (apart e)) (λ _. refl)
+  bits-other log to bits stamp word number apart = ap (λ l. bits_at l word number) (steps-push log (Stored to bits stamp)) ∙ bits_at-push_other (steps_of log) to bits stamp word number apart
 
   pub bits-above : (log : List (Logged D)) (to bits stamp word number : ℕ) → number < stamp → bits_at (steps_of (log ++ Stored to bits stamp ∷ [])) word number ≡ bits_at (steps_of log) word number
-  bits-above log to bits stamp word number higher =
-      let at = bits_at (steps_of log) word number in
-      bits-push log (Stored to bits stamp) word number
-      ∙ by_test to word (λ b. (if b && nat_le stamp number then bits else at) ≡ at) (λ e. subst (λ c. (if c then bits else at) ≡ at) (sym (above stamp number higher)) refl) (λ _. refl)
+  bits-above log to bits stamp word number higher = ap (λ l. bits_at l word number) (steps-push log (Stored to bits stamp)) ∙ bits_at-push_above (steps_of log) to bits stamp word number higher
 
   -- from its stamp on, a store gives its bits
   pub bits-here : (log : List (Logged D)) (word bits stamp number : ℕ) → stamp ≤ number → bits_at (steps_of (log ++ Stored word bits stamp ∷ [])) word number ≡ bits
-  bits-here log word bits stamp number at_most =
-      let at = bits_at (steps_of log) word number in
-      bits-push log (Stored word bits stamp) word number
-      ∙ subst (λ b. (if b && nat_le stamp number then bits else at) ≡ bits) (sym (eq-eqb word word refl)) (subst (λ c. (if c then bits else at) ≡ bits) (sym (within stamp number at_most)) refl)
+  bits-here log word bits stamp number at_most = ap (λ l. bits_at l word number) (steps-push log (Stored word bits stamp)) ∙ bits_at-push_store (steps_of log) word bits stamp number at_most
 
   -- a commit leaves all bits
   pub bits-commit : (log : List (Logged D)) (n by : ℕ) (about : D) (word number : ℕ) → bits_at (steps_of (log ++ Committed n by about ∷ [])) word number ≡ bits_at (steps_of log) word number
-  bits-commit log n by about word number = bits-push log (Committed n by about) word number
+  bits-commit log n by about word number = ap (λ l. bits_at l word number) (steps-push log (Committed n by about)) ∙ bits_at-push_commit (steps_of log) n word number
 
   pub left-here : (log : List (Logged D)) (word bits stamp : ℕ) → left_in (log ++ Stored word bits stamp ∷ []) word ≡ word_of bits stamp
   left-here log word bits stamp = left-push log (Stored word bits stamp) word ∙ subst (λ b. (if b then word_of bits stamp else left_in log word) ≡ word_of bits stamp) (sym (eq-eqb word word refl)) refl
@@ -107,6 +91,17 @@ module _ {D : Type 0} where
 
   pub has_store-here : (log : List (Logged D)) (word bits stamp : ℕ) → HasStore (steps_of (log ++ Stored word bits stamp ∷ [])) word stamp
   has_store-here log word bits stamp = (bits, subst (λ l. Contains l (Store word bits stamp)) (sym (steps-push log (Stored word bits stamp))) (Contains-push (steps_of log) (Store word bits stamp)))
+
+  -- a store that is there was there, or is the new one
+  pub has_store-push_store : (log : List (Logged D)) (to bits at word stamp : ℕ) → HasStore (steps_of (log ++ Stored to bits at ∷ [])) word stamp → HasStore (steps_of log) word stamp ⊎ ((to ≡ word) × (at ≡ stamp))
+  has_store-push_store log to bits at word stamp h =
+      ⊎_elim (λ (c : Contains (steps_of log) (Store word h.0 stamp)). inl (h.0, c)) (λ (e : Store to bits at ≡ Store word h.0 stamp). inr (cc, cc))
+      (Contains-push_cases (steps_of log) (Store to bits at) (Store word h.0 stamp) (subst (λ l. Contains l (Store word h.0 stamp)) (steps-push log (Stored to bits at)) h.1))
+
+  pub has_store-push_commit : (log : List (Logged D)) (m by : ℕ) (about : D) (word stamp : ℕ) → HasStore (steps_of (log ++ Committed m by about ∷ [])) word stamp → HasStore (steps_of log) word stamp
+  has_store-push_commit log m by about word stamp h =
+      ⊎_elim (λ (c : Contains (steps_of log) (Store word h.0 stamp)). (h.0, c)) (λ (e : Commit m ≡ Store word h.0 stamp). absurd (cc))
+      (Contains-push_cases (steps_of log) (Commit m) (Store word h.0 stamp) (subst (λ l. Contains l (Store word h.0 stamp)) (steps-push log (Committed m by about)) h.1))
 
   -- the number in flight is none or this one
   abbrev pub IsFree : List (Logged D) → ℕ → Type 0

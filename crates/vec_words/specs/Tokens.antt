@@ -8,7 +8,8 @@ use Rattle.vec_words.specs.declared.logged.Logged.{Logged}
 use Rattle.vec_words.specs.declared.logged.Sight.{Sight}
 use Rattle.vec_words.specs.declared.view.View.{View}
 use Rattle.vec_words.specs.declared.view.Shape.{Shape}
-use Rattle.vec_words.specs.Logged.{count_of, flying_of, words_of}
+use Rattle.vec_world.specs.Log.{HasStore}
+use Rattle.vec_words.specs.Logged.{steps_of, count_of, flying_of, words_of}
 
 -- a word table: which it is, its connectors, and the bits of each one's vector
 pub record WordTable : Type 0 where
@@ -41,11 +42,12 @@ module _ {D : Type 0} where
   abbrev pub new_pass : WordTable → ℕ → PassSeen D
   new_pass table owner = record { table = table; owner = owner; known = 0; sure = 0; mine = []; tests = [] }
 
-  -- the number in flight is above the count, and the stores since the last commit carry it
-  abbrev pub IsBegun : ℕ → List (Logged D) → Type 0
-  IsBegun number log =
-      (number ≡ 0 → flying_of log ≡ 0)
-      × (0 < number → (count_of log < number) × ((flying_of log ≡ 0) ⊎ (flying_of log ≡ number)))
+  -- The number in flight, where there is one, is above the count. The stores since the last commit carry it, and the earlier ones have
+  -- stamps up to the count.
+  pub record IsBegun (number : ℕ) (log : List (Logged D)) : Type 0 where
+    pub above : 0 < number → count_of log < number
+    pub carried : (flying_of log ≡ 0) ⊎ (flying_of log ≡ number)
+    pub earlier : (word stamp : ℕ) → HasStore (steps_of log) word stamp → (stamp ≤ count_of log) ⊎ (stamp ≡ number)
 
   -- the values that contracts see, of the seats that the tokens hold
   abbrev pub table_seen : TableId → View D → WordTable

@@ -1,5 +1,5 @@
 //! A note of what a pass knows.
-ghost use Rattle.std.specs.Prelude.{◌≡◌, []};
+ghost use Rattle.std.specs.Prelude.{◌≡◌, ◌≤◌, []};
 
 use crate::view::View;
 use atomic_table::Seat;
@@ -44,7 +44,8 @@ impl<D> Note<D> {
 
     /// The number of a call that the pass had seen complete when the note was made.
     pub fn sure(&self) -> u32
-        ensures { result ≡ self.now.sure }
+        ensures sure { result ≡ self.now.sure }
+        ensures ordered { result ≤ self.now.known }
     {
         self.sure
     }

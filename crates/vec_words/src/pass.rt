@@ -1,5 +1,5 @@
 //! The pass of a caller.
-ghost use Rattle.std.specs.Prelude.{◌≡◌};
+ghost use Rattle.std.specs.Prelude.{◌≡◌, ◌≤◌};
 
 use crate::view::View;
 use atomic_table::Seat;
@@ -47,7 +47,8 @@ impl<D> Pass<D> {
 
     /// The greatest number of a call that the pass has seen complete. It is at most the known number.
     pub fn sure(&self) -> u32
-        ensures { result ≡ self.now.sure }
+        ensures sure { result ≡ self.now.sure }
+        ensures ordered { result ≤ self.now.known }
     {
         self.sure
     }

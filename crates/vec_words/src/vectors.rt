@@ -1,5 +1,5 @@
 //! The word table.
-ghost use Rattle.std.specs.Prelude.{◌≡◌, ◌+◌, ◌*◌, ◌^◌, ◌<◌, ◌≤◌, ◌++◌, [], ◌∷◌, map, IfOk, true};
+ghost use Rattle.std.specs.Prelude.{◌≡◌, ◌+◌, ◌*◌, ◌^◌, ◌<◌, ◌≤◌, ◌++◌, ℕ, [], ◌∷◌, map, IfOk, true};
 ghost use Rattle.std.specs.List.{range_with_len};
 ghost use Rattle.vec_world.specs.Log.{HasStore};
 ghost use Rattle.vec_words.specs.declared.logged.Logged.TheVariants.{Stored};
@@ -135,7 +135,8 @@ impl<D> Vectors<D> {
         requires table { seat.old.table ≡ self.now }
         requires idle { seat.old.number ≡ 0 }
         requires above { count_of seat.old.log < number }
-        ensures { seat.new ≡ record seat.old { number = number } }
+        ensures seat { seat.new ≡ record seat.old { number = number } }
+        ensures fresh { (word : ℕ) → ¬ HasStore (steps_of seat.old.log) word number }
     {
         let _ = self;
         seat.number = number;

@@ -10,7 +10,7 @@ use Rattle.vec_words.proofs.vectors.Vectors.learn.Goals as goal
 pub returns-clause-tests : goal.returns-clause-tests
 returns-clause-tests g c =
     subst (λ (x : PassSeen g.row.D.Denot × SeatSeen g.row.D.Denot). All (IsHonest x.1.log x.1.number c.args.self.now.len x.0.owner) x.0.tests) (λ i. (c.pass.view_is i, c.seat.view_is i))
-        (learned_tests c.args.self.now.len c.pass.inside.seat.me.0 c.seat.inside.seat.me.0 c.hand_log.new.to.me.0 c.load_count-count.result c.seat.inside.number c.hand_log.ensures.to.0 c.seat.invariant.begun c.load_count-count.ensures.shown)
+    (learned_tests c.args.self.now.len c.pass.inside.seat.me.0 c.seat.inside.seat.me.0 c.hand_log.new.to.me.0 c.load_count-count.result c.seat.inside.number c.hand_log.ensures.to.0 c.seat.invariant.begun c.load_count-count.ensures.shown)
 
 pub returns-clause-known : goal.returns-clause-known
 returns-clause-known g c =
@@ -18,5 +18,5 @@ returns-clause-known g c =
     let count = c.load_count-count.result in
     let after = c.hand_log-2.ensures.from.0 ∙ ap without_log c.load_count-count.ensures.view.0 ∙ ap (λ (x : View g.row.D.Denot). without_log (learned_of x count)) c.hand_log.ensures.to.0 in
     subst (λ (x : SeatSeen g.row.D.Denot). IsIssued x.log x.number c.hand_log-2.new.from.me.0.known) c.seat.view_is
-        (learned_known c.args.self.now.len v c.seat.inside.seat.me.0 c.hand_log.new.to.me.0 count c.seat.inside.number c.hand_log-2.new.from.me.0.known c.hand_log.ensures.to.0 c.seat.invariant.begun c.load_count-count.ensures.shown
-            (ap (λ (x : View g.row.D.Denot). x.known) after))
+    (learned_known c.args.self.now.len v c.seat.inside.seat.me.0 c.hand_log.new.to.me.0 count c.seat.inside.number c.hand_log-2.new.from.me.0.known c.hand_log.ensures.to.0 c.seat.invariant.begun c.load_count-count.ensures.shown
+    (ap (λ (x : View g.row.D.Denot). x.known) after))

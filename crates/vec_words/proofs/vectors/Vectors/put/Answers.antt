@@ -6,7 +6,7 @@ use Rattle.vec_words.proofs.vectors.Vectors.put.Goals as goal
 
 pub store-requires : goal.store-requires
 store-requires g c =
-    let begun = c.requires.stamp.0.1 c.requires.stamp.1 in
+    let begun = c.requires.stamp.0 in
     let shape = c.self.inside.table.shared.key in
     let conns : shape.conns ≡ c.args.self.now.conns = c.self.invariant.conns_is ∙ ap (λ (t : WordTable). t.conns) c.self.view_is in
     let len : shape.len ≡ c.args.self.now.len = c.self.invariant.len_is ∙ ap (λ (t : WordTable). t.len) c.self.view_is in
@@ -19,5 +19,5 @@ store-requires g c =
       omega (arith, words', within'),
       puts_at shape c.self.inside.table.shared.table_id.slots c.args.seat.now.id c.args.seat.now.me _ _ c.args.word c.args.bits c.args.stamp _ _ _
           (omega arith) (λ i. c.from.ensures i * 4294967296 + c.from-2.ensures i) c.requires.step.0 c.requires.step.1 c.requires.step.2 c.requires.log within
-          (record { fits = omega arith; higher = begun.0; free = begun.1; once = c.requires.once }),
+          (record { fits = omega arith; higher = begun.above c.requires.stamp.1; free = begun.carried; once = c.requires.once }),
     )
