@@ -22,3 +22,6 @@ pub use note::Note;
 pub use pass::Pass;
 pub use seat::EngineSeat;
 pub use vectors::Vectors;
+
+#[cfg(test)]
+mod tests;

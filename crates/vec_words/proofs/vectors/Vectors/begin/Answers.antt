@@ -19,4 +19,4 @@ pub returns-clause-fresh : goal.returns-clause-fresh
 returns-clause-fresh g c word =
     let idle = ap (λ (s : SeatSeen g.row.D.Denot). s.number) c.seat.view_is ∙ c.requires.idle in
     fresh c.args.number word c.args.seat.now.log c.requires.above
-        (subst (λ l. IsBegun 0 l) (ap (λ (s : SeatSeen g.row.D.Denot). s.log) c.seat.view_is) (subst (λ n. IsBegun n c.seat.inside.seat.me.0.log) idle c.seat.invariant.begun))
+    (subst (λ l. IsBegun 0 l) (ap (λ (s : SeatSeen g.row.D.Denot). s.log) c.seat.view_is) (subst (λ n. IsBegun n c.seat.inside.seat.me.0.log) idle c.seat.invariant.begun))

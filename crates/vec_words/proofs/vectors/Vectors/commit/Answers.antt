@@ -11,7 +11,7 @@ invariant_of-seat g c =
     let back = c.hand_log-2.ensures.to in
     let some = subst (λ k. 0 < k) (sym (ap (λ (s : SeatSeen g.row.D.Denot). s.number) c.seat.view_is)) c.requires.1.1.1 in
     let log = ap (λ (v : View g.row.D.Denot). v.log) back.0 ∙ ap (λ (v : View g.row.D.Denot). v.log) c.publish.ensures.view.0
-        ∙ ap (λ (v : View g.row.D.Denot). (committed_of n (g.about ∷ []) v).log) c.hand_log.ensures.to.0 in
+    ∙ ap (λ (v : View g.row.D.Denot). (committed_of n (g.about ∷ []) v).log) c.hand_log.ensures.to.0 in
     record {
       keeps = ap (λ (v : View g.row.D.Denot). v.keeps) back.0;
       begun = subst (λ l. IsBegun 0 l) (sym log) (begun-commit n c.pass.inside.seat.me.0.owner g.about c.seat.inside.seat.me.0.log some c.seat.invariant.begun);
