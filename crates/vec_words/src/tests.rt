@@ -116,3 +116,44 @@ fn words_race(rt: HostRuntime) -> Result<(), Fail> {
     }
     Ok(())
 }
+
+#[test]
+fn words_notes(rt: HostRuntime) -> Result<(), Fail> {
+    let (vectors, mut seat, mut passes) = Vectors::start(rt.alloc(), 2, 40)?;
+    let mut second = take_pass(&vectors, &mut passes).ok_or("no pass of connector 2")?;
+    let mut first = take_pass(&vectors, &mut passes).ok_or("no pass of connector 1")?;
+    let mut operator = take_pass(&vectors, &mut passes).ok_or("no pass of the operator")?;
+    assert!(rt; first.owner() == ConnId(1) && second.owner() == ConnId(2));
+
+    // Call 1 sets indices 1 and 39 of connector 2's vector.
+    vectors.begin(&mut seat, 1);
+    vectors.store_word(&mut seat, ConnId(2), 0, 2);
+    vectors.store_word(&mut seat, ConnId(2), 1, 128);
+    vectors.commit(&mut seat, &mut operator);
+    let set = vectors.test(&mut second, 1);
+    assert!(rt; set.bit && set.at == 1);
+    assert!(rt; second.known() == 1 && second.sure() == 0);
+    let clear = vectors.test(&mut second, 0);
+    assert!(rt; !clear.bit && clear.at == 1);
+    let last = vectors.test(&mut second, 39);
+    assert!(rt; last.bit && last.at == 1);
+
+    // Call 4, of connector 1, stores no word. Connector 2 hears of it by a note.
+    vectors.begin(&mut seat, 4);
+    vectors.commit(&mut seat, &mut first);
+    let mut note = vectors.tell(&mut first);
+    assert!(rt; note.known() == 4 && note.sure() == 4);
+    let copy = vectors.copy_note(&mut note);
+    assert_eq!(rt; vectors.told(&mut second, note), 4);
+    let set = vectors.test(&mut second, 1);
+    assert!(rt; set.bit && set.at == 4);
+    let word = vectors.test_word(&mut second, 1);
+    assert!(rt; word.bits == 128 && word.at == 4);
+
+    // The operator knew number 1 alone. A copy of the note tells it the same.
+    assert!(rt; operator.known() == 1 && operator.sure() == 1);
+    assert_eq!(rt; vectors.told(&mut operator, copy), 4);
+    vectors.learn(&mut seat, &mut second);
+    assert!(rt; second.known() == 4 && second.sure() == 4);
+    Ok(())
+}
