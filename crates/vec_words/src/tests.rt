@@ -1,4 +1,5 @@
-ghost use Rattle.std.specs.Prelude.{◌≡◌, ◌<◌, IfOk, IfSome, All};
+ghost use Rattle.std.specs.Prelude.{◌≡◌, ◌<◌, ◌++◌, ℕ, [], ◌∷◌, IfOk, IfSome, All};
+ghost use Rattle.vec_words.specs.declared.logged.Logged.TheVariants.{Committed};
 ghost use Rattle.vec_words.specs.Logged.{count_of};
 
 use super::*;
@@ -29,6 +30,19 @@ fn take_pass(vectors: &Vectors<u32>, passes: &mut Vec<Pass<u32>>) -> Option<Pass
     passes.pop()
 }
 
+// Commits with data that an argument has, as a layer above does.
+fn commit_as(vectors: &Vectors<u32>, seat: &mut EngineSeat<u32>, pass: &mut Pass<u32>, about: &u32)
+    ghost told: { ℕ }
+    requires told { told ≡ about.now }
+    requires tokens { (seat.old.table ≡ vectors.now) × (pass.old.table ≡ vectors.now) }
+    requires begun { 0 < seat.old.number }
+    ensures seat { seat.new ≡ record seat.old { number = 0; log = seat.old.log ++ Committed seat.old.number pass.old.owner about.now ∷ [] } }
+    ensures pass { pass.new ≡ record pass.old { known = seat.old.number; sure = seat.old.number; mine = pass.old.mine ++ (seat.old.number, about.now) ∷ [] } }
+{
+    let _ = about;
+    vectors.commit(seat, pass);
+}
+
 // One call, which stores both words.
 fn make_call(vectors: &Vectors<u32>, seat: &mut EngineSeat<u32>, pass: &mut Pass<u32>, number: u32)
     requires form { (vectors.now.conns ≡ 1) × (vectors.now.len ≡ 64) }
@@ -40,7 +54,7 @@ fn make_call(vectors: &Vectors<u32>, seat: &mut EngineSeat<u32>, pass: &mut Pass
     vectors.begin(seat, number);
     vectors.store_word(seat, ConnId(1), 0, stored(0, number));
     vectors.store_word(seat, ConnId(1), 1, stored(1, number));
-    vectors.commit(seat, pass);
+    commit_as(vectors, seat, pass, &number);
 }
 
 // All calls, for the operator.
