@@ -1,23 +1,20 @@
 -- The steps that change a word, and the load of the count, keep the rule.
-use Rattle.std.proofs.Common.{◌≡◌, ◌≢◌, ◌⊎◌, ◌==◌, ◌+◌, ◌-◌, ◌*◌, ◌/◌, ◌%◌, ◌^◌, ◌<◌, ◌≤◌, ℕ, zero, suc, Bool, true, false, true≢false, List, [], ◌∷◌, ◌++◌, map, length, set, get_or, refl, sym, ap, ◌∙◌, subst, inl, inr, ⊎_elim, arith, length-set, get_or-set_other, get_or-set_same}
-use Rattle.std.specs.Prelude.{All, max, slice_index, slice_set, if◌then◌else◌}
+use Rattle.std.proofs.Common.{◌≡◌, ◌≢◌, ◌*◌, ◌^◌, ◌<◌, ◌≤◌, ℕ, suc, true, List, [], ◌∷◌, ◌++◌, length, set, refl, sym, ap, ◌∙◌, subst, inl, inr, ⊎_elim, arith, length-set, get_or-set_other, get_or-set_same}
+use Rattle.std.specs.Prelude.{All, max, slice_index, if◌then◌else◌}
 use Rattle.std.proofs.lemmas.List.{set-get_or, append-nil}
 use Rattle.std.proofs.lemmas.List.Elements.{All-weaker}
-use mathlib.Core.Option.{some}
 use mathlib.Core.Logic.{dite}
 use native.Mathlib.Decide.{ℕ_discrete}
-use lib.ListN.{get_elem?}
-use Rattle.atomic_table.specs.Table.{State, Me, Act, keeps, stepped, Allows, step}
-use Rattle.vec_world.specs.World.{bits_of, stamp_of, word_of}
+use Rattle.atomic_table.specs.Table.{Me, keeps, Allows}
+use Rattle.vec_world.specs.World.{word_of}
 use Rattle.vec_words.specs.declared.logged.Logged.{Logged}
 use Rattle.vec_words.specs.declared.logged.Logged.TheVariants.{Stored, Committed}
-use Rattle.vec_words.specs.declared.logged.Sight.{Sight}
 use Rattle.vec_words.specs.declared.view.View.{View}
 use Rattle.vec_words.specs.declared.view.Shape.{Shape}
-use Rattle.vec_words.specs.Logged.{words_of, word_number, steps_of, count_of, flying_of, left_in, left_after, calls_of, IsIssued, sight}
+use Rattle.vec_words.specs.Logged.{words_of, count_of, flying_of, left_in, calls_of, IsIssued}
 use Rattle.vec_words.specs.View.{stored_to, committed_of, learned_of, Becomes}
-use Rattle.vec_words.specs.Rule.{IsSound, IsKept, Roll, Fits, AllFit, AreLeft, Kept, Shows}
-use Rattle.vec_words.proofs.Logs.{by_test, count-push, flying-push, left-push, left-here, left-other, calls_of-append, IsFree, issued-store, issued-commit}
+use Rattle.vec_words.specs.Rule.{IsSound, IsKept, Roll, Fits, AreLeft, Kept, Shows}
+use Rattle.vec_words.proofs.Logs.{by_test, count-push, left-push, left-here, left-other, calls_of-append, IsFree, issued-store, issued-commit}
 use Rattle.vec_words.proofs.Sound.{CanStore, sound-store, sound-commit}
 use Rattle.vec_words.proofs.Kept.{issued_max, kept-store, kept-commit, all_set}
 

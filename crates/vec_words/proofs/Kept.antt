@@ -1,21 +1,20 @@
 -- Tests stay honest, and what the rule says of a view stays so, at each step.
-use Rattle.std.proofs.Common.{◌≡◌, ◌≢◌, ◌⊎◌, ◌+◌, ◌-◌, ◌*◌, ◌/◌, ◌%◌, ◌^◌, ◌<◌, ◌≤◌, ℕ, zero, suc, Bool, true, false, true≢false, List, [], ◌∷◌, ◌++◌, map, length, set, refl, sym, ap, ◌∙◌, subst, inl, inr, ⊎_elim, arith, length-set}
-use Rattle.std.specs.Prelude.{All, max}
-use Rattle.std.proofs.lemmas.List.Elements.{All-weaker, All-nil, All-append, All-map}
+use Rattle.std.proofs.Common.{◌≡◌, ◌≢◌, ◌⊎◌, ◌-◌, ◌/◌, ◌<◌, ◌≤◌, ℕ, zero, suc, List, [], ◌∷◌, ◌++◌, length, set, refl, sym, ap, ◌∙◌, subst, inl, inr, ⊎_elim, arith}
+use Rattle.std.specs.Prelude.{max}
 use mathlib.Core.Option.{some, some-injective, some-ne-none}
 use mathlib.Core.Logic.{dite}
 use native.Mathlib.Decide.{dec_le, ℕ_discrete}
 use lib.ListN.{get_elem?}
 use Rattle.atomic_table.proofs.Lists.{at_set}
-use Rattle.vec_world.specs.Log.{bits_at, IsCommitted, HasStore}
-use Rattle.vec_world.specs.World.{bits_of, stamp_of, word_of}
+use Rattle.vec_world.specs.Log.{bits_at}
+use Rattle.vec_world.specs.World.{bits_of, stamp_of}
 use Rattle.vec_words.specs.declared.logged.Logged.{Logged}
 use Rattle.vec_words.specs.declared.logged.Logged.TheVariants.{Stored, Committed}
 use Rattle.vec_words.specs.declared.logged.Sight.{Sight}
 use Rattle.vec_words.specs.declared.view.View.{View}
-use Rattle.vec_words.specs.Logged.{steps_of, count_of, flying_of, left_in, IsIssued, IsHonest, Tells, bit_in, word_number, sight}
+use Rattle.vec_words.specs.Logged.{steps_of, count_of, flying_of, left_in, IsIssued, Tells, bit_in, word_number, sight}
 use Rattle.vec_words.specs.Rule.{IsSound, IsKept, Roll, Fits, AllFit}
-use Rattle.vec_words.proofs.Logs.{by_test, count-push, flying-push, bits-other, bits-above, bits-commit, IsFree, issued-store, issued-commit}
+use Rattle.vec_words.proofs.Logs.{count-push, bits-other, bits-above, bits-commit, IsFree, issued-store, issued-commit}
 use Rattle.vec_words.proofs.Sound.{CanStore, issued_below, stamp_below}
 
 -- a set list, and a list with one more

@@ -1,12 +1,11 @@
 -- What a pass is shown when it has learned the count beside the engine's log.
-use Rattle.std.proofs.Common.{◌≡◌, ◌≢◌, ◌⊎◌, ◌<◌, ◌≤◌, ℕ, List, refl, sym, ap, ◌∙◌, subst, inl, inr, ⊎_elim, arith}
+use Rattle.std.proofs.Common.{◌≡◌, ℕ, List, sym, ◌∙◌, subst, inl, inr, ⊎_elim}
 use Rattle.std.specs.Prelude.{All, max}
 use Rattle.std.proofs.lemmas.List.Elements.{All-weaker}
 use Rattle.vec_world.specs.Log.{IsCommitted}
 use Rattle.vec_words.specs.declared.logged.Logged.{Logged}
-use Rattle.vec_words.specs.declared.logged.Sight.{Sight}
 use Rattle.vec_words.specs.declared.view.View.{View}
-use Rattle.vec_words.specs.Logged.{steps_of, count_of, flying_of, calls_of, IsIssued, IsHonest}
+use Rattle.vec_words.specs.Logged.{steps_of, flying_of, IsIssued, IsHonest}
 use Rattle.vec_words.specs.Tokens.{IsBegun}
 use Rattle.vec_words.specs.View.{with_log}
 use Rattle.vec_words.specs.Rule.{IsKept, Shows}

@@ -1,14 +1,13 @@
 -- What one more store or commit does to the readings of a log.
-use Rattle.std.proofs.Common.{◌≡◌, ◌≢◌, ◌⊎◌, ◌==◌, ◌+◌, ◌-◌, ◌*◌, ◌/◌, ◌%◌, ◌^◌, ◌<◌, ◌≤◌, ◌&&◌, ℕ, zero, suc, Bool, true, false, List, [], ◌∷◌, ◌++◌, map, refl, sym, ap, ◌∙◌, subst, inl, inr, ⊎_elim, arith, eq-eqb, ne_eqb, leb}
-use Rattle.std.specs.Prelude.{fold, nat_le, if◌then◌else◌, Contains, ◌↔◌}
-use Rattle.std.proofs.lemmas.List.{map-append, append-nil}
+use Rattle.std.proofs.Common.{◌≡◌, ◌≢◌, ◌⊎◌, ◌==◌, ◌^◌, ◌<◌, ◌≤◌, ℕ, Bool, true, false, List, [], ◌∷◌, ◌++◌, refl, sym, ap, ◌∙◌, subst, inl, inr, ⊎_elim, arith, eq-eqb, ne_eqb}
+use Rattle.std.specs.Prelude.{if◌then◌else◌, Contains}
+use Rattle.std.proofs.lemmas.List.{map-append}
 use Rattle.std.proofs.lemmas.List.Sums.{fold-append}
 use Rattle.std.proofs.lemmas.List.Elements.{Contains-append_left, Contains-push, Contains-push_cases}
 use mathlib.Core.Logic.{dite}
-use native.Mathlib.Decide.{dec_le, ℕ_discrete}
-use Rattle.vec_world.specs.declared.step.Step.{Step}
+use native.Mathlib.Decide.{ℕ_discrete}
 use Rattle.vec_world.specs.declared.step.Step.TheVariants.{Store, Commit}
-use Rattle.vec_world.specs.Log.{bits_at, bits_after, IsCommitted, HasStore}
+use Rattle.vec_world.specs.Log.{bits_at, IsCommitted, HasStore}
 use Rattle.vec_world.proofs.LogLaws.{bits_at-push_store, bits_at-push_above, bits_at-push_other, bits_at-push_commit}
 use Rattle.vec_world.specs.World.{bits_of, stamp_of, word_of}
 use Rattle.vec_words.specs.declared.logged.Logged.{Logged}

@@ -1,17 +1,14 @@
 -- One more store or commit keeps a log sound, and keeps what tests told.
-use Rattle.std.proofs.Common.{◌≡◌, ◌≢◌, ◌⊎◌, ◌==◌, ◌+◌, ◌-◌, ◌*◌, ◌/◌, ◌%◌, ◌^◌, ◌<◌, ◌≤◌, ℕ, zero, suc, Bool, true, false, List, [], ◌∷◌, ◌++◌, refl, sym, ap, ◌∙◌, subst, inl, inr, ⊎_elim, arith}
-use Rattle.std.specs.Prelude.{All, Contains}
-use Rattle.std.proofs.lemmas.List.Elements.{All-weaker}
+use Rattle.std.proofs.Common.{◌≡◌, ◌⊎◌, ◌^◌, ◌<◌, ◌≤◌, ℕ, List, [], ◌∷◌, ◌++◌, refl, sym, ap, ◌∙◌, subst, inl, inr, ⊎_elim, arith}
 use mathlib.Core.Logic.{dite}
-use native.Mathlib.Decide.{dec_le, ℕ_discrete}
+use native.Mathlib.Decide.{ℕ_discrete}
 use Rattle.vec_world.specs.Log.{bits_at, IsCommitted, HasStore}
-use Rattle.vec_world.specs.World.{bits_of, stamp_of, word_of}
+use Rattle.vec_world.specs.World.{bits_of, stamp_of}
 use Rattle.vec_words.specs.declared.logged.Logged.{Logged}
 use Rattle.vec_words.specs.declared.logged.Logged.TheVariants.{Stored, Committed}
-use Rattle.vec_words.specs.declared.logged.Sight.{Sight}
-use Rattle.vec_words.specs.Logged.{steps_of, count_of, flying_of, left_in, IsIssued, IsHonest, Tells, bit_in, word_number}
-use Rattle.vec_words.specs.Rule.{IsSound, IsKept}
-use Rattle.vec_words.proofs.Logs.{by_test, stamp_of-word_of, bits_of-word_of, count-push, flying-push, left-push, bits-other, bits-above, bits-here, bits-commit, left-here, left-other, committed-push, committed-here, committed-store, committed-commit, has_store-push, has_store-here, IsFree, issued-store, issued-commit}
+use Rattle.vec_words.specs.Logged.{steps_of, count_of, flying_of, left_in, IsIssued}
+use Rattle.vec_words.specs.Rule.{IsSound}
+use Rattle.vec_words.proofs.Logs.{stamp_of-word_of, bits_of-word_of, count-push, flying-push, left-push, bits-other, bits-here, bits-commit, left-here, left-other, committed-push, committed-here, committed-store, committed-commit, has_store-push, has_store-here, IsFree, issued-store, issued-commit}
 
 module _ {D : Type 0} where
   -- what a store asks of the log

@@ -1,26 +1,21 @@
 -- Each step keeps the rule.
-use Rattle.std.proofs.Common.{◌≡◌, ◌≢◌, ◌⊎◌, ◌==◌, ◌+◌, ◌-◌, ◌*◌, ◌/◌, ◌%◌, ◌^◌, ◌<◌, ◌≤◌, ℕ, zero, suc, Bool, true, false, true≢false, List, [], ◌∷◌, ◌++◌, map, length, set, get_or, replicate, refl, sym, ap, ◌∙◌, subst, inl, inr, ⊎_elim, arith, length-set, add-one, get_or-set_other, get_or-set_same}
-use Rattle.std.specs.Prelude.{All, max, slice_index, slice_set, if◌then◌else◌}
-use Rattle.std.proofs.lemmas.List.{set-get_or, append-nil}
+use Rattle.std.proofs.Common.{◌≡◌, ◌≢◌, ◌==◌, ◌+◌, ◌*◌, ◌/◌, ◌<◌, ◌≤◌, ℕ, zero, suc, true, false, true≢false, List, [], ◌∷◌, map, length, set, replicate, refl, sym, ap, ◌∙◌, subst, inl, ⊎_elim, arith}
+use Rattle.std.specs.Prelude.{All, max, slice_index, if◌then◌else◌}
+use Rattle.std.proofs.lemmas.List.{set-get_or}
 use Rattle.std.proofs.lemmas.List.Elements.{All-weaker, All-nil, All-append, All-map}
 use mathlib.Core.Option.{some, some-injective, some-ne-none}
-use mathlib.Core.Logic.{dite}
-use native.Mathlib.Decide.{ℕ_discrete}
 use lib.ListN.{get_elem?}
-use Rattle.atomic_table.specs.Table.{State, Me, Act, keeps, stepped, opening, Allows, Splits, Joins, step}
+use Rattle.atomic_table.specs.Table.{Me, keeps, opening, Allows, Splits, Joins}
 use Rattle.atomic_table.proofs.Lists.{at_set, set_again}
-use Rattle.vec_world.specs.World.{bits_of, stamp_of, word_of}
-use Rattle.vec_words.specs.declared.logged.Logged.{Logged}
-use Rattle.vec_words.specs.declared.logged.Logged.TheVariants.{Stored, Committed}
-use Rattle.vec_words.specs.declared.logged.Sight.{Sight}
+use Rattle.vec_world.specs.World.{bits_of, stamp_of}
 use Rattle.vec_words.specs.declared.view.View.{View}
 use Rattle.vec_words.specs.declared.view.Shape.{Shape}
-use Rattle.vec_words.specs.Logged.{words_of, word_number, steps_of, count_of, flying_of, left_in, left_after, calls_of, IsIssued, sight}
-use Rattle.vec_words.specs.View.{note_view, blank, first_view, made_one, next_pass, note_of, told_of, without_log, log_alone, with_log, stored_to, tested_of, committed_of, learned_of, Becomes}
-use Rattle.vec_words.specs.Rule.{IsSound, IsKept, Roll, Fits, AllFit, AreLeft, Kept, Shows}
-use Rattle.vec_words.proofs.Logs.{by_test, count-push, flying-push, left-push, left-here, left-other, calls_of-append, IsFree, issued-store, issued-commit}
-use Rattle.vec_words.proofs.Sound.{CanStore, sound-empty, sound-store, sound-commit}
-use Rattle.vec_words.proofs.Kept.{issued_max, kept-store, kept-commit, kept-now, all_set, all_push}
+use Rattle.vec_words.specs.Logged.{words_of, word_number, count_of, flying_of, left_in, calls_of, IsIssued, sight}
+use Rattle.vec_words.specs.View.{note_view, blank, first_view, made_one, next_pass, note_of, told_of, without_log, log_alone, with_log, tested_of, Becomes}
+use Rattle.vec_words.specs.Rule.{IsSound, IsKept, Roll, Fits, AllFit, AreLeft, Kept}
+use Rattle.vec_words.proofs.Logs.{by_test}
+use Rattle.vec_words.proofs.Sound.{sound-empty}
+use Rattle.vec_words.proofs.Kept.{issued_max, kept-now, all_set, all_push}
 
 off : false ≡ true → ⊥
 off e = true≢false (sym e)

@@ -1,6 +1,5 @@
 -- A token of this table has the table's number and form.
-use Rattle.std.proofs.Common.{◌≡◌, ℕ, sym, ap, ◌∙◌}
-use Rattle.atomic_table.specs.Seated.{TableId}
+use Rattle.std.proofs.Common.{◌≡◌, sym, ap, ◌∙◌}
 use Rattle.vec_words.specs.Tokens.{WordTable}
 
 pub id_of : (x y z : WordTable) → x ≡ y → z ≡ y → x.id ≡ z.id

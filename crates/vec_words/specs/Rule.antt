@@ -1,5 +1,5 @@
 -- The rule that holds between any two steps.
-use Rattle.std.specs.Prelude.{◌≡◌, ◌+◌, ◌*◌, ◌^◌, ◌<◌, ◌≤◌, ◌⊎◌, ℕ, suc, List, [], ◌∷◌, true, All, length, slice_index}
+use Rattle.std.specs.Prelude.{◌≡◌, ◌*◌, ◌^◌, ◌<◌, ◌≤◌, ◌⊎◌, ℕ, suc, List, true, All, length, slice_index}
 use mathlib.Core.Option.{some}
 use lib.ListN.{get_elem?}
 use Rattle.atomic_table.specs.Table.{State}
@@ -9,7 +9,7 @@ use Rattle.vec_words.specs.declared.logged.Logged.{Logged}
 use Rattle.vec_words.specs.declared.logged.Sight.{Sight}
 use Rattle.vec_words.specs.declared.view.View.{View}
 use Rattle.vec_words.specs.declared.view.Shape.{Shape}
-use Rattle.vec_words.specs.Logged.{words_of, word_number, steps_of, count_of, flying_of, left_in, calls_of, IsIssued, IsHonest}
+use Rattle.vec_words.specs.Logged.{words_of, steps_of, count_of, flying_of, left_in, calls_of, IsIssued, IsHonest}
 
 -- what the views of all seats have in common: the log and the seat that has it, the seat that makes passes and the next pass's number,
 -- and the seat of each pass by its owner

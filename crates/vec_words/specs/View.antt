@@ -2,11 +2,10 @@
 use Rattle.std.specs.Prelude.{◌≡◌, ◌+◌, ◌++◌, ℕ, List, [], ◌∷◌, true, false, max, map}
 use Rattle.atomic_table.specs.Table.{Me}
 use Rattle.vec_world.specs.World.{bits_of, stamp_of}
-use Rattle.vec_words.specs.declared.logged.Logged.{Logged}
 use Rattle.vec_words.specs.declared.logged.Logged.TheVariants.{Stored, Committed}
 use Rattle.vec_words.specs.declared.view.View.{View}
 use Rattle.vec_words.specs.declared.view.Shape.{Shape}
-use Rattle.vec_words.specs.Logged.{count_of, sight}
+use Rattle.vec_words.specs.Logged.{sight}
 
 module _ {D : Type 0} where
   -- a seat that knows nothing but the numbers

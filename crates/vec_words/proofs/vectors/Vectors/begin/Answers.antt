@@ -1,5 +1,5 @@
-use Rattle.std.proofs.Common.{◌≡◌, ◌<◌, ℕ, sym, ap, ◌∙◌, subst}
-use Rattle.vec_words.specs.Logged.{count_of, steps_of}
+use Rattle.std.proofs.Common.{◌<◌, sym, ap, ◌∙◌, subst}
+use Rattle.vec_words.specs.Logged.{count_of}
 use Rattle.vec_words.specs.Tokens.{SeatSeen, IsBegun}
 use Rattle.vec_words.proofs.Begun.{begun-begin, fresh}
 use Rattle.vec_words.proofs.vectors.Vectors.begin.Goals as goal

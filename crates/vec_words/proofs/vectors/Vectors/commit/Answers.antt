@@ -1,4 +1,4 @@
-use Rattle.std.proofs.Common.{◌≡◌, ◌<◌, ℕ, [], ◌∷◌, sym, ap, ◌∙◌, subst}
+use Rattle.std.proofs.Common.{◌<◌, [], ◌∷◌, sym, ap, ◌∙◌, subst}
 use Rattle.vec_words.specs.declared.view.View.{View}
 use Rattle.vec_words.specs.Tokens.{SeatSeen, IsBegun}
 use Rattle.vec_words.specs.View.{committed_of}

@@ -1,4 +1,4 @@
-use Rattle.std.proofs.Common.{◌≡◌, ap, sym, ◌∙◌, arith}
+use Rattle.std.proofs.Common.{ap, sym, ◌∙◌, arith}
 use Rattle.atomic_table.specs.Table.{Me}
 use Rattle.vec_words.specs.declared.view.View.{View}
 use Rattle.std.specs.Prelude.{ℕ}

@@ -1,8 +1,8 @@
-use Rattle.std.proofs.Common.{◌≡◌, List, ap, sym, ◌∙◌, subst, arith}
+use Rattle.std.proofs.Common.{ap, ◌∙◌, subst}
 use Rattle.std.specs.Prelude.{All}
 use Rattle.vec_words.specs.declared.view.View.{View}
 use Rattle.vec_words.specs.Logged.{IsHonest, IsIssued}
-use Rattle.vec_words.specs.Tokens.{WordTable, PassSeen, SeatSeen}
+use Rattle.vec_words.specs.Tokens.{PassSeen, SeatSeen}
 use Rattle.vec_words.specs.View.{without_log, learned_of}
 use Rattle.vec_words.proofs.Learned.{learned_tests, learned_known}
 use Rattle.vec_words.proofs.vectors.Vectors.learn.Goals as goal

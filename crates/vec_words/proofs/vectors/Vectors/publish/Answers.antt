@@ -1,4 +1,4 @@
-use Rattle.std.proofs.Common.{◌≡◌, ap, sym, ◌∙◌, arith}
+use Rattle.std.proofs.Common.{ap, sym, ◌∙◌, arith}
 use Rattle.vec_words.specs.Tokens.{WordTable}
 use Rattle.vec_words.proofs.Changes.{publishes_at}
 use Rattle.vec_words.proofs.vectors.Vectors.publish.Goals as goal

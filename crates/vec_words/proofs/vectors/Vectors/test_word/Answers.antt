@@ -1,5 +1,4 @@
-use Rattle.std.proofs.Common.{◌≡◌, ◌*◌, ◌/◌, ap, arith}
-use Rattle.vec_words.specs.Tokens.{WordTable}
+use Rattle.std.proofs.Common.{◌*◌, ◌/◌}
 use Rattle.vec_words.proofs.Places.{indices_within}
 use Rattle.vec_words.proofs.vectors.Vectors.test_word.Goals as goal
 

@@ -1,4 +1,4 @@
-use Rattle.std.proofs.Common.{◌≡◌, ap, ◌∙◌, arith}
+use Rattle.std.proofs.Common.{ap, ◌∙◌, arith}
 use Rattle.vec_words.specs.Tokens.{PassSeen, NoteSeen}
 use Rattle.vec_words.proofs.Steps.{joins_note}
 use Rattle.vec_words.proofs.Tables.{id_of}
