@@ -136,7 +136,7 @@ impl<D> Vectors<D> {
         requires idle { seat.old.number ≡ 0 }
         requires above { count_of seat.old.log < number }
         ensures seat { seat.new ≡ record seat.old { number = number } }
-        ensures fresh { (word : ℕ) → ¬ HasStore (steps_of seat.old.log) word number }
+        ensures fresh { (word : ℕ) → ¬ HasStore (steps_of seat.new.log) word seat.new.number }
     {
         let _ = self;
         seat.number = number;

@@ -17,6 +17,7 @@ invariant_of-seat g c =
 
 pub returns-clause-fresh : goal.returns-clause-fresh
 returns-clause-fresh g c word =
+    let log = c.seat.inside.seat.me.0.log in
     let idle = ap (λ (s : SeatSeen g.row.D.Denot). s.number) c.seat.view_is ∙ c.requires.idle in
-    fresh c.args.number word c.args.seat.now.log c.requires.above
-    (subst (λ l. IsBegun 0 l) (ap (λ (s : SeatSeen g.row.D.Denot). s.log) c.seat.view_is) (subst (λ n. IsBegun n c.seat.inside.seat.me.0.log) idle c.seat.invariant.begun))
+    let above = subst (λ l. count_of l < c.args.number) (sym (ap (λ (s : SeatSeen g.row.D.Denot). s.log) c.seat.view_is)) c.requires.above in
+    fresh c.args.number word log above (subst (λ n. IsBegun n log) idle c.seat.invariant.begun)
