@@ -1,0 +1,4 @@
+pub mod Count
+pub mod MemSource
+pub mod ReadEnd
+pub mod Taken
