@@ -1,0 +1,11 @@
+#![tactic(auto)]
+//! A lock that knows its key.
+mod keeps;
+mod key_lock;
+mod turns;
+
+pub use keeps::Keeps;
+pub use key_lock::{KeyLock, Ticket};
+
+#[cfg(test)]
+mod tests;
