@@ -1,7 +1,7 @@
 #![tactic(auto)]
 //! Turns at a lock, and tests of a vector's bits. With the word `time` it prints how long they take. A line
 //! for each number of threads, `cf_turn THREADS TURNS NANOSECONDS`, comes before a line for the tests alone
-//! and one for those beside a thread that makes calls, `vec_words alone|beside TESTS NANOSECONDS SET`.
+//! and one for those beside a thread that makes calls, `vec_words alone|beside TESTS NANOSECONDS SET KNOWN`.
 mod turns;
 mod words;
 
@@ -46,8 +46,8 @@ fn print_times(rt: &(impl Threads + Wait + Sync + Clock + Print), alloc: Global)
         println!(rt; "cf_turn {threads} {turns} {nanos}")?;
     }
     for (name, calls) in [("alone", 0), ("beside", TIMED_CALLS)] {
-        let Found { set, nanos } = test_beside(rt, alloc, TIMED_TESTS, calls)?;
-        println!(rt; "vec_words {name} {TIMED_TESTS} {nanos} {set}")?;
+        let Found { set, known, nanos } = test_beside(rt, alloc, TIMED_TESTS, calls)?;
+        println!(rt; "vec_words {name} {TIMED_TESTS} {nanos} {set} {known}")?;
     }
     Ok(())
 }

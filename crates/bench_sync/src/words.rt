@@ -9,21 +9,23 @@ use std::thread::{Threads, join};
 use std::time::{Clock, Instant};
 use vec_words::{EngineSeat, Pass, Vectors};
 
-/// How many bits were set of those that were tested, and the nanoseconds that the tests took.
+/// How many bits were set of those that were tested, the number that the pass knew then, and the nanoseconds that
+/// the tests took.
 #[derive(Clone, Copy)]
 pub struct Found {
     pub set: u32,
+    pub known: u32,
     pub nanos: u128,
 }
 
 // Tests indices 0 to 31 in turn.
-fn count_set(vectors: &Vectors<u32>, mut pass: Pass<u32>, tests: u32) -> u32
+fn count_set(vectors: &Vectors<u32>, pass: &mut Pass<u32>, tests: u32) -> u32
     requires form { vectors.now.len ≡ 64 }
-    requires pass { (pass.table ≡ vectors.now) × (0 < pass.owner) }
+    requires pass { (pass.old.table ≡ vectors.now) × (0 < pass.old.owner) }
 {
     let mut set = 0u32;
     for k in 0..tests {
-        if vectors.test(&mut pass, k % 32).bit {
+        if vectors.test(pass, k % 32).bit {
             set = set.wrapping_add(1);
         }
     }
@@ -33,16 +35,17 @@ fn count_set(vectors: &Vectors<u32>, mut pass: Pass<u32>, tests: u32) -> u32
 fn time_tests<R: Clock>(
     rt: &R,
     vectors: &Vectors<u32>,
-    pass: Pass<u32>,
+    mut pass: Pass<u32>,
     tests: u32,
 ) -> io::Result<Found>
     requires form { vectors.now.len ≡ 64 }
     requires pass { (pass.table ≡ vectors.now) × (0 < pass.owner) }
 {
     let start = Instant::now(rt)?;
-    let set = count_set(vectors, pass, tests);
+    let set = count_set(vectors, &mut pass, tests);
     let nanos = start.elapsed(rt)?.as_nanos();
-    Ok(Found { set, nanos })
+    let known = pass.known();
+    Ok(Found { set, known, nanos })
 }
 
 // Calls that store word 0.
