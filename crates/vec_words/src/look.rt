@@ -49,11 +49,14 @@ impl<D> Vectors<D> {
     {
         let word = self.word_number(pass.owner.0, index / 32);
         let found = self.table.shared.load::<Look<A>>(&mut pass.seat, 1 + word);
-        let at = pass.known.max((found / STAMP) as u32);
-        pass.known = at;
+        let stamp = (found / STAMP) as u32;
+        // Most tests find nothing new, and then write nothing.
+        if pass.known < stamp {
+            pass.known = stamp;
+        }
         TestedWord {
             bits: (found % STAMP) as u32,
-            at,
+            at: pass.known,
         }
     }
 }
