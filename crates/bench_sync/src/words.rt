@@ -18,14 +18,14 @@ pub struct Found {
     pub nanos: u128,
 }
 
-// Tests indices 0 to 31 in turn.
+// Tests indices 0 to 63 in turn.
 fn count_set(vectors: &Vectors<u32>, pass: &mut Pass<u32>, tests: u32) -> u32
     requires form { vectors.now.len ≡ 64 }
     requires pass { (pass.old.table ≡ vectors.now) × (0 < pass.old.owner) }
 {
     let mut set = 0u32;
     for k in 0..tests {
-        if vectors.test(pass, k % 32).bit {
+        if vectors.test(pass, k % 64).bit {
             set = set.wrapping_add(1);
         }
     }
