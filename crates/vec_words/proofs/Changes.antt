@@ -1,6 +1,6 @@
 -- The steps that change a word, and the load of the count, keep the rule.
-use Rattle.std.proofs.Common.{◌≡◌, ◌≢◌, ◌*◌, ◌^◌, ◌<◌, ◌≤◌, ℕ, suc, true, List, [], ◌∷◌, ◌++◌, length, set, refl, sym, ap, ◌∙◌, subst, inl, inr, ⊎_elim, arith, length-set, get_or-set_other, get_or-set_same}
-use Rattle.std.specs.Prelude.{All, max, slice_index, if◌then◌else◌}
+use Rattle.std.proofs.Common.{◌≡◌, ◌≢◌, ◌*◌, ◌^◌, ◌<◌, ◌≤◌, ℕ, suc, true, List, [], ◌∷◌, ◌++◌, length, set, refl, sym, ap, ◌∙◌, subst, arith, length-set, get_or-set_other, get_or-set_same}
+use Rattle.std.specs.Prelude.{All, slice_index, if◌then◌else◌}
 use Rattle.std.proofs.lemmas.List.{set-get_or, append-nil}
 use Rattle.std.proofs.lemmas.List.Elements.{All-weaker}
 use mathlib.Core.Logic.{dite}
@@ -15,11 +15,8 @@ use Rattle.vec_words.specs.Logged.{words_of, count_of, flying_of, left_in, calls
 use Rattle.vec_words.specs.View.{stored_to, committed_of, learned_of, Becomes}
 use Rattle.vec_words.specs.Rule.{IsSound, IsKept, Roll, Fits, AreLeft, Kept, Shows}
 use Rattle.vec_words.proofs.Logs.{by_test, count-push, left-push, left-here, left-other, calls_of-append, IsFree, issued-store, issued-commit}
-use Rattle.vec_words.proofs.Sound.{CanStore, sound-store, sound-commit}
-use Rattle.vec_words.proofs.Kept.{issued_max, kept-store, kept-commit, all_set}
-
-max_most : (a b c : ℕ) → a ≤ c → b ≤ c → max a b ≤ c
-max_most a b c h k = omega arith
+use Rattle.vec_words.proofs.Sound.{CanStore, issued_count, sound-store, sound-commit}
+use Rattle.vec_words.proofs.Kept.{max_most, issued_max, kept-store, kept-commit, all_set}
 
 module _ {D : Type 0} where
   left-store : (shape : Shape) (log : List (Logged D)) (words : List ℕ) (word bits stamp : ℕ) → word < shape.conns * words_of shape.len → AreLeft shape log words
@@ -133,16 +130,13 @@ module _ {D : Type 0} where
                     keeps = λ _. (held.0, ap (λ l. l ++ Committed number v.owner x ∷ []) held.1);
                     makes = mine.makes;
                     passes = λ _. (passed.0, passed.1, ap (λ l. l ++ (number, x) ∷ []) passed.2 ∙ sym (calls-here v.owner number x old.log));
-                    known = subst (λ k. IsIssued log' (flying_of log') k) count (counted log' (sound-commit old.log number v.owner x kept.sound higher' fits free'));
+                    known = subst (λ k. IsIssued log' (flying_of log') k) count (issued_count log' (sound-commit old.log number v.owner x kept.sound higher' fits free'));
                     sure = omega (arith, count);
                     tests = tests v id mine;
                   });
             }),
             (refl, refl),
           )
-        where
-          counted : (log : List (Logged D)) → IsSound log → IsIssued log (flying_of log) (count_of log)
-          counted log sound = ⊎_elim (λ z. inl z) (λ c. inr (inl c)) sound.counted
 
   -- a pass that holds the log loads the count
   pub learns : (shape : Shape) (slots id : ℕ) (me : Me ℕ (View D)) → me.0.keeps ≡ true → me.0.passes ≡ true → me.0.len ≡ shape.len
@@ -155,7 +149,7 @@ module _ {D : Type 0} where
       let passed = mine.passes is_pass in
       let n = slice_index s.words 0 in
       let found : n ≡ count_of roll.log = kept.left.count in
-      let issued : IsIssued roll.log (flying_of roll.log) n = subst (IsIssued roll.log (flying_of roll.log)) (sym found) (⊎_elim (λ z. inl z) (λ c. inr (inl c)) kept.sound.counted) in
+      let issued : IsIssued roll.log (flying_of roll.log) n = subst (IsIssued roll.log (flying_of roll.log)) (sym found) (issued_count roll.log kept.sound) in
       let seen : v.sure ≤ count_of roll.log = mine.sure in (
         learned_of v n,
         keeps,

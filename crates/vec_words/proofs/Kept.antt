@@ -28,6 +28,9 @@ module _ {A : Type 0} where
 max_cases : (a b : ℕ) → (max a b ≡ a) ⊎ (max a b ≡ b)
 max_cases a b = dite (dec_le a b) (λ h. inr (omega arith)) (λ h. inl (omega arith))
 
+pub max_most : (a b c : ℕ) → a ≤ c → b ≤ c → max a b ≤ c
+max_most a b c h k = omega arith
+
 module _ {D : Type 0} where
   pub issued_max : (log : List (Logged D)) (flying a b : ℕ) → IsIssued log flying a → IsIssued log flying b → IsIssued log flying (max a b)
   issued_max log flying a b h k =

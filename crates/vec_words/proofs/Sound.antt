@@ -23,6 +23,10 @@ module _ {D : Type 0} where
   issued_cases log n sound h =
       ⊎_elim (λ (z : n ≡ 0). inl (omega arith)) (⊎_elim (λ (c : IsCommitted (steps_of log) n). inl (sound.bounded n c)) (λ (e : n ≡ flying_of log). inr e)) h
 
+  -- the count is an issued number
+  pub issued_count : (log : List (Logged D)) → IsSound log → IsIssued log (flying_of log) (count_of log)
+  issued_count log sound = ⊎_elim (λ (z : count_of log ≡ 0). inl z) (λ (c : IsCommitted (steps_of log) (count_of log)). inr (inl c)) sound.counted
+
   -- at a store, each issued number is below the stamp, or is the stamp
   pub issued_below : (log : List (Logged D)) (n stamp : ℕ) → IsSound log → count_of log < stamp → IsFree log stamp → IsIssued log (flying_of log) n → (n < stamp) ⊎ (n ≡ stamp)
   issued_below log n stamp sound higher free h =

@@ -15,7 +15,7 @@ use Rattle.vec_words.specs.View.{note_view, blank, first_view, made_one, next_pa
 use Rattle.vec_words.specs.Rule.{IsSound, IsKept, Roll, Fits, AllFit, AreLeft, Kept}
 use Rattle.vec_words.proofs.Logs.{by_test}
 use Rattle.vec_words.proofs.Sound.{sound-empty}
-use Rattle.vec_words.proofs.Kept.{issued_max, kept-now, all_set, all_push}
+use Rattle.vec_words.proofs.Kept.{max_most, issued_max, kept-now, all_set, all_push}
 
 off : false ≡ true → ⊥
 off e = true≢false (sym e)
@@ -28,9 +28,6 @@ zeros_at (suc n) (suc i) = zeros_at n i
 length_zeros : (n : ℕ) → length {A = ℕ} (replicate n 0) ≡ n
 length_zeros zero = refl
 length_zeros (suc n) = ap suc (length_zeros n)
-
-max_most : (a b c : ℕ) → a ≤ c → b ≤ c → max a b ≤ c
-max_most a b c h k = omega arith
 
 module _ {D : Type 0} where
   -- a view of which the rule asks nothing but the two numbers

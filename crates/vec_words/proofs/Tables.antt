@@ -4,9 +4,3 @@ use Rattle.vec_words.specs.Tokens.{WordTable}
 
 pub id_of : (x y z : WordTable) → x ≡ y → z ≡ y → x.id ≡ z.id
 id_of x y z p q = ap (λ (t : WordTable). t.id) p ∙ sym (ap (λ (t : WordTable). t.id) q)
-
-pub conns_of : (x y z : WordTable) → x ≡ y → z ≡ y → x.conns ≡ z.conns
-conns_of x y z p q = ap (λ (t : WordTable). t.conns) p ∙ sym (ap (λ (t : WordTable). t.conns) q)
-
-pub len_of : (x y z : WordTable) → x ≡ y → z ≡ y → x.len ≡ z.len
-len_of x y z p q = ap (λ (t : WordTable). t.len) p ∙ sym (ap (λ (t : WordTable). t.len) q)
