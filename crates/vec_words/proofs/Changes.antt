@@ -166,6 +166,7 @@ module _ {D : Type 0} where
           (record {
             count_is = found ∙ ap count_of (sym held.1);
             small = subst (λ k. k < 2 ^ 32) (sym found) kept.sound.small;
+            sure = subst (λ k. v.sure ≤ k) (sym found) seen;
             known = subst (λ l. IsIssued l (flying_of l) v.known) (sym held.1) mine.known;
             counted = subst (λ l. IsIssued l (flying_of l) n) (sym held.1) issued;
             mine = passed.2 ∙ ap (calls_of v.owner) (sym held.1);

@@ -1,11 +1,11 @@
 -- What a pass is shown when it has learned the count beside the engine's log.
-use Rattle.std.proofs.Common.{◌≡◌, ℕ, List, sym, ◌∙◌, subst, inl, inr, ⊎_elim}
+use Rattle.std.proofs.Common.{◌≡◌, ◌≤◌, ℕ, List, sym, ◌∙◌, subst, inl, inr, ⊎_elim}
 use Rattle.std.specs.Prelude.{All, max}
 use Rattle.std.proofs.lemmas.List.Elements.{All-weaker}
 use Rattle.vec_world.specs.Log.{IsCommitted}
 use Rattle.vec_words.specs.declared.logged.Logged.{Logged}
 use Rattle.vec_words.specs.declared.view.View.{View}
-use Rattle.vec_words.specs.Logged.{steps_of, flying_of, IsIssued, IsHonest}
+use Rattle.vec_words.specs.Logged.{count_of, steps_of, flying_of, IsIssued, IsHonest}
 use Rattle.vec_words.specs.Tokens.{IsBegun}
 use Rattle.vec_words.specs.View.{with_log}
 use Rattle.vec_words.specs.Rule.{IsKept, Shows}
@@ -31,3 +31,8 @@ module _ {D : Type 0} where
   learned_known len v w view count number known is begun shown known_is =
       let shown' = subst (λ (x : View D). Shows len x count) is shown in
       subst (IsIssued w.log number) (sym known_is) (issued_begun number (max v.known count) w.log begun (issued_max w.log (flying_of w.log) v.known count shown'.known shown'.counted))
+
+  pub learned_sure : (len : ℕ) (v w view : View D) (count : ℕ) → view ≡ with_log v w → Shows len view count → v.sure ≤ count_of w.log
+  learned_sure len v w view count is shown =
+      let shown' = subst (λ (x : View D). Shows len x count) is shown in
+      subst (λ k. v.sure ≤ k) shown'.count_is shown'.sure

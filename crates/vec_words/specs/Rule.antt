@@ -65,6 +65,7 @@ module _ {D : Type 0} where
   pub record Shows (len : ℕ) (view : View D) (count : ℕ) : Type 0 where
     pub count_is : count ≡ count_of view.log
     pub small : count < 2 ^ 32
+    pub sure : view.sure ≤ count
     pub known : IsIssued view.log (flying_of view.log) view.known
     pub counted : IsIssued view.log (flying_of view.log) count
     pub mine : view.mine ≡ calls_of view.owner view.log

@@ -1,5 +1,5 @@
 //! The count of what was committed.
-ghost use Rattle.std.specs.Prelude.{◌≡◌, ◌<◌, ◌++◌, [], ◌∷◌, max, All, true};
+ghost use Rattle.std.specs.Prelude.{◌≡◌, ◌<◌, ◌≤◌, ◌++◌, [], ◌∷◌, max, All, true};
 ghost use Rattle.vec_words.specs.declared.logged.Logged.TheVariants.{Committed};
 ghost use Rattle.vec_words.specs.Logged.{count_of, calls_of, IsIssued, IsHonest};
 ghost use Rattle.vec_words.specs.Tokens.{IsBegun};
@@ -42,6 +42,7 @@ impl<D> Vectors<D> {
         ensures seat { seat.new ≡ seat.old }
         ensures pass { pass.new ≡ record pass.old { known = max pass.old.known (count_of seat.old.log); sure = max pass.old.sure (count_of seat.old.log) } }
         ensures tests { All (IsHonest seat.old.log seat.old.number self.now.len pass.old.owner) pass.old.tests }
+        ensures seen { pass.old.sure ≤ count_of seat.old.log }
         ensures known { IsIssued seat.old.log seat.old.number pass.new.known }
         ensures mine { pass.old.mine ≡ calls_of pass.old.owner seat.old.log }
     {
