@@ -90,14 +90,14 @@ pub fn test_beside<R: Threads + Clock + Sync>(
         return Err(io::Error::from(io::ErrorKind::OutOfMemory));
     }
     let words = &vectors;
-    let (_, found) = join(
+    let (found, _) = join(
         rt,
-        move ||
-            requires { (words.now.conns ≡ 1) × (words.now.len ≡ 64) × (seat.table ≡ words.now) × (operator.table ≡ words.now) × (seat.number ≡ 0) × (count_of seat.log ≡ 0) }
-        { make_calls(words, seat, operator, calls) },
         move || -> io::Result<Found>
             requires { (words.now.len ≡ 64) × (pass.table ≡ words.now) × (0 < pass.owner) }
         { time_tests(rt, words, pass, tests) },
+        move ||
+            requires { (words.now.conns ≡ 1) × (words.now.len ≡ 64) × (seat.table ≡ words.now) × (operator.table ≡ words.now) × (seat.number ≡ 0) × (count_of seat.log ≡ 0) }
+        { make_calls(words, seat, operator, calls) },
     );
     found
 }
