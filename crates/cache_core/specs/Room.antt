@@ -1,5 +1,5 @@
 -- The room rule: which unchanged rows are reclaimed for a request, and when there is no room all the same.
-use Rattle.std.specs.Prelude.{ℕ, ◌-◌, Bool, not, ◌&&◌, ◌||◌, ◌==◌, nat_lt, nat_le, if◌then◌else◌, List, [], ◌∷◌, ◌++◌, length, is_some, filter, sum_by}
+use Rattle.std.specs.Prelude.{ℕ, ◌-◌, Bool, not, ◌&&◌, ◌||◌, ◌==◌, nat_lt, nat_le, if◌then◌else◌, List, [], ◌∷◌, ◌++◌, length, Option, Some, None, is_some, filter, sum_by}
 use Rattle.cf_types.specs.declared.forms.Caps.{Caps}
 use Rattle.cf_types.specs.declared.names.Name16.{Name16}
 use Rattle.cf_types.specs.declared.refusals.Refusal.{Refusal}
@@ -19,12 +19,25 @@ has_place caps name rows = is_some (row_of name rows) || nat_lt (length rows) ca
 abbrev pub has_room : Caps → Name16 → ℕ → List CacheItem → Bool
 has_room caps name need rows = has_place caps name rows && nat_le need (free_elements caps name rows)
 
--- the rows that may be reclaimed: unchanged ones of other names, first those of the request's storage class, then the others, each from
+-- unchanged rows of other names may be reclaimed
+abbrev pub is_reclaimable : Name16 → CacheItem → Bool
+is_reclaimable name row = not (is_changed row) && not (is_row_of name row)
+
+-- the rows that no reclaiming for a name takes
+abbrev pub lasting : Name16 → List CacheItem → List CacheItem
+lasting name rows = filter (λ row. not (is_reclaimable name row)) rows
+
+-- the rows that may be reclaimed: first those of the request's storage class, then the others, each from
 -- least recently used
 abbrev pub reclaim_order : Name16 → ℕ → List CacheItem → List CacheItem
 reclaim_order name stg rows =
-    let others = filter (λ row. not (is_changed row) && not (is_row_of name row)) rows in
+    let others = filter (is_reclaimable name) rows in
     filter (λ row. row.stg == stg) others ++ filter (λ row. not (row.stg == stg)) others
+
+-- the name of the first row
+abbrev pub first_name : List CacheItem → Option Name16
+first_name [] = None
+first_name (row ∷ rows) = Some row.name
 
 -- the content after the shortest prefix of an order went that leaves room, or after all of it where none does
 abbrev pub reclaimed : (List CacheItem → Bool) → List CacheItem → Content → Content
@@ -39,3 +52,9 @@ with_room caps name need stg content = reclaimed (has_room caps name need) (recl
 abbrev pub room_refusal : Caps → Name16 → ℕ → List CacheItem → Refusal
 room_refusal caps name need rows =
     if has_place caps name rows then NoElements need (free_elements caps name rows) else DirectoryFull caps.entries
+
+-- what is lacking, where there is no room
+abbrev pub want_of_room : Caps → Name16 → ℕ → ℕ → Content → Option Refusal
+want_of_room caps name need stg content =
+    let roomy = with_room caps name need stg content in
+    if has_room caps name need roomy.rows then None else Some (room_refusal caps name need roomy.rows)

@@ -1,5 +1,5 @@
 -- The one-thread machine of a cache structure: what each command answers and leaves.
-use Rattle.std.specs.Prelude.{ℕ, Bool, true, false, not, ◌&&◌, ◌||◌, nat_le, if◌then◌else◌, List, [], ◌∷◌, ◌++◌, Option, Some, None, Result, Ok, Err, option_map, is_some, is_none, unwrap_or, map, ◌==◌}
+use Rattle.std.specs.Prelude.{ℕ, Bool, false, not, ◌&&◌, ◌||◌, nat_le, if◌then◌else◌, List, [], ◌∷◌, Option, Some, None, Result, Ok, Err, is_some, is_none, map}
 use Rattle.cf_types.specs.declared.names.Name16.{Name16}
 use Rattle.cf_types.specs.declared.numbers.ConnId.{ConnId}
 use Rattle.cf_types.specs.declared.refusals.Refusal.{Refusal}
@@ -10,9 +10,8 @@ use Rattle.cf_types.specs.declared.cache_commands.CacheReply.{CacheReply}
 use Rattle.cf_types.specs.declared.cache_commands.CacheReply.TheVariants as replies
 use Rattle.cf_types.specs.Name.{same_name}
 use Rattle.cache_core.specs.declared.items.CacheItem.{CacheItem}
-use Rattle.cache_core.specs.declared.items.Holder.{Holder}
-use Rattle.cache_core.specs.Row.{is_changed, elements_of, row_of, rows_replaced}
-use Rattle.cache_core.specs.Registrations.{is_of, registered_at, is_registered, regs_without, regs_with, regs_of_others_ended}
+use Rattle.cache_core.specs.Row.{is_changed, is_changed_row, elements_of, row_of, row_or_new, rows_replaced, written, released}
+use Rattle.cache_core.specs.Registrations.{registered_at, is_registered, regs_without, regs_with, regs_of_others_ended}
 use Rattle.cache_core.specs.Content.{Content, Cache}
 use Rattle.cache_core.specs.Room.{has_room, with_room, room_refusal}
 
@@ -66,20 +65,9 @@ registration_refusal cache conn name when_reg =
     if when_reg && not (is_registered cache.content.regs conn name) then Some NotRegistered else None
 
 -- a changed row isn't written as unchanged
-abbrev pub is_changed_row : Option CacheItem → Bool
-is_changed_row None = false
-is_changed_row (Some row) = is_changed row
-
 abbrev pub change_refusal : Cache → Name16 → Option ℕ → Option Refusal
 change_refusal cache name class =
     if is_none class && is_changed_row (row_of name cache.content.rows) then Some IsChanged else None
-
--- the row of a name, or a new one: unchanged, without data, of this storage class
-abbrev pub new_row : Name16 → ℕ → CacheItem
-new_row name stg = record { name = name; body = None; adj = None; class = None; holder = None; stg = stg }
-
-abbrev pub row_or_new : Name16 → ℕ → List CacheItem → CacheItem
-row_or_new name stg rows = unwrap_or (row_of name rows) (new_row name stg)
 
 -- the answer of READ: the data of the row, if it has any
 abbrev pub data_reply : CacheItem → Option (List ℕ) → CacheReply
@@ -95,16 +83,11 @@ read_done content conn name index stg =
       content = record { rows = rows_replaced row content.rows; regs = regs_with conn index name content.regs };
     }
 
--- a row that is held is rewritten
-abbrev pub rewritten : Holder → Holder
-rewritten holder = record holder { rewritten = true }
-
 -- WRITE, where there is room: data, adjunct and class are replaced, the registrations of all others for the name end, and the caller is
 -- registered
 abbrev pub write_done : Content → ConnId → Name16 → ℕ → List ℕ → Option ℕ → Option (List ℕ) → ℕ → Stepped
 write_done content conn name index body class adj stg =
-    let old = row_or_new name stg content.rows in
-    let row = record old { body = Some body; adj = adj; class = class; holder = option_map rewritten old.holder } in
+    let row = written body class adj (row_or_new name stg content.rows) in
     record {
       reply = Ok replies.Ok;
       content = record {
@@ -125,22 +108,14 @@ in_room cache name need stg done =
 abbrev pub cache_step : Cache → ConnId → CacheCmd → Stepped
 cache_step cache conn (Read name index old stg) =
     unless_refused cache.content
-      (first_refusal (index_refusal cache conn name index old ∷ storage_refusal stg ∷ []))
-      (in_room cache name 0 stg (λ roomy. read_done roomy conn name index stg))
+    (first_refusal (index_refusal cache conn name index old ∷ storage_refusal stg ∷ []))
+    (in_room cache name 0 stg (λ roomy. read_done roomy conn name index stg))
 cache_step cache conn (Write name index body class adj old stg when_reg) =
     unless_refused cache.content
-      (first_refusal
-        (index_refusal cache conn name index old ∷ castout_refusal class ∷ storage_refusal stg
-          ∷ registration_refusal cache conn name when_reg ∷ change_refusal cache name class ∷ []))
-      (in_room cache name (elements_of (Some body)) stg (λ roomy. write_done roomy conn name index body class adj stg))
-
--- a connector's castout lock is released; the row stays changed
-abbrev pub holds : ConnId → Option Holder → Bool
-holds conn None = false
-holds conn (Some holder) = holder.conn.0 == conn.0
-
-abbrev pub released : ConnId → CacheItem → CacheItem
-released conn row = record row { holder = if holds conn row.holder then None else row.holder }
+    (first_refusal
+    (index_refusal cache conn name index old ∷ castout_refusal class ∷ storage_refusal stg
+    ∷ registration_refusal cache conn name when_reg ∷ change_refusal cache name class ∷ []))
+    (in_room cache name (elements_of (Some body)) stg (λ roomy. write_done roomy conn name index body class adj stg))
 
 -- a connector that departs: its registrations end, and its castout locks are released
 abbrev pub left : ConnId → Content → Content

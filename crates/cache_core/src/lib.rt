@@ -5,6 +5,10 @@
 mod engine;
 mod items;
 mod registrations;
+mod room;
+mod rows;
+#[cfg(test)]
+mod tests;
 
 pub use engine::CacheEngine;
 pub use items::{CacheItem, Holder};

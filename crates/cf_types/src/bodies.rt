@@ -1,4 +1,4 @@
-ghost use Rattle.std.specs.Prelude.{◌≡◌, ℕ, OnOk, IfOk, IfErr};
+ghost use Rattle.std.specs.Prelude.{◌≡◌, ℕ, ◌≤◌, length, OnOk, IfOk, IfErr};
 ghost use Rattle.cf_types.specs.Term.{IsTerm};
 ghost use Rattle.cf_types.specs.Stored.{IsBodyFaultOf};
 
@@ -41,6 +41,8 @@ impl Body {
     /// The bytes, 1 to 4,096 of them.
     pub fn bytes(&self) -> &[u8]
         ensures value { result.now ≡ self.now }
+        ensures nonempty { 1 ≤ length self.now }
+        ensures short { length self.now ≤ 4096 }
     {
         self.bytes.as_slice()
     }

@@ -1,5 +1,5 @@
 -- The form of a script. Words stand with one blank between them and a line feed stands behind each line. First comes the policy: two
--- facilities, and a cache structure GBP that may stand in either. Then the connectors, then the lines.
+-- facilities, and a cache structure GBP that may stand in either. Then the connectors, then the lines. Comments may stand between them.
 use Rattle.std.specs.Prelude.{◌≡◌, ℕ, ◌+◌, ◌≤◌, ◌<◌, ◌==◌, ◌&&◌, ◌||◌, Bool, true, false, not, IsTrue, if◌then◌else◌, List, [], ◌∷◌, ◌++◌, length, map, All, Option, None, Some, IfSome, codes, nat_eq}
 use Rattle.std.specs.List.{list_all, list_any, filter_map}
 use Rattle.std.specs.Char.{is_ascii_uppercase, is_ascii_digit}
@@ -18,6 +18,7 @@ use Rattle.plex_run.specs.declared.scripts.Act.TheVariants.{Call, Test}
 use Rattle.plex_run.specs.declared.scripts.Line.{Line}
 use Rattle.plex_run.specs.Plan.{Plan}
 use Rattle.plex_run.specs.Words.{line_of, text_of}
+use Rattle.plex_run.specs.Comments.{uncommented}
 use Rattle.plex_run.specs.Spelling.{name_word, caller_word, ask_words}
 
 -- ---- names of connectors
@@ -120,7 +121,11 @@ abbrev pub script_lines : Plan → List (List ℕ)
 script_lines script =
     policy_lines ++ map connector_line script.connectors ++ map (body_line script.connectors) script.lines
 
--- the text is a script in this form, and says this
-pub record IsScript (text : List ℕ) (script : Plan) : Type 0 where
+-- the text, which has no comments, is a script in this form, and says this
+pub record IsPlainScript (text : List ℕ) (script : Plan) : Type 0 where
   pub in_form : InForm script
   pub spelled : text ≡ text_of (script_lines script)
+
+-- the text is a script in this form, and says this; its comments say nothing
+abbrev pub IsScript : List ℕ → Plan → Type 0
+IsScript text script = IsPlainScript (uncommented text) script

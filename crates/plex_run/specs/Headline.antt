@@ -1,6 +1,6 @@
 -- What a report shows: one history that is legal, each caller's calls in it once and in their order, and tests that tell what stood at a
 -- numbered point of it.
-use Rattle.std.specs.Prelude.{◌≡◌, ℕ, ◌+◌, ◌≤◌, ◌<◌, ◌==◌, Bool, true, false, if◌then◌else◌, List, [], ◌∷◌, ◌++◌, length, take, fold, map, max, filter, slice_get, slice_index_or, Some}
+use Rattle.std.specs.Prelude.{◌≡◌, ℕ, ◌+◌, ◌≤◌, ◌<◌, ◌^◌, ◌==◌, Bool, true, false, if◌then◌else◌, List, [], ◌∷◌, ◌++◌, length, take, fold, map, max, filter, slice_get, slice_index_or, Some, All}
 use Rattle.cf_types.specs.declared.numbers.ConnId.{ConnId}
 use Rattle.cf_types.specs.declared.shell_commands.ShellCmd.TheVariants.{Connect, Disconnect}
 use Rattle.cf_types.specs.declared.shell_commands.ShellReply.TheVariants as shell
@@ -16,6 +16,7 @@ use Rattle.plex_run.specs.declared.transcripts.Shown.{Shown}
 use Rattle.plex_run.specs.declared.transcripts.Shown.TheVariants as shown
 use Rattle.plex_run.specs.Plan.{Plan}
 use Rattle.plex_run.specs.History.{IsLegal, own, stands_after}
+use Rattle.plex_run.specs.Report.{report}
 
 -- ---- each caller's calls, once and in their order
 
@@ -79,12 +80,28 @@ abbrev pub TestsTell : List Entry → ConnId → List Shown → Type 0
 TestsTell history conn items =
     (k index at : ℕ) (bit : Bool) → slice_get items k ≡ Some (shown.Test index bit at)
     → (at ≤ length history) × (seen (take k items) ≤ at) × (seen_complete (take k items) ≤ at)
-      × (bit ≡ stands_after (take at history) conn index)
+    × (bit ≡ stands_after (take at history) conn index)
 
 -- ---- the whole
 
+-- the number of a declared connector, of so many
+abbrev pub IsConnNumber : ℕ → ConnId → Type 0
+IsConnNumber connectors conn = (1 ≤ conn.0) × (conn.0 ≤ connectors)
+
+-- each call is one of a declared connector
+abbrev pub AreByConnectors : ℕ → List Entry → Type 0
+AreByConnectors connectors history = All (λ entry. IsConnNumber connectors entry.by) history
+
 pub record IsOneHistory (script : Plan) (history : List Entry) (transcripts : List (List Shown)) : Type 0 where
   pub legal : IsLegal history
+  pub known : AreByConnectors (length script.connectors) history
   pub callers : length transcripts ≡ length script.connectors + 1
   pub follows : (c : ℕ) → c < length transcripts → Follows script history (record { 0 = c }) (slice_index_or transcripts c [])
   pub tests : (c : ℕ) → c < length transcripts → TestsTell history (record { 0 = c }) (slice_index_or transcripts c [])
+
+-- no other history and transcripts of the script have this report
+abbrev pub IsOnlyReading : Plan → List Entry → List (List Shown) → Type 0
+IsOnlyReading script history transcripts =
+    (history' : List Entry) (transcripts' : List (List Shown)) → length history' < 2 ^ 32 → IsOneHistory script history' transcripts'
+    → report script.connectors history' transcripts' ≡ report script.connectors history transcripts
+    → (history' ≡ history) × (transcripts' ≡ transcripts)

@@ -72,7 +72,7 @@ abbrev pub content_call : Machine → ConnId → CacheCmd → Answered
 content_call machine by cmd =
     if is_active machine by
     then (let stepped = cache_step machine.cache by cmd in
-      record { reply = content_reply stepped.reply; machine = record machine { cache = record machine.cache { content = stepped.content } } })
+    record { reply = content_reply stepped.reply; machine = record machine { cache = record machine.cache { content = stepped.content } } })
     else refusing machine NotConnected
 
 abbrev pub step : Machine → ConnId → Ask → Answered

@@ -67,7 +67,7 @@ cache_words (Read name index old stg) =
     codes "READ" ∷ name_word name ∷ decimal index ∷ old_words old ++ storage_words stg
 cache_words (Write name index body class adj old stg when_reg) =
     codes "WRITE" ∷ name_word name ∷ decimal index ∷ body
-      ∷ class_words class ++ adjunct_words adj ++ old_words old ++ storage_words stg ++ when_words when_reg
+    ∷ class_words class ++ adjunct_words adj ++ old_words old ++ storage_words stg ++ when_words when_reg
 
 -- a command, without who gives it and to which structure
 abbrev pub ask_words : Ask → List (List ℕ)

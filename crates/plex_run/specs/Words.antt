@@ -11,6 +11,10 @@ abbrev pub line_of : List (List ℕ) → List ℕ
 line_of [] = []
 line_of (word ∷ words) = word ++ spaced words
 
+-- a line with its line feed
+abbrev pub ended : List ℕ → List ℕ
+ended line = line ++ 10 ∷ []
+
 -- the lines, with a line feed behind each
 abbrev pub text_of : List (List ℕ) → List ℕ
-text_of lines = flat_map (λ line. line ++ 10 ∷ []) lines
+text_of lines = flat_map ended lines

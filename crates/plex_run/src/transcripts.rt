@@ -1,3 +1,7 @@
+ghost use Rattle.std.specs.Prelude.{◌≡◌, ◌++◌, ◌∷◌, [], OnOk, OnErr};
+
+use cf_types::NoMemory;
+use std::alloc::Global;
 use std::marker::Model;
 
 /// What a connector's transcript shows of one of its lines.
@@ -22,4 +26,31 @@ impl Model for Transcript {
     ghost Value = { List Shown };
 
     ghost view = { λ t. t.items.items };
+}
+
+impl Transcript {
+    /// Nothing shown yet.
+    pub(crate) fn new(alloc: Global) -> Transcript
+        ensures { result ≡ [] }
+    {
+        Transcript {
+            items: Vec::new(alloc),
+        }
+    }
+
+    /// Shows one more item. Want of memory leaves the transcript as it was.
+    pub(crate) fn show(&mut self, item: Shown) -> Result<(), NoMemory>
+        ensures ok { OnOk result (self.new ≡ self.old ++ item ∷ []) }
+        ensures err { OnErr result (self.new ≡ self.old) }
+    {
+        self.items.push(item)?;
+        Ok(())
+    }
+
+    /// The items, in order.
+    pub(crate) fn items(&self) -> &[Shown]
+        ensures value { result.now ≡ self.now }
+    {
+        self.items.as_slice()
+    }
 }

@@ -1,0 +1,4 @@
+pub mod RowLists
+pub mod Reclaim
+pub mod Steps
+pub mod Directory
