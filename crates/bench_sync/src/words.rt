@@ -1,0 +1,103 @@
+//! Tests of a vector's bits, alone and while another thread makes calls.
+ghost use Rattle.std.specs.Prelude.{◌≡◌, ◌<◌, IfOk, All};
+ghost use Rattle.vec_words.specs.Logged.{count_of};
+
+use cf_types::{ConnId, NoMemory};
+use std::alloc::Global;
+use std::io;
+use std::thread::{Threads, join};
+use std::time::{Clock, Instant};
+use vec_words::{EngineSeat, Pass, Vectors};
+
+/// How many bits were set of those that were tested, the number that the pass knew then, and the nanoseconds that
+/// the tests took.
+#[derive(Clone, Copy)]
+pub struct Found {
+    pub set: u32,
+    pub known: u32,
+    pub nanos: u128,
+}
+
+// Tests indices 0 to 63 in turn.
+fn count_set(vectors: &Vectors<u32>, pass: &mut Pass<u32>, tests: u32) -> u32
+    requires form { vectors.now.len ≡ 64 }
+    requires pass { (pass.old.table ≡ vectors.now) × (0 < pass.old.owner) }
+{
+    let mut set = 0u32;
+    for k in 0..tests {
+        if vectors.test(pass, k % 64).bit {
+            set = set.wrapping_add(1);
+        }
+    }
+    set
+}
+
+fn time_tests<R: Clock>(
+    rt: &R,
+    vectors: &Vectors<u32>,
+    mut pass: Pass<u32>,
+    tests: u32,
+) -> io::Result<Found>
+    requires form { vectors.now.len ≡ 64 }
+    requires pass { (pass.table ≡ vectors.now) × (0 < pass.owner) }
+{
+    let start = Instant::now(rt)?;
+    let set = count_set(vectors, &mut pass, tests);
+    let nanos = start.elapsed(rt)?.as_nanos();
+    let known = pass.known();
+    Ok(Found { set, known, nanos })
+}
+
+// Calls that store word 0.
+fn make_calls(vectors: &Vectors<u32>, mut seat: EngineSeat<u32>, mut pass: Pass<u32>, calls: u32)
+    requires form { (vectors.now.conns ≡ 1) × (vectors.now.len ≡ 64) }
+    requires tokens { (seat.table ≡ vectors.now) × (pass.table ≡ vectors.now) }
+    requires idle { (seat.number ≡ 0) × (count_of seat.log ≡ 0) }
+{
+    for made in 0..calls {
+        vectors.begin(&mut seat, made + 1);
+        vectors.store_word(&mut seat, ConnId(1), 0, made);
+        vectors.commit(&mut seat, &mut pass);
+    }
+}
+
+// The pass of the last caller that is left.
+fn take_pass(vectors: &Vectors<u32>, passes: &mut Vec<Pass<u32>>) -> Result<Pass<u32>, NoMemory>
+    requires { All (λ p. p.table ≡ vectors.now) passes.old.items }
+    ensures rest { All (λ p. p.table ≡ vectors.now) passes.new.items }
+    ensures pass { IfOk result (λ p. p.table ≡ vectors.now) }
+{
+    passes.pop().ok_or(NoMemory)
+}
+
+/// Tests, while another thread makes this many calls.
+pub fn test_beside<R: Threads + Clock + Sync>(
+    rt: &R,
+    alloc: Global,
+    tests: u32,
+    calls: u32,
+) -> io::Result<Found> {
+    let Ok((vectors, seat, mut passes)) = Vectors::start(alloc, 1, 64) else {
+        return Err(io::Error::from(io::ErrorKind::OutOfMemory));
+    };
+    let (Ok(pass), Ok(operator)) = (
+        take_pass(&vectors, &mut passes),
+        take_pass(&vectors, &mut passes),
+    ) else {
+        return Err(io::Error::from(io::ErrorKind::OutOfMemory));
+    };
+    if pass.owner() == ConnId(0) {
+        return Err(io::Error::from(io::ErrorKind::OutOfMemory));
+    }
+    let words = &vectors;
+    let (found, _) = join(
+        rt,
+        move || -> io::Result<Found>
+            requires { (words.now.len ≡ 64) × (pass.table ≡ words.now) × (0 < pass.owner) }
+        { time_tests(rt, words, pass, tests) },
+        move ||
+            requires { (words.now.conns ≡ 1) × (words.now.len ≡ 64) × (seat.table ≡ words.now) × (operator.table ≡ words.now) × (seat.number ≡ 0) × (count_of seat.log ≡ 0) }
+        { make_calls(words, seat, operator, calls) },
+    );
+    found
+}

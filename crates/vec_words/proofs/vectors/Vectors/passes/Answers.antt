@@ -1,0 +1,15 @@
+use Rattle.std.proofs.Common.{[], ◌∷◌, ◌++◌, map, ap, sym, ◌∙◌, arith}
+use Rattle.std.specs.List.{range_with_len}
+use Rattle.std.proofs.lemmas.List.FromFn.{map-range_with_len_more}
+use Rattle.vec_words.specs.Tokens.{PassSeen, new_pass}
+use Rattle.vec_words.proofs.vectors.Vectors.passes.Goals as goal
+
+pub loop-number-preserved : goal.loop-number-preserved
+loop-number-preserved g c =
+    let n = c.loop-number.number in
+    let t = c.args.self.now in (
+      c.next_pass-pass.ensures.seat,
+      c.in_ok-push.ensures.items ∙ ap (λ xs. xs ++ c.next_pass-pass.result ∷ []) c.loop-number.invariant.1
+          ∙ ap (λ (x : PassSeen g.row.D.Denot). map (new_pass t) (range_with_len 0 n) ++ x ∷ []) c.next_pass-pass.ensures.pass
+          ∙ sym (map-range_with_len_more (new_pass t) 0 n n (omega arith)),
+    )

@@ -1,0 +1,7 @@
+use Rattle.std.proofs.Common.{◌≡◌, map}
+use Rattle.std.specs.List.{range_with_len}
+use Rattle.vec_words.specs.Tokens.{IsFirst, new_pass}
+use Rattle.vec_words.proofs.vectors.Vectors.passes.Given as goal
+
+abbrev pub invariant-loop-number : goal.invariant-loop-number
+invariant-loop-number g l = IsFirst l.self l.seat l.number × (l.passes.items ≡ map (new_pass l.self) (range_with_len 0 l.number))

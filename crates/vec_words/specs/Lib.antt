@@ -1,0 +1,4 @@
+pub mod Logged
+pub mod Tokens
+pub mod View
+pub mod Rule
