@@ -20,8 +20,8 @@ pub enum NameFault {
     TooLong { len: usize },
 }
 
-/// Whether a byte is a term character: a letter, a digit, `.`, `_` or `-`.
-pub fn is_term_byte(byte: u8) -> bool
+// Whether a byte is a term character: a letter, a digit, `.`, `_` or `-`.
+fn is_term_byte(byte: u8) -> bool
     ensures { result ≡ term_byte byte }
 {
     byte.is_ascii_alphanumeric() || byte == b'.' || byte == b'_' || byte == b'-'

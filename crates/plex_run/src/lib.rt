@@ -24,8 +24,5 @@ mod structure;
 mod transcripts;
 mod words;
 
-pub use histories::{Ask, Entry, Reply};
 pub use laws::{one_history, only_reading};
 pub use program::run;
-pub use scripts::{Act, Line, ReadFault, Script};
-pub use transcripts::{Shown, Transcript};
