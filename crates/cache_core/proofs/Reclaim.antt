@@ -345,7 +345,7 @@ decided caps name need stg (v ∷ order) content u h =
     (decided caps name need stg order (evicted v.name content) (one_row_each-filter (λ row. not (is_row_of v.name row)) content.rows u)
     (next_goes name stg content.rows v order u h).order)
 
--- the request's content, and whether there is room
+-- the content asked for, and whether there is room
 pub with_room-decided : (caps : Caps) (name : Name16) (need stg : ℕ) (content : Content) → one_row_each content.rows ≡ true → Decided caps name need content.rows (with_room caps name need stg content).rows
 with_room-decided caps name need stg content u = decided caps name need stg (reclaim_order name stg content.rows) content u refl
 

@@ -27,7 +27,7 @@ is_reclaimable name row = not (is_changed row) && not (is_row_of name row)
 abbrev pub lasting : Name16 → List CacheItem → List CacheItem
 lasting name rows = filter (λ row. not (is_reclaimable name row)) rows
 
--- the rows that may be reclaimed: first those of the request's storage class, then the others, each from
+-- the rows that may be reclaimed: first those of the storage class asked for, then the others, each from
 -- least recently used
 abbrev pub reclaim_order : Name16 → ℕ → List CacheItem → List CacheItem
 reclaim_order name stg rows =
@@ -44,7 +44,7 @@ abbrev pub reclaimed : (List CacheItem → Bool) → List CacheItem → Content 
 reclaimed roomy [] content = content
 reclaimed roomy (victim ∷ order) content = if roomy content.rows then content else reclaimed roomy order (evicted victim.name content)
 
--- the content in which the request is done, if it has room there
+-- the content in which a command is done, if it has room there
 abbrev pub with_room : Caps → Name16 → ℕ → ℕ → Content → Content
 with_room caps name need stg content = reclaimed (has_room caps name need) (reclaim_order name stg content.rows) content
 

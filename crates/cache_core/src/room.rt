@@ -130,7 +130,7 @@ pub(crate) fn room_refusal(caps: Caps, request: &Request, rows: &[CacheItem]) ->
     None
 }
 
-// The least recently used row of the request's storage class that may be reclaimed.
+// The least recently used row of the storage class asked for that may be reclaimed.
 fn first_of_class(request: &Request, rows: &[CacheItem]) -> Option<Name16>
     ensures { result ≡ option_map (λ row. row.name) (find (λ row. is_reclaimable request.now.name row && (row.stg == request.now.stg)) rows.now) }
 {

@@ -83,6 +83,22 @@ fn read_and_test(rt: HostRuntime) -> Result<(), Fail> {
 }
 
 #[test]
+fn comments_say_nothing(rt: HostRuntime) -> Result<(), Fail> {
+    let (status, text) = ran(
+        rt.alloc(),
+        "* A connects.\nA GBP CONNECT DELETE\n*\n* A comment may hold any byte: \u{e4}\n",
+    )?;
+    assert_eq!(rt; status, 0);
+    assert!(rt;
+        text.as_slice().ends_with(
+            b"HISTORY GBP 2\n1 A CONNECT DELETE -> OK NEW CF1\n2 A DISCONNECT -> OK\n\
+          TRANSCRIPT OP 0\nTRANSCRIPT A 2\nGBP 1\nGBP 2\nTRANSCRIPT B 0\nEND\n"
+        )
+    );
+    Ok(())
+}
+
+#[test]
 fn write_invalidates_the_others(rt: HostRuntime) -> Result<(), Fail> {
     let (status, text) = ran(
         rt.alloc(),
