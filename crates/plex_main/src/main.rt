@@ -1,7 +1,7 @@
 //! The program plexrun: it runs the script on standard input, and prints the report.
 #![tactic(auto)]
 
-use cf_io::{StdSink, StdSource};
+use cf_io::{Sink, StdSink, StdSource, write_all};
 use plex_run::run;
 use std::process::ExitCode;
 use std::rt::Env;
@@ -16,6 +16,12 @@ fn program_words(rt: &(impl Env + AllocGlobal)) -> io::Result<Vec<String>> {
     Ok(words)
 }
 
+// Tells that there was no memory for the words.
+fn say_no_memory<K: Sink>(sink: &mut K) -> ExitCode {
+    let _ = write_all(sink, b"NOMEMORY\n");
+    ExitCode::from(6)
+}
+
 fn main(rt: HostRuntime) -> ExitCode {
     let mut source = StdSource {
         inner: rt.stdin(),
@@ -25,7 +31,13 @@ fn main(rt: HostRuntime) -> ExitCode {
         inner: rt.stdout(),
         faults: 0,
     };
-    // Words that are no text are none of the program's: they are taken as no words.
-    let words = program_words(&rt).unwrap_or(Vec::new(rt.alloc()));
+    let words = match program_words(&rt) {
+        Ok(words) => words,
+        Err(error) if error.kind() == io::ErrorKind::OutOfMemory => {
+            return say_no_memory(&mut sink);
+        }
+        // Words that are no text are none of the program's: they are taken as no words.
+        Err(_) => Vec::new(rt.alloc()),
+    };
     ExitCode::from(run(rt.alloc(), &words, &mut source, &mut sink))
 }
