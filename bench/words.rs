@@ -7,8 +7,8 @@ use std::time::Instant;
 /// The tests, where they are timed.
 const TIMED_TESTS: u32 = 200_000_000;
 
-/// The calls of the other thread.
-const TIMED_CALLS: u32 = 60_000_000;
+/// The calls of the other thread: as many as crates/bench_sync makes.
+const TIMED_CALLS: u32 = 16_000_000;
 
 // Tests indices 0 to 63 in turn, in the two words of the vector.
 fn count_set(words: &[AtomicU64], tests: u32) -> u32 {
