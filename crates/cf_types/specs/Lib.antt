@@ -1,4 +1,5 @@
 pub mod Term
+pub mod Batch
 pub mod Name
 pub mod Stored
 pub mod Filled

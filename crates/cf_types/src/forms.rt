@@ -1,3 +1,4 @@
+use crate::listings::Listing;
 use crate::names::Name16;
 use crate::numbers::CfId;
 
@@ -47,5 +48,5 @@ pub struct StrForm {
     pub conns: u8,
     pub vector: u32,
     pub keep: bool,
-    pub prefs: Vec<Pref>,
+    pub prefs: Listing<Pref>,
 }

@@ -1,0 +1,136 @@
+use crate::adjuncts::Adjunct;
+use crate::bodies::Body;
+use crate::listings::Listing;
+use crate::names::{Key16, Name16};
+use crate::numbers::{ConnId, EntryId};
+
+/// How a command names a record of a list structure: by its id, its name, as the first or the last
+/// of a header (from 0), or as the first of a header with a key.
+#[derive(Clone, Copy, Debug, PartialEq, Eq)]
+pub enum At {
+    Id(EntryId),
+    Name(Name16),
+    Head(u32),
+    Tail(u32),
+    Key(u32, Key16),
+}
+
+/// A condition on a list lock (from 0): nobody holds it, or the caller does.
+#[derive(Clone, Copy, Debug, PartialEq, Eq)]
+pub enum Cond {
+    NotHeld(u32),
+    HeldBy(u32),
+}
+
+/// A command of a list structure (IXLLIST).
+#[derive(Debug, Drop)]
+pub enum ListCmd {
+    /// WRITE, creating: a new record at the head or the tail of a header.
+    Write {
+        header: u32,
+        head: bool,
+        name: Option<Name16>,
+        key: Option<Key16>,
+        body: Option<Body>,
+        adj: Option<Adjunct>,
+        cond: Option<Cond>,
+    },
+    /// WRITE, updating: replaces what is given of a record.
+    Update {
+        at: At,
+        body: Option<Body>,
+        adj: Option<Adjunct>,
+        cond: Option<Cond>,
+    },
+    /// READ.
+    Read {
+        at: At,
+        cond: Option<Cond>,
+    },
+    /// MOVE: to the head or the tail of a header, with a new key if one is given.
+    Move {
+        at: At,
+        header: u32,
+        head: bool,
+        key: Option<Key16>,
+        cond: Option<Cond>,
+    },
+    /// DELETE.
+    Delete {
+        at: At,
+        cond: Option<Cond>,
+    },
+    /// READ_LIST: the ids of a header's records, in order.
+    ReadList {
+        header: u32,
+    },
+    /// LOCK, set: the caller takes the list lock.
+    LockSet {
+        lock: u32,
+    },
+    /// LOCK, reset: the caller gives the list lock back.
+    LockReset {
+        lock: u32,
+    },
+    /// LOCK, test: who holds the list lock.
+    LockTest {
+        lock: u32,
+    },
+    /// READ_LCONTROLS: a header's count and limit.
+    LControls {
+        header: u32,
+    },
+    /// WRITE_LCONTROLS: a header's limit, in records.
+    SetLimit {
+        header: u32,
+        n: u32,
+    },
+    /// MONITOR_LIST, start: the bit at the index of the caller's vector (from 0) tells whether the
+    /// header has records.
+    Monitor {
+        header: u32,
+        index: u32,
+    },
+    /// MONITOR_LIST, stop.
+    Unmonitor {
+        header: u32,
+    },
+}
+
+/// The answer to a command of a list structure that was not refused.
+#[derive(Debug, Drop)]
+pub enum ListReply {
+    /// WRITE, DELETE: the record's id.
+    Id {
+        id: EntryId,
+    },
+    /// READ: the record, and the header that it is in.
+    Entry {
+        id: EntryId,
+        header: u32,
+        name: Option<Name16>,
+        key: Option<Key16>,
+        body: Option<Body>,
+        adj: Option<Adjunct>,
+    },
+    Ok,
+    /// READ_LIST: ids in order.
+    Ids(Listing<EntryId>),
+    /// LOCK, test: who holds the list lock.
+    Holder {
+        holder: Option<ConnId>,
+    },
+    /// READ_LCONTROLS: records in the header, and its limit.
+    Controls {
+        count: u32,
+        limit: u32,
+    },
+    /// MONITOR_LIST of a header without records.
+    Empty,
+    /// MONITOR_LIST of a header with records.
+    NotEmpty,
+    /// MONITOR_LIST, stop: how many monitors ended, 0 or 1.
+    OkCount {
+        n: u32,
+    },
+}

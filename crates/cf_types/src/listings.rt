@@ -1,0 +1,42 @@
+ghost use Rattle.std.specs.Prelude.{◌≡◌};
+
+use std::marker::Model;
+
+/// Items in their order. Contracts see it as the list of them. It is made from a `Vec`, and gives
+/// the `Vec` back, without taking memory.
+#[derive(Debug, Drop)]
+pub struct Listing<T> {
+    items: Vec<T>,
+}
+
+impl<T> Model for Listing<T> {
+    ghost use Rattle.std.specs.Prelude.{List};
+
+    ghost Value = { List T };
+
+    ghost view = { λ l. l.items.items };
+}
+
+impl<T> Listing<T> {
+    /// The items of a `Vec`.
+    pub fn from_vec(items: Vec<T>) -> Listing<T>
+        ensures { result ≡ items.items }
+    {
+        Listing { items }
+    }
+
+    /// The items.
+    pub fn items(&self) -> &[T]
+        ensures { result.now ≡ self.now }
+    {
+        self.items.as_slice()
+    }
+
+    /// The items as a `Vec`.
+    pub fn into_vec(self) -> Vec<T>
+        ensures { result.items ≡ self }
+    {
+        let Listing { items } = self;
+        items
+    }
+}
