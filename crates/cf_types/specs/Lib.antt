@@ -1,5 +1,8 @@
 pub mod Term
 pub mod Batch
+pub mod ConnSets
+pub mod Mailboxes
+pub mod Forms
 pub mod Name
 pub mod Stored
 pub mod Filled

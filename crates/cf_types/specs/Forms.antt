@@ -1,0 +1,47 @@
+-- The forms of structures that a policy may state.
+use Rattle.std.specs.Prelude.{◌≡◌, ◌≢◌, ℕ, ◌≤◌, ◌<◌, Bool, true, false, List, All, AllPairs}
+use Rattle.cf_types.specs.declared.numbers.ConnId.{ConnId}
+use Rattle.cf_types.specs.declared.numbers.CfId.{CfId}
+use Rattle.cf_types.specs.declared.forms.Caps.{Caps}
+use Rattle.cf_types.specs.declared.forms.Kind.{Kind}
+use Rattle.cf_types.specs.declared.forms.Kind.TheVariants as kind
+use Rattle.cf_types.specs.declared.forms.Pref.{Pref}
+use Rattle.cf_types.specs.declared.forms.StrForm.{StrForm}
+
+-- the number of a facility; that of a connector
+abbrev pub IsFacility : CfId → Type 0
+IsFacility cf = (1 ≤ cf.0) × (cf.0 ≤ 4)
+
+abbrev pub IsConnector : ConnId → Type 0
+IsConnector conn = (1 ≤ conn.0) × (conn.0 ≤ 32)
+
+-- 1 to 4,096 entries, and as many elements or records
+pub record IsCapacity (caps : Caps) : Type 0 where
+  pub some_entries : 1 ≤ caps.entries
+  pub most_entries : caps.entries ≤ 4096
+  pub some_elements : 1 ≤ caps.elements
+  pub most_elements : caps.elements ≤ 4096
+
+-- 1 to 1,024 bits; a lock structure has no vectors
+abbrev pub IsVectorOf : Kind → ℕ → Type 0
+IsVectorOf kind.Cache vector = (1 ≤ vector) × (vector ≤ 1024)
+IsVectorOf (kind.List headers locks refs) vector = (1 ≤ vector) × (vector ≤ 1024)
+IsVectorOf kind.Lock vector = vector ≡ 0
+
+-- 1 to 64 headers, and at most 64 lock entries
+abbrev pub IsKind : Kind → Type 0
+IsKind kind.Cache = Unit {0}
+IsKind (kind.List headers locks refs) = (1 ≤ headers) × (headers ≤ 64) × (locks ≤ 64)
+IsKind kind.Lock = Unit {0}
+
+abbrev pub IsPref : Pref → Type 0
+IsPref pref = IsFacility pref.cf × (1 ≤ pref.units) × (pref.units ≤ 1000000)
+
+pub record IsForm (form : StrForm) : Type 0 where
+  pub kind : IsKind form.kind
+  pub caps : IsCapacity form.caps
+  pub some_conns : 1 ≤ form.conns
+  pub most_conns : form.conns ≤ 32
+  pub vector : IsVectorOf form.kind form.vector
+  pub prefs : All IsPref form.prefs
+  pub apart : AllPairs (λ pref other. pref.cf.0 ≢ other.cf.0) form.prefs
