@@ -1,1 +1,2 @@
 pub mod TermFaults
+pub mod GainsLaws

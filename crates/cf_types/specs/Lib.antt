@@ -3,6 +3,7 @@ pub mod Batch
 pub mod ConnSets
 pub mod Mailboxes
 pub mod Forms
+pub mod Gains
 pub mod Name
 pub mod Stored
 pub mod Filled

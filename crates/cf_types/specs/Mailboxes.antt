@@ -1,5 +1,5 @@
 -- The events of a structure's connectors: those that wait, and those taken that are to be answered.
-use Rattle.std.specs.Prelude.{ℕ, Bool, true, false, if◌then◌else◌, List, [], ◌∷◌, ◌++◌, fold, map, drop, replicate, Option, None, unwrap_or, slice_get, slice_set}
+use Rattle.std.specs.Prelude.{Bool, true, false, if◌then◌else◌, List, [], ◌∷◌, ◌++◌, fold, map, drop, replicate, Option, None, unwrap_or, slice_get, slice_set}
 use Rattle.cf_types.specs.declared.numbers.ConnId.{ConnId}
 use Rattle.cf_types.specs.declared.events.Event.{Event}
 use Rattle.cf_types.specs.declared.events.Event.TheVariants.{NewConn, DiscFail, Quiesce, RebuildConnect, ConnectsDone, Cleanup, Complete, Stop, StopDone, LostConn, StrFail, Contention, Notify, Granted, Denied}

@@ -1,0 +1,101 @@
+-- What is told of changed bits, one change after another.
+use Rattle.std.proofs.Common.{◌≡◌, ℕ, ◌==◌, ◌&&◌, Bool, true, false, List, [], ◌∷◌, ◌++◌, refl, sym, ap, ◌∙◌, append-nil, append_assoc, map, filter, ◌⊎◌, inl, inr, arith, subst₂}
+use Rattle.std.proofs.lemmas.List.{map-append}
+use Rattle.std.proofs.lemmas.List.Elements.{filter-append}
+use Rattle.std.proofs.lemmas.Bool.Decides.{nat_tests}
+use Rattle.cf_types.specs.declared.numbers.ConnId.{ConnId}
+use Rattle.cf_types.specs.declared.effects.BitChange.{BitChange}
+use Rattle.cf_types.specs.Gains.{Bits, Gains, is_for, told, difference}
+
+difference_none : (b : Bool) → [] ≡ difference b b
+difference_none false = refl
+difference_none true = refl
+
+-- where no bit changed nothing is told
+pub gains_none : (before after : Bits) (bits : List BitChange)
+    → ((conn : ConnId) (index : ℕ) → after conn index ≡ before conn index) → Gains before after bits bits
+gains_none before after bits same =
+    record {
+      added = [];
+      behind = sym (append-nil bits);
+      exactly = λ conn index. rw (same conn index) (difference_none (before conn index));
+    }
+
+pub told-append : (xs ys : List BitChange) (conn : ConnId) (index : ℕ)
+    → told (xs ++ ys) conn index ≡ told xs conn index ++ told ys conn index
+told-append xs ys conn index =
+    ap (map (λ (change : BitChange). change.bit)) (filter-append (is_for conn index) xs ys)
+    ∙ map-append (λ (change : BitChange). change.bit) (filter (is_for conn index) xs) (filter (is_for conn index) ys)
+
+-- one change after another, where at most one of them changes the bit
+difference_then : (a b c : Bool) → (b ≡ a) ⊎ (c ≡ b) → difference a b ++ difference b c ≡ difference a c
+difference_then a b c (inl same) = rw same (ap (λ (t : List Bool). t ++ difference a c) (sym (difference_none a)))
+difference_then a b c (inr same) = rw same (ap (λ (t : List Bool). difference a b ++ t) (sym (difference_none b)) ∙ append-nil (difference a b))
+
+-- two changes, of which no bit is changed by both
+pub gains_then : (before middle after : Bits) (xs ys zs : List BitChange)
+    → ((conn : ConnId) (index : ℕ) → (middle conn index ≡ before conn index) ⊎ (after conn index ≡ middle conn index))
+    → Gains before middle xs ys → Gains middle after ys zs → Gains before after xs zs
+gains_then before middle after xs ys zs once first second =
+    record {
+      added = first.added ++ second.added;
+      behind = second.behind ∙ ap (λ (t : List BitChange). t ++ second.added) first.behind ∙ append_assoc xs first.added second.added;
+      exactly = λ conn index. told-append first.added second.added conn index ∙ rw (first.exactly conn index, second.exactly conn index)
+          (difference_then (before conn index) (middle conn index) (after conn index) (once conn index));
+    }
+
+-- bits that only fall, twice
+only_falls : (a b c : Bool) → (b ≡ true → a ≡ true) → (c ≡ true → b ≡ true) → (b ≡ a) ⊎ (c ≡ b)
+only_falls false false c h k = inl refl
+only_falls true true c h k = inl refl
+only_falls true false false h k = inr refl
+only_falls true false true h k = let f : false ≡ true = k refl in absurd cc
+only_falls false true c h k = let f : false ≡ true = h refl in absurd cc
+
+abbrev pub Falls : Bits → Bits → Type 0
+Falls before after = (conn : ConnId) (index : ℕ) → after conn index ≡ true → before conn index ≡ true
+
+pub gains_falls : (before middle after : Bits) (xs ys zs : List BitChange) → Falls before middle → Falls middle after
+    → Gains before middle xs ys → Gains middle after ys zs → Gains before after xs zs
+gains_falls before middle after xs ys zs fall falls =
+    gains_then before middle after xs ys zs
+    (λ conn index. only_falls (before conn index) (middle conn index) (after conn index) (fall conn index) (falls conn index))
+
+both_left : (a b c d : ℕ) → (a == b) && (c == d) ≡ true → a ≡ b
+both_left a b c d e = grind (arith, nat_tests)
+
+both_right : (a b c d : ℕ) → (a == b) && (c == d) ≡ true → c ≡ d
+both_right a b c d e = grind (arith, nat_tests)
+
+difference_changed : (a b : Bool) → (a ≡ b → ⊥) → b ∷ [] ≡ difference a b
+difference_changed false false h = absurd (h refl)
+difference_changed false true h = refl
+difference_changed true false h = refl
+difference_changed true true h = absurd (h refl)
+
+told_one : (by conn : ConnId) (index i : ℕ) (before after : Bits)
+    → (before by index ≡ after by index → ⊥)
+    → ((by.0 == conn.0) && (index == i) ≡ false → after conn i ≡ before conn i)
+    → told (record { conn = by; index = index; bit = after by index } ∷ []) conn i ≡ difference (before conn i) (after conn i)
+told_one by conn index i before after changed others = go ((by.0 == conn.0) && (index == i)) refl
+  where
+    go : (b : Bool) → (by.0 == conn.0) && (index == i) ≡ b
+        → told (record { conn = by; index = index; bit = after by index } ∷ []) conn i ≡ difference (before conn i) (after conn i)
+    go true same =
+        let conns : by.0 ≡ conn.0 = both_left by.0 conn.0 index i same in
+        let indexes : index ≡ i = both_right by.0 conn.0 index i same in
+        let here : after by index ∷ [] ≡ difference (before by index) (after by index) = difference_changed (before by index) (after by index) changed in
+        rw same (here ∙ subst₂ (λ (c n : ℕ). difference (before by index) (after by index) ≡ difference (before (record { 0 = c }) n) (after (record { 0 = c }) n)) conns indexes refl)
+    go false apart = rw (apart, others apart) (difference_none (before conn i))
+
+-- one bit changed, and is told
+pub gains_one : (by : ConnId) (index : ℕ) (before after : Bits) (bits : List BitChange)
+    → (before by index ≡ after by index → ⊥)
+    → ((conn : ConnId) (i : ℕ) → (by.0 == conn.0) && (index == i) ≡ false → after conn i ≡ before conn i)
+    → Gains before after bits (bits ++ record { conn = by; index = index; bit = after by index } ∷ [])
+gains_one by index before after bits changed others =
+    record {
+      added = record { conn = by; index = index; bit = after by index } ∷ [];
+      behind = refl;
+      exactly = λ conn i. told_one by conn index i before after changed (others conn i);
+    }
