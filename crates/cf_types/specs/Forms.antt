@@ -15,6 +15,10 @@ IsFacility cf = (1 ≤ cf.0) × (cf.0 ≤ 4)
 abbrev pub IsConnector : ConnId → Type 0
 IsConnector conn = (1 ≤ conn.0) × (conn.0 ≤ 32)
 
+-- a caller: the operator or a connector
+abbrev pub IsCaller : ConnId → Type 0
+IsCaller conn = conn.0 ≤ 32
+
 -- 1 to 4,096 entries, and as many elements or records
 pub record IsCapacity (caps : Caps) : Type 0 where
   pub some_entries : 1 ≤ caps.entries

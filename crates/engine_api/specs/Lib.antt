@@ -1,0 +1,3 @@
+pub mod Shapes
+pub mod Meaning
+pub mod Items

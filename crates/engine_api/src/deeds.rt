@@ -1,0 +1,22 @@
+use cf_types::{CfId, ConnId};
+
+/// What a common command does to the instances and their content, in the order of the fields.
+#[derive(Clone, Copy, Debug, PartialEq, Eq)]
+pub struct Deeds {
+    /// A failed connection is taken up again.
+    pub back: Option<ConnId>,
+    /// An empty instance is made in this facility: a rebuild's new one, or the primary.
+    pub make: Option<CfId>,
+    /// A second instance with the same content is made in this facility.
+    pub second: Option<CfId>,
+    /// The instance in this facility is dropped.
+    pub drop_at: Option<CfId>,
+    /// The new instance of a rebuild is emptied.
+    pub restart: bool,
+    /// The new instance takes the place of the old one.
+    pub switch: bool,
+    /// The new instance is dropped.
+    pub drop_fresh: bool,
+    /// All instances end, and the content with them.
+    pub drop_all: bool,
+}

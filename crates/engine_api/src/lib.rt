@@ -1,0 +1,15 @@
+//! What every structure of a coupling facility shares: engines, which keep a content and do the
+//! commands on it, and the numbered histories of their calls.
+#![tactic(auto)]
+
+mod asks;
+mod deeds;
+mod engine;
+mod histories;
+mod shapes;
+
+pub use asks::{Ask, Reply, What};
+pub use deeds::Deeds;
+pub use engine::Engine;
+pub use histories::{Entry, History};
+pub use shapes::Shape;
