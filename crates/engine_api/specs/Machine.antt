@@ -1,0 +1,89 @@
+-- The one-thread machine of a structure: what each call answers, and what it leaves.
+use Rattle.std.specs.Prelude.{◌≡◌, ℕ, Bool, true, false, if◌then◌else◌, List, [], ◌∷◌, Option, None, Some, is_some, Result, Ok, Err}
+use Rattle.cf_types.specs.declared.forms.StrForm.{StrForm}
+use Rattle.cf_types.specs.declared.events.Letter.{Letter}
+use Rattle.cf_types.specs.declared.numbers.CfId.{CfId}
+use Rattle.cf_types.specs.declared.numbers.ConnId.{ConnId}
+use Rattle.cf_types.specs.declared.refusals.Refusal.{Refusal}
+use Rattle.cf_types.specs.declared.shell_commands.ShellCmd.{ShellCmd}
+use Rattle.engine_api.specs.declared.asks.Ask.{Ask}
+use Rattle.engine_api.specs.declared.asks.Ask.TheVariants as ask
+use Rattle.engine_api.specs.declared.asks.Reply.{Reply}
+use Rattle.engine_api.specs.declared.asks.Reply.TheVariants as reply
+use Rattle.engine_api.specs.declared.deeds.Deeds.{Deeds}
+use Rattle.engine_api.specs.declared.shapes.Shape.{Shape}
+use Rattle.engine_api.specs.Meaning.{Meaning, Held, Departure, Stepped, stepped}
+use Rattle.engine_api.specs.Shapes.{shape_of}
+use Rattle.engine_api.specs.Shell.{Shell, Leaver, Acted, opening_shell, shell_cause, content_cause, shell_done, leaver, posting}
+
+-- the part that is the same for every kind, and the content. Where no instance stands there is nothing in the content
+pub record Machine (S : Type 0) : Type 0 where
+  pub shell : Shell
+  pub content : S
+
+-- what a call answers, and the machine that it leaves
+pub record Answered (R S : Type 0) : Type 0 where
+  pub reply : Reply R
+  pub machine : Machine S
+
+-- a refused call changes nothing
+abbrev pub refusing : {R S : Type 0} → Machine S → Refusal → Answered R S
+refusing machine refusal = record { reply = reply.Refused refusal; machine = machine }
+
+abbrev pub content_reply : {R : Type 0} → Result R Refusal → Reply R
+content_reply (Ok answer) = reply.Content answer
+content_reply (Err refusal) = reply.Refused refusal
+
+module _ {C R I S : Type 0} (meaning : Meaning C R I S) (form : StrForm) where
+  abbrev pub opening : Machine S
+  opening = record { shell = opening_shell; content = meaning.empty (shape_of form) }
+
+  -- the capacity of the instances
+  abbrev pub capacity : Machine S → Held S
+  capacity machine = record { shape = shape_of form; caps = form.caps; state = machine.content }
+
+  -- a command on the content is done by the engine, and its letters are posted
+  abbrev pub content_done : Machine S → ConnId → C → Answered R S
+  content_done machine by cmd =
+      let step = stepped meaning (capacity machine) by cmd in
+      record {
+        reply = content_reply step.reply;
+        machine = record { shell = posting step.letters machine.shell; content = step.state };
+      }
+
+  -- who departs leaves the content first, where an instance stands
+  abbrev pub leaving : Option Leaver → Machine S → Departure S
+  leaving None machine = record { state = machine.content; letters = [] }
+  leaving (Some leaver) machine =
+      if is_some machine.shell.instances.primary
+      then meaning.leave (shape_of form) machine.content leaver.conn leaver.keep
+      else record { state = machine.content; letters = [] }
+
+  -- the content after a command's deeds
+  abbrev pub with_back_of : Option ConnId → S → S
+  with_back_of None content = content
+  with_back_of (Some conn) content = meaning.back content conn
+
+  abbrev pub with_made : Option CfId → S → S
+  with_made None content = content
+  with_made (Some cf) content = meaning.empty (shape_of form)
+
+  abbrev pub with_deeds : Deeds → S → S
+  with_deeds deeds content =
+      if deeds.drop_all then meaning.empty (shape_of form) else with_made deeds.make (with_back_of deeds.back content)
+
+  -- a common command: the departure from the content, its letters, the command itself, and its deeds
+  abbrev pub command_done : Machine S → ConnId → ShellCmd → Answered R S
+  command_done machine by cmd =
+      let gone = leaving (leaver machine.shell by cmd) machine in
+      let acted = shell_done form (posting gone.letters machine.shell) by cmd in
+      record { reply = reply.Shell acted.reply; machine = record { shell = acted.shell; content = with_deeds acted.deeds gone.state } }
+
+  abbrev pub unless : Option Refusal → Machine S → Answered R S → Answered R S
+  unless None machine done = done
+  unless (Some refusal) machine done = refusing machine refusal
+
+  -- the step of a call
+  abbrev pub step : Machine S → ConnId → Ask C → Answered R S
+  step machine by (ask.Shell cmd) = unless (shell_cause form machine.shell by cmd) machine (command_done machine by cmd)
+  step machine by (ask.Content cmd) = unless (content_cause machine.shell by) machine (content_done machine by cmd)
