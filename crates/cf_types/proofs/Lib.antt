@@ -1,2 +1,3 @@
 pub mod TermFaults
 pub mod GainsLaws
+pub mod ConnSetLaws

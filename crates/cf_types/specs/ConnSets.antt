@@ -5,7 +5,7 @@ use Rattle.std.specs.Int.{bit_at}
 use Rattle.cf_types.specs.declared.numbers.ConnId.{ConnId}
 
 -- so many connectors, from this number on
-abbrev pub conns_from : ℕ → ℕ → List ConnId
+unfoldable pub conns_from : ℕ → ℕ → List ConnId
 conns_from first zero = []
 conns_from first (suc n) = record { 0 = first } ∷ conns_from (first + 1) n
 
@@ -25,7 +25,7 @@ abbrev pub without_member : ConnId → List ConnId → List ConnId
 without_member conn set = filter (λ other. not (other.0 == conn.0)) set
 
 -- a set is kept as bits: connector c is a member where bit c is set
-abbrev pub members : ℕ → List ConnId
+unfoldable pub members : ℕ → List ConnId
 members bits = filter (λ conn. bit_at bits conn.0 == 1) (conns_from 0 64)
 
 abbrev pub bits_of : List ConnId → ℕ

@@ -1,6 +1,8 @@
 pub mod Term
 pub mod Batch
 pub mod ConnSets
+pub mod MemberLaws
+pub mod Connections
 pub mod Mailboxes
 pub mod Forms
 pub mod Gains

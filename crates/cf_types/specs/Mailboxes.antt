@@ -17,7 +17,7 @@ Mailboxes = List Mailbox
 abbrev pub no_events : Mailbox
 no_events = record { waiting = []; owed = [] }
 
-abbrev pub empty_mail : Mailboxes
+unfoldable pub empty_mail : Mailboxes
 empty_mail = replicate 33 no_events
 
 abbrev pub mailbox_of : Mailboxes → ConnId → Mailbox
