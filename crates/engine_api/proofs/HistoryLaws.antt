@@ -1,9 +1,8 @@
 -- What one more entry does to a history, and what a front of a history has of the whole.
-use Rattle.std.proofs.Common.{◌≡◌, ℕ, zero, suc, ◌+◌, ◌≤◌, ◌<◌, ◌==◌, ◌⊎◌, inl, inr, Bool, true, false, List, [], ◌∷◌, ◌++◌, length, take, filter, slice_get, Some, None, refl, sym, ap, subst, ◌∙◌, le_of_lt, take_at, append_assoc, append-nil, arith, map, lit<}
-use Rattle.std.proofs.lemmas.List.{take-append-le, length-append, length-take, map-append}
+use Rattle.std.proofs.Common.{◌≡◌, ℕ, zero, suc, ◌+◌, ◌<◌, ◌==◌, inl, inr, true, false, List, [], ◌∷◌, ◌++◌, length, take, filter, slice_get, Some, refl, sym, ap, subst, ◌∙◌, le_of_lt, take_at, append_assoc, append-nil, arith, map, lit<}
+use Rattle.std.proofs.lemmas.List.{take-append-le, length-take, map-append}
 use Rattle.std.proofs.lemmas.List.Sums.{fold_push}
 use Rattle.std.proofs.lemmas.List.Elements.{filter-append, filter_map-append, Contains-append_left, Contains-append_right}
-use Rattle.std.specs.List.{filter_map}
 use Rattle.cf_types.specs.declared.forms.StrForm.{StrForm}
 use Rattle.cf_types.specs.declared.numbers.ConnId.{ConnId}
 use Rattle.engine_api.specs.declared.asks.Ask.{Ask}
@@ -11,8 +10,8 @@ use Rattle.engine_api.specs.declared.asks.What.{What}
 use Rattle.engine_api.specs.declared.asks.What.TheVariants as what
 use Rattle.engine_api.specs.declared.histories.Entry.{Entry}
 use Rattle.engine_api.specs.Meaning.{Meaning}
-use Rattle.engine_api.specs.Machine.{Machine, opening, step}
-use Rattle.engine_api.specs.History.{Call, call_of, calls, numbers, own, losses_after, IsGroupPart, AreGroupsAfter, after, replay, next_entry, next, next_reply, IsNext, IsNextAs, IsLegal, Continues, IsPoint, stands_after}
+use Rattle.engine_api.specs.Machine.{opening}
+use Rattle.engine_api.specs.History.{Call, call_of, calls, numbers, own, losses_after, AreGroupsAfter, after, replay, next_entry, next, next_reply, IsNext, IsNextAs, IsLegal, Continues, IsPoint}
 use Rattle.engine_api.proofs.Pushed.{pushed_cases, get_front}
 
 -- ---- calls
@@ -60,13 +59,13 @@ module _ {C R I S : Type 0} (meaning : Meaning C R I S) (form : StrForm) where
       record {
         groups = groups-append 0 history (added ∷ []) legal.groups (tt, refl);
         entries = λ i entry e. elim (pushed_cases history added i entry e) [
-              | inl h ↦
-                  let before : take i (history ++ added ∷ []) ≡ take i history = take-append-le i history _ (le_of_lt h.0) in
-                  rw before (legal.entries i entry h.1)
-              | inr h ↦
-                  let before : take i (history ++ added ∷ []) ≡ history = take_at history _ i (sym h.0) in
-                  rw before (is_next-next history by ask entry h.1)
-            ];
+          | inl h ↦
+              let before : take i (history ++ added ∷ []) ≡ take i history = take-append-le i history _ (le_of_lt h.0) in
+              rw before (legal.entries i entry h.1)
+          | inr h ↦
+              let before : take i (history ++ added ∷ []) ≡ history = take_at history _ i (sym h.0) in
+              rw before (is_next-next history by ask entry h.1)
+        ];
       }
 
   -- groups at the front of a legal history are legal
@@ -145,7 +144,7 @@ module _ {C R I S : Type 0} (meaning : Meaning C R I S) (form : StrForm) where
   continues_each history (entry ∷ others) each = (
     subst (λ (h : List (Entry C R)). IsNext meaning form h entry) (append-nil history) (each 0 entry refl),
     continues_each (history ++ entry ∷ []) others (λ i other e.
-    subst (λ (h : List (Entry C R)). IsNext meaning form h other) (sym (append_assoc history (entry ∷ []) (take i others))) (each (suc i) other e)),
+        subst (λ (h : List (Entry C R)). IsNext meaning form h other) (sym (append_assoc history (entry ∷ []) (take i others))) (each (suc i) other e)),
   )
 
   each_continues : (history others : List (Entry C R)) → Continues meaning form history others → FollowsEach history others

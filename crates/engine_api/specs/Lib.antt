@@ -5,3 +5,4 @@ pub mod Instances
 pub mod Shell
 pub mod Machine
 pub mod History
+pub mod Asking

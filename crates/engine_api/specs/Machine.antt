@@ -1,7 +1,6 @@
 -- The one-thread machine of a structure: what each call answers, and what it leaves.
-use Rattle.std.specs.Prelude.{◌≡◌, ℕ, Bool, true, false, if◌then◌else◌, List, [], ◌∷◌, Option, None, Some, is_some, Result, Ok, Err}
+use Rattle.std.specs.Prelude.{if◌then◌else◌, [], Option, None, Some, is_some, Result, Ok, Err}
 use Rattle.cf_types.specs.declared.forms.StrForm.{StrForm}
-use Rattle.cf_types.specs.declared.events.Letter.{Letter}
 use Rattle.cf_types.specs.declared.numbers.CfId.{CfId}
 use Rattle.cf_types.specs.declared.numbers.ConnId.{ConnId}
 use Rattle.cf_types.specs.declared.refusals.Refusal.{Refusal}
@@ -11,10 +10,9 @@ use Rattle.engine_api.specs.declared.asks.Ask.TheVariants as ask
 use Rattle.engine_api.specs.declared.asks.Reply.{Reply}
 use Rattle.engine_api.specs.declared.asks.Reply.TheVariants as reply
 use Rattle.engine_api.specs.declared.deeds.Deeds.{Deeds}
-use Rattle.engine_api.specs.declared.shapes.Shape.{Shape}
-use Rattle.engine_api.specs.Meaning.{Meaning, Held, Departure, Stepped, stepped}
+use Rattle.engine_api.specs.Meaning.{Meaning, Held, Departure, stepped}
 use Rattle.engine_api.specs.Shapes.{shape_of}
-use Rattle.engine_api.specs.Shell.{Shell, Leaver, Acted, opening_shell, shell_cause, content_cause, shell_done, leaver, posting}
+use Rattle.engine_api.specs.Shell.{Shell, Leaver, opening_shell, shell_cause, content_cause, shell_done, leaver, posting}
 
 -- the part that is the same for every kind, and the content. Where no instance stands there is nothing in the content
 pub record Machine (S : Type 0) : Type 0 where
