@@ -1,5 +1,7 @@
-ghost use Rattle.std.specs.Prelude.{◌≡◌};
+ghost use Rattle.std.specs.Prelude.{◌≡◌, ◌++◌, ◌∷◌, [], OnOk, OnErr};
 
+use crate::memory::NoMemory;
+use std::alloc::Global;
 use std::marker::Model;
 
 /// Items in their order. Contracts see it as the list of them. It is made from a `Vec`, and gives
@@ -18,6 +20,15 @@ impl<T> Model for Listing<T> {
 }
 
 impl<T> Listing<T> {
+    /// No items.
+    pub fn new(alloc: Global) -> Listing<T>
+        ensures { result ≡ [] }
+    {
+        Listing {
+            items: Vec::new(alloc),
+        }
+    }
+
     /// The items of a `Vec`.
     pub fn from_vec(items: Vec<T>) -> Listing<T>
         ensures { result ≡ items.items }
@@ -38,5 +49,16 @@ impl<T> Listing<T> {
     {
         let Listing { items } = self;
         items
+    }
+}
+
+impl<T: Drop> Listing<T> {
+    /// One item more, behind the others. Want of memory changes nothing.
+    pub fn push(&mut self, item: T) -> Result<(), NoMemory>
+        ensures ok { OnOk result (self.new ≡ self.old ++ item ∷ []) }
+        ensures err { OnErr result (self.new ≡ self.old) }
+    {
+        self.items.push(item)?;
+        Ok(())
     }
 }

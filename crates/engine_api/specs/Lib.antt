@@ -3,6 +3,7 @@ pub mod Meaning
 pub mod Items
 pub mod Instances
 pub mod Shell
+pub mod Told
 pub mod Machine
 pub mod History
 pub mod Asking

@@ -7,9 +7,11 @@ mod deeds;
 mod engine;
 mod histories;
 mod shapes;
+mod told;
 
 pub use asks::{Ask, Reply, What};
 pub use deeds::Deeds;
 pub use engine::Engine;
 pub use histories::{Entry, History};
 pub use shapes::Shape;
+pub use told::Told;
