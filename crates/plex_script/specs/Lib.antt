@@ -1,0 +1,3 @@
+pub mod Agent
+pub mod Heard
+pub mod Follows
