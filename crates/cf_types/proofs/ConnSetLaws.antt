@@ -1,6 +1,8 @@
 -- Sets of connectors: what a member more or less changes, and how the bits that a set is kept as follow.
-use Rattle.std.proofs.Common.{◌≡◌, ◌≢◌, ℕ, zero, suc, ◌+◌, ◌*◌, ◌/◌, ◌%◌, ◌^◌, ◌<◌, ◌≤◌, Bool, true, false, cond, not, ◌&&◌, ◌⊎◌, ◌==◌, eqb, ltb, filter, List, [], ◌∷◌, length, bit_and, bit_or, count_ones, refl, sym, ap, subst, ◌∙◌, ⊎_elim, arith, add-one}
-use Rattle.std.proofs.lemmas.Bool.{eq-eqb, ne_eqb, lt-ltb, le-ltb, and_right, cases_eq, cases_order}
+use Rattle.std.proofs.Common.{◌≡◌, ◌≢◌, ℕ, zero, suc, ◌+◌, ◌*◌, ◌/◌, ◌%◌, ◌^◌, ◌<◌, ◌≤◌, Bool, true, false, cond, not, ◌||◌, ◌&&◌, ◌⊎◌, ◌==◌, eqb, ltb, filter, List, [], ◌∷◌, ◌++◌, length, bit_and, bit_or, count_ones, refl, sym, ap, subst, ◌∙◌, ⊎_elim, arith, add-one, add-zero, zero-add}
+use Rattle.std.proofs.lemmas.Bool.{eqb-true, eq-eqb, ne_eqb, lt-ltb, le-ltb, and_right, cases_eq, cases_order}
+use Rattle.std.proofs.lemmas.List.{append-nil}
+use Rattle.std.proofs.lemmas.List.Elements.{filter-append}
 use Rattle.std.proofs.lemmas.Nat.{shr-shr, mod-pow-add, ones-le, one_shl, pow_pos, or_lt}
 use Rattle.std.proofs.lemmas.Nat.Bits.{and_pow, bit_at-lt, bit_at-zero, bit_at_set_same, bit_at_set_other, bit_at_clear_same, bit_at_clear_other}
 use Rattle.std.proofs.Math.Nat.{mod-one, zero-mul}
@@ -112,6 +114,36 @@ without_member-at p q conn c none same =
 pub without_member-from : (p q : ConnId → Bool) (conn : ConnId) (first n : ℕ) → q conn ≡ false → ((c : ConnId) → c.0 ≢ conn.0 → c.0 < first + n → q c ≡ p c) → filter q (conns_from first n) ≡ without_member conn (filter p (conns_from first n))
 without_member-from p q conn first n none same = filter_agree_from q (λ c. p c && not (c.0 == conn.0)) first n (λ c low high. without_member-at p q conn c none (λ apart. same c apart high)) ∙ sym (filter-filter p (λ c. not (c.0 == conn.0)) (conns_from first n))
 
+-- ---- one connector more in the range
+
+conns_from-suc : (first n : ℕ) → conns_from first (suc n) ≡ conns_from first n ++ record { 0 = first + n } ∷ []
+unfolding conns_from
+conns_from-suc first zero = let at : ℕ → List ConnId = λ m. record { 0 = m } ∷ [] in ap at (sym (add-zero first))
+conns_from-suc first (suc n) =
+    let at : ℕ → List ConnId = λ m. record { 0 = first } ∷ (conns_from (first + 1) n ++ record { 0 = m } ∷ []) in
+    let same : first + 1 + n ≡ first + suc n = omega arith in
+    ap (λ (t : List ConnId). record { 0 = first } ∷ t) (conns_from-suc (first + 1) n) ∙ ap at same
+
+with_member-last : (p : ConnId → Bool) (conn : ConnId) (first n : ℕ) → first + n ≤ conn.0 → with_member conn (filter p (conns_from first n)) ≡ filter p (conns_from first n) ++ conn ∷ []
+unfolding conns_from
+with_member-last p conn first zero above = refl
+with_member-last p conn first (suc n) above = go (p (record { 0 = first })) (lt-ltb first conn.0 (omega arith)) (with_member-last p conn (first + 1) n (omega arith))
+  where
+    go : (b : Bool) → ltb first conn.0 ≡ true → with_member conn (filter p (conns_from (first + 1) n)) ≡ filter p (conns_from (first + 1) n) ++ conn ∷ [] → with_member conn (cond b (record { 0 = first } ∷ filter p (conns_from (first + 1) n)) (filter p (conns_from (first + 1) n))) ≡ cond b (record { 0 = first } ∷ filter p (conns_from (first + 1) n)) (filter p (conns_from (first + 1) n)) ++ conn ∷ []
+    go true below others = rw below (ap (λ (t : List ConnId). record { 0 = first } ∷ t) others)
+    go false below others = others
+
+filter-one : (p : ConnId → Bool) (conn : ConnId) (n : ℕ) → n ≤ conn.0 → (b : Bool) → filter p (conns_from 0 n) ++ cond b (conn ∷ []) [] ≡ cond b (with_member conn (filter p (conns_from 0 n))) (filter p (conns_from 0 n))
+filter-one p conn n above true = sym (with_member-last p conn 0 n (omega arith))
+filter-one p conn n above false = append-nil (filter p (conns_from 0 n))
+
+-- the first n and one more
+pub filter-from_zero_more : (p : ConnId → Bool) (n : ℕ) → filter p (conns_from 0 (n + 1)) ≡ cond (p (record { 0 = n })) (with_member (record { 0 = n }) (filter p (conns_from 0 n))) (filter p (conns_from 0 n))
+filter-from_zero_more p n =
+    let conn : ConnId = record { 0 = n } in
+    let more : conns_from 0 (n + 1) ≡ conns_from 0 n ++ conn ∷ [] = rw (add-one, conns_from-suc 0 n, zero-add n) refl in
+    rw (more, filter-append p (conns_from 0 n) (conn ∷ [])) (filter-one p conn n (omega arith) (p conn))
+
 -- ---- the bits of a set
 
 pub members-zero : members 0 ≡ []
@@ -165,3 +197,40 @@ has_bit bits conn within =
 
 pub bits_set-lt : (bits : ℕ) (conn : ConnId) → bits < 2 ^ 64 → bit_or bits (1 * 2 ^ conn.0 % 2 ^ 64) < 2 ^ 64
 bits_set-lt bits conn small = or_lt 64 _ _ small (omega arith)
+
+-- ---- members of a set with one more, or one less
+
+pub is_member-with_member_same : (conn : ConnId) (set : List ConnId) → is_member conn (with_member conn set) ≡ true
+is_member-with_member_same conn [] = rw (eq-eqb conn.0 conn.0 refl) refl
+is_member-with_member_same conn (first ∷ others) = go (ltb first.0 conn.0) (eqb first.0 conn.0) refl (is_member-with_member_same conn others)
+  where
+    go : (below same : Bool) → eqb first.0 conn.0 ≡ same → is_member conn (with_member conn others) ≡ true → is_member conn (cond below (first ∷ with_member conn others) (cond same (first ∷ others) (conn ∷ first ∷ others))) ≡ true
+    go true true is rest = rw is refl
+    go true false is rest = rw (is, rest) refl
+    go false true is rest = rw is refl
+    go false false is rest = rw (eq-eqb conn.0 conn.0 refl) refl
+
+pub is_member-with_member_other : (conn other : ConnId) (set : List ConnId) → other.0 ≢ conn.0 → is_member other (with_member conn set) ≡ is_member other set
+is_member-with_member_other conn other [] apart = rw (ne_eqb conn.0 other.0 (λ e. apart (sym e))) refl
+is_member-with_member_other conn other (first ∷ others) apart = go (ltb first.0 conn.0) (eqb first.0 conn.0) (ne_eqb conn.0 other.0 (λ e. apart (sym e))) (is_member-with_member_other conn other others apart)
+  where
+    go : (below same : Bool) → eqb conn.0 other.0 ≡ false → is_member other (with_member conn others) ≡ is_member other others → is_member other (cond below (first ∷ with_member conn others) (cond same (first ∷ others) (conn ∷ first ∷ others))) ≡ is_member other (first ∷ others)
+    go true same is rest = ap (λ (b : Bool). eqb first.0 other.0 || b) rest
+    go false true is rest = refl
+    go false false is rest = rw is refl
+
+pub is_member-without_member_same : (conn : ConnId) (set : List ConnId) → is_member conn (without_member conn set) ≡ false
+is_member-without_member_same conn [] = refl
+is_member-without_member_same conn (first ∷ others) = go (eqb first.0 conn.0) refl (is_member-without_member_same conn others)
+  where
+    go : (same : Bool) → eqb first.0 conn.0 ≡ same → is_member conn (without_member conn others) ≡ false → is_member conn (cond (not same) (first ∷ without_member conn others) (without_member conn others)) ≡ false
+    go true is rest = rest
+    go false is rest = rw (is, rest) refl
+
+pub is_member-without_member_other : (conn other : ConnId) (set : List ConnId) → other.0 ≢ conn.0 → is_member other (without_member conn set) ≡ is_member other set
+is_member-without_member_other conn other [] apart = refl
+is_member-without_member_other conn other (first ∷ others) apart = go (eqb first.0 conn.0) refl (is_member-without_member_other conn other others apart)
+  where
+    go : (same : Bool) → eqb first.0 conn.0 ≡ same → is_member other (without_member conn others) ≡ is_member other others → is_member other (cond (not same) (first ∷ without_member conn others) (without_member conn others)) ≡ is_member other (first ∷ others)
+    go true is rest = rw (ne_eqb first.0 other.0 (λ e. apart (sym e ∙ eqb-true first.0 conn.0 is))) rest
+    go false is rest = ap (λ (b : Bool). eqb first.0 other.0 || b) rest

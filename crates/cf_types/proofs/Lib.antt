@@ -1,3 +1,4 @@
 pub mod TermFaults
 pub mod GainsLaws
 pub mod ConnSetLaws
+pub mod ConnectionLaws

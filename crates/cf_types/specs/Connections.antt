@@ -1,5 +1,5 @@
 -- The connections of a structure: for each connector's number, the state of its connection.
-use Rattle.std.specs.Prelude.{ℕ, Bool, true, false, List, [], ◌∷◌, filter, map, count_by, replicate, Option, Some, None, is_some, unwrap_or, slice_get, slice_set}
+use Rattle.std.specs.Prelude.{◌≡◌, ℕ, Bool, true, false, ◌||◌, IsTrue, List, [], ◌∷◌, filter, map, length, count_by, replicate, Option, Some, None, is_some, is_none, unwrap_or, slice_get, slice_set}
 use Rattle.cf_types.specs.declared.numbers.ConnId.{ConnId}
 use Rattle.cf_types.specs.declared.connections.ConnState.{ConnState}
 use Rattle.cf_types.specs.declared.connections.ConnState.TheVariants.{Active, Leaving, Failed}
@@ -22,8 +22,29 @@ is_active_state (Some (Leaving keep awaits)) = false
 is_active_state (Some Failed) = false
 is_active_state None = false
 
+abbrev pub is_leaving_state : Option ConnState → Bool
+is_leaving_state (Some (Active keep)) = false
+is_leaving_state (Some (Leaving keep awaits)) = true
+is_leaving_state (Some Failed) = false
+is_leaving_state None = false
+
+abbrev pub is_failed_state : Option ConnState → Bool
+is_failed_state (Some (Active keep)) = false
+is_failed_state (Some (Leaving keep awaits)) = false
+is_failed_state (Some Failed) = true
+is_failed_state None = false
+
 abbrev pub is_active : Connections → ConnId → Bool
 is_active conns conn = is_active_state (state_of conns conn)
+
+abbrev pub is_leaving : Connections → ConnId → Bool
+is_leaving conns conn = is_leaving_state (state_of conns conn)
+
+abbrev pub is_failed : Connections → ConnId → Bool
+is_failed conns conn = is_failed_state (state_of conns conn)
+
+abbrev pub is_gone : Connections → ConnId → Bool
+is_gone conns conn = is_none (state_of conns conn)
 
 -- the active connectors, in number order
 unfoldable pub actives : Connections → List ConnId
@@ -33,18 +54,25 @@ actives conns = filter (is_active conns) (conns_from 0 33)
 abbrev pub defined_count : Connections → ℕ
 defined_count conns = count_by is_some conns
 
+-- the connectors whose answer or departure a departure still awaits
+abbrev pub awaited_by : Option ConnState → List ConnId
+awaited_by (Some (Active keep)) = []
+awaited_by (Some (Leaving keep awaits)) = awaits
+awaited_by (Some Failed) = []
+awaited_by None = []
+
 -- a departure that awaits nobody is finished: the connection is failed where it is kept, and else gone
-abbrev pub departing : Bool → List ConnId → Option ConnState
-departing keep (other ∷ others) = Some (Leaving keep (other ∷ others))
-departing true [] = Some Failed
-departing false [] = None
+abbrev pub departed_state : Bool → List ConnId → Option ConnState
+departed_state keep (other ∷ others) = Some (Leaving keep (other ∷ others))
+departed_state true [] = Some Failed
+departed_state false [] = None
 
 -- a connection whose departure awaits this connector no more
-abbrev pub excusing : ConnId → Option ConnState → Option ConnState
-excusing conn (Some (Leaving keep awaits)) = departing keep (without_member conn awaits)
-excusing conn (Some (Active keep)) = Some (Active keep)
-excusing conn (Some Failed) = Some Failed
-excusing conn None = None
+abbrev pub excused_state : ConnId → Option ConnState → Option ConnState
+excused_state conn (Some (Leaving keep awaits)) = departed_state keep (without_member conn awaits)
+excused_state conn (Some (Active keep)) = Some (Active keep)
+excused_state conn (Some Failed) = Some Failed
+excused_state conn None = None
 
 -- a connector becomes active
 abbrev pub with_connect : ConnId → Bool → Connections → Connections
@@ -54,12 +82,17 @@ with_connect conn keep conns = slice_set conns conn.0 (Some (Active keep))
 -- failed where `keep`, and else gone
 abbrev pub with_departure : ConnId → Bool → Connections → Connections
 with_departure conn keep conns =
-    slice_set (map (excusing conn) conns) conn.0 (departing keep (without_member conn (actives conns)))
+    slice_set (map (excused_state conn) conns) conn.0 (departed_state keep (without_member conn (actives conns)))
 
 -- a connector has answered the departure of another
 abbrev pub with_answer : ConnId → ConnId → Connections → Connections
-with_answer by about conns = slice_set conns about.0 (excusing by (state_of conns about))
+with_answer by about conns = slice_set conns about.0 (excused_state by (state_of conns about))
 
 -- a connection is gone
 abbrev pub with_forced : ConnId → Connections → Connections
 with_forced conn conns = slice_set conns conn.0 None
+
+-- what is true of the connections of a structure: there is a place for the operator, which stays empty, and one for each of 32 connectors
+pub record AreConnections (conns : Connections) : Type 0 where
+  pub places : length conns ≡ 33
+  pub operator : IsTrue (is_gone conns (record { 0 = 0 }))

@@ -1,0 +1,10 @@
+//! The connections of a structure: who is active, leaving or failed, and how a departure finishes.
+#![tactic(auto)]
+
+mod conns;
+mod departures;
+#[cfg(test)]
+mod tests;
+
+pub use cf_types::{ConnSet, ConnState};
+pub use conns::Conns;
