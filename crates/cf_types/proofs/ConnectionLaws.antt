@@ -1,14 +1,14 @@
 -- Connections: what each change leaves at the same and at other connectors, who is active then, and how many are defined.
-use Rattle.std.proofs.Common.{◌≡◌, ◌≢◌, ℕ, zero, suc, ◌+◌, ◌<◌, ◌≤◌, Bool, true, false, cond, not, ◌&&◌, ◌||◌, ◌⊎◌, ◌==◌, IsTrue, filter, map, List, [], ◌∷◌, length, get_or, set, count_by, replicate, Option, Some, None, is_some, is_none, slice_get, slice_set, refl, sym, ap, subst, ◌∙◌, ⊎_elim, arith, length-append}
+use Rattle.std.proofs.Common.{◌≡◌, ◌≢◌, ℕ, zero, suc, ◌+◌, ◌<◌, ◌≤◌, Bool, true, false, cond, IsTrue, map, List, [], ◌∷◌, length, get_or, set, replicate, Option, Some, None, is_some, is_none, slice_get, slice_set, refl, sym, ap, subst, ◌∙◌, ⊎_elim, arith}
 use Rattle.std.proofs.lemmas.Bool.{false≢true, cases_eq, cases_lt}
-use Rattle.std.proofs.lemmas.List.{length-set, length-map, length-replicate, get_or-set_same, get_or-set_other, get_or-map, get_or-replicate, get_or_past, set-get_or, set_past}
-use Rattle.std.proofs.lemmas.List.Sums.{sum_by-cons, sum_by-set, get_or-le-sum_by, count_by-le-length}
+use Rattle.std.proofs.lemmas.List.{length-set, length-map, get_or-set_same, get_or-set_other, get_or_past, set-get_or, set_past}
+use Rattle.std.proofs.lemmas.List.Sums.{sum_by-cons, sum_by-set, get_or-le-sum_by}
 use Rattle.std.proofs.lemmas.Option.{unwrap_or-slice_get}
 use Rattle.std.specs.Option.{unwrap_or}
 use Rattle.cf_types.specs.declared.numbers.ConnId.{ConnId}
 use Rattle.cf_types.specs.declared.connections.ConnState.{ConnState}
 use Rattle.cf_types.specs.declared.connections.ConnState.TheVariants.{Active, Leaving, Failed}
-use Rattle.cf_types.specs.ConnSets.{conns_from, is_member, with_member, without_member}
+use Rattle.cf_types.specs.ConnSets.{is_member, with_member, without_member}
 use Rattle.cf_types.specs.Connections.{Connections, unconnected, state_of, is_active_state, is_leaving_state, is_failed_state, is_active, is_leaving, is_failed, is_gone, actives, defined_count, awaited_by, departed_state, excused_state, with_connect, with_departure, with_answer, with_forced, AreConnections}
 use Rattle.cf_types.proofs.ConnSetLaws.{filter_agree_from, filter_none_from, is_member-without_member_same, is_member-from, with_member-from, without_member-from}
 

@@ -1,5 +1,5 @@
 -- The connections of a structure: for each connector's number, the state of its connection.
-use Rattle.std.specs.Prelude.{◌≡◌, ℕ, Bool, true, false, ◌||◌, IsTrue, List, [], ◌∷◌, filter, map, length, count_by, replicate, Option, Some, None, is_some, is_none, unwrap_or, slice_get, slice_set}
+use Rattle.std.specs.Prelude.{◌≡◌, ℕ, Bool, true, false, IsTrue, List, [], ◌∷◌, filter, map, length, count_by, replicate, Option, Some, None, is_some, is_none, unwrap_or, slice_get, slice_set}
 use Rattle.cf_types.specs.declared.numbers.ConnId.{ConnId}
 use Rattle.cf_types.specs.declared.connections.ConnState.{ConnState}
 use Rattle.cf_types.specs.declared.connections.ConnState.TheVariants.{Active, Leaving, Failed}

@@ -1,0 +1,9 @@
+//! The events of a structure's connectors: letters that wait, and taken events that owe a response.
+#![tactic(auto)]
+
+mod letterbox;
+mod mail;
+#[cfg(test)]
+mod tests;
+
+pub use mail::Mail;

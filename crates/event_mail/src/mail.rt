@@ -1,0 +1,123 @@
+ghost use Rattle.std.specs.Prelude.{◌≡◌, ◌+◌, ◌<◌, ◌≤◌, ℕ, OnOk, IfOk, All, length, slice_index_or};
+ghost use Rattle.cf_types.specs.Mailboxes.{empty_mail, with_letter, next_event, owed_event, with_taken, with_response, with_cleared};
+ghost use Rattle.event_mail.specs.Post.{Box, mailboxes_of};
+
+use crate::letterbox::Letterbox;
+use cf_types::{ConnId, Event, Letter, NoMemory};
+use std::alloc::Global;
+use std::marker::Model;
+
+/// How many mailboxes there are: the operator's, which stays empty, and one for each connector.
+const PLACES: usize = 33;
+
+/// For how many letters a connector's mailbox has room at the start.
+const FIRST_LETTERS: usize = 8;
+
+/// The mailboxes of a structure. Contracts see what each has, by the connectors' numbers from 0, and
+/// for how many letters to each connector room is taken.
+#[derive(Debug, Drop)]
+pub struct Mail {
+    boxes: Vec<Letterbox>,
+    room: usize,
+}
+
+impl Model for Mail {
+    ghost use Rattle.event_mail.specs.Post.{Post, HaveRoom, mailboxes_of};
+
+    ghost Value = { Post };
+
+    ghost view = { λ m. record { boxes = mailboxes_of m.boxes.items; room = m.room } };
+
+    ghost invariant = { λ m. HaveRoom m.boxes.items m.room };
+}
+
+/// Takes room for so many letters more in each mailbox. Want of memory leaves what is in them.
+fn reserve_each(boxes: &mut [Letterbox], letters: usize) -> Result<(), NoMemory>
+    ensures mailboxes { mailboxes_of boxes.new ≡ mailboxes_of boxes.old }
+    ensures room { OnOk result (All (λ box. letters ≤ box.room) boxes.new) }
+    ensures more { (k : ℕ) (d : Box) → k < length boxes.old
+        → (slice_index_or boxes.old k d).room ≤ (slice_index_or boxes.new k d).room }
+{
+    for mailbox in boxes.iter_mut() {
+        mailbox.reserve(letters)?;
+    }
+    Ok(())
+}
+
+impl Mail {
+    /// No events. The mailboxes of the connectors up to `conns` have room for a few letters.
+    pub fn new(alloc: Global, conns: u8) -> Result<Mail, NoMemory>
+        ensures { IfOk result (λ mail. mail.boxes ≡ empty_mail) }
+    {
+        let mut boxes = Vec::new(alloc);
+        for number in 0..PLACES {
+            let letters = if number <= usize::from(conns) {
+                FIRST_LETTERS
+            } else {
+                0
+            };
+            boxes.push(Letterbox::with_room(alloc, letters)?)?;
+        }
+        Ok(Mail { boxes, room: 0 })
+    }
+
+    /// Takes room for so many letters. An event that is taken needs none. Want of memory changes
+    /// nothing.
+    pub fn room(&mut self, letters: u32) -> Result<(), NoMemory>
+        ensures boxes { self.new.boxes ≡ self.old.boxes }
+        ensures room { OnOk result (letters ≤ self.new.room) }
+        ensures more { self.old.room ≤ self.new.room }
+    {
+        let letters = letters as usize;
+        if self.room < letters {
+            reserve_each(&mut self.boxes, letters)?;
+            self.room = letters;
+        }
+        Ok(())
+    }
+
+    /// A letter waits for its connector, behind the others.
+    pub fn post(&mut self, letter: Letter)
+        requires to { letter.to.0 ≤ 32 }
+        requires room { 0 < self.old.room }
+        ensures boxes { self.new.boxes ≡ with_letter self.old.boxes letter }
+        ensures room { self.new.room + 1 ≡ self.old.room }
+    {
+        let mailbox = &mut self.boxes[usize::from(letter.to.0)];
+        mailbox.put(letter.event);
+        self.room -= 1;
+    }
+
+    /// Takes the first event that waits for a connector, none exactly where none waits. An event
+    /// that is to be answered is owed from now on.
+    pub fn next(&mut self, conn: ConnId) -> Option<Event>
+        requires { conn.0 ≤ 32 }
+        ensures event { result ≡ next_event self.old.boxes conn }
+        ensures boxes { self.new.boxes ≡ with_taken conn self.old.boxes }
+        ensures room { self.new.room ≡ self.old.room }
+    {
+        let mailbox = &mut self.boxes[usize::from(conn.0)];
+        mailbox.take()
+    }
+
+    /// Answers the oldest event that a connector owes (IXLEERSP), none exactly where it owes none.
+    pub fn respond(&mut self, conn: ConnId) -> Option<Event>
+        requires { conn.0 ≤ 32 }
+        ensures event { result ≡ owed_event self.old.boxes conn }
+        ensures boxes { self.new.boxes ≡ with_response conn self.old.boxes }
+        ensures room { self.new.room ≡ self.old.room }
+    {
+        let mailbox = &mut self.boxes[usize::from(conn.0)];
+        mailbox.answer()
+    }
+
+    /// Ends a connector's events, those that wait and those that it owes.
+    pub fn clear(&mut self, conn: ConnId)
+        requires { conn.0 ≤ 32 }
+        ensures boxes { self.new.boxes ≡ with_cleared conn self.old.boxes }
+        ensures room { self.new.room ≡ self.old.room }
+    {
+        let mailbox = &mut self.boxes[usize::from(conn.0)];
+        mailbox.clear();
+    }
+}
