@@ -117,7 +117,6 @@ impl Mail {
         ensures boxes { self.new.boxes ≡ with_cleared conn self.old.boxes }
         ensures room { self.new.room ≡ self.old.room }
     {
-        let mailbox = &mut self.boxes[usize::from(conn.0)];
-        mailbox.clear();
+        self.boxes[usize::from(conn.0)].clear();
     }
 }
