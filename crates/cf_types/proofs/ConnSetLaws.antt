@@ -1,6 +1,6 @@
 -- Sets of connectors: what a member more or less changes, and how the bits that a set is kept as follow.
 use Rattle.std.proofs.Common.{◌≡◌, ◌≢◌, ℕ, zero, suc, ◌+◌, ◌*◌, ◌/◌, ◌%◌, ◌^◌, ◌<◌, ◌≤◌, Bool, true, false, cond, not, ◌||◌, ◌&&◌, ◌⊎◌, ◌==◌, eqb, ltb, filter, List, [], ◌∷◌, ◌++◌, length, bit_and, bit_or, count_ones, refl, sym, ap, subst, ◌∙◌, ⊎_elim, arith, add-one, add-zero, zero-add}
-use Rattle.std.proofs.lemmas.Bool.{eqb-true, eq-eqb, ne_eqb, lt-ltb, le-ltb, and_right, cases_eq, cases_order}
+use Rattle.std.proofs.lemmas.Bool.{true≢false, eqb-true, eq-eqb, ne_eqb, lt-ltb, le-ltb, and_right, cases_eq, cases_order}
 use Rattle.std.proofs.lemmas.List.{append-nil}
 use Rattle.std.proofs.lemmas.List.Elements.{filter-append}
 use Rattle.std.proofs.lemmas.Nat.{shr-shr, mod-pow-add, ones-le, one_shl, pow_pos, or_lt}
@@ -14,7 +14,8 @@ use Rattle.cf_types.specs.declared.numbers.ConnId.{ConnId}
 -- ---- the connectors of a range that pass a test
 
 -- tests that agree in the range keep the same ones
-pub filter_agree_from : (p q : ConnId → Bool) (first n : ℕ) → ((c : ConnId) → first ≤ c.0 → c.0 < first + n → p c ≡ q c) → filter p (conns_from first n) ≡ filter q (conns_from first n)
+pub filter_agree_from : (p q : ConnId → Bool) (first n : ℕ) → ((c : ConnId) → first ≤ c.0 → c.0 < first + n → p c ≡ q c)
+    → filter p (conns_from first n) ≡ filter q (conns_from first n)
 unfolding conns_from
 filter_agree_from p q first zero agree = refl
 filter_agree_from p q first (suc n) agree =
@@ -23,73 +24,117 @@ filter_agree_from p q first (suc n) agree =
     rw (agree c (omega arith) (omega arith)) (ap (λ (t : List ConnId). cond (q c) (c ∷ t) t) others)
 
 -- nobody passes
-pub filter_none_from : (p : ConnId → Bool) (first n : ℕ) → ((c : ConnId) → first ≤ c.0 → c.0 < first + n → p c ≡ false) → filter p (conns_from first n) ≡ []
+pub filter_none_from : (p : ConnId → Bool) (first n : ℕ) → ((c : ConnId) → first ≤ c.0 → c.0 < first + n → p c ≡ false)
+    → filter p (conns_from first n) ≡ []
 unfolding conns_from
 filter_none_from p first zero none = refl
 filter_none_from p first (suc n) none =
     let c : ConnId = record { 0 = first } in
-    rw (none c (omega arith) (omega arith)) (filter_none_from p (first + 1) n (λ c low high. none c (omega arith) (omega arith)))
+    rw (none c (omega arith) (omega arith)) (filter_none_from p (first + 1) n
+    (λ c low high. none c (omega arith) (omega arith)))
 
 -- a connector below the range isn't among them
-pub is_member-below : (p : ConnId → Bool) (conn : ConnId) (first n : ℕ) → conn.0 < first → is_member conn (filter p (conns_from first n)) ≡ false
+pub is_member-below : (p : ConnId → Bool) (conn : ConnId) (first n : ℕ) → conn.0 < first
+    → is_member conn (filter p (conns_from first n)) ≡ false
 unfolding conns_from
 is_member-below p conn first zero below = refl
-is_member-below p conn first (suc n) below = go (p (record { 0 = first })) (ne_eqb first conn.0 (λ e. omega arith)) (is_member-below p conn (first + 1) n (omega arith))
+is_member-below p conn first (suc n) below = go (p (record { 0 = first })) (ne_eqb first conn.0 (λ e. omega arith))
+    (is_member-below p conn (first + 1) n (omega arith))
   where
-    go : (b : Bool) → eqb first conn.0 ≡ false → is_member conn (filter p (conns_from (first + 1) n)) ≡ false → is_member conn (cond b (record { 0 = first } ∷ filter p (conns_from (first + 1) n)) (filter p (conns_from (first + 1) n))) ≡ false
+    go : (b : Bool) → eqb first conn.0 ≡ false → is_member conn (filter p (conns_from (first + 1) n)) ≡ false
+        → is_member conn (cond b (record { 0 = first } ∷ filter p (conns_from (first + 1) n))
+        (filter p (conns_from (first + 1) n))) ≡ false
     go true apart others = rw (apart, others) refl
     go false apart others = others
 
 -- one in the range is among them where it passes
-is_member-first : (p : ConnId → Bool) (conn : ConnId) (first n : ℕ) → first ≡ conn.0 → (b : Bool) → is_member conn (cond b (record { 0 = first } ∷ filter p (conns_from (first + 1) n)) (filter p (conns_from (first + 1) n))) ≡ b
+is_member-first : (p : ConnId → Bool) (conn : ConnId) (first n : ℕ) → first ≡ conn.0 → (b : Bool)
+    → is_member conn (cond b (record { 0 = first } ∷ filter p (conns_from (first + 1) n))
+    (filter p (conns_from (first + 1) n))) ≡ b
 is_member-first p conn first n here true = rw (eq-eqb first conn.0 here) refl
 is_member-first p conn first n here false = is_member-below p conn (first + 1) n (omega arith)
 
-is_member-later : (conn c : ConnId) (others : List ConnId) → c.0 ≢ conn.0 → (b : Bool) → is_member conn (cond b (c ∷ others) others) ≡ is_member conn others
+is_member-later : (conn c : ConnId) (others : List ConnId) → c.0 ≢ conn.0 → (b : Bool)
+    → is_member conn (cond b (c ∷ others) others) ≡ is_member conn others
 is_member-later conn c others apart true = rw (ne_eqb c.0 conn.0 apart) refl
 is_member-later conn c others apart false = refl
 
-pub is_member-from : (p : ConnId → Bool) (conn : ConnId) (first n : ℕ) → first ≤ conn.0 → conn.0 < first + n → is_member conn (filter p (conns_from first n)) ≡ p conn
+pub is_member-from : (p : ConnId → Bool) (conn : ConnId) (first n : ℕ) → first ≤ conn.0 → conn.0 < first + n
+    → is_member conn (filter p (conns_from first n)) ≡ p conn
 unfolding conns_from
 is_member-from p conn first zero low high = absurd (omega arith)
 is_member-from p conn first (suc n) low high =
     let c : ConnId = record { 0 = first } in
     let at : ℕ → ConnId = λ n. record { 0 = n } in
-    ⊎_elim (λ (here : first ≡ conn.0). is_member-first p conn first n here (p c) ∙ ap (λ (k : ℕ). p (at k)) here) (λ (apart : first ≢ conn.0). is_member-later conn c _ apart (p c) ∙ is_member-from p conn (first + 1) n (omega arith) (omega arith)) (cases_eq first conn.0)
+    ⊎_elim (λ (here : first ≡ conn.0). is_member-first p conn first n here (p c) ∙ ap (λ (k : ℕ). p (at k)) here)
+    (λ (apart : first ≢ conn.0). is_member-later conn c _ apart (p c)
+    ∙ is_member-from p conn (first + 1) n (omega arith) (omega arith)) (cases_eq first conn.0)
 
 -- ---- a member more
 
-with_member-below : (p : ConnId → Bool) (conn : ConnId) (first n : ℕ) → conn.0 < first → with_member conn (filter p (conns_from first n)) ≡ conn ∷ filter p (conns_from first n)
+with_member-below : (p : ConnId → Bool) (conn : ConnId) (first n : ℕ) → conn.0 < first
+    → with_member conn (filter p (conns_from first n)) ≡ conn ∷ filter p (conns_from first n)
 unfolding conns_from
 with_member-below p conn first zero below = refl
-with_member-below p conn first (suc n) below = go (p (record { 0 = first })) (ne_eqb first conn.0 (λ e. omega arith)) (le-ltb first conn.0 (omega arith)) (with_member-below p conn (first + 1) n (omega arith))
+with_member-below p conn first (suc n) below =
+    go (p (record { 0 = first })) (ne_eqb first conn.0 (λ e. omega arith)) (le-ltb first conn.0 (omega arith))
+    (with_member-below p conn (first + 1) n (omega arith))
   where
-    go : (b : Bool) → eqb first conn.0 ≡ false → ltb first conn.0 ≡ false → with_member conn (filter p (conns_from (first + 1) n)) ≡ conn ∷ filter p (conns_from (first + 1) n) → with_member conn (cond b (record { 0 = first } ∷ filter p (conns_from (first + 1) n)) (filter p (conns_from (first + 1) n))) ≡ conn ∷ cond b (record { 0 = first } ∷ filter p (conns_from (first + 1) n)) (filter p (conns_from (first + 1) n))
+    go : (b : Bool) → eqb first conn.0 ≡ false → ltb first conn.0 ≡ false
+        → with_member conn (filter p (conns_from (first + 1) n)) ≡ conn ∷ filter p (conns_from (first + 1) n)
+        → with_member conn (cond b (record { 0 = first } ∷ filter p (conns_from (first + 1) n))
+        (filter p (conns_from (first + 1) n))) ≡ conn ∷ cond b
+        (record { 0 = first } ∷ filter p (conns_from (first + 1) n)) (filter p (conns_from (first + 1) n))
     go true apart above others = rw (above, apart) refl
     go false apart above others = others
 
-with_member-here : (p : ConnId → Bool) (conn : ConnId) (n : ℕ) (b : Bool) → conn ∷ filter p (conns_from (conn.0 + 1) n) ≡ with_member conn (cond b (conn ∷ filter p (conns_from (conn.0 + 1) n)) (filter p (conns_from (conn.0 + 1) n)))
+with_member-here : (p : ConnId → Bool) (conn : ConnId) (n : ℕ) (b : Bool)
+    → conn ∷ filter p (conns_from (conn.0 + 1) n)
+    ≡ with_member conn (cond b (conn ∷ filter p (conns_from (conn.0 + 1) n)) (filter p (conns_from (conn.0 + 1) n)))
 with_member-here p conn n true = rw (le-ltb conn.0 conn.0 (omega arith), eq-eqb conn.0 conn.0 refl) refl
 with_member-here p conn n false = sym (with_member-below p conn (conn.0 + 1) n (omega arith))
 
-with_member-later : (conn c : ConnId) (now others : List ConnId) → c.0 < conn.0 → now ≡ with_member conn others → (b : Bool) → cond b (c ∷ now) now ≡ with_member conn (cond b (c ∷ others) others)
+with_member-later : (conn c : ConnId) (now others : List ConnId) → c.0 < conn.0 → now ≡ with_member conn others
+    → (b : Bool) → cond b (c ∷ now) now ≡ with_member conn (cond b (c ∷ others) others)
 with_member-later conn c now others low is true = rw (lt-ltb c.0 conn.0 low) (ap (λ (t : List ConnId). c ∷ t) is)
 with_member-later conn c now others low is false = is
 
-with_member-first : (p q : ConnId → Bool) (conn : ConnId) (first n : ℕ) → first ≡ conn.0 → q conn ≡ true → filter q (conns_from (first + 1) n) ≡ filter p (conns_from (first + 1) n) → cond (q (record { 0 = first })) (record { 0 = first } ∷ filter q (conns_from (first + 1) n)) (filter q (conns_from (first + 1) n)) ≡ with_member conn (cond (p (record { 0 = first })) (record { 0 = first } ∷ filter p (conns_from (first + 1) n)) (filter p (conns_from (first + 1) n)))
+with_member-first : (p q : ConnId → Bool) (conn : ConnId) (first n : ℕ) → first ≡ conn.0 → q conn ≡ true
+    → filter q (conns_from (first + 1) n) ≡ filter p (conns_from (first + 1) n)
+    → cond (q (record { 0 = first })) (record { 0 = first } ∷ filter q (conns_from (first + 1) n))
+    (filter q (conns_from (first + 1) n)) ≡ with_member conn
+    (cond (p (record { 0 = first })) (record { 0 = first } ∷ filter p (conns_from (first + 1) n))
+    (filter p (conns_from (first + 1) n)))
 with_member-first p q conn first n here one rest =
-    let F : ℕ → Type 0 = λ f. filter q (conns_from (f + 1) n) ≡ filter p (conns_from (f + 1) n) → cond (q (record { 0 = f })) (record { 0 = f } ∷ filter q (conns_from (f + 1) n)) (filter q (conns_from (f + 1) n)) ≡ with_member conn (cond (p (record { 0 = f })) (record { 0 = f } ∷ filter p (conns_from (f + 1) n)) (filter p (conns_from (f + 1) n))) in
+    let F : ℕ → Type 0 = λ f. filter q (conns_from (f + 1) n) ≡ filter p (conns_from (f + 1) n)
+    → cond (q (record { 0 = f })) (record { 0 = f } ∷ filter q (conns_from (f + 1) n))
+    (filter q (conns_from (f + 1) n)) ≡ with_member conn
+    (cond (p (record { 0 = f })) (record { 0 = f } ∷ filter p (conns_from (f + 1) n))
+    (filter p (conns_from (f + 1) n))) in
     subst F (sym here) (λ rest. rw (one, rest) (with_member-here p conn n (p conn))) rest
 
 -- where one of the range passes besides
-pub with_member-from : (p q : ConnId → Bool) (conn : ConnId) (first n : ℕ) → first ≤ conn.0 → conn.0 < first + n → q conn ≡ true → ((c : ConnId) → c.0 ≢ conn.0 → q c ≡ p c) → filter q (conns_from first n) ≡ with_member conn (filter p (conns_from first n))
+pub with_member-from : (p q : ConnId → Bool) (conn : ConnId) (first n : ℕ) → first ≤ conn.0 → conn.0 < first + n
+    → q conn ≡ true → ((c : ConnId) → c.0 ≢ conn.0 → q c ≡ p c)
+    → filter q (conns_from first n) ≡ with_member conn (filter p (conns_from first n))
 unfolding conns_from
 with_member-from p q conn first zero low high one same = absurd (omega arith)
 with_member-from p q conn first (suc n) low high one same =
     let c : ConnId = record { 0 = first } in
-    let others : filter q (conns_from (first + 1) n) ≡ filter p (conns_from (first + 1) n) → first ≡ conn.0 → cond (q c) (c ∷ filter q (conns_from (first + 1) n)) (filter q (conns_from (first + 1) n)) ≡ with_member conn (cond (p c) (c ∷ filter p (conns_from (first + 1) n)) (filter p (conns_from (first + 1) n))) = λ rest here. with_member-first p q conn first n here one rest in
-    let later : first < conn.0 → cond (q c) (c ∷ filter q (conns_from (first + 1) n)) (filter q (conns_from (first + 1) n)) ≡ with_member conn (cond (p c) (c ∷ filter p (conns_from (first + 1) n)) (filter p (conns_from (first + 1) n))) = λ before. rw (same c (λ (e : first ≡ conn.0). omega arith)) (with_member-later conn c _ _ before (with_member-from p q conn (first + 1) n (omega arith) (omega arith) one same) (p c)) in
-    ⊎_elim (λ (here : first ≡ conn.0). others (filter_agree_from q p (first + 1) n (λ c low high. same c (λ (e : c.0 ≡ conn.0). omega arith))) here) (λ (o : (first < conn.0) ⊎ (conn.0 < first)). ⊎_elim later (λ (h : conn.0 < first). absurd (omega arith)) o) (cases_order first conn.0)
+    let others : filter q (conns_from (first + 1) n) ≡ filter p (conns_from (first + 1) n) → first ≡ conn.0
+    → cond (q c) (c ∷ filter q (conns_from (first + 1) n)) (filter q (conns_from (first + 1) n))
+    ≡ with_member conn (cond (p c) (c ∷ filter p (conns_from (first + 1) n))
+    (filter p (conns_from (first + 1) n))) = λ rest here. with_member-first p q conn first n here one rest in
+    let later : first < conn.0 → cond (q c) (c ∷ filter q (conns_from (first + 1) n))
+    (filter q (conns_from (first + 1) n)) ≡ with_member conn
+    (cond (p c) (c ∷ filter p (conns_from (first + 1) n)) (filter p (conns_from (first + 1) n))) =
+    λ before. rw (same c (λ (e : first ≡ conn.0). omega arith))
+    (with_member-later conn c _ _ before (with_member-from p q conn (first + 1) n (omega arith)
+    (omega arith) one same) (p c)) in
+    ⊎_elim (λ (here : first ≡ conn.0). others (filter_agree_from q p (first + 1) n
+    (λ c low high. same c (λ (e : c.0 ≡ conn.0). omega arith))) here)
+    (λ (o : (first < conn.0) ⊎ (conn.0 < first)). ⊎_elim later (λ (h : conn.0 < first). absurd (omega arith)) o)
+    (cases_order first conn.0)
 
 -- ---- a member less
 
@@ -97,7 +142,9 @@ filter-filter : {X : Type 0} (p q : X → Bool) (xs : List X) → filter q (filt
 filter-filter p q [] = refl
 filter-filter {X = X} p q (x ∷ xs) = go (p x) (filter-filter p q xs)
   where
-    go : (b : Bool) → filter q (filter p xs) ≡ filter (λ x. p x && q x) xs → filter q (cond b (x ∷ filter p xs) (filter p xs)) ≡ cond (b && q x) (x ∷ filter (λ x. p x && q x) xs) (filter (λ x. p x && q x) xs)
+    go : (b : Bool) → filter q (filter p xs) ≡ filter (λ x. p x && q x) xs
+        → filter q (cond b (x ∷ filter p xs) (filter p xs))
+        ≡ cond (b && q x) (x ∷ filter (λ x. p x && q x) xs) (filter (λ x. p x && q x) xs)
     go true others = ap (λ (t : List X). cond (q x) (x ∷ t) t) others
     go false others = others
 
@@ -105,14 +152,22 @@ and-true : (b : Bool) → b ≡ (b && true)
 and-true true = refl
 and-true false = refl
 
-without_member-at : (p q : ConnId → Bool) (conn c : ConnId) → q conn ≡ false → (c.0 ≢ conn.0 → q c ≡ p c) → q c ≡ (p c && not (c.0 == conn.0))
+without_member-at : (p q : ConnId → Bool) (conn c : ConnId) → q conn ≡ false → (c.0 ≢ conn.0 → q c ≡ p c)
+    → q c ≡ (p c && not (c.0 == conn.0))
 without_member-at p q conn c none same =
     let at : ℕ → ConnId = λ n. record { 0 = n } in
-    ⊎_elim (λ (here : c.0 ≡ conn.0). ap (λ (k : ℕ). q (at k)) here ∙ none ∙ sym (and_right (p c) (not (c.0 == conn.0)) (rw (eq-eqb c.0 conn.0 here) refl))) (λ (apart : c.0 ≢ conn.0). rw (ne_eqb c.0 conn.0 apart) (same apart ∙ and-true (p c))) (cases_eq c.0 conn.0)
+    ⊎_elim (λ (here : c.0 ≡ conn.0). ap (λ (k : ℕ). q (at k)) here ∙ none
+    ∙ sym (and_right (p c) (not (c.0 == conn.0)) (rw (eq-eqb c.0 conn.0 here) refl)))
+    (λ (apart : c.0 ≢ conn.0). rw (ne_eqb c.0 conn.0 apart) (same apart ∙ and-true (p c))) (cases_eq c.0 conn.0)
 
 -- where one of the range passes no more
-pub without_member-from : (p q : ConnId → Bool) (conn : ConnId) (first n : ℕ) → q conn ≡ false → ((c : ConnId) → c.0 ≢ conn.0 → c.0 < first + n → q c ≡ p c) → filter q (conns_from first n) ≡ without_member conn (filter p (conns_from first n))
-without_member-from p q conn first n none same = filter_agree_from q (λ c. p c && not (c.0 == conn.0)) first n (λ c low high. without_member-at p q conn c none (λ apart. same c apart high)) ∙ sym (filter-filter p (λ c. not (c.0 == conn.0)) (conns_from first n))
+pub without_member-from : (p q : ConnId → Bool) (conn : ConnId) (first n : ℕ) → q conn ≡ false
+    → ((c : ConnId) → c.0 ≢ conn.0 → c.0 < first + n → q c ≡ p c)
+    → filter q (conns_from first n) ≡ without_member conn (filter p (conns_from first n))
+without_member-from p q conn first n none same =
+    filter_agree_from q (λ c. p c && not (c.0 == conn.0)) first n
+    (λ c low high. without_member-at p q conn c none (λ apart. same c apart high))
+    ∙ sym (filter-filter p (λ c. not (c.0 == conn.0)) (conns_from first n))
 
 -- ---- one connector more in the range
 
@@ -124,21 +179,32 @@ conns_from-suc first (suc n) =
     let same : first + 1 + n ≡ first + suc n = omega arith in
     ap (λ (t : List ConnId). record { 0 = first } ∷ t) (conns_from-suc (first + 1) n) ∙ ap at same
 
-with_member-last : (p : ConnId → Bool) (conn : ConnId) (first n : ℕ) → first + n ≤ conn.0 → with_member conn (filter p (conns_from first n)) ≡ filter p (conns_from first n) ++ conn ∷ []
+with_member-last : (p : ConnId → Bool) (conn : ConnId) (first n : ℕ) → first + n ≤ conn.0
+    → with_member conn (filter p (conns_from first n)) ≡ filter p (conns_from first n) ++ conn ∷ []
 unfolding conns_from
 with_member-last p conn first zero above = refl
-with_member-last p conn first (suc n) above = go (p (record { 0 = first })) (lt-ltb first conn.0 (omega arith)) (with_member-last p conn (first + 1) n (omega arith))
+with_member-last p conn first (suc n) above =
+    go (p (record { 0 = first })) (lt-ltb first conn.0 (omega arith))
+    (with_member-last p conn (first + 1) n (omega arith))
   where
-    go : (b : Bool) → ltb first conn.0 ≡ true → with_member conn (filter p (conns_from (first + 1) n)) ≡ filter p (conns_from (first + 1) n) ++ conn ∷ [] → with_member conn (cond b (record { 0 = first } ∷ filter p (conns_from (first + 1) n)) (filter p (conns_from (first + 1) n))) ≡ cond b (record { 0 = first } ∷ filter p (conns_from (first + 1) n)) (filter p (conns_from (first + 1) n)) ++ conn ∷ []
+    go : (b : Bool) → ltb first conn.0 ≡ true → with_member conn (filter p (conns_from (first + 1) n))
+        ≡ filter p (conns_from (first + 1) n) ++ conn ∷ []
+        → with_member conn (cond b (record { 0 = first } ∷ filter p (conns_from (first + 1) n))
+        (filter p (conns_from (first + 1) n))) ≡ cond b (record { 0 = first } ∷ filter p (conns_from (first + 1) n))
+        (filter p (conns_from (first + 1) n)) ++ conn ∷ []
     go true below others = rw below (ap (λ (t : List ConnId). record { 0 = first } ∷ t) others)
     go false below others = others
 
-filter-one : (p : ConnId → Bool) (conn : ConnId) (n : ℕ) → n ≤ conn.0 → (b : Bool) → filter p (conns_from 0 n) ++ cond b (conn ∷ []) [] ≡ cond b (with_member conn (filter p (conns_from 0 n))) (filter p (conns_from 0 n))
+filter-one : (p : ConnId → Bool) (conn : ConnId) (n : ℕ) → n ≤ conn.0 → (b : Bool)
+    → filter p (conns_from 0 n) ++ cond b (conn ∷ []) []
+    ≡ cond b (with_member conn (filter p (conns_from 0 n))) (filter p (conns_from 0 n))
 filter-one p conn n above true = sym (with_member-last p conn 0 n (omega arith))
 filter-one p conn n above false = append-nil (filter p (conns_from 0 n))
 
 -- the first n and one more
-pub filter-from_zero_more : (p : ConnId → Bool) (n : ℕ) → filter p (conns_from 0 (n + 1)) ≡ cond (p (record { 0 = n })) (with_member (record { 0 = n }) (filter p (conns_from 0 n))) (filter p (conns_from 0 n))
+pub filter-from_zero_more : (p : ConnId → Bool) (n : ℕ)
+    → filter p (conns_from 0 (n + 1)) ≡ cond (p (record { 0 = n }))
+    (with_member (record { 0 = n }) (filter p (conns_from 0 n))) (filter p (conns_from 0 n))
 filter-from_zero_more p n =
     let conn : ConnId = record { 0 = n } in
     let more : conns_from 0 (n + 1) ≡ conns_from 0 n ++ conn ∷ [] = rw (add-one, conns_from-suc 0 n, zero-add n) refl in
@@ -150,22 +216,32 @@ pub members-zero : members 0 ≡ []
 unfolding members
 members-zero = filter_none_from (λ conn. bit_at 0 conn.0 == 1) 0 64 (λ c low high. rw (bit_at-zero c.0) refl)
 
-pub is_member-members : (bits : ℕ) (conn : ConnId) → conn.0 < 64 → is_member conn (members bits) ≡ (bit_at bits conn.0 == 1)
+pub is_member-members : (bits : ℕ) (conn : ConnId) → conn.0 < 64
+    → is_member conn (members bits) ≡ (bit_at bits conn.0 == 1)
 unfolding members
 is_member-members bits conn within = is_member-from (λ c. bit_at bits c.0 == 1) conn 0 64 (omega arith) within
 
-pub members-set : (bits : ℕ) (conn : ConnId) → conn.0 < 64 → members (bit_or bits (1 * 2 ^ conn.0 % 2 ^ 64)) ≡ with_member conn (members bits)
+pub members-set : (bits : ℕ) (conn : ConnId) → conn.0 < 64
+    → members (bit_or bits (1 * 2 ^ conn.0 % 2 ^ 64)) ≡ with_member conn (members bits)
 unfolding members
 members-set bits conn within =
-    with_member-from (λ c. bit_at bits c.0 == 1) (λ c. bit_at (bit_or bits (1 * 2 ^ conn.0 % 2 ^ 64)) c.0 == 1) conn 0 64 (omega arith) within (rw (bit_at_set_same w64 bits conn.0 within) refl) (λ c apart. rw (bit_at_set_other w64 bits conn.0 within c.0 apart) refl)
+    with_member-from (λ c. bit_at bits c.0 == 1) (λ c. bit_at (bit_or bits (1 * 2 ^ conn.0 % 2 ^ 64)) c.0 == 1) conn 0
+    64 (omega arith) within (rw (bit_at_set_same w64 bits conn.0 within) refl)
+    (λ c apart. rw (bit_at_set_other w64 bits conn.0 within c.0 apart) refl)
 
-pub members-clear : (bits : ℕ) (conn : ConnId) → conn.0 < 64 → members (bit_and bits (bit_not w64 (1 * 2 ^ conn.0 % 2 ^ 64))) ≡ without_member conn (members bits)
+pub members-clear : (bits : ℕ) (conn : ConnId) → conn.0 < 64
+    → members (bit_and bits (bit_not w64 (1 * 2 ^ conn.0 % 2 ^ 64))) ≡ without_member conn (members bits)
 unfolding members
 members-clear bits conn within =
-    without_member-from (λ c. bit_at bits c.0 == 1) (λ c. bit_at (bit_and bits (bit_not w64 (1 * 2 ^ conn.0 % 2 ^ 64))) c.0 == 1) conn 0 64 (rw (bit_at_clear_same w64 bits conn.0 within) refl) (λ c apart high. rw (bit_at_clear_other w64 bits conn.0 within c.0 high apart) refl)
+    without_member-from (λ c. bit_at bits c.0 == 1)
+    (λ c. bit_at (bit_and bits (bit_not w64 (1 * 2 ^ conn.0 % 2 ^ 64))) c.0 == 1) conn 0 64
+    (rw (bit_at_clear_same w64 bits conn.0 within) refl)
+    (λ c apart high. rw (bit_at_clear_other w64 bits conn.0 within c.0 high apart) refl)
 
-length-first : (c : ConnId) (others : List ConnId) (bit : ℕ) → bit < 2 → length (cond (bit == 1) (c ∷ others) others) ≡ bit + length others
-length-first c others bit small = ⊎_elim (λ (one : bit ≡ 1). rw one (omega arith)) (λ (apart : bit ≢ 1). rw (ne_eqb bit 1 apart) (omega arith)) (cases_eq bit 1)
+length-first : (c : ConnId) (others : List ConnId) (bit : ℕ) → bit < 2
+    → length (cond (bit == 1) (c ∷ others) others) ≡ bit + length others
+length-first c others bit small = ⊎_elim (λ (one : bit ≡ 1). rw one (omega arith))
+    (λ (apart : bit ≢ 1). rw (ne_eqb bit 1 apart) (omega arith)) (cases_eq bit 1)
 
 count_ones-low : (high low all : ℕ) → all ≡ high * 2 + low → low < 2 → count_ones all ≡ low + count_ones high
 count_ones-low high low all is small =
@@ -173,13 +249,20 @@ count_ones-low high low all is small =
     let digit : all % 2 ≡ low = omega arith in
     ones_step all ∙ rw (rest, digit) refl
 
-count_ones-from : (bits first n : ℕ) → count_ones (bits / 2 ^ first % 2 ^ n) ≡ length (filter (λ conn. bit_at bits conn.0 == 1) (conns_from first n))
+count_ones-from : (bits first n : ℕ) → count_ones (bits / 2 ^ first % 2 ^ n)
+    ≡ length (filter (λ conn. bit_at bits conn.0 == 1) (conns_from first n))
 unfolding conns_from
-count_ones-from bits first zero = let none : count_ones 0 ≤ 0 = ones-le 0 0 (omega arith) in rw (mod-one (bits / 2 ^ first)) (omega arith)
+count_ones-from bits first zero = let none : count_ones 0 ≤ 0 = ones-le 0 0 (omega arith) in
+    rw (mod-one (bits / 2 ^ first)) (omega arith)
 count_ones-from bits first (suc n) =
-    let others : count_ones (bits / 2 ^ first / 2 % 2 ^ n) ≡ length (filter (λ conn. bit_at bits conn.0 == 1) (conns_from (first + 1) n)) = rw (shr-shr bits first 1) (count_ones-from bits (first + 1) n) in
-    let whole : bits / 2 ^ first % 2 ^ (n + 1) ≡ (bits / 2 ^ first / 2 % 2 ^ n) * 2 + bit_at bits first = mod-pow-add (bits / 2 ^ first) n 1 in
-    rw (← add-one n) (count_ones-low (bits / 2 ^ first / 2 % 2 ^ n) (bit_at bits first) (bits / 2 ^ first % 2 ^ (n + 1)) whole (bit_at-lt bits first) ∙ ap (λ (k : ℕ). bit_at bits first + k) others ∙ sym (length-first (record { 0 = first }) _ (bit_at bits first) (bit_at-lt bits first)))
+    let others : count_ones (bits / 2 ^ first / 2 % 2 ^ n)
+    ≡ length (filter (λ conn. bit_at bits conn.0 == 1) (conns_from (first + 1) n)) =
+    rw (shr-shr bits first 1) (count_ones-from bits (first + 1) n) in
+    let whole : bits / 2 ^ first % 2 ^ (n + 1) ≡ (bits / 2 ^ first / 2 % 2 ^ n) * 2 + bit_at bits first =
+    mod-pow-add (bits / 2 ^ first) n 1 in
+    rw (← add-one n) (count_ones-low (bits / 2 ^ first / 2 % 2 ^ n) (bit_at bits first)
+    (bits / 2 ^ first % 2 ^ (n + 1)) whole (bit_at-lt bits first) ∙ ap (λ (k : ℕ). bit_at bits first + k) others
+    ∙ sym (length-first (record { 0 = first }) _ (bit_at bits first) (bit_at-lt bits first)))
 
 pub length-members : (bits : ℕ) → bits < 2 ^ 64 → count_ones bits ≡ length (members bits)
 unfolding members
@@ -189,11 +272,15 @@ length-members bits small =
 
 -- the test of one bit by a mask
 bit_tested : (bit p : ℕ) → bit < 2 → 0 < p → not (bit * p == 0) ≡ (bit == 1)
-bit_tested bit p small some = ⊎_elim (λ (one : bit ≡ 1). rw (one, ne_eqb (1 * p) 0 (λ e. omega arith)) refl) (λ (apart : bit ≢ 1). let none : bit ≡ 0 = omega arith in rw (none, zero-mul p) refl) (cases_eq bit 1)
+bit_tested bit p small some = ⊎_elim (λ (one : bit ≡ 1). rw (one, ne_eqb (1 * p) 0 (λ e. omega arith)) refl)
+    (λ (apart : bit ≢ 1). let none : bit ≡ 0 = omega arith in rw (none, zero-mul p) refl) (cases_eq bit 1)
 
-pub has_bit : (bits : ℕ) (conn : ConnId) → conn.0 < 64 → not (bit_and bits (1 * 2 ^ conn.0 % 2 ^ 64) == 0) ≡ is_member conn (members bits)
+pub has_bit : (bits : ℕ) (conn : ConnId) → conn.0 < 64
+    → not (bit_and bits (1 * 2 ^ conn.0 % 2 ^ 64) == 0) ≡ is_member conn (members bits)
 has_bit bits conn within =
-    rw (one_shl conn.0 64 within, and_pow bits conn.0) (bit_tested (bit_at bits conn.0) (2 ^ conn.0) (bit_at-lt bits conn.0) (pow_pos conn.0) ∙ sym (is_member-members bits conn within))
+    rw (one_shl conn.0 64 within, and_pow bits conn.0)
+    (bit_tested (bit_at bits conn.0) (2 ^ conn.0) (bit_at-lt bits conn.0) (pow_pos conn.0)
+    ∙ sym (is_member-members bits conn within))
 
 pub bits_set-lt : (bits : ℕ) (conn : ConnId) → bits < 2 ^ 64 → bit_or bits (1 * 2 ^ conn.0 % 2 ^ 64) < 2 ^ 64
 bits_set-lt bits conn small = or_lt 64 _ _ small (omega arith)
@@ -202,35 +289,72 @@ bits_set-lt bits conn small = or_lt 64 _ _ small (omega arith)
 
 pub is_member-with_member_same : (conn : ConnId) (set : List ConnId) → is_member conn (with_member conn set) ≡ true
 is_member-with_member_same conn [] = rw (eq-eqb conn.0 conn.0 refl) refl
-is_member-with_member_same conn (first ∷ others) = go (ltb first.0 conn.0) (eqb first.0 conn.0) refl (is_member-with_member_same conn others)
+is_member-with_member_same conn (first ∷ others) =
+    go (ltb first.0 conn.0) (eqb first.0 conn.0) refl (is_member-with_member_same conn others)
   where
-    go : (below same : Bool) → eqb first.0 conn.0 ≡ same → is_member conn (with_member conn others) ≡ true → is_member conn (cond below (first ∷ with_member conn others) (cond same (first ∷ others) (conn ∷ first ∷ others))) ≡ true
+    go : (below same : Bool) → eqb first.0 conn.0 ≡ same → is_member conn (with_member conn others) ≡ true
+        → is_member conn (cond below (first ∷ with_member conn others)
+        (cond same (first ∷ others) (conn ∷ first ∷ others))) ≡ true
     go true true is rest = rw is refl
     go true false is rest = rw (is, rest) refl
     go false true is rest = rw is refl
     go false false is rest = rw (eq-eqb conn.0 conn.0 refl) refl
 
-pub is_member-with_member_other : (conn other : ConnId) (set : List ConnId) → other.0 ≢ conn.0 → is_member other (with_member conn set) ≡ is_member other set
+pub is_member-with_member_other : (conn other : ConnId) (set : List ConnId) → other.0 ≢ conn.0
+    → is_member other (with_member conn set) ≡ is_member other set
 is_member-with_member_other conn other [] apart = rw (ne_eqb conn.0 other.0 (λ e. apart (sym e))) refl
-is_member-with_member_other conn other (first ∷ others) apart = go (ltb first.0 conn.0) (eqb first.0 conn.0) (ne_eqb conn.0 other.0 (λ e. apart (sym e))) (is_member-with_member_other conn other others apart)
+is_member-with_member_other conn other (first ∷ others) apart =
+    go (ltb first.0 conn.0) (eqb first.0 conn.0) (ne_eqb conn.0 other.0 (λ e. apart (sym e)))
+    (is_member-with_member_other conn other others apart)
   where
-    go : (below same : Bool) → eqb conn.0 other.0 ≡ false → is_member other (with_member conn others) ≡ is_member other others → is_member other (cond below (first ∷ with_member conn others) (cond same (first ∷ others) (conn ∷ first ∷ others))) ≡ is_member other (first ∷ others)
+    go : (below same : Bool) → eqb conn.0 other.0 ≡ false
+        → is_member other (with_member conn others) ≡ is_member other others
+        → is_member other (cond below (first ∷ with_member conn others)
+        (cond same (first ∷ others) (conn ∷ first ∷ others))) ≡ is_member other (first ∷ others)
     go true same is rest = ap (λ (b : Bool). eqb first.0 other.0 || b) rest
     go false true is rest = refl
     go false false is rest = rw is refl
 
-pub is_member-without_member_same : (conn : ConnId) (set : List ConnId) → is_member conn (without_member conn set) ≡ false
+pub is_member-without_member_same : (conn : ConnId) (set : List ConnId)
+    → is_member conn (without_member conn set) ≡ false
 is_member-without_member_same conn [] = refl
-is_member-without_member_same conn (first ∷ others) = go (eqb first.0 conn.0) refl (is_member-without_member_same conn others)
+is_member-without_member_same conn (first ∷ others) =
+    go (eqb first.0 conn.0) refl (is_member-without_member_same conn others)
   where
-    go : (same : Bool) → eqb first.0 conn.0 ≡ same → is_member conn (without_member conn others) ≡ false → is_member conn (cond (not same) (first ∷ without_member conn others) (without_member conn others)) ≡ false
+    go : (same : Bool) → eqb first.0 conn.0 ≡ same → is_member conn (without_member conn others) ≡ false
+        → is_member conn (cond (not same) (first ∷ without_member conn others) (without_member conn others)) ≡ false
     go true is rest = rest
     go false is rest = rw (is, rest) refl
 
-pub is_member-without_member_other : (conn other : ConnId) (set : List ConnId) → other.0 ≢ conn.0 → is_member other (without_member conn set) ≡ is_member other set
+pub is_member-without_member_other : (conn other : ConnId) (set : List ConnId) → other.0 ≢ conn.0
+    → is_member other (without_member conn set) ≡ is_member other set
 is_member-without_member_other conn other [] apart = refl
-is_member-without_member_other conn other (first ∷ others) apart = go (eqb first.0 conn.0) refl (is_member-without_member_other conn other others apart)
+is_member-without_member_other conn other (first ∷ others) apart =
+    go (eqb first.0 conn.0) refl (is_member-without_member_other conn other others apart)
   where
-    go : (same : Bool) → eqb first.0 conn.0 ≡ same → is_member other (without_member conn others) ≡ is_member other others → is_member other (cond (not same) (first ∷ without_member conn others) (without_member conn others)) ≡ is_member other (first ∷ others)
+    go : (same : Bool) → eqb first.0 conn.0 ≡ same
+        → is_member other (without_member conn others) ≡ is_member other others
+        → is_member other (cond (not same) (first ∷ without_member conn others) (without_member conn others))
+        ≡ is_member other (first ∷ others)
     go true is rest = rw (ne_eqb first.0 other.0 (λ e. apart (sym e ∙ eqb-true first.0 conn.0 is))) rest
     go false is rest = ap (λ (b : Bool). eqb first.0 other.0 || b) rest
+
+-- nothing changes where it wasn't a member
+pub without_member-absent : (conn : ConnId) (set : List ConnId) → is_member conn set ≡ false
+    → without_member conn set ≡ set
+without_member-absent conn [] absent = refl
+without_member-absent conn (first ∷ others) absent =
+    go (eqb first.0 conn.0) absent (without_member-absent conn others)
+  where
+    go : (same : Bool) → (same || is_member conn others) ≡ false
+        → (is_member conn others ≡ false → without_member conn others ≡ others)
+        → cond (not same) (first ∷ without_member conn others) (without_member conn others) ≡ first ∷ others
+    go true absent rest = cc
+    go false absent rest = ap (λ (t : List ConnId). first ∷ t) (rest absent)
+
+-- a set without members is empty
+pub none_from_no_members : (set : List ConnId) → ((conn : ConnId) → is_member conn set ≡ false) → set ≡ []
+none_from_no_members [] none = refl
+none_from_no_members (first ∷ others) none =
+    let here : (eqb first.0 first.0 || is_member first others) ≡ false = none first in
+    absurd (true≢false (sym (rw (eq-eqb first.0 first.0 refl) refl) ∙ here))

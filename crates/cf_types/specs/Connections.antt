@@ -78,7 +78,8 @@ excused_state conn None = None
 abbrev pub with_connect : ConnId → Bool → Connections → Connections
 with_connect conn keep conns = slice_set conns conn.0 (Some (Active keep))
 
--- an active connector departs: it is leaving until each other active one has answered or departed, and is awaited by nobody; it will be
+-- an active connector departs: it is leaving until each other active one has answered or departed, and is awaited by
+-- nobody; it will be
 -- failed where `keep`, and else gone
 abbrev pub with_departure : ConnId → Bool → Connections → Connections
 with_departure conn keep conns =
@@ -92,7 +93,8 @@ with_answer by about conns = slice_set conns about.0 (excused_state by (state_of
 abbrev pub with_forced : ConnId → Connections → Connections
 with_forced conn conns = slice_set conns conn.0 None
 
--- what is true of the connections of a structure: there is a place for the operator, which stays empty, and one for each of 32 connectors
+-- what is true of the connections of a structure: there is a place for the operator, which stays empty, and one for
+-- each of 32 connectors
 pub record AreConnections (conns : Connections) : Type 0 where
   pub places : length conns ≡ 33
   pub operator : IsTrue (is_gone conns (record { 0 = 0 }))

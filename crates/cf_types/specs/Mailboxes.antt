@@ -5,7 +5,8 @@ use Rattle.cf_types.specs.declared.events.Event.{Event}
 use Rattle.cf_types.specs.declared.events.Event.TheVariants.{NewConn, DiscFail, Quiesce, RebuildConnect, ConnectsDone, Cleanup, Complete, Stop, StopDone, LostConn, StrFail, Contention, Notify, Granted, Denied}
 use Rattle.cf_types.specs.declared.events.Letter.{Letter}
 
--- the events that wait, in the order in which they were sent, and those taken that owe a response, in the order in which they were taken
+-- the events that wait, in the order in which they were sent, and those taken that owe a response, in the order in
+-- which they were taken
 pub record Mailbox : Type 0 where
   pub waiting : List Event
   pub owed : List Event

@@ -9,29 +9,41 @@ use Rattle.cf_types.specs.Mailboxes.{Mailbox, Mailboxes, no_events, mailbox_of}
 use Rattle.event_mail.specs.Post.{Box, mailboxes_of}
 
 -- one mailbox changes
-pub mailboxes_of-set : (boxes : List Box) (mail : Mailboxes) (conn : ConnId) (at : ℕ) (old new : Box) (change : Mailbox → Mailbox) → mailboxes_of boxes ≡ mail → at ≡ conn.0 → at < length boxes → old ≡ get_or boxes at old → new.mailbox ≡ change old.mailbox → mailboxes_of (slice_set boxes at new) ≡ slice_set mail conn.0 (change (mailbox_of mail conn))
+pub mailboxes_of-set : (boxes : List Box) (mail : Mailboxes) (conn : ConnId) (at : ℕ) (old new : Box) (change : Mailbox
+    → Mailbox) → mailboxes_of boxes ≡ mail → at ≡ conn.0 → at < length boxes → old ≡ get_or boxes at old
+    → new.mailbox ≡ change old.mailbox → mailboxes_of (slice_set boxes at new)
+    ≡ slice_set mail conn.0 (change (mailbox_of mail conn))
 mailboxes_of-set boxes mail conn at old new change is here within was now =
     let of : Box → Mailbox = λ box. box.mailbox in
-    let before : mailbox_of mail conn ≡ old.mailbox = rw (← is, ← here) (unwrap_or-slice_get (map of boxes) at no_events ∙ get_or-map of boxes at old no_events within ∙ ap of (sym was)) in
+    let before : mailbox_of mail conn ≡ old.mailbox =
+        rw (← is, ← here) (unwrap_or-slice_get (map of boxes) at no_events ∙ get_or-map of boxes at old no_events within
+        ∙ ap of (sym was)) in
     rw (before, ← now, ← is, ← here) (map-set of boxes at new)
 
 -- one mailbox more, without events
-pub mailboxes_of-push : (boxes : List Box) (n : ℕ) (new : Box) → mailboxes_of boxes ≡ replicate n no_events → new.mailbox ≡ no_events → mailboxes_of (boxes ++ new ∷ []) ≡ replicate (n + 1) no_events
+pub mailboxes_of-push : (boxes : List Box) (n : ℕ) (new : Box) → mailboxes_of boxes ≡ replicate n no_events
+    → new.mailbox ≡ no_events → mailboxes_of (boxes ++ new ∷ []) ≡ replicate (n + 1) no_events
 mailboxes_of-push boxes n new is empty =
     let of : Box → Mailbox = λ box. box.mailbox in
     map-append of boxes (new ∷ []) ∙ rw (is, empty) (replicate_more n no_events)
 
 pub length-boxes : (boxes : List Box) (n : ℕ) → mailboxes_of boxes ≡ replicate n no_events → length boxes ≡ n
-length-boxes boxes n is = let of : Box → Mailbox = λ box. box.mailbox in sym (length-map boxes of) ∙ ap (λ (m : Mailboxes). length m) is ∙ length-replicate n no_events
+length-boxes boxes n is = let of : Box → Mailbox = λ box. box.mailbox in sym (length-map boxes of)
+    ∙ ap (λ (m : Mailboxes). length m) is ∙ length-replicate n no_events
 
 -- the room of one mailbox changes, and not what is in it
-pub mailboxes_of-same : (boxes : List Box) (at : ℕ) (new d : Box) → at < length boxes → new.mailbox ≡ (get_or boxes at d).mailbox → mailboxes_of (slice_set boxes at new) ≡ mailboxes_of boxes
+pub mailboxes_of-same : (boxes : List Box) (at : ℕ) (new d : Box) → at < length boxes
+    → new.mailbox ≡ (get_or boxes at d).mailbox → mailboxes_of (slice_set boxes at new) ≡ mailboxes_of boxes
 mailboxes_of-same boxes at new d within same =
     let of : Box → Mailbox = λ box. box.mailbox in
-    let here : new.mailbox ≡ get_or (map of boxes) at no_events = same ∙ sym (get_or-map of boxes at d no_events within) in
-    map-set of boxes at new ∙ ap (λ (m : Mailbox). set (map of boxes) at m) here ∙ set-get_or (map of boxes) at no_events
+    let here : new.mailbox ≡ get_or (map of boxes) at no_events = same
+        ∙ sym (get_or-map of boxes at d no_events within) in
+    map-set of boxes at new ∙ ap (λ (m : Mailbox). set (map of boxes) at m) here
+        ∙ set-get_or (map of boxes) at no_events
 
 -- a room that each mailbox has, where one is replaced
-pub room_at-set : (boxes : List Box) (at k room : ℕ) (new d : Box) → k < length boxes → (k ≡ at → room ≤ new.room) → (k ≢ at → room ≤ (get_or boxes k d).room) → room ≤ (get_or (slice_set boxes at new) k d).room
+pub room_at-set : (boxes : List Box) (at k room : ℕ) (new d : Box) → k < length boxes → (k ≡ at → room ≤ new.room)
+    → (k ≢ at → room ≤ (get_or boxes k d).room) → room ≤ (get_or (slice_set boxes at new) k d).room
 room_at-set boxes at k room new d within here elsewhere =
-    ⊎_elim (λ (same : k ≡ at). rw (get_or-set_at boxes at k new d same (omega arith)) (here same)) (λ (apart : k ≢ at). rw (get_or-set_other boxes at k new d apart) (elsewhere apart)) (cases_eq k at)
+    ⊎_elim (λ (same : k ≡ at). rw (get_or-set_at boxes at k new d same (omega arith)) (here same))
+        (λ (apart : k ≢ at). rw (get_or-set_other boxes at k new d apart) (elsewhere apart)) (cases_eq k at)

@@ -7,11 +7,14 @@ use Rattle.conn_core.proofs.conns.Conns.active.Goals.{then-is_active, else-is_ac
 use Rattle.conn_core.proofs.conns.Conns.active.Goals as goal
 
 -- the active ones up to this number
-one_more : (conns : Connections) (n : ℕ) (set new : List ConnId) → set ≡ filter (is_active conns) (conns_from 0 n) → (active : Bool) → active ≡ is_active conns (record { 0 = n }) → new ≡ cond active (with_member (record { 0 = n }) set) set → new ≡ filter (is_active conns) (conns_from 0 (n + 1))
+one_more : (conns : Connections) (n : ℕ) (set new : List ConnId) → set ≡ filter (is_active conns) (conns_from 0 n)
+    → (active : Bool) → active ≡ is_active conns (record { 0 = n })
+    → new ≡ cond active (with_member (record { 0 = n }) set) set → new ≡ filter (is_active conns) (conns_from 0 (n + 1))
 one_more conns n set new so_far active is added =
     rw (filter-from_zero_more (is_active conns) n, ← is, ← so_far) added
 
-all_of_them : (conns : Connections) (n : ℕ) (set : List ConnId) → n ≡ 33 → set ≡ filter (is_active conns) (conns_from 0 n) → set ≡ actives conns
+all_of_them : (conns : Connections) (n : ℕ) (set : List ConnId) → n ≡ 33
+    → set ≡ filter (is_active conns) (conns_from 0 n) → set ≡ actives conns
 unfolding actives
 all_of_them conns n set all is = subst (λ (m : ℕ). set ≡ filter (is_active conns) (conns_from 0 m)) all is
 
@@ -21,8 +24,11 @@ loop-number-init c = c.none-set.ensures
 
 pub loop-number-preserved : goal.loop-number-preserved
 loop-number-preserved c =
-    let more = one_more c.args.self.now c.loop-number.number c.loop-number.set c.if-is_active.set c.loop-number.invariant in
-    elim c.if-is_active.branch [ then-is_active w ↦ more true (sym w.if-is_active.true ∙ c.is_active.ensures) (w.set-is ∙ w.with-set.ensures) | else-is_active w ↦ more false (sym w.if-is_active.false ∙ c.is_active.ensures) w.set-is ]
+    let more = one_more c.args.self.now c.loop-number.number c.loop-number.set c.if-is_active.set
+        c.loop-number.invariant in
+    elim c.if-is_active.branch [ then-is_active w ↦ more true (sym w.if-is_active.true ∙ c.is_active.ensures) (w.set-is
+        ∙ w.with-set.ensures) | else-is_active w ↦ more false (sym w.if-is_active.false
+        ∙ c.is_active.ensures) w.set-is ]
 
 pub returns : goal.returns
 returns c = all_of_them c.args.self.now c.loop-number.number c.loop-number.set (omega arith) c.loop-number.invariant
