@@ -1,8 +1,7 @@
 -- Sets of callers: that the active connectors are one, and how letters to one are posted.
-use Rattle.std.proofs.Common.{◌≡◌, ◌≢◌, ℕ, suc, ◌+◌, ◌-◌, ◌<◌, ◌≤◌, Bool, true, false, cond, not, ◌&&◌, ◌==◌, List, [], ◌∷◌, filter, refl, sym, ap, subst, ◌∙◌, arith}
+use Rattle.std.proofs.Common.{◌≡◌, ℕ, suc, ◌+◌, ◌-◌, ◌<◌, ◌≤◌, Bool, true, false, cond, not, ◌&&◌, ◌==◌, List, [], ◌∷◌, filter, refl, sym, subst, arith}
 use Rattle.std.proofs.lemmas.Bool.{eq-eqb, ne_eqb, and_right}
 use Rattle.cf_types.specs.declared.events.Event.{Event}
-use Rattle.cf_types.specs.declared.events.Letter.{Letter}
 use Rattle.cf_types.specs.declared.numbers.ConnId.{ConnId}
 use Rattle.cf_types.specs.ConnSets.{conns_from, is_member, without_member}
 use Rattle.cf_types.specs.Connections.{Connections, is_active, actives}
@@ -30,9 +29,9 @@ unfolding actives
 AreCallers-other_actives conn conns =
     let others : ConnId → Bool = λ other. is_active conns other && not (other.0 == conn.0) in
     let same : filter others (conns_from 0 33) ≡ without_member conn (filter (is_active conns) (conns_from 0 33)) =
-        without_member-from (is_active conns) others conn 0 33
-        (and_right (is_active conns conn) (not (conn.0 == conn.0)) (rw (eq-eqb conn.0 conn.0 refl) refl))
-        (λ other apart high. rw (ne_eqb other.0 conn.0 apart) (and-true (is_active conns other))) in
+    without_member-from (is_active conns) others conn 0 33
+    (and_right (is_active conns conn) (not (conn.0 == conn.0)) (rw (eq-eqb conn.0 conn.0 refl) refl))
+    (λ other apart high. rw (ne_eqb other.0 conn.0 apart) (and-true (is_active conns other))) in
     subst (λ (set : List ConnId). AreCallers set) same (AreCallers-filter others)
 
 -- the members from this number on
@@ -47,7 +46,7 @@ unfolding conns_from
 members_from-first set number within =
     let one_more : suc (33 - (number + 1)) ≡ 33 - number = omega arith in
     subst (λ (count : ℕ). filter (λ (conn : ConnId). is_member conn set) (conns_from number count)
-        ≡ cond (is_member (record { 0 = number }) set) (record { 0 = number } ∷ members_from set (number + 1)) (members_from set (number + 1)))
+    ≡ cond (is_member (record { 0 = number }) set) (record { 0 = number } ∷ members_from set (number + 1)) (members_from set (number + 1)))
     one_more refl
 
 -- the letters that are left, from this number on, make the mail whole

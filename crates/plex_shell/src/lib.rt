@@ -7,6 +7,8 @@ mod judging;
 mod letters;
 mod places;
 mod shell;
+#[cfg(test)]
+mod tests;
 mod verdicts;
 
 pub use engine_api::Deeds;

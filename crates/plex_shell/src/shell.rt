@@ -6,7 +6,10 @@ ghost use Rattle.cf_types.specs.Connections.{state_of};
 ghost use Rattle.plex_shell.specs.Verdicts.{refused_or, verdict, leaver_pair, instances_of};
 
 use crate::verdicts::{Room, Verdict};
-use cf_types::{Caps, CfId, ConnId, ConnState, Letter, Listing, NoMemory, Refusal, ShellCmd, ShellReply, StrForm};
+use cf_types::{
+    Caps, CfId, ConnId, ConnState, Letter, Listing, NoMemory, Refusal, ShellCmd, ShellReply,
+    StrForm,
+};
 use conn_core::Conns;
 use engine_api::{Ask, Deeds};
 use event_mail::Mail;
@@ -35,12 +38,14 @@ impl Model for Shell {
     ghost Value = { Shelled };
 
     ghost view = { λ s. record {
-        form = s.form;
-        shell = record {
-            instances = record { primary = s.primary; secondary = s.secondary; fresh = s.fresh };
-            conns = s.conns;
-            mail = s.mail.boxes };
-        room = s.mail.room } };
+      form = s.form;
+      shell = record {
+        instances = record { primary = s.primary; secondary = s.secondary; fresh = s.fresh };
+        conns = s.conns;
+        mail = s.mail.boxes;
+      };
+      room = s.mail.room;
+    } };
 
     ghost invariant = { λ s. IsForm s.form };
 }
@@ -121,10 +126,8 @@ impl Shell {
         requires accepted { shell_cause self.old.form self.old.shell by cmd.now ≡ None }
         requires room { ACT_LETTERS ≤ self.old.room }
         ensures form { self.new.form ≡ self.old.form }
-        ensures acts {
-            record { reply = result.0; shell = self.new.shell; deeds = result.1 }
-                ≡ shell_done self.old.form self.old.shell by cmd.now
-        }
+        ensures acts { record { reply = result.0; shell = self.new.shell; deeds = result.1 }
+            ≡ shell_done self.old.form self.old.shell by cmd.now }
         ensures room { self.old.room ≤ self.new.room + ACT_LETTERS }
     {
         let _ = room;
@@ -143,8 +146,7 @@ impl Shell {
     /// The call's entry stands in the journal.
     pub fn entered(&mut self)
         ensures { self.new ≡ self.old }
-    {
-    }
+    {}
 
     /// The facilities of the primary, of the secondary, and of a rebuild's new instance.
     pub fn instances(&self) -> (Option<CfId>, Option<CfId>, Option<CfId>)

@@ -17,10 +17,8 @@ impl Shell {
         requires accepted { shell_cause self.old.form self.old.shell by (cmd.Connect keep) ≡ None }
         requires room { ACT_LETTERS ≤ self.old.room }
         ensures form { self.new.form ≡ self.old.form }
-        ensures acts {
-            record { reply = result.0; shell = self.new.shell; deeds = result.1 }
-                ≡ connect self.old.form self.old.shell by keep
-        }
+        ensures acts { record { reply = result.0; shell = self.new.shell; deeds = result.1 }
+            ≡ connect self.old.form self.old.shell by keep }
         ensures room { self.old.room ≤ self.new.room + ACT_LETTERS }
     {
         let make = self.made_at();

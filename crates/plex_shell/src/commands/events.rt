@@ -15,10 +15,8 @@ impl Shell {
         requires caller { IsCaller by }
         requires waits { IsSome (next_event self.old.shell.mail by) }
         ensures form { self.new.form ≡ self.old.form }
-        ensures acts {
-            record { reply = result.0; shell = self.new.shell; deeds = result.1 }
-                ≡ take_event self.old.shell by (next_event self.old.shell.mail by)
-        }
+        ensures acts { record { reply = result.0; shell = self.new.shell; deeds = result.1 }
+            ≡ take_event self.old.shell by (next_event self.old.shell.mail by) }
         ensures room { self.new.room ≡ self.old.room }
     {
         let event = self.mail.next(by).unwrap();
@@ -30,10 +28,8 @@ impl Shell {
         requires caller { IsCaller by }
         requires owes { IsSome (owed_event self.old.shell.mail by) }
         ensures form { self.new.form ≡ self.old.form }
-        ensures acts {
-            record { reply = result.0; shell = self.new.shell; deeds = result.1 }
-                ≡ respond self.old.shell by (owed_event self.old.shell.mail by)
-        }
+        ensures acts { record { reply = result.0; shell = self.new.shell; deeds = result.1 }
+            ≡ respond self.old.shell by (owed_event self.old.shell.mail by) }
         ensures room { self.new.room ≡ self.old.room }
     {
         let event = self.mail.respond(by).unwrap();

@@ -1,8 +1,8 @@
 -- A member's letter is the first of those that are left.
-use Rattle.std.proofs.Common.{◌≡◌, ℕ, ◌+◌, ◌<◌, true, false, arith, sym, ap, subst, ◌∙◌}
-use Rattle.cf_types.specs.Mailboxes.{Mailboxes, letters_to, with_letters}
+use Rattle.std.proofs.Common.{◌<◌, arith, sym, ap, ◌∙◌}
+use Rattle.cf_types.specs.Mailboxes.{letters_to, with_letters}
 use Rattle.event_mail.specs.Post.{Post}
-use Rattle.plex_shell.proofs.CallerSets.{LeadsFrom, leads_member, leads_nobody, leads_all}
+use Rattle.plex_shell.proofs.CallerSets.{leads_member, leads_nobody, leads_all}
 use Rattle.plex_shell.proofs.letters.tell.Goals as goal
 use Rattle.plex_shell.proofs.letters.tell.Goals.{then-has, else-has}
 
@@ -14,17 +14,17 @@ loop-number-preserved c =
     let whole = with_letters c.args.mail.now.boxes (letters_to c.args.to c.args.event) in
     elim c.if-has.branch [
       | then-has w ↦ record {
-          letters =
-              rw (w.mail-is, w.post.ensures.boxes)
-              (leads_member c.args.to c.args.event n within whole now (sym c.has.ensures ∙ w.if-has.true) c.loop-number.invariant.letters);
-          room = omega (arith, ap (λ (mail : Post). mail.room) w.mail-is);
-        }
+        letters =
+            rw (w.mail-is, w.post.ensures.boxes)
+            (leads_member c.args.to c.args.event n within whole now (sym c.has.ensures ∙ w.if-has.true) c.loop-number.invariant.letters);
+        room = omega (arith, ap (λ (mail : Post). mail.room) w.mail-is);
+      }
       | else-has w ↦ record {
-          letters =
-              rw w.mail-is
-              (leads_nobody c.args.to c.args.event n within whole now (sym c.has.ensures ∙ w.if-has.false) c.loop-number.invariant.letters);
-          room = omega (arith, ap (λ (mail : Post). mail.room) w.mail-is);
-        }
+        letters =
+            rw w.mail-is
+            (leads_nobody c.args.to c.args.event n within whole now (sym c.has.ensures ∙ w.if-has.false) c.loop-number.invariant.letters);
+        room = omega (arith, ap (λ (mail : Post). mail.room) w.mail-is);
+      }
     ]
 
 pub returns-clause-boxes : goal.returns-clause-boxes

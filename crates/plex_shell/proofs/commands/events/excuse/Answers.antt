@@ -1,7 +1,6 @@
 -- Whoever isn't leaving awaits no answer.
-use Rattle.std.proofs.Common.{◌≡◌, false, Option, refl, sym, subst}
-use Rattle.cf_types.specs.declared.connections.ConnState.{ConnState}
-use Rattle.cf_types.specs.Connections.{is_leaving_state, is_leaving}
+use Rattle.std.proofs.Common.{◌≡◌, false, refl, sym}
+use Rattle.cf_types.specs.Connections.{is_leaving}
 use Rattle.cf_types.proofs.ConnectionLaws.{with_answer-same}
 use Rattle.plex_shell.proofs.commands.events.excuse.Goals as goal
 

@@ -1,5 +1,4 @@
 -- The other active connectors are callers.
-use Rattle.std.proofs.Common.{subst, sym}
 use Rattle.plex_shell.proofs.CallerSets.{AreCallers-other_actives}
 use Rattle.plex_shell.proofs.shell.Shell.connect.Goals as goal
 

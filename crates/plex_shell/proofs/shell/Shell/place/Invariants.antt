@@ -7,4 +7,4 @@ abbrev pub invariant-loop-pref : goal.invariant-loop-pref
 invariant-loop-pref l =
     (l.pref-items ≡ l.self.form.prefs)
     × (place_for l.units (candidates (drop l.pref-index l.pref-items) l.self.shell.instances)
-        ≡ place_for l.units (candidates l.self.form.prefs l.self.shell.instances))
+    ≡ place_for l.units (candidates l.self.form.prefs l.self.shell.instances))
