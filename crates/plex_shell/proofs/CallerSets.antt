@@ -38,16 +38,26 @@ AreCallers-other_actives conn conns =
 abbrev pub members_from : List ConnId → ℕ → List ConnId
 members_from set number = filter (λ conn. is_member conn set) (conns_from number (33 - number))
 
+-- of these, where a member or not comes first
+abbrev members_at : Bool → List ConnId → ℕ → List ConnId
+members_at true set number = record { 0 = number } ∷ members_from set (number + 1)
+members_at false set number = members_from set (number + 1)
+
 -- one of them is the first, where it is a member
 members_from-first : (set : List ConnId) (number : ℕ) → number < 33
-    → members_from set number
-    ≡ cond (is_member (record { 0 = number }) set) (record { 0 = number } ∷ members_from set (number + 1)) (members_from set (number + 1))
+    → members_from set number ≡ members_at (is_member (record { 0 = number }) set) set number
 unfolding conns_from
 members_from-first set number within =
     let one_more : suc (33 - (number + 1)) ≡ 33 - number = omega arith in
     subst (λ (count : ℕ). filter (λ (conn : ConnId). is_member conn set) (conns_from number count)
-    ≡ cond (is_member (record { 0 = number }) set) (record { 0 = number } ∷ members_from set (number + 1)) (members_from set (number + 1)))
-    one_more refl
+    ≡ members_at (is_member (record { 0 = number }) set) set number)
+    one_more (go (is_member (record { 0 = number }) set))
+  where
+    go : (member : Bool)
+        → cond member (record { 0 = number } ∷ members_from set (number + 1)) (members_from set (number + 1))
+        ≡ members_at member set number
+    go true = refl
+    go false = refl
 
 -- the letters that are left, from this number on, make the mail whole
 abbrev pub LeadsFrom : List ConnId → Event → Mailboxes → ℕ → Mailboxes → Type 0

@@ -14,9 +14,11 @@ impl Shell {
         is_at(cf, self.primary) || is_at(cf, self.secondary) || is_at(cf, self.fresh)
     }
 
-    // The first facility that the policy prefers, in which no instance stands, and that has the units.
+    // The first facility that the policy prefers, in which no instance stands, and that has the
+    // units.
     fn place(&self, units: u32) -> Option<CfId>
-        ensures { result ≡ place_for units (candidates self.now.form.prefs self.now.shell.instances) }
+        ensures { result
+            ≡ place_for units (candidates self.now.form.prefs self.now.shell.instances) }
     {
         for pref in self.form.prefs.items() {
             if !self.stands_at(pref.cf) && units <= pref.units {
@@ -41,7 +43,8 @@ impl Shell {
 
     // The greatest units that one of those facilities has.
     fn greatest_units(&self) -> u32
-        ensures { result ≡ greatest_units (candidates self.now.form.prefs self.now.shell.instances) }
+        ensures { result
+            ≡ greatest_units (candidates self.now.form.prefs self.now.shell.instances) }
     {
         let mut most = 0;
         for pref in self.form.prefs.items() {
@@ -52,7 +55,8 @@ impl Shell {
         most
     }
 
-    // Why no instance can be made, if none can: no facility is there for it, or none is large enough.
+    // Why no instance can be made, if none can: no facility is there for it, or none is large
+    // enough.
     fn if_no_place(&self) -> Option<Refusal>
         ensures { result ≡ if_no_place (units_of self.now.form.caps)
             (candidates self.now.form.prefs self.now.shell.instances) }
@@ -70,7 +74,7 @@ impl Shell {
         }
     }
 
-    /// The same, where no primary stands; none where one does.
+    /// Why no primary can be made, if none stands and none can.
     pub(crate) fn unless_placed(&self) -> Option<Refusal>
         ensures { result ≡ unless_placed self.now.form self.now.shell }
     {

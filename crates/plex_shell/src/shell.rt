@@ -93,8 +93,8 @@ impl Shell {
         self.mail.room(letters)
     }
 
-    /// The departure from the content that a command brings, and whether the interests that outlive a
-    /// failure stay; none where it brings none.
+    /// The departure from the content that a command brings, and whether the interests that outlive
+    /// a failure stay; none where it brings none.
     pub fn leaving(&self, by: ConnId, cmd: &ShellCmd) -> Option<(ConnId, bool)>
         requires may { MayCommand by cmd.now }
         requires built { IsTrue (is_built cmd.now) }

@@ -11,8 +11,8 @@ use cf_types::{ConnId, Event, ShellReply};
 use engine_api::Deeds;
 
 impl Shell {
-    /// DISCONNECT and FAIL: the caller departs. Its events end, nobody awaits it any more, and those
-    /// who are active then are told.
+    /// DISCONNECT and FAIL: the caller departs. Its events end, nobody awaits it any more, and
+    /// those who are active then are told.
     pub(crate) fn depart(&mut self, by: ConnId, keep: bool) -> (ShellReply, Deeds)
         requires caller { IsCaller by }
         requires active { IsTrue (is_active self.old.shell.conns by) }

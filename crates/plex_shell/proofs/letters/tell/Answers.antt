@@ -16,17 +16,20 @@ loop-number-preserved c =
       | then-has w ↦ record {
         letters =
             rw (w.mail-is, w.post.ensures.boxes)
-            (leads_member c.args.to c.args.event n within whole now (sym c.has.ensures ∙ w.if-has.true) c.loop-number.invariant.letters);
+            (leads_member c.args.to c.args.event n within whole now (sym c.has.ensures ∙ w.if-has.true)
+            c.loop-number.invariant.letters);
         room = omega (arith, ap (λ (mail : Post). mail.room) w.mail-is);
       }
       | else-has w ↦ record {
         letters =
             rw w.mail-is
-            (leads_nobody c.args.to c.args.event n within whole now (sym c.has.ensures ∙ w.if-has.false) c.loop-number.invariant.letters);
+            (leads_nobody c.args.to c.args.event n within whole now (sym c.has.ensures ∙ w.if-has.false)
+            c.loop-number.invariant.letters);
         room = omega (arith, ap (λ (mail : Post). mail.room) w.mail-is);
       }
     ]
 
 pub returns-clause-boxes : goal.returns-clause-boxes
 returns-clause-boxes c =
-    leads_all c.args.to c.args.event c.loop-number.number _ c.loop-number.mail.boxes (omega arith) c.loop-number.invariant.letters
+    leads_all c.args.to c.args.event c.loop-number.number _ c.loop-number.mail.boxes (omega arith)
+    c.loop-number.invariant.letters
