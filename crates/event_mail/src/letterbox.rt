@@ -72,6 +72,24 @@ impl Letterbox {
         self.events.push_back_reserved(event);
     }
 
+    /// The first event that waits.
+    pub fn waiting(&self) -> Option<Event>
+        ensures { result ≡ first_event self.now.mailbox.waiting }
+    {
+        self.events.get(self.owed).copied()
+    }
+
+    /// The oldest event that is owed.
+    pub fn owed(&self) -> Option<Event>
+        ensures { result ≡ first_event self.now.mailbox.owed }
+    {
+        if self.owed == 0 {
+            None
+        } else {
+            self.events.get(0).copied()
+        }
+    }
+
     /// Takes the first event that waits. Where it is to be answered it is owed from now on.
     pub fn take(&mut self) -> Option<Event>
         ensures event { result ≡ first_event self.old.mailbox.waiting }

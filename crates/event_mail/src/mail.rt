@@ -88,6 +88,24 @@ impl Mail {
         self.room -= 1;
     }
 
+    /// The first event that waits for a connector, none exactly where none waits.
+    pub fn waiting(&self, conn: ConnId) -> Option<Event>
+        requires { conn.0 ≤ 32 }
+        ensures { result ≡ next_event self.now.boxes conn }
+    {
+        let mailbox = &self.boxes[usize::from(conn.0)];
+        mailbox.waiting()
+    }
+
+    /// The oldest event that a connector owes, none exactly where it owes none.
+    pub fn owed(&self, conn: ConnId) -> Option<Event>
+        requires { conn.0 ≤ 32 }
+        ensures { result ≡ owed_event self.now.boxes conn }
+    {
+        let mailbox = &self.boxes[usize::from(conn.0)];
+        mailbox.owed()
+    }
+
     /// Takes the first event that waits for a connector, none exactly where none waits. An event
     /// that is to be answered is owed from now on.
     pub fn next(&mut self, conn: ConnId) -> Option<Event>

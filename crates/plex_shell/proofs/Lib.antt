@@ -1,0 +1,2 @@
+pub mod CallerSets
+pub mod VerdictLaws

@@ -1,0 +1,4 @@
+mod connect;
+mod departures;
+mod events;
+mod forces;

@@ -1,0 +1,53 @@
+ghost use Rattle.std.specs.Prelude.{◌≡◌, ◌≤◌, ◌+◌, None};
+ghost use Rattle.cf_types.specs.Forms.{IsConnector};
+ghost use Rattle.cf_types.specs.declared.shell_commands.ShellCmd.TheVariants as cmd;
+ghost use Rattle.engine_api.specs.Shell.{shell_cause, connect, facility_of};
+ghost use Rattle.plex_shell.specs.declared.shell.TheConstants.{ACT_LETTERS};
+
+use crate::letters::tell;
+use crate::shell::{Shell, no_deeds};
+use cf_types::{CfId, ConnId, Event, ShellReply};
+use engine_api::Deeds;
+
+impl Shell {
+    /// CONNECT: the caller becomes active, or takes its failed connection up again, and the other
+    /// active connectors are told. Where no instance stands, the primary is made.
+    pub(crate) fn connect(&mut self, by: ConnId, keep: bool) -> (ShellReply, Deeds)
+        requires connector { IsConnector by }
+        requires accepted { shell_cause self.old.form self.old.shell by (cmd.Connect keep) ≡ None }
+        requires room { ACT_LETTERS ≤ self.old.room }
+        ensures form { self.new.form ≡ self.old.form }
+        ensures acts { record { reply = result.0; shell = self.new.shell; deeds = result.1 }
+            ≡ connect self.old.form self.old.shell by keep }
+        ensures room { self.old.room ≤ self.new.room + ACT_LETTERS }
+    {
+        let make = self.made_at();
+        let others = self.conns.active().without(by);
+        let again = self.conns.connect(by, keep);
+        tell(&mut self.mail, others, Event::NewConn { conn: by });
+        if make.is_some() {
+            self.primary = make;
+        }
+        let cf = facility_of(self.primary);
+        if again {
+            let back = Some(by);
+            (
+                ShellReply::Reconnected { cf },
+                Deeds {
+                    back,
+                    make,
+                    ..no_deeds()
+                },
+            )
+        } else {
+            (ShellReply::OkNew { cf }, Deeds { make, ..no_deeds() })
+        }
+    }
+}
+
+// The facility of an instance.
+fn facility_of(at: Option<CfId>) -> CfId
+    ensures { result ≡ facility_of at }
+{
+    at.unwrap_or(CfId(0))
+}

@@ -1,0 +1,62 @@
+ghost use Rattle.std.specs.Prelude.{◌≡◌, ◌≤◌, ◌+◌, IsTrue, true};
+ghost use Rattle.cf_types.specs.Connections.{is_active};
+ghost use Rattle.cf_types.specs.Forms.{IsCaller};
+ghost use Rattle.engine_api.specs.Instances.{no_instance};
+ghost use Rattle.engine_api.specs.Shell.{depart, goes, unless_gone, no_deeds};
+ghost use Rattle.plex_shell.specs.declared.shell.TheConstants.{ACT_LETTERS};
+
+use crate::letters::tell;
+use crate::shell::{Shell, no_deeds};
+use cf_types::{ConnId, Event, ShellReply};
+use engine_api::Deeds;
+
+impl Shell {
+    /// DISCONNECT and FAIL: the caller departs. Its events end, nobody awaits it any more, and
+    /// those who are active then are told.
+    pub(crate) fn depart(&mut self, by: ConnId, keep: bool) -> (ShellReply, Deeds)
+        requires caller { IsCaller by }
+        requires active { IsTrue (is_active self.old.shell.conns by) }
+        requires room { ACT_LETTERS ≤ self.old.room }
+        ensures form { self.new.form ≡ self.old.form }
+        ensures acts { record { reply = result.0; shell = self.new.shell; deeds = result.1 }
+            ≡ depart self.old.form self.old.shell by keep }
+        ensures room { self.old.room ≤ self.new.room + ACT_LETTERS }
+    {
+        self.conns.depart(by, keep);
+        self.mail.clear(by);
+        let departure = Event::DiscFail { conn: by };
+        tell(&mut self.mail, self.conns.active(), departure);
+        (ShellReply::Ok, self.end_if_gone())
+    }
+
+    /// A structure of disposition DELETE ends with its last connection.
+    pub(crate) fn end_if_gone(&mut self) -> Deeds
+        ensures form { self.new.form ≡ self.old.form }
+        ensures shell { self.new.shell ≡ unless_gone self.old.form self.old.shell }
+        ensures room { self.new.room ≡ self.old.room }
+        ensures deeds { result
+            ≡ record no_deeds { drop_all = goes self.old.form self.old.shell.conns } }
+    {
+        if !self.form.keep && self.conns.defined() == 0 {
+            self.end()
+        } else {
+            no_deeds()
+        }
+    }
+
+    /// All instances end.
+    pub(crate) fn end(&mut self) -> Deeds
+        ensures form { self.new.form ≡ self.old.form }
+        ensures shell { self.new.shell ≡ record self.old.shell { instances = no_instance } }
+        ensures room { self.new.room ≡ self.old.room }
+        ensures deeds { result ≡ record no_deeds { drop_all = true } }
+    {
+        self.primary = None;
+        self.secondary = None;
+        self.fresh = None;
+        Deeds {
+            drop_all: true,
+            ..no_deeds()
+        }
+    }
+}

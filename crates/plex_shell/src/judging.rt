@@ -1,0 +1,142 @@
+ghost use Rattle.std.specs.Prelude.{◌≡◌, nat_lt, is_none};
+ghost use Rattle.cf_types.specs.Connections.{state_of, defined_count};
+ghost use Rattle.cf_types.specs.Forms.{IsCaller};
+ghost use Rattle.cf_types.specs.Mailboxes.{next_event, owed_event};
+ghost use Rattle.cf_types.specs.declared.refusals.Refusal.TheVariants as refusal;
+ghost use Rattle.cf_types.specs.declared.shell_commands.ShellCmd.TheVariants as cmd;
+ghost use Rattle.engine_api.specs.Asking.{MayCommand};
+ghost use Rattle.engine_api.specs.Shell.{when, unless_active, if_connected, if_too_many, unless_failed, shell_cause};
+
+use crate::shell::Shell;
+use cf_types::{ConnId, ConnState, Refusal, ShellCmd, StateWord};
+
+impl Shell {
+    /// Why a common command is refused, if it is: the first cause that holds.
+    pub(crate) fn judge_command(&self, by: ConnId, cmd: &ShellCmd) -> Option<Refusal>
+        requires { MayCommand by cmd.now }
+        ensures { result ≡ shell_cause self.now.form self.now.shell by cmd.now }
+    {
+        match cmd {
+            ShellCmd::Connect { keep } => self.judge_connect(by, *keep),
+            ShellCmd::Disconnect | ShellCmd::Fail => self.unless_active(by),
+            ShellCmd::Next => self.judge_next(by),
+            ShellCmd::Respond => self.judge_respond(by),
+            ShellCmd::ForceConn { conn } => self.unless_failed(*conn),
+            ShellCmd::ForceStr => self.if_defined(),
+            _ => Some(Refusal::NotAllocated),
+        }
+    }
+
+    fn judge_connect(&self, by: ConnId, keep: bool) -> Option<Refusal>
+        ensures { result
+            ≡ shell_cause self.now.form self.now.shell by (cmd.Connect keep) }
+    {
+        self.if_connected(by)
+            .or(self.if_too_many(by))
+            .or(self.unless_placed())
+    }
+
+    fn judge_next(&self, by: ConnId) -> Option<Refusal>
+        requires { IsCaller by }
+        ensures { result ≡ shell_cause self.now.form self.now.shell by cmd.Next }
+    {
+        self.unless_active(by).or(self.unless_waiting(by))
+    }
+
+    fn judge_respond(&self, by: ConnId) -> Option<Refusal>
+        requires { IsCaller by }
+        ensures { result ≡ shell_cause self.now.form self.now.shell by cmd.Respond }
+    {
+        self.unless_active(by).or(self.unless_owing(by))
+    }
+
+    /// The caller isn't active.
+    pub(crate) fn unless_active(&self, by: ConnId) -> Option<Refusal>
+        ensures { result ≡ unless_active self.now.shell by }
+    {
+        if self.conns.is_active(by) {
+            None
+        } else {
+            Some(Refusal::NotConnected)
+        }
+    }
+
+    // The caller is active or leaving already.
+    fn if_connected(&self, by: ConnId) -> Option<Refusal>
+        ensures { result ≡ if_connected (state_of self.now.shell.conns by) }
+    {
+        match self.conns.state(by) {
+            Some(ConnState::Active { .. }) => Some(Refusal::NameActive {
+                state: StateWord::Active,
+            }),
+            Some(ConnState::Leaving { .. }) => Some(Refusal::NameActive {
+                state: StateWord::Leaving,
+            }),
+            Some(ConnState::Failed) => None,
+            None => None,
+        }
+    }
+
+    // The caller has no connection, and there are as many as the structure admits.
+    fn if_too_many(&self, by: ConnId) -> Option<Refusal>
+        ensures { result ≡ if_too_many self.now.form self.now.shell by }
+    {
+        let limit = self.form.conns;
+        if self.conns.state(by).is_none() && u32::from(limit) <= self.conns.defined() {
+            Some(Refusal::TooManyConns { limit })
+        } else {
+            None
+        }
+    }
+
+    // No event waits for the caller.
+    fn unless_waiting(&self, by: ConnId) -> Option<Refusal>
+        requires { IsCaller by }
+        ensures { result ≡ when (is_none (next_event self.now.shell.mail by)) refusal.NoEvent }
+    {
+        if self.mail.waiting(by).is_none() {
+            Some(Refusal::NoEvent)
+        } else {
+            None
+        }
+    }
+
+    // The caller owes no response.
+    fn unless_owing(&self, by: ConnId) -> Option<Refusal>
+        requires { IsCaller by }
+        ensures { result ≡ when (is_none (owed_event self.now.shell.mail by)) refusal.NothingOwed }
+    {
+        if self.mail.owed(by).is_none() {
+            Some(Refusal::NothingOwed)
+        } else {
+            None
+        }
+    }
+
+    // The connection isn't failed.
+    fn unless_failed(&self, conn: ConnId) -> Option<Refusal>
+        ensures { result
+            ≡ shell_cause self.now.form self.now.shell conn (cmd.ForceConn conn) }
+    {
+        let state = match self.conns.state(conn) {
+            Some(ConnState::Active { .. }) => StateWord::Active,
+            Some(ConnState::Leaving { .. }) => StateWord::Leaving,
+            Some(ConnState::Failed) => return None,
+            None => StateWord::Gone,
+        };
+        Some(Refusal::NotFailed { state })
+    }
+
+    // Connections are defined.
+    fn if_defined(&self) -> Option<Refusal>
+        ensures { result ≡ when (nat_lt 0 (defined_count self.now.shell.conns))
+            (refusal.HasConnections (defined_count self.now.shell.conns)) }
+    {
+        let n = self.conns.defined();
+        if n > 0 {
+            Some(Refusal::HasConnections { n })
+        } else {
+            None
+        }
+    }
+}

@@ -1,0 +1,16 @@
+//! The shell of a structure: what structures of every kind share. It judges the calls, keeps the
+//! connections and their events, and says what is to be done to the instances.
+#![tactic(auto)]
+
+mod commands;
+mod judging;
+mod letters;
+mod places;
+mod shell;
+#[cfg(test)]
+mod tests;
+mod verdicts;
+
+pub use engine_api::Deeds;
+pub use shell::{ACT_LETTERS, Shell};
+pub use verdicts::{Room, Verdict};

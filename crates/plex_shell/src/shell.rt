@@ -1,0 +1,218 @@
+ghost use Rattle.std.specs.Prelude.{◌≡◌, ◌≤◌, ◌<◌, ◌+◌, ◌∷◌, [], IsTrue, IfOk, OnOk};
+ghost use Rattle.cf_types.specs.Forms.{IsForm, IsCaller};
+ghost use Rattle.engine_api.specs.Asking.{MayAsk, MayCommand, IsBuilt};
+ghost use Rattle.engine_api.specs.Shell.{opening_shell, shell_cause, shell_done, leaver, is_kept, posting, is_built, no_deeds};
+ghost use Rattle.cf_types.specs.Connections.{state_of};
+ghost use Rattle.plex_shell.specs.Verdicts.{refused_or, verdict, leaver_pair, instances_of};
+
+use crate::verdicts::{Room, Verdict};
+use cf_types::{
+    Caps, CfId, ConnId, ConnState, Letter, Listing, NoMemory, Refusal, ShellCmd, ShellReply,
+    StrForm,
+};
+use conn_core::Conns;
+use engine_api::{Ask, Deeds};
+use event_mail::Mail;
+use std::alloc::Global;
+use std::marker::Model;
+
+/// The most letters that `act` posts.
+pub const ACT_LETTERS: u32 = 64;
+
+/// The shell of one structure. Contracts see the form, what the shell keeps (instances, connections
+/// and mail), and for how many letters room is taken.
+#[derive(Drop)]
+pub struct Shell {
+    pub(crate) form: StrForm,
+    pub(crate) primary: Option<CfId>,
+    pub(crate) secondary: Option<CfId>,
+    pub(crate) fresh: Option<CfId>,
+    pub(crate) conns: Conns,
+    pub(crate) mail: Mail,
+}
+
+impl Model for Shell {
+    ghost use Rattle.cf_types.specs.Forms.{IsForm};
+    ghost use Rattle.plex_shell.specs.Shelled.{Shelled};
+
+    ghost Value = { Shelled };
+
+    ghost view = { λ s. record {
+      form = s.form;
+      shell = record {
+        instances = record { primary = s.primary; secondary = s.secondary; fresh = s.fresh };
+        conns = s.conns;
+        mail = s.mail.boxes;
+      };
+      room = s.mail.room;
+    } };
+
+    ghost invariant = { λ s. IsForm s.form };
+}
+
+impl Shell {
+    /// The shell of a structure of this form, in which nobody is connected.
+    pub fn start(alloc: Global, form: &StrForm, callers: u8) -> Result<Shell, NoMemory>
+        requires form { IsForm form.now }
+        requires callers { callers ≤ 32 }
+        ensures form { IfOk result (λ shell. shell.form ≡ form.now) }
+        ensures shell { IfOk result (λ shell. shell.shell ≡ opening_shell) }
+    {
+        let form = copy_form(alloc, form)?;
+        let mail = Mail::new(alloc, callers)?;
+        Ok(Shell {
+            form,
+            primary: None,
+            secondary: None,
+            fresh: None,
+            conns: Conns::new(),
+            mail,
+        })
+    }
+
+    /// What is to be done with a call: the first refusal that holds, or who does it.
+    pub fn judge<C>(&self, by: ConnId, ask: &Ask<C>, room: &Room) -> Verdict
+        requires may { MayAsk by ask.now }
+        requires built { IsBuilt ask.now }
+        ensures { result ≡ verdict self.now.form self.now.shell by ask.now }
+    {
+        let _ = room;
+        match ask {
+            Ask::Shell(cmd) => refused_or(self.judge_command(by, cmd), Verdict::Act),
+            Ask::Content(_) => refused_or(self.unless_active(by), Verdict::Content),
+        }
+    }
+
+    /// Takes room for so many letters of `post` and `act` together. Want of memory changes nothing.
+    pub fn ready(&mut self, letters: u32) -> Result<(), NoMemory>
+        ensures room { OnOk result (letters ≤ self.new.room) }
+        ensures more { self.old.room ≤ self.new.room }
+        ensures form { self.new.form ≡ self.old.form }
+        ensures shell { self.new.shell ≡ self.old.shell }
+    {
+        self.mail.room(letters)
+    }
+
+    /// The departure from the content that a command brings, and whether the interests that outlive
+    /// a failure stay; none where it brings none.
+    pub fn leaving(&self, by: ConnId, cmd: &ShellCmd) -> Option<(ConnId, bool)>
+        requires may { MayCommand by cmd.now }
+        requires built { IsTrue (is_built cmd.now) }
+        ensures { result ≡ leaver_pair (leaver self.now.shell by cmd.now) }
+    {
+        match cmd {
+            ShellCmd::Disconnect => Some((by, false)),
+            ShellCmd::Fail => Some((by, self.is_kept(by))),
+            ShellCmd::ForceConn { conn } => Some((*conn, false)),
+            _ => None,
+        }
+    }
+
+    /// Puts a letter last in its connector's mail.
+    pub fn post(&mut self, letter: Letter)
+        requires caller { IsCaller letter.to }
+        requires room { 0 < self.old.room }
+        ensures form { self.new.form ≡ self.old.form }
+        ensures shell { self.new.shell ≡ posting (letter ∷ []) self.old.shell }
+        ensures room { self.old.room ≤ self.new.room + 1 }
+    {
+        self.mail.post(letter);
+    }
+
+    /// Does a common command that isn't refused.
+    pub fn act(&mut self, by: ConnId, cmd: &ShellCmd, room: &Room) -> (ShellReply, Deeds)
+        requires may { MayCommand by cmd.now }
+        requires built { IsTrue (is_built cmd.now) }
+        requires accepted { shell_cause self.old.form self.old.shell by cmd.now ≡ None }
+        requires room { ACT_LETTERS ≤ self.old.room }
+        ensures form { self.new.form ≡ self.old.form }
+        ensures acts { record { reply = result.0; shell = self.new.shell; deeds = result.1 }
+            ≡ shell_done self.old.form self.old.shell by cmd.now }
+        ensures room { self.old.room ≤ self.new.room + ACT_LETTERS }
+    {
+        let _ = room;
+        match cmd {
+            ShellCmd::Connect { keep } => self.connect(by, *keep),
+            ShellCmd::Disconnect => self.depart(by, false),
+            ShellCmd::Fail => self.depart(by, self.is_kept(by)),
+            ShellCmd::Next => self.take_event(by),
+            ShellCmd::Respond => self.respond(by),
+            ShellCmd::ForceConn { conn } => self.force_connection(*conn),
+            ShellCmd::ForceStr => self.force_structure(),
+            _ => unreachable!(),
+        }
+    }
+
+    /// The call's entry stands in the journal.
+    pub fn entered(&mut self)
+        ensures { self.new ≡ self.old }
+    {}
+
+    /// The facilities of the primary, of the secondary, and of a rebuild's new instance.
+    pub fn instances(&self) -> (Option<CfId>, Option<CfId>, Option<CfId>)
+        ensures { result ≡ instances_of self.now.shell.instances }
+    {
+        (self.primary, self.secondary, self.fresh)
+    }
+
+    /// The capacity of an instance that is made now.
+    pub fn caps(&self) -> Caps
+        ensures { result ≡ self.now.form.caps }
+    {
+        self.form.caps
+    }
+
+    // Whether the connection stays, as failed, when its connector fails.
+    fn is_kept(&self, conn: ConnId) -> bool
+        ensures { result ≡ is_kept (state_of self.now.shell.conns conn) }
+    {
+        match self.conns.state(conn) {
+            Some(ConnState::Active { keep }) => keep,
+            Some(ConnState::Leaving { keep, .. }) => keep,
+            Some(ConnState::Failed) => true,
+            None => false,
+        }
+    }
+}
+
+/// Nothing is to be done.
+pub(crate) fn no_deeds() -> Deeds
+    ensures { result ≡ no_deeds }
+{
+    Deeds {
+        back: None,
+        make: None,
+        second: None,
+        drop_at: None,
+        restart: false,
+        switch: false,
+        drop_fresh: false,
+        drop_all: false,
+    }
+}
+
+// A second form that is the same.
+fn copy_form(alloc: Global, form: &StrForm) -> Result<StrForm, NoMemory>
+    ensures { IfOk result (λ copy. copy ≡ form.now) }
+{
+    let prefs = Vec::from_slice(alloc, form.prefs.items())?;
+    Ok(StrForm {
+        name: form.name,
+        kind: form.kind,
+        caps: form.caps,
+        conns: form.conns,
+        vector: form.vector,
+        keep: form.keep,
+        prefs: Listing::from_vec(prefs),
+    })
+}
+
+// Refused for a cause, or else done by who does it.
+fn refused_or(cause: Option<Refusal>, verdict: Verdict) -> Verdict
+    ensures { result ≡ refused_or cause verdict }
+{
+    match cause {
+        Some(refusal) => Verdict::Refuse(refusal),
+        None => verdict,
+    }
+}
