@@ -1,5 +1,5 @@
 -- What a caller's transcript has to do with the script and the histories.
-use Rattle.std.specs.Prelude.{◌≡◌, ◌⊎◌, ℕ, zero, suc, ◌+◌, ◌*◌, ◌≤◌, ◌<◌, ◌==◌, nat_lt, Bool, true, false, if◌then◌else◌, MatchBool, List, [], ◌∷◌, ◌++◌, length, take, filter, fold, map, max, slice_get, Option, None, Some, unwrap_or, All}
+use Rattle.std.specs.Prelude.{◌≡◌, ◌≢◌, ◌⊎◌, ℕ, zero, suc, ◌+◌, ◌*◌, ◌≤◌, ◌<◌, ◌==◌, nat_lt, Bool, true, false, if◌then◌else◌, MatchBool, List, [], ◌∷◌, ◌++◌, length, take, filter, fold, map, max, slice_get, Option, None, Some, unwrap_or, All}
 use Rattle.std.specs.List.{filter_map}
 use Rattle.cf_types.specs.declared.forms.StrForm.{StrForm}
 use Rattle.cf_types.specs.declared.forms.Kind.{Kind}
@@ -96,7 +96,8 @@ numbers_on on items = filter_map (number_on on) items
 abbrev pub is_linked_by : List AnyCall → ConnId → StrNo → List Shown → Bool
 is_linked_by calls conn on items = is_linked (take (length (numbers_on on items)) (own_calls calls conn))
 
--- a connector departs from each structure at which it is active once its lines are done, in the order of the structures
+-- a connector departs from each structure at which it is active once its lines are done, in the order of the structures. The operator has
+-- no closing
 abbrev pub ShowsClosing : StrForm → List AnyCall → ConnId → StrNo → List Shown → List Shown → Type 0
 ShowsClosing form calls conn on before items =
     MatchBool (is_linked_by calls conn on before)
@@ -149,7 +150,7 @@ pub record Follows (script : Script) (histories : List AnyHistory) (conn : ConnI
   pub after : List Shown
   pub shows : items ≡ during ++ after
   pub lines : ShowsLines script.structures histories (lines_of script conn) during
-  pub closings : ShowsClosings histories conn 0 script.structures during after
+  pub closings : MatchBool (conn.0 == 0) (after ≡ []) (ShowsClosings histories conn 0 script.structures during after)
   pub agrees : AgreesWith histories conn items
 
 -- a transcript stops at a structure whose journal is full: its items are those up to a next call, which is one of this structure
@@ -172,6 +173,7 @@ pub record StopsInClosing (script : Script) (histories : List AnyHistory) (conn 
   pub after : List Shown
   pub shows : items ≡ during ++ after
   pub lines : ShowsLines script.structures histories (lines_of script conn) during
+  pub connector : conn.0 ≢ 0
   pub within : on.0 < length script.structures
   pub closings : ShowsClosings histories conn 0 (take on.0 script.structures) during after
   pub linked : is_linked_by (calls_on histories on) conn on during ≡ true
