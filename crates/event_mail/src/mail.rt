@@ -76,8 +76,8 @@ impl Mail {
         Ok(())
     }
 
-    /// A letter waits for its connector, behind the others.
-    pub fn post(&mut self, letter: Letter)
+    // A letter waits for its connector, behind the others.
+    fn put_letter(&mut self, letter: Letter)
         requires to { letter.to.0 ≤ 32 }
         requires room { 0 < self.old.room }
         ensures boxes { self.new.boxes ≡ with_letter self.old.boxes letter }
@@ -86,6 +86,30 @@ impl Mail {
         let mailbox = &mut self.boxes[usize::from(letter.to.0)];
         mailbox.put(letter.event);
         self.room -= 1;
+    }
+
+    // A letter to a number that is no connector's reaches nobody.
+    fn lose_letter(&mut self, letter: Letter)
+        requires to { 32 < letter.to.0 }
+        requires room { 0 < self.old.room }
+        ensures boxes { self.new.boxes ≡ with_letter self.old.boxes letter }
+        ensures room { self.new.room + 1 ≡ self.old.room }
+    {
+        self.room -= 1;
+    }
+
+    /// A letter waits for its connector, behind the others. One to a number that is no connector's
+    /// reaches nobody.
+    pub fn post(&mut self, letter: Letter)
+        requires { 0 < self.old.room }
+        ensures boxes { self.new.boxes ≡ with_letter self.old.boxes letter }
+        ensures room { self.new.room + 1 ≡ self.old.room }
+    {
+        if letter.to.0 <= 32 {
+            self.put_letter(letter);
+        } else {
+            self.lose_letter(letter);
+        }
     }
 
     /// The first event that waits for a connector, none exactly where none waits.

@@ -108,9 +108,9 @@ impl Shell {
         }
     }
 
-    /// Puts a letter last in its connector's mail.
+    /// Puts a letter last in its connector's mail. One to a number that is no connector's reaches
+    /// nobody.
     pub fn post(&mut self, letter: Letter)
-        requires caller { IsCaller letter.to }
         requires room { 0 < self.old.room }
         ensures form { self.new.form ≡ self.old.form }
         ensures shell { self.new.shell ≡ posting (letter ∷ []) self.old.shell }

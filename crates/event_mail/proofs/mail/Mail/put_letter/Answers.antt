@@ -2,7 +2,7 @@ use Rattle.std.proofs.Common.{[], ◌∷◌, ◌++◌, ap, arith}
 use Rattle.cf_types.specs.Mailboxes.{Mailbox}
 use Rattle.event_mail.specs.Post.{Post}
 use Rattle.event_mail.proofs.PostLaws.{mailboxes_of-set}
-use Rattle.event_mail.proofs.mail.Mail.post.Goals as goal
+use Rattle.event_mail.proofs.mail.Mail.put_letter.Goals as goal
 
 pub returns-clause-boxes : goal.returns-clause-boxes
 returns-clause-boxes c =
