@@ -1,6 +1,7 @@
 -- What calls do to the connections: who is active after each, and that refused calls change nothing.
-use Rattle.std.proofs.Common.{◌≡◌, ◌≢◌, ℕ, ◌<◌, ◌==◌, Bool, true, false, cond, IsTrue, List, [], ◌∷◌, length, Option, Some, None, is_some, refl, sym, ap, subst, ◌∙◌, ⊎_elim, arith, fold, map}
+use Rattle.std.proofs.Common.{◌≡◌, ◌≢◌, ℕ, ◌+◌, ◌<◌, ◌==◌, Bool, true, false, cond, IsTrue, List, [], ◌∷◌, length, Option, Some, None, is_some, refl, sym, ap, subst, ◌∙◌, ⊎_elim, arith, fold, map}
 use Rattle.std.proofs.lemmas.Bool.{false≢true, eq-eqb, ne_eqb, cases_eq}
+use Rattle.std.proofs.lemmas.List.Sums.{fold_push}
 use Rattle.std.proofs.lemmas.List.{length-set, length-map}
 use Rattle.std.specs.Option.{unwrap_or}
 use Rattle.cf_types.specs.declared.connections.ConnState.{ConnState}
@@ -17,7 +18,7 @@ use Rattle.cf_types.specs.declared.shell_commands.ShellCmd.TheVariants as cmd
 use Rattle.cf_types.specs.declared.shell_commands.ShellReply.TheVariants as answer
 use Rattle.cf_types.specs.Connections.{Connections, unconnected, state_of, is_active_state, is_active, excused_state, with_connect, with_departure, with_forced}
 use Rattle.cf_types.specs.Mailboxes.{next_event, owed_event}
-use Rattle.cf_types.proofs.ConnectionLaws.{state_of-with_connect_same, state_of-with_connect_other, state_of-with_forced_same, state_of-with_forced_other, is_active-with_departure_same, is_active-with_departure_other, is_active-with_answer}
+use Rattle.cf_types.proofs.ConnectionLaws.{state_of-with_connect_same, state_of-with_connect_other, state_of-with_forced_same, state_of-with_forced_other, is_active-with_departure_same, is_active-with_departure_other, is_active-with_answer, state_of-unconnected}
 use Rattle.engine_api.specs.declared.asks.Ask.{Ask}
 use Rattle.engine_api.specs.declared.asks.Ask.TheVariants as ask
 use Rattle.engine_api.specs.declared.asks.What.{What}
@@ -26,13 +27,13 @@ use Rattle.engine_api.specs.declared.asks.Reply.{Reply}
 use Rattle.engine_api.specs.declared.asks.Reply.TheVariants as reply
 use Rattle.engine_api.specs.declared.histories.Entry.{Entry}
 use Rattle.engine_api.specs.Asking.{MayAsk, MayCommand, IsBuilt}
-use Rattle.engine_api.specs.History.{after_what, after, replay, next_entry, next, next_reply}
+use Rattle.engine_api.specs.History.{Call, own, after_what, after, replay, next_entry, next, next_reply}
 use Rattle.engine_api.specs.Instances.{no_instance}
 use Rattle.engine_api.specs.Machine.{Machine, Answered, opening, refusing, unless, content_reply, content_done, capacity, leaving, command_done, step}
 use Rattle.engine_api.specs.Meaning.{Meaning, Outcome, first_refusal, unless_refused}
 use Rattle.engine_api.specs.Shell.{Shell, Acted, unless_active, unless_failed, shell_cause, content_cause, shell_done, leaver, posting, no_deeds, goes, unless_gone, made_at, facility_of, connecting, connect, depart, answering, take_event, respond, force_connection, is_kept, is_built}
 use Rattle.engine_api.specs.Told.{link_of, told}
-use Rattle.engine_api.proofs.HistoryLaws.{replay-push}
+use Rattle.engine_api.proofs.HistoryLaws.{replay-push, next_call, own-next_same, own-next_other}
 
 -- ---- cases
 
@@ -339,6 +340,13 @@ needs_link (ask.Content command) = true
 abbrev pub is_active_in : {S : Type 0} → Machine S → ConnId → Bool
 is_active_in machine conn = is_active machine.shell.conns conn
 
+-- whether a connector is active, by what its own calls told
+abbrev pub link_told : {C R : Type 0} → Bool → Call C R → Bool
+link_told linked call = unwrap_or (told call.no call.ask call.reply).linked linked
+
+abbrev pub linked_by : {C R : Type 0} → List (Call C R) → Bool
+linked_by calls = fold link_told false calls
+
 -- ---- the steps of the machine, and histories
 
 module _ {C R I S : Type 0} (meaning : Meaning C R I S) (form : StrForm) where
@@ -449,6 +457,36 @@ module _ {C R I S : Type 0} (meaning : Meaning C R I S) (form : StrForm) where
       ≡ is_active_after history conn
   is_active-next_other history by asked conn other may built =
       rw other at (is_active-next 0 history by asked conn may built)
+
+  -- ---- a connector is active exactly where its own calls tell so
+
+  pub linked-none : (conn : ConnId) → is_active_after [] conn ≡ linked_by (own {C = C} {R = R} [] conn)
+  linked-none conn = ap is_active_state (state_of-unconnected conn)
+
+  -- this stays so with each call
+  pub linked-next : (history : List (Entry C R))
+      → ((conn : ConnId) → is_active_after history conn ≡ linked_by (own history conn))
+      → (by : ConnId) (asked : Ask C) → MayAsk by asked → IsBuilt asked → (conn : ConnId)
+      → is_active_after (next meaning form history by asked) conn
+      ≡ linked_by (own (next meaning form history by asked) conn)
+  linked-next history linked by asked may built conn = go (by.0 == conn.0) refl
+    where
+      added : Call C R
+      added = next_call meaning form history by asked
+
+      go : (same : Bool) → by.0 == conn.0 ≡ same
+          → is_active_after (next meaning form history by asked) conn
+          ≡ linked_by (own (next meaning form history by asked) conn)
+      go true same =
+          let active = rw same at (is_active-next (length history + 1) history by asked conn may built) in
+          active
+          ∙ ap (λ (before : Bool). link_told before added) (linked conn)
+          ∙ sym (ap linked_by (own-next_same meaning form history by conn asked same)
+          ∙ fold_push link_told false (own history conn) added)
+      go false other =
+          is_active-next_other history by asked conn other may built
+          ∙ linked conn
+          ∙ sym (ap linked_by (own-next_other meaning form history by conn asked other))
 
   active_cause : (shell : Shell) (by : ConnId) → is_active shell.conns by ≡ true
       → first_refusal (unless_active shell by ∷ []) ≡ None

@@ -51,7 +51,8 @@ impl Model for Shell {
 }
 
 impl Shell {
-    /// The shell of a structure of this form, in which nobody is connected.
+    /// The shell of a structure of this form, in which nobody is connected. `callers` is the
+    /// greatest number of a connector, 32 at most.
     pub fn start(alloc: Global, form: &StrForm, callers: u8) -> Result<Shell, NoMemory>
         requires form { IsForm form.now }
         requires callers { callers ≤ 32 }
@@ -70,7 +71,8 @@ impl Shell {
         })
     }
 
-    /// What is to be done with a call: the first refusal that holds, or who does it.
+    /// What is to be done with a call: the first refusal that holds, or who does it. No command
+    /// that is built asks for the room.
     pub fn judge<C>(&self, by: ConnId, ask: &Ask<C>, room: &Room) -> Verdict
         requires may { MayAsk by ask.now }
         requires built { IsBuilt ask.now }
@@ -119,7 +121,9 @@ impl Shell {
         self.mail.post(letter);
     }
 
-    /// Does a common command that isn't refused.
+    /// Does a common command that isn't refused, for which room for `ACT_LETTERS` letters was
+    /// taken. The departure that `leaving` tells is done to the content before, and its letters are
+    /// posted.
     pub fn act(&mut self, by: ConnId, cmd: &ShellCmd, room: &Room) -> (ShellReply, Deeds)
         requires may { MayCommand by cmd.now }
         requires built { IsTrue (is_built cmd.now) }
@@ -143,7 +147,8 @@ impl Shell {
         }
     }
 
-    /// The call's entry stands in the journal.
+    /// The call's entry stands in the journal. No command that is built looks back at the entry
+    /// before it, so nothing changes.
     pub fn entered(&mut self)
         ensures { self.new ≡ self.old }
     {}
