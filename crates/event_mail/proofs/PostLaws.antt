@@ -16,8 +16,8 @@ pub mailboxes_of-set : (boxes : List Box) (mail : Mailboxes) (conn : ConnId) (at
 mailboxes_of-set boxes mail conn at old new change is here within was now =
     let of : Box → Mailbox = λ box. box.mailbox in
     let before : mailbox_of mail conn ≡ old.mailbox =
-        rw (← is, ← here) (unwrap_or-slice_get (map of boxes) at no_events ∙ get_or-map of boxes at old no_events within
-        ∙ ap of (sym was)) in
+    rw (← is, ← here) (unwrap_or-slice_get (map of boxes) at no_events ∙ get_or-map of boxes at old no_events within
+    ∙ ap of (sym was)) in
     rw (before, ← now, ← is, ← here) (map-set of boxes at new)
 
 -- one mailbox more, without events
@@ -37,13 +37,13 @@ pub mailboxes_of-same : (boxes : List Box) (at : ℕ) (new d : Box) → at < len
 mailboxes_of-same boxes at new d within same =
     let of : Box → Mailbox = λ box. box.mailbox in
     let here : new.mailbox ≡ get_or (map of boxes) at no_events = same
-        ∙ sym (get_or-map of boxes at d no_events within) in
+    ∙ sym (get_or-map of boxes at d no_events within) in
     map-set of boxes at new ∙ ap (λ (m : Mailbox). set (map of boxes) at m) here
-        ∙ set-get_or (map of boxes) at no_events
+    ∙ set-get_or (map of boxes) at no_events
 
 -- a room that each mailbox has, where one is replaced
 pub room_at-set : (boxes : List Box) (at k room : ℕ) (new d : Box) → k < length boxes → (k ≡ at → room ≤ new.room)
     → (k ≢ at → room ≤ (get_or boxes k d).room) → room ≤ (get_or (slice_set boxes at new) k d).room
 room_at-set boxes at k room new d within here elsewhere =
     ⊎_elim (λ (same : k ≡ at). rw (get_or-set_at boxes at k new d same (omega arith)) (here same))
-        (λ (apart : k ≢ at). rw (get_or-set_other boxes at k new d apart) (elsewhere apart)) (cases_eq k at)
+    (λ (apart : k ≢ at). rw (get_or-set_other boxes at k new d apart) (elsewhere apart)) (cases_eq k at)

@@ -44,7 +44,8 @@ fn owes_response(event: &Event) -> bool
 impl Letterbox {
     /// No events, with room for so many.
     pub fn with_room(alloc: Global, letters: usize) -> Result<Letterbox, NoMemory>
-        ensures { IfOk result (λ b. b.mailbox ≡ no_events) }
+        ensures mailbox { IfOk result (λ b. b.mailbox ≡ no_events) }
+        ensures room { IfOk result (λ b. letters ≤ b.room) }
     {
         Ok(Letterbox {
             events: VecDeque::with_capacity(alloc, letters)?,

@@ -25,10 +25,13 @@ loop-number-init c = c.none-set.ensures
 pub loop-number-preserved : goal.loop-number-preserved
 loop-number-preserved c =
     let more = one_more c.args.self.now c.loop-number.number c.loop-number.set c.if-is_active.set
-        c.loop-number.invariant in
-    elim c.if-is_active.branch [ then-is_active w ↦ more true (sym w.if-is_active.true ∙ c.is_active.ensures) (w.set-is
-        ∙ w.with-set.ensures) | else-is_active w ↦ more false (sym w.if-is_active.false
-        ∙ c.is_active.ensures) w.set-is ]
+    c.loop-number.invariant in
+    elim c.if-is_active.branch [
+      | then-is_active w ↦ more true (sym w.if-is_active.true ∙ c.is_active.ensures) (w.set-is
+          ∙ w.with-set.ensures)
+      | else-is_active w ↦ more false (sym w.if-is_active.false
+          ∙ c.is_active.ensures) w.set-is
+    ]
 
 pub returns : goal.returns
 returns c = all_of_them c.args.self.now c.loop-number.number c.loop-number.set (omega arith) c.loop-number.invariant

@@ -13,12 +13,12 @@ taken_out : (events rest : List Event) (owed : ℕ) (event : Event) (mailbox : M
 taken_out events rest owed event mailbox within first free is before =
     let fronts : length (take owed events) ≡ owed = length-take-le owed events (omega arith) in
     let next : drop owed events ≡ event ∷ drop (suc owed) events =
-        rw (← add-one owed) (drop_more events owed event within
-        ∙ ap (λ (e : Event). e ∷ drop (owed + 1) events) (sym first)) in
+    rw (← add-one owed) (drop_more events owed event within
+    ∙ ap (λ (e : Event). e ∷ drop (owed + 1) events) (sym first)) in
     let waits : drop owed rest ≡ drop (suc owed) events =
-        rw is (drop_at (take owed events) (drop (suc owed) events) owed fronts) in
+    rw is (drop_at (take owed events) (drop (suc owed) events) owed fronts) in
     let owes : take owed rest ≡ take owed events =
-        rw is (take_at (take owed events) (drop (suc owed) events) owed fronts) in
+    rw is (take_at (take owed events) (drop (suc owed) events) owed fronts) in
     rw (← before, next, waits, owes, free) refl
 
 pub returns-else-owes_response-clause-mailbox : goal.returns-else-owes_response-clause-mailbox
@@ -27,4 +27,4 @@ returns-else-owes_response-clause-mailbox c =
     let first : c.in_ok-event.event ≡ get_or events c.self.inside.owed c.in_ok-event.event = search rules in
     let within : c.self.inside.owed < length events = search rules in
     taken_out events c.remove.new.self.items c.self.inside.owed c.in_ok-event.event c.args.self.now.mailbox within first
-        (search rules) (search rules) (ap (λ (b : Box). b.mailbox) c.self.view_is)
+    (search rules) (search rules) (ap (λ (b : Box). b.mailbox) c.self.view_is)

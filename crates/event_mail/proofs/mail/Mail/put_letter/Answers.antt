@@ -8,5 +8,5 @@ pub returns-clause-boxes : goal.returns-clause-boxes
 returns-clause-boxes c =
     let posted : Mailbox → Mailbox = λ box. record box { waiting = box.waiting ++ c.args.letter.event ∷ [] } in
     mailboxes_of-set c.self.inside.boxes.items c.args.self.now.boxes c.args.letter.to c.from.result
-        c.index_mut-mailbox.result.now c.put.new.self posted (ap (λ (p : Post). p.boxes) c.self.view_is) c.from.ensures
-        (omega arith) c.index_mut-mailbox.ensures.value c.put.ensures.mailbox
+    c.index_mut-mailbox.result.now c.put.new.self posted (ap (λ (p : Post). p.boxes) c.self.view_is) c.from.ensures
+    (omega arith) c.index_mut-mailbox.ensures.value c.put.ensures.mailbox
