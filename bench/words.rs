@@ -1,48 +1,134 @@
-//! The tests of crates/bench_sync as plain loads of Rust's own atomic words, alone and while another thread stores.
-//! It prints a line for each: `load alone|beside TESTS NANOSECONDS`.
+//! The tests of crates/bench_sync in plain Rust, alone and while another thread stores. The row `plain` does the same work as
+//! `vec_words`: the same threads, table and words with a bit and a stamp, and a pass that keeps the greatest stamp. The row `load`
+//! only loads the word. It prints a line for each: `plain|load alone|beside TESTS NANOSECONDS SET KNOWN`.
 use std::sync::atomic::{AtomicU64, Ordering::SeqCst};
 use std::thread;
 use std::time::Instant;
 
 /// The tests, where they are timed.
-const TIMED_TESTS: u32 = 200_000_000;
+const TIMED_TESTS: u32 = 100_000_000;
 
-/// The calls of the other thread: as many as crates/bench_sync makes.
-const TIMED_CALLS: u32 = 16_000_000;
+/// The words of all vectors, with the number that was committed last.
+struct Vectors {
+    span: usize,
+    table: Box<[AtomicU64]>,
+}
 
-// Tests indices 0 to 63 in turn, in the two words of the vector.
-fn count_set(words: &[AtomicU64], tests: u32) -> u32 {
+/// What a tester knows.
+struct Pass {
+    owner: u8,
+    known: u32,
+}
+
+impl Vectors {
+    fn start(conns: u8, len: u32) -> Vectors {
+        let span = (len as usize).div_ceil(32);
+        let table = (0..1 + usize::from(conns) * span)
+            .map(|_| AtomicU64::new(0))
+            .collect();
+        Vectors { span, table }
+    }
+
+    fn word(&self, conn: u8, word: u32) -> &AtomicU64 {
+        &self.table[1 + usize::from(conn - 1) * self.span + word as usize]
+    }
+
+    // The bit, and the number that it is of.
+    fn test(&self, pass: &mut Pass, index: u32) -> (bool, u32) {
+        let found = self.word(pass.owner, index / 32).load(SeqCst);
+        let stamp = (found >> 32) as u32;
+        if pass.known < stamp {
+            pass.known = stamp;
+        }
+        ((found >> (index % 32)) & 1 == 1, pass.known)
+    }
+
+    fn store_word(&self, number: u32, conn: u8, word: u32, bits: u32) {
+        let content = u64::from(number) << 32 | u64::from(bits);
+        self.word(conn, word).store(content, SeqCst);
+    }
+
+    fn commit(&self, number: u32) {
+        self.table[0].store(u64::from(number), SeqCst);
+    }
+}
+
+// Tests indices 0 to 63 in turn.
+#[inline(never)]
+fn count_set(vectors: &Vectors, pass: &mut Pass, tests: u32) -> u32 {
     let mut set = 0u32;
     for k in 0..tests {
-        let index = k % 64;
-        let word = &words[1 + index as usize / 32];
-        if (word.load(SeqCst) >> (index % 32)) & 1 == 1 {
+        if vectors.test(pass, k % 64).0 {
             set = set.wrapping_add(1);
         }
     }
     set
 }
 
-fn make_calls(words: &[AtomicU64], calls: u32) {
-    for made in 0..calls {
-        words[1].store(u64::from(made + 1) << 32 | u64::from(made), SeqCst);
-        words[0].store(u64::from(made + 1), SeqCst);
+// The same by the word alone.
+#[inline(never)]
+fn count_loaded(vectors: &Vectors, _pass: &mut Pass, tests: u32) -> u32 {
+    let mut set = 0u32;
+    for k in 0..tests {
+        let index = k % 64;
+        if (vectors.table[1 + index as usize / 32].load(SeqCst) >> (index % 32)) & 1 == 1 {
+            set = set.wrapping_add(1);
+        }
+    }
+    set
+}
+
+// Calls that store word 0, until the tests are done.
+fn make_calls(vectors: &Vectors, race: &Race) {
+    race.begun.store(1, SeqCst);
+    for made in 0..u32::MAX {
+        if race.done.load(SeqCst) > 0 {
+            return;
+        }
+        vectors.store_word(made + 1, 1, 0, made);
+        vectors.commit(made + 1);
     }
 }
 
-fn time_tests(words: &[AtomicU64]) -> (u32, u128) {
+/// Whether the calls have begun, and whether the tests are done.
+struct Race {
+    begun: AtomicU64,
+    done: AtomicU64,
+}
+
+fn time_tests(
+    vectors: &Vectors,
+    race: &Race,
+    count: fn(&Vectors, &mut Pass, u32) -> u32,
+    beside: bool,
+) -> (u32, u32, u128) {
+    let mut pass = Pass { owner: 1, known: 0 };
+    while beside && race.begun.load(SeqCst) == 0 {}
     let start = Instant::now();
-    let set = count_set(words, TIMED_TESTS);
-    (set, start.elapsed().as_nanos())
+    let set = count(vectors, &mut pass, TIMED_TESTS);
+    let nanos = start.elapsed().as_nanos();
+    race.done.store(1, SeqCst);
+    (set, pass.known, nanos)
 }
 
 fn main() {
-    for (name, calls) in [("alone", 0), ("beside", TIMED_CALLS)] {
-        let words: Vec<AtomicU64> = (0..3).map(|_| AtomicU64::new(0)).collect();
-        let (set, nanos) = thread::scope(|scope| {
-            scope.spawn(|| make_calls(&words, calls));
-            time_tests(&words)
-        });
-        println!("load {name} {TIMED_TESTS} {nanos} {set}");
+    let rows: [(&str, fn(&Vectors, &mut Pass, u32) -> u32); 2] =
+        [("plain", count_set), ("load", count_loaded)];
+    for (name, count) in rows {
+        for (case, beside) in [("alone", false), ("beside", true)] {
+            let vectors = Vectors::start(1, 64);
+            let race = Race {
+                begun: AtomicU64::new(0),
+                done: AtomicU64::new(0),
+            };
+            let (set, known, nanos) = thread::scope(|scope| {
+                let tests = scope.spawn(|| time_tests(&vectors, &race, count, beside));
+                if beside {
+                    make_calls(&vectors, &race);
+                }
+                tests.join().unwrap()
+            });
+            println!("{name} {case} {TIMED_TESTS} {nanos} {set} {known}");
+        }
     }
 }

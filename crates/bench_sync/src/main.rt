@@ -11,19 +11,19 @@ use std::thread::Threads;
 use std::time::{Clock, Instant};
 use std::{env, io};
 use turns::{Crowd, count};
-use words::{Found, test_beside};
+use words::{Company, Found, test_in};
 
 /// The turns of all threads together, where they are timed.
 const TIMED: u32 = 8_000_000;
 
-/// The turns of each thread, where they are only counted.
+/// The turns of each thread and the tests, where they are only counted.
 const SHORT: u32 = 100;
 
-/// The tests, where they are timed.
-const TIMED_TESTS: u32 = 200_000_000;
+/// The tests beside calls, where they are only counted: enough for some to come after a call.
+const MANY: u32 = 1_000_000;
 
-/// The calls of the other thread, where tests are timed beside them: about as long as the tests take.
-const TIMED_CALLS: u32 = 16_000_000;
+/// The tests, where they are timed.
+const TIMED_TESTS: u32 = 100_000_000;
 
 fn main(rt: HostRuntime) -> io::Result<()> {
     if env::args(&rt)?.any(|word| word.as_str() == "time") {
@@ -31,9 +31,16 @@ fn main(rt: HostRuntime) -> io::Result<()> {
     } else {
         let turns = count(&rt, rt.alloc(), Crowd::Four, SHORT)?;
         println!(rt; "4 threads with {SHORT} turns each: {turns} turns")?;
-        let found = test_beside(&rt, rt.alloc(), SHORT, 0)?;
+        let found = test_in(&rt, rt.alloc(), SHORT, Company::Alone)?;
         let set = found.set;
-        println!(rt; "{SHORT} tests of a vector that nobody changes: {set} bits set")
+        println!(rt; "{SHORT} tests of a vector that nobody changes: {set} bits set")?;
+        let found = test_in(&rt, rt.alloc(), MANY, Company::Beside)?;
+        let word = if found.set > 0 && found.known > 0 {
+            "some"
+        } else {
+            "none"
+        };
+        println!(rt; "{MANY} tests beside calls that set bits: {word} set")
     }
 }
 
@@ -45,8 +52,8 @@ fn print_times(rt: &(impl Threads + Wait + Sync + Clock + Print), alloc: Global)
         let nanos = start.elapsed(rt)?.as_nanos();
         println!(rt; "cf_turn {threads} {turns} {nanos}")?;
     }
-    for (name, calls) in [("alone", 0), ("beside", TIMED_CALLS)] {
-        let Found { set, known, nanos } = test_beside(rt, alloc, TIMED_TESTS, calls)?;
+    for (name, company) in [("alone", Company::Alone), ("beside", Company::Beside)] {
+        let Found { set, known, nanos } = test_in(rt, alloc, TIMED_TESTS, company)?;
         println!(rt; "vec_words {name} {TIMED_TESTS} {nanos} {set} {known}")?;
     }
     Ok(())

@@ -4,7 +4,11 @@ ghost use Rattle.vec_words.specs.Logged.{count_of};
 
 use cf_types::{ConnId, NoMemory};
 use std::alloc::Global;
+use std::hint::spin_loop;
 use std::io;
+use std::sync::Wait;
+use std::sync::atomic::AtomicU64;
+use std::sync::atomic::Ordering::SeqCst;
 use std::thread::{Threads, join};
 use std::time::{Clock, Instant};
 use vec_words::{EngineSeat, Pass, Vectors};
@@ -18,7 +22,22 @@ pub struct Found {
     pub nanos: u128,
 }
 
+/// Whether another thread makes calls beside the tests.
+#[derive(Clone, Copy, PartialEq, Eq)]
+pub enum Company {
+    Alone,
+    Beside,
+}
+
+// Whether the calls have begun, and whether the tests are done.
+#[derive(Drop)]
+struct Race {
+    begun: AtomicU64,
+    done: AtomicU64,
+}
+
 // Tests indices 0 to 63 in turn.
+#[inline(never)]
 fn count_set(vectors: &Vectors<u32>, pass: &mut Pass<u32>, tests: u32) -> u32
     requires form { vectors.now.len ≡ 64 }
     requires pass { (pass.old.table ≡ vectors.now) × (0 < pass.old.owner) }
@@ -32,15 +51,30 @@ fn count_set(vectors: &Vectors<u32>, pass: &mut Pass<u32>, tests: u32) -> u32
     set
 }
 
-fn time_tests<R: Clock>(
+// Waits until the calls have begun.
+fn wait_for_calls(rt: &impl Wait, race: &Race) {
+    for _ in rt.forever() {
+        if race.begun.load(SeqCst) > 0 {
+            return;
+        }
+        spin_loop();
+    }
+}
+
+fn time_tests<R: Clock + Wait>(
     rt: &R,
     vectors: &Vectors<u32>,
+    race: &Race,
+    company: Company,
     mut pass: Pass<u32>,
     tests: u32,
 ) -> io::Result<Found>
     requires form { vectors.now.len ≡ 64 }
     requires pass { (pass.table ≡ vectors.now) × (0 < pass.owner) }
 {
+    if company == Company::Beside {
+        wait_for_calls(rt, race);
+    }
     let start = Instant::now(rt)?;
     let set = count_set(vectors, &mut pass, tests);
     let nanos = start.elapsed(rt)?.as_nanos();
@@ -48,16 +82,29 @@ fn time_tests<R: Clock>(
     Ok(Found { set, known, nanos })
 }
 
-// Calls that store word 0.
-fn make_calls(vectors: &Vectors<u32>, mut seat: EngineSeat<u32>, mut pass: Pass<u32>, calls: u32)
+// Calls that store word 0, until the tests are done.
+fn make_calls(
+    vectors: &Vectors<u32>,
+    race: &Race,
+    mut seat: EngineSeat<u32>,
+    mut pass: Pass<u32>,
+    company: Company,
+)
     requires form { (vectors.now.conns ≡ 1) × (vectors.now.len ≡ 64) }
     requires tokens { (seat.table ≡ vectors.now) × (pass.table ≡ vectors.now) }
     requires idle { (seat.number ≡ 0) × (count_of seat.log ≡ 0) }
 {
-    for made in 0..calls {
+    if company == Company::Alone {
+        return;
+    }
+    race.begun.store(1, SeqCst);
+    for made in 0..u32::MAX {
+        if race.done.load(SeqCst) > 0 {
+            return;
+        }
         vectors.begin(&mut seat, made + 1);
         vectors.store_word(&mut seat, ConnId(1), 0, made);
-        vectors.commit(&mut seat, &mut pass);
+        vectors.commit_as(&mut seat, &mut pass, &made);
     }
 }
 
@@ -70,12 +117,12 @@ fn take_pass(vectors: &Vectors<u32>, passes: &mut Vec<Pass<u32>>) -> Result<Pass
     passes.pop().ok_or(NoMemory)
 }
 
-/// Tests, while another thread makes this many calls.
-pub fn test_beside<R: Threads + Clock + Sync>(
+/// Tests, alone or while another thread makes calls.
+pub fn test_in<R: Threads + Clock + Wait + Sync>(
     rt: &R,
     alloc: Global,
     tests: u32,
-    calls: u32,
+    company: Company,
 ) -> io::Result<Found> {
     let Ok((vectors, seat, mut passes)) = Vectors::start(alloc, 1, 64) else {
         return Err(io::Error::from(io::ErrorKind::OutOfMemory));
@@ -90,14 +137,23 @@ pub fn test_beside<R: Threads + Clock + Sync>(
         return Err(io::Error::from(io::ErrorKind::OutOfMemory));
     }
     let words = &vectors;
-    let (found, _) = join(
+    let race = &Race {
+        begun: AtomicU64::new(0),
+        done: AtomicU64::new(0),
+    };
+    let (found, ()) = join(
         rt,
         move || -> io::Result<Found>
             requires { (words.now.len ≡ 64) × (pass.table ≡ words.now) × (0 < pass.owner) }
-        { time_tests(rt, words, pass, tests) },
+        {
+            let found = time_tests(rt, words, race, company, pass, tests);
+            race.done.store(1, SeqCst);
+            found
+        },
         move ||
-            requires { (words.now.conns ≡ 1) × (words.now.len ≡ 64) × (seat.table ≡ words.now) × (operator.table ≡ words.now) × (seat.number ≡ 0) × (count_of seat.log ≡ 0) }
-        { make_calls(words, seat, operator, calls) },
+            requires { (words.now.conns ≡ 1) × (words.now.len ≡ 64) × (seat.table ≡ words.now)
+                × (operator.table ≡ words.now) × (seat.number ≡ 0) × (count_of seat.log ≡ 0) }
+        { make_calls(words, race, seat, operator, company) },
     );
     found
 }

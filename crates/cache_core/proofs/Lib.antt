@@ -1,4 +1,3 @@
-pub mod RowLists
-pub mod Reclaim
-pub mod Steps
-pub mod Directory
+pub mod FrontLaws
+pub mod EndLaws
+pub mod PlanLaws

@@ -1,6 +1,4 @@
-pub mod Row
-pub mod Registrations
-pub mod Content
-pub mod Room
-pub mod Request
-pub mod Step
+pub mod RowBatch
+pub mod Measure
+pub mod Plans
+pub mod Seen

@@ -1,173 +1,215 @@
-ghost use Rattle.std.specs.Prelude.{◌≡◌, ◌<◌, IsTrue, OnOk, OnErr, IfOk};
-ghost use Rattle.std.specs.Result.{result_err};
-ghost use Rattle.std.specs.Vec.{vec_len, vec_capacity};
-
-mod refusals;
-
-use crate::items::CacheItem;
-use crate::registrations::{Registration, end_all_of, end_of_others, register, registered_at};
-use crate::room::{Request, asked, make_room};
-use crate::rows::{answer, release_all, use_row, write_row};
-use cf_types::{
-    Adjunct, Body, CacheCmd, CacheReply, Caps, ConnId, NoMemory, Refusal, StrForm, copy_body,
-};
+use crate::plans::{Plan, act, make_plan};
+use crate::rows::{Rows, copy_row, elements_in};
+use cache_model::CacheItem;
+use cache_regs::Regs;
+use cf_types::{CacheCmd, CacheReply, Caps, ConnId, Effects, NoMemory, Refusal, StrForm};
+use engine_api::{Engine, Shape};
 use std::alloc::Global;
 use std::marker::Model;
 
-/// A cache structure, with its content as one list of rows and one of registrations.
-#[derive(Debug, Drop)]
+/// The content of a cache structure as contracts see it.
+#[derive(Drop)]
+pub struct CacheContent {}
+
+impl Model for CacheContent {
+    ghost use Rattle.cache_model.specs.Contents.{Content, nothing};
+
+    ghost Value = { Content };
+
+    ghost view = { λ _. nothing };
+}
+
+/// A cache structure (IXLCACHE): its rows in a list, and its registrations.
+#[derive(Drop)]
 pub struct CacheEngine {
-    vector: u32,
+    alloc: Global,
+    shape: Shape,
     caps: Caps,
-    rows: Vec<CacheItem>,
-    regs: Vec<Registration>,
+    rows: Rows,
+    regs: Regs,
+    plan: Option<Plan>,
 }
 
 impl Model for CacheEngine {
-    ghost use Rattle.cache_core.specs.Content.{Cache, IsDirectory};
+    ghost use Rattle.cache_core.specs.Seen.{Seen, seen, IsKept};
 
-    ghost Value = { Cache };
+    ghost Value = { Seen };
 
-    ghost view = { λ e. record { vector = e.vector; caps = e.caps; content = record { rows = e.rows.items; regs = e.regs.items } } };
+    ghost view = { seen };
 
-    ghost invariant = { λ e. IsDirectory e.caps e.rows.items };
+    ghost invariant = { IsKept };
 }
 
-impl CacheEngine {
-    ghost use Rattle.cache_core.specs.Content.{nothing};
-    ghost use Rattle.cache_core.specs.Request.{is_roomy, with_room_for};
-    ghost use Rattle.cache_core.specs.Step.{stands, left, read_done, write_done, cache_step};
+impl Engine for CacheEngine {
+    ghost use Rattle.std.specs.Prelude.{refl};
+    ghost use Rattle.cache_core.specs.Seen.{IsReady, is_cache};
+    ghost use Rattle.cache_model.specs.Contents.{IsContent};
+    ghost use Rattle.cache_model.specs.Meaning.{cache_meaning};
+    ghost use Rattle.cache_model.proofs.EngineLaws.{content-nothing, step-content, leave-content, content-forgotten, made-items, unplace-place, need-front, need-leave, need-same};
 
-    /// A structure of this form with nothing in it. It takes no memory yet.
-    pub fn empty(alloc: Global, form: &StrForm) -> Result<CacheEngine, NoMemory>
-        ensures { IfOk result (λ engine. engine ≡ record { vector = form.now.vector; caps = form.now.caps; content = nothing }) }
-    {
+    type Cmd = CacheCmd;
+
+    type Reply = CacheReply;
+
+    type Item = CacheItem;
+
+    type State = CacheContent;
+
+    ghost meaning = { cache_meaning };
+
+    ghost is_kind = { is_cache };
+
+    ghost is_content = { λ shape caps content. IsContent caps content };
+
+    ghost held = { λ e. e.held };
+
+    ghost is_ready = { IsReady };
+
+    fn empty(alloc: Global, form: &StrForm, caps: Caps) -> Result<Self, NoMemory> {
+        let regs = Regs::new(alloc, form.conns, form.vector)?;
         Ok(CacheEngine {
-            vector: form.vector,
-            caps: form.caps,
-            rows: Vec::new(alloc),
-            regs: Vec::new(alloc),
+            alloc,
+            shape: Shape::of(form),
+            caps,
+            rows: Rows::new(alloc),
+            regs,
+            plan: None,
         })
     }
 
-    /// Whether the bit of a connector's vector at an index (from 0) tells a valid copy (IXLVECTR). It
-    /// does exactly where the connector is registered at the index.
-    pub fn stands(&self, conn: ConnId, index: u32) -> bool
-        ensures { result ≡ stands self.now.content conn index }
-    {
-        registered_at(&self.regs, conn, index).is_some()
+    fn copy(&self, alloc: Global) -> Result<Self, NoMemory> {
+        let rows = self.rows.copy(alloc)?;
+        let regs = self.regs.copy(alloc)?;
+        Ok(CacheEngine {
+            alloc,
+            shape: self.shape,
+            caps: self.caps,
+            rows,
+            regs,
+            plan: None,
+        })
     }
 
-    /// A connector departs (IXLDISC): its registrations end, and its castout locks are released. The
-    /// rows that it held stay changed.
-    pub fn leave(&mut self, conn: ConnId)
-        ensures content { self.new.content ≡ left conn self.old.content }
-        ensures form { (self.new.vector ≡ self.old.vector) × (self.new.caps ≡ self.old.caps) }
-    {
-        release_all(&mut self.rows, conn);
-        end_all_of(&mut self.regs, conn);
-    }
-
-    // READ, where there is room for it.
-    fn read(
-        &mut self,
-        alloc: Global,
-        by: ConnId,
-        index: u32,
-        request: &Request,
-    ) -> Result<CacheReply, NoMemory>
-        requires { IsTrue (is_roomy self.old request.now) }
-        ensures done { IfOk result (λ reply. record { reply = Ok reply; content = self.new.content }
-            ≡ read_done (with_room_for self.old request.now) by request.now.name index request.now.stg) }
-        ensures form { (self.new.vector ≡ self.old.vector) × (self.new.caps ≡ self.old.caps) }
-        ensures no_memory { OnErr result (self.new ≡ self.old) }
-    {
-        let reply = answer(alloc, &self.rows, &request.name)?;
-        reserve(&mut self.rows, &mut self.regs)?;
-        make_room(self.caps, request, &mut self.rows, &mut self.regs);
-        use_row(&mut self.rows, &request.name, request.stg);
-        register(&mut self.regs, by, index, &request.name);
-        Ok(reply)
-    }
-
-    // WRITE, where there is room for it.
-    fn write(
-        &mut self,
-        by: ConnId,
-        index: u32,
-        request: &Request,
-        body: Body,
-        class: Option<u32>,
-        adj: Option<Adjunct>,
-    ) -> Result<(), NoMemory>
-        requires { IsTrue (is_roomy self.old request.now) }
-        ensures done { OnOk result (record { reply = Ok CacheReply.Ok; content = self.new.content }
-            ≡ write_done (with_room_for self.old request.now) by request.now.name index body class adj request.now.stg) }
-        ensures form { (self.new.vector ≡ self.old.vector) × (self.new.caps ≡ self.old.caps) }
-        ensures no_memory { OnErr result (self.new ≡ self.old) }
-    {
-        reserve(&mut self.rows, &mut self.regs)?;
-        make_room(self.caps, request, &mut self.rows, &mut self.regs);
-        write_row(&mut self.rows, &request.name, body, class, adj, request.stg);
-        end_of_others(&mut self.regs, by, &request.name);
-        register(&mut self.regs, by, index, &request.name);
+    fn ready(&mut self, by: ConnId, cmd: &CacheCmd, out: &mut Effects) -> Result<(), NoMemory> {
+        let plan = make_plan(
+            self.alloc,
+            self.shape.vector,
+            self.caps,
+            self.rows.items(),
+            &self.regs,
+            by,
+            cmd,
+        )?;
+        self.rows.reserve()?;
+        self.regs.room(out)?;
+        self.plan = Some(plan);
         Ok(())
     }
 
-    // A command that isn't refused.
-    fn perform(&mut self, alloc: Global, by: ConnId, cmd: &CacheCmd) -> Result<CacheReply, NoMemory>
-        requires { result_err (cache_step self.old by cmd.now).reply ≡ None }
-        ensures done { IfOk result (λ reply. record { reply = Ok reply; content = self.new.content } ≡ cache_step self.old by cmd.now) }
-        ensures form { (self.new.vector ≡ self.old.vector) × (self.new.caps ≡ self.old.caps) }
-        ensures no_memory { OnErr result (self.new ≡ self.old) }
-    {
-        let request = asked(cmd);
-        match cmd {
-            CacheCmd::Read { index, .. } => self.read(alloc, by, *index, &request),
-            CacheCmd::Write {
-                index,
-                body,
-                class,
-                adj,
-                ..
-            } => {
-                let body = copy_body(alloc, body)?;
-                self.write(by, *index, &request, body, *class, *adj)?;
-                Ok(CacheReply::Ok)
-            }
-        }
-    }
-
-    /// Does a command for a connector (IXLCACHE): its reply, or why it was refused. A refused command
-    /// changes nothing, and neither does one that finds no memory.
-    pub fn apply(
+    fn apply(
         &mut self,
-        alloc: Global,
         by: ConnId,
         cmd: &CacheCmd,
-    ) -> Result<Result<CacheReply, Refusal>, NoMemory>
-        ensures reply { IfOk result (λ reply. reply ≡ (cache_step self.old by cmd.now).reply) }
-        ensures content { OnOk result (self.new.content ≡ (cache_step self.old by cmd.now).content) }
-        ensures form { (self.new.vector ≡ self.old.vector) × (self.new.caps ≡ self.old.caps) }
-        ensures no_memory { OnErr result (self.new ≡ self.old) }
-    {
-        match self.refusal(by, cmd) {
-            Some(refusal) => Ok(Err(refusal)),
-            None => {
-                let reply = self.perform(alloc, by, cmd)?;
-                Ok(Ok(reply))
+        out: &mut Effects,
+    ) -> Result<CacheReply, Refusal> {
+        match self.plan.take() {
+            Some(plan) => {
+                let Plan { reply, gone, body } = plan;
+                match reply {
+                    Ok(reply) => {
+                        act(
+                            &mut self.rows,
+                            &mut self.regs,
+                            gone.items(),
+                            body,
+                            by,
+                            cmd,
+                            out,
+                        );
+                        Ok(reply)
+                    }
+                    Err(refusal) => Err(refusal),
+                }
             }
+            None => unreachable!(),
         }
     }
-}
 
-// Room for one more row and one more registration.
-fn reserve(rows: &mut Vec<CacheItem>, regs: &mut Vec<Registration>) -> Result<(), NoMemory>
-    ensures rows { rows.new.items ≡ rows.old.items }
-    ensures regs { regs.new.items ≡ regs.old.items }
-    ensures room { OnOk result ((vec_len rows.new < vec_capacity rows.new) × (vec_len regs.new < vec_capacity regs.new)) }
-{
-    rows.reserve(1)?;
-    regs.reserve(1)?;
-    Ok(())
+    fn leave_ready(&mut self, _conn: ConnId, out: &mut Effects) -> Result<(), NoMemory> {
+        out.bits.reserve(self.regs.items().len())
+    }
+
+    fn leave(&mut self, conn: ConnId, _keep: bool, out: &mut Effects) {
+        self.rows.release(conn);
+        self.regs.drop_conn(conn, out);
+    }
+
+    fn back(&mut self, _conn: ConnId) {}
+
+    fn forget_ready(&mut self, out: &mut Effects) -> Result<(), NoMemory> {
+        out.bits.reserve(self.regs.items().len())
+    }
+
+    fn forget(&mut self, out: &mut Effects) {
+        self.regs.drop_all(out);
+    }
+
+    fn count(&self) -> u32 {
+        self.rows.items().len() as u32
+    }
+
+    fn item(&self, alloc: Global, k: u32) -> Result<CacheItem, NoMemory> {
+        copy_row(alloc, &self.rows.items()[k as usize])
+    }
+
+    fn place(&mut self, item: CacheItem) -> Result<(), CacheItem> {
+        self.rows.push(item)
+    }
+
+    fn unplace(&mut self) {
+        self.rows.pop();
+        self.regs.clear();
+    }
+
+    fn need(&self) -> Caps {
+        let rows = self.rows.items();
+        Caps {
+            entries: rows.len() as u32,
+            elements: elements_in(rows),
+        }
+    }
+
+    fn capacity(&self) -> Caps {
+        self.caps
+    }
+
+    fn stands(&self, conn: ConnId, index: u32) -> bool {
+        self.regs.stands(conn, index)
+    }
+
+    ghost content_empty = { λ shape caps. content-nothing caps };
+
+    ghost clear_empty = { λ shape conn index. refl };
+
+    ghost items_empty = { λ shape. refl };
+
+    ghost content_step = { λ shape caps content by cmd. step-content shape caps content by cmd };
+
+    ghost content_leave = { λ shape caps content conn keep. leave-content caps content conn };
+
+    ghost content_back = { λ shape caps content conn is. is };
+
+    ghost content_forget = { λ shape caps content. content-forgotten caps content };
+
+    ghost made_again = { λ shape caps content is. made-items content.rows };
+
+    ghost items_place = { λ shape caps content item next. refl };
+
+    ghost unplace_place = { λ shape caps content item next. unplace-place content item next.made_so };
+
+    ghost need_first = { need-front };
+
+    ghost need_leave = { λ shape caps content conn keep is. need-leave shape.kind content conn };
+
+    ghost need_forget = { λ shape caps content is. need-same shape.kind content.rows };
 }

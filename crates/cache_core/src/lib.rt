@@ -1,15 +1,17 @@
-//! The cache structure of a coupling facility: a directory of named entries with their data, and the
-//! registrations that say whose copy of an entry is valid.
+//! The cache structure of a coupling facility: a directory of named entries with their data, and the registrations
+//! that say whose copy of an entry is valid.
 #![tactic(auto)]
 
+mod commands;
 mod engine;
-mod items;
-mod registrations;
+mod plans;
+mod refusals;
 mod room;
 mod rows;
+
+pub use cache_model::{CacheItem, Holder};
+pub use cache_regs::Registration;
+pub use engine::{CacheContent, CacheEngine};
+
 #[cfg(test)]
 mod tests;
-
-pub use engine::CacheEngine;
-pub use items::{CacheItem, Holder};
-pub use registrations::Registration;

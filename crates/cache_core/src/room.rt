@@ -1,75 +1,32 @@
-//! Room for a request: where there is none, unchanged rows are reclaimed for it.
-ghost use Rattle.std.specs.Prelude.{◌≡◌, ℕ, ◌≤◌, ◌&&◌, ◌==◌, not, length, IsTrue, Some, None, if◌then◌else◌, find, option_map};
-ghost use Rattle.std.specs.Vec.{vec_len, vec_capacity};
-ghost use Rattle.cache_core.specs.Row.{is_row_of, is_changed, rows_without, one_row_each};
-ghost use Rattle.cache_core.specs.Registrations.{regs_without_name};
-ghost use Rattle.cache_core.specs.Content.{Content};
-ghost use Rattle.cache_core.specs.Request.{asked};
-ghost use Rattle.cache_core.specs.Room.{free_elements, has_place, has_room, is_reclaimable, lasting, reclaim_order, first_name, with_room, room_refusal};
+//! Room for a request: which unchanged rows are reclaimed for it.
+ghost use Rattle.std.specs.Prelude.{◌≡◌, ◌^◌, ◌<◌, ◌++◌, ◌&&◌, ◌==◌, [], not, IfOk, OnOk, length, map, filter, sum_by};
+ghost use Rattle.list_laws.specs.Prefixes.{shortest_prefix};
+ghost use Rattle.cache_model.specs.Rows.{has_storage, elements_of, elements_in, rows_without};
+ghost use Rattle.cache_model.specs.Room.{is_reclaimable, reclaim_order, victims, room_refusal};
+ghost use Rattle.cache_core.specs.Measure.{room_for, has_place, free_elements, is_enough, reclaimable_of, is_enough_of};
 
-use crate::items::CacheItem;
-use crate::registrations::{Registration, end_all_for};
-use crate::rows::{elements_of, elements_of_body, end_row, row_of};
-use cf_types::{CacheCmd, Caps, Name16, Refusal};
+use crate::rows::{elements_of, has_row};
+use cache_model::{CacheItem, Request};
+use cf_types::{Caps, Name16, NoMemory, Refusal};
+use std::alloc::Global;
 
-/// What a request asks room for: the row of a name, and elements for its data. Rows of its storage
-/// class are reclaimed before others.
+/// What decides whether there is room for a request: whether its name has a row, how many rows there are and may be,
+/// how many elements the data of others take, how many there are, and how many are asked for.
 #[derive(Clone, Copy)]
-pub(crate) struct Request {
+pub(crate) struct Room {
+    pub named: bool,
+    pub rows: usize,
+    pub entries: u32,
+    pub others: u32,
+    pub elements: u32,
+    pub need: u32,
+}
+
+/// A row that may be reclaimed.
+#[derive(Clone, Copy)]
+pub(crate) struct Reclaimable {
     pub name: Name16,
     pub elements: u32,
-    pub stg: u32,
-}
-
-/// What a command asks room for.
-pub(crate) fn asked(cmd: &CacheCmd) -> Request
-    ensures { result ≡ asked cmd.now }
-{
-    match cmd {
-        CacheCmd::Read { name, stg, .. } => Request {
-            name: *name,
-            elements: 0,
-            stg: *stg,
-        },
-        CacheCmd::Write {
-            name,
-            body,
-            stg,
-            ..
-        } => Request {
-            name: *name,
-            elements: elements_of_body(body),
-            stg: *stg,
-        },
-    }
-}
-
-// The elements that are free for the name's data.
-fn free_elements(caps: Caps, name: &Name16, rows: &[CacheItem]) -> u32
-    ensures { result ≡ free_elements caps name.now rows.now }
-{
-    let mut free = caps.elements;
-    for row in rows {
-        if row.name != *name {
-            free = free.saturating_sub(elements_of(row));
-        }
-    }
-    free
-}
-
-// Whether the name has a row, or there is a place for one.
-fn has_place(caps: Caps, name: &Name16, rows: &[CacheItem]) -> bool
-    ensures { result ≡ has_place caps name.now rows.now }
-{
-    row_of(rows, name).is_some() || rows.len() < caps.entries as usize
-}
-
-// Whether there is room for a request.
-fn has_room(caps: Caps, request: &Request, rows: &[CacheItem]) -> bool
-    ensures { result ≡ has_room caps request.now.name request.now.elements rows.now }
-{
-    has_place(caps, &request.name, rows)
-        && request.elements <= free_elements(caps, &request.name, rows)
 }
 
 // Whether a row may be reclaimed for a name.
@@ -79,109 +36,181 @@ fn is_reclaimable(row: &CacheItem, name: &Name16) -> bool
     row.class.is_none() && row.name != *name
 }
 
-// The elements that are free for the name's data once every other unchanged row is reclaimed.
-fn free_elements_at_most(caps: Caps, name: &Name16, rows: &[CacheItem]) -> u32
-    ensures { result ≡ free_elements caps name.now (lasting name.now rows.now) }
+// How many elements the data of others than a name take.
+fn elements_of_others(rows: &[CacheItem], name: &Name16) -> u32
+    requires { elements_in rows.now < 2 ^ 32 }
+    ensures { result ≡ elements_in (rows_without name.now rows.now) }
 {
-    let mut free = caps.elements;
+    let mut total = 0;
     for row in rows {
-        if !is_reclaimable(row, name) && row.name != *name {
-            free = free.saturating_sub(elements_of(row));
+        if row.name != *name {
+            total += elements_of(row);
         }
     }
-    free
+    total
 }
 
-// Whether the name has a row, or there is a place for one once every other unchanged row is
-// reclaimed.
-fn has_place_at_last(caps: Caps, name: &Name16, rows: &[CacheItem]) -> bool
-    ensures { result ≡ has_place caps name.now (lasting name.now rows.now) }
+// How many elements the data of the rows that may be reclaimed for a name take.
+fn reclaimable_elements(rows: &[CacheItem], name: &Name16) -> u32
+    requires { elements_in rows.now < 2 ^ 32 }
+    ensures { result ≡ elements_in (filter (is_reclaimable name.now) rows.now) }
 {
-    row_of(rows, name).is_some() || lasting_count(name, rows) < caps.entries as usize
+    let mut total = 0;
+    for row in rows {
+        if is_reclaimable(row, name) {
+            total += elements_of(row);
+        }
+    }
+    total
 }
 
-// How many rows are left once every other unchanged row is reclaimed.
-fn lasting_count(name: &Name16, rows: &[CacheItem]) -> usize
-    ensures { result ≡ length (lasting name.now rows.now) }
+// How many rows may be reclaimed for a name.
+fn reclaimable_count(rows: &[CacheItem], name: &Name16) -> usize
+    ensures { result ≡ length (filter (is_reclaimable name.now) rows.now) }
 {
-    rows.iter().filter(|row| !is_reclaimable(row, name)).count()
+    rows.iter().filter(|row| is_reclaimable(row, name)).count()
+}
+
+impl Room {
+    // What decides about a request.
+    fn measure(caps: Caps, rows: &[CacheItem], request: &Request) -> Room
+        requires { elements_in rows.now < 2 ^ 32 }
+        ensures { result ≡ room_for caps request.now rows.now }
+    {
+        Room {
+            named: has_row(rows, &request.name),
+            rows: rows.len(),
+            entries: caps.entries,
+            others: elements_of_others(rows, &request.name),
+            elements: caps.elements,
+            need: request.elements,
+        }
+    }
+
+    // Whether there is a place for the row once so many are gone.
+    fn has_place(&self, count: usize) -> bool
+        ensures { result ≡ has_place self.now count }
+    {
+        self.named || self.rows.saturating_sub(count) < self.entries as usize
+    }
+
+    // How many elements are free once so many are given back.
+    fn free_elements(&self, given: u32) -> u32
+        ensures { result ≡ free_elements self.now given }
+    {
+        self.elements
+            .saturating_sub(self.others.saturating_sub(given))
+    }
+
+    // Whether there is room.
+    fn is_enough(&self, count: usize, given: u32) -> bool
+        ensures { result ≡ is_enough self.now count given }
+    {
+        self.has_place(count) && self.need <= self.free_elements(given)
+    }
 }
 
 /// Why there is no room for a request, even where every other unchanged row is reclaimed for it.
-pub(crate) fn room_refusal(caps: Caps, request: &Request, rows: &[CacheItem]) -> Option<Refusal>
-    ensures { let last = lasting request.now.name rows.now in
-        result ≡ (if has_room caps request.now.name request.now.elements last
-        then None
-        else Some (room_refusal caps request.now.name request.now.elements last)) }
+pub(crate) fn room_refusal(caps: Caps, rows: &[CacheItem], request: &Request) -> Option<Refusal>
+    requires { elements_in rows.now < 2 ^ 32 }
+    ensures { result ≡ room_refusal caps request.now rows.now }
 {
-    let name = &request.name;
-    if !has_place_at_last(caps, name, rows) {
+    let room = Room::measure(caps, rows, request);
+    let count = reclaimable_count(rows, &request.name);
+    if !room.has_place(count) {
         return Some(Refusal::DirectoryFull {
             entries: caps.entries,
         });
     }
-    let free = free_elements_at_most(caps, name, rows);
-    if request.elements > free {
-        return Some(Refusal::NoElements {
+    let free = room.free_elements(reclaimable_elements(rows, &request.name));
+    if request.elements <= free {
+        None
+    } else {
+        Some(Refusal::NoElements {
             need: request.elements,
             free,
-        });
-    }
-    None
-}
-
-// The least recently used row of the storage class asked for that may be reclaimed.
-fn first_of_class(request: &Request, rows: &[CacheItem]) -> Option<Name16>
-    ensures { result ≡ option_map (λ row. row.name) (find (λ row. is_reclaimable request.now.name row && (row.stg == request.now.stg)) rows.now) }
-{
-    rows.iter()
-        .find(|row| is_reclaimable(row, &request.name) && row.stg == request.stg)
-        .map(|row| row.name)
-}
-
-// The least recently used row of another storage class that may be reclaimed.
-fn first_of_others(request: &Request, rows: &[CacheItem]) -> Option<Name16>
-    ensures { result ≡ option_map (λ row. row.name) (find (λ row. is_reclaimable request.now.name row && not (row.stg == request.now.stg)) rows.now) }
-{
-    rows.iter()
-        .find(|row| is_reclaimable(row, &request.name) && row.stg != request.stg)
-        .map(|row| row.name)
-}
-
-// The next row to reclaim, where there is no room yet.
-fn next_victim(caps: Caps, request: &Request, rows: &[CacheItem]) -> Option<Name16>
-    ensures { result ≡ (if has_room caps request.now.name request.now.elements rows.now
-        then None
-        else first_name (reclaim_order request.now.name request.now.stg rows.now)) }
-{
-    if has_room(caps, request, rows) {
-        return None;
-    }
-    match first_of_class(request, rows) {
-        Some(victim) => Some(victim),
-        None => first_of_others(request, rows),
+        })
     }
 }
 
-/// Makes room for a request, as far as there is: rows go with their registrations until there is
-/// room.
-pub(crate) fn make_room(
-    caps: Caps,
+// One row more that may be reclaimed.
+fn push_reclaimable(order: &mut Vec<Reclaimable>, row: &CacheItem) -> Result<(), NoMemory>
+    ensures { OnOk result (order.new.items ≡ order.old.items ++ reclaimable_of row.now ∷ []) }
+{
+    let elements = elements_of(row);
+    order.push(Reclaimable {
+        name: row.name,
+        elements,
+    })?;
+    Ok(())
+}
+
+// The rows of the request's storage class that may be reclaimed, behind others; or those of the other classes.
+fn push_order(
+    order: &mut Vec<Reclaimable>,
+    rows: &[CacheItem],
     request: &Request,
-    rows: &mut Vec<CacheItem>,
-    regs: &mut Vec<Registration>,
-)
-    requires { IsTrue (one_row_each rows.old.items) }
-    ensures content { let before : Content = record { rows = rows.old.items; regs = regs.old.items } in
-        record { rows = rows.new.items; regs = regs.new.items } ≡ with_room caps request.now.name request.now.elements request.now.stg before }
-    ensures one_each { IsTrue (one_row_each rows.new.items) }
-    ensures rows_bound { vec_len rows.new ≤ vec_len rows.old }
-    ensures rows_capacity { vec_capacity rows.new ≡ vec_capacity rows.old }
-    ensures regs_bound { vec_len regs.new ≤ vec_len regs.old }
-    ensures regs_capacity { vec_capacity regs.new ≡ vec_capacity regs.old }
+    first: bool,
+) -> Result<(), NoMemory>
+    ensures { OnOk result (order.new.items ≡ order.old.items
+        ++ map reclaimable_of (filter (λ row. is_reclaimable request.now.name row && in_turn request.now.stg first row) rows.now)) }
 {
-    while let Some(victim) = next_victim(caps, request, rows) {
-        end_row(rows, &victim);
-        end_all_for(regs, &victim);
+    for row in rows {
+        if is_reclaimable(row, &request.name) && (row.stg == request.stg) == first {
+            push_reclaimable(order, row)?;
+        }
     }
+    Ok(())
+}
+
+ghost use Rattle.std.specs.Prelude.{◌∷◌};
+ghost use Rattle.cache_core.specs.Measure.{in_turn};
+
+// The order of reclaiming.
+fn reclaim_order(
+    alloc: Global,
+    rows: &[CacheItem],
+    request: &Request,
+) -> Result<Vec<Reclaimable>, NoMemory>
+    ensures { IfOk result (λ order. order.items ≡ map reclaimable_of (reclaim_order request.now rows.now)) }
+{
+    let mut order = Vec::new(alloc);
+    push_order(&mut order, rows, request, true)?;
+    push_order(&mut order, rows, request, false)?;
+    Ok(order)
+}
+
+// The names of as few rows from the front of the order as leave room.
+fn front(alloc: Global, order: &[Reclaimable], room: &Room) -> Result<Vec<Name16>, NoMemory>
+    requires { sum_by (λ row. row.elements) order.now < 2 ^ 32 }
+    ensures { IfOk result (λ names. names.items ≡ map (λ row. row.name) (shortest_prefix (is_enough_of room.now) order.now)) }
+{
+    let mut names = Vec::new(alloc);
+    let mut given = 0;
+    for row in order {
+        if room.is_enough(names.len(), given) {
+            return Ok(names);
+        }
+        names.push(row.name)?;
+        given += row.elements;
+    }
+    Ok(names)
+}
+
+/// The names of the rows that are reclaimed for a request.
+pub(crate) fn victims(
+    alloc: Global,
+    caps: Caps,
+    rows: &[CacheItem],
+    request: &Request,
+) -> Result<Vec<Name16>, NoMemory>
+    requires { elements_in rows.now < 2 ^ 32 }
+    ensures { IfOk result (λ names. names.items ≡ victims caps request.now rows.now) }
+{
+    let room = Room::measure(caps, rows, request);
+    if room.is_enough(0, 0) {
+        return Ok(Vec::new(alloc));
+    }
+    let order = reclaim_order(alloc, rows, request)?;
+    front(alloc, order.as_slice(), &room)
 }

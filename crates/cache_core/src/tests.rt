@@ -1,166 +1,105 @@
-use crate::CacheEngine;
-use cf_types::{CacheCmd, CacheReply, Caps, ConnId, Kind, Name16, Refusal, StrForm, parse_body};
-use std::process::Abort;
+ghost use Rattle.cf_types.specs.Forms.{IsCaller};
 
-const A: ConnId = ConnId(1);
+use super::*;
+use cf_types::{
+    CacheCmd, CacheReply, Caps, ConnId, Effects, Kind, Listing, Name16, NoMemory, Refusal, StrForm,
+    parse_body,
+};
+use engine_api::Engine;
+use std::alloc::Global;
+use std::test::*;
 
-const B: ConnId = ConnId(2);
+const NAME: Name16 = Name16([65; 16]);
 
-// The names P1 to P9.
-fn page(digit: u8) -> Name16 {
-    let mut bytes = [b' '; 16];
-    bytes[0] = b'P';
-    bytes[1] = digit;
-    Name16(bytes)
-}
-
-// A structure of this capacity, with 64 bits in each vector.
-fn structure(rt: &(impl AllocGlobal + Abort), entries: u32, elements: u32) -> CacheEngine {
+// An empty cache structure of two connectors.
+fn cache_of(alloc: Global) -> Result<CacheEngine, NoMemory> {
+    let caps = Caps {
+        entries: 2,
+        elements: 2,
+    };
     let form = StrForm {
-        name: page(b'0'),
+        name: NAME,
         kind: Kind::Cache,
-        caps: Caps { entries, elements },
-        conns: 4,
-        vector: 64,
+        caps,
+        conns: 2,
+        vector: 8,
         keep: false,
-        prefs: Vec::new(rt.alloc()),
+        prefs: Listing::from_vec(Vec::new(alloc)),
     };
-    CacheEngine::empty(rt.alloc(), &form).expect(rt, "no memory")
+    CacheEngine::empty(alloc, &form, caps)
 }
 
-fn read(
-    rt: &(impl AllocGlobal + Abort),
+// Gets ready for a command, and does it.
+fn call(
     engine: &mut CacheEngine,
     by: ConnId,
-    digit: u8,
-    index: u32,
-) -> Result<CacheReply, Refusal> {
-    let cmd = CacheCmd::Read {
-        name: page(digit),
-        index,
-        old: None,
-        stg: 1,
-    };
-    engine.apply(rt.alloc(), by, &cmd).expect(rt, "no memory")
+    cmd: &CacheCmd,
+    out: &mut Effects,
+) -> Result<Result<CacheReply, Refusal>, NoMemory>
+    requires { IsCaller by }
+{
+    engine.ready(by, cmd, out)?;
+    Ok(engine.apply(by, cmd, out))
 }
 
-fn write(
-    rt: &(impl AllocGlobal + Abort),
-    engine: &mut CacheEngine,
-    by: ConnId,
-    digit: u8,
-    index: u32,
-    class: Option<u32>,
-) -> Result<CacheReply, Refusal> {
-    let cmd = CacheCmd::Write {
-        name: page(digit),
-        index,
-        body: parse_body(rt.alloc(), b"data").expect(rt, "no body"),
-        class,
+// The command that writes the name's data as changed.
+fn write_of(alloc: Global) -> Option<CacheCmd> {
+    Some(CacheCmd::Write {
+        name: NAME,
+        index: 0,
+        body: parse_body(alloc, b"data").ok()?,
+        class: Some(1),
         adj: None,
         old: None,
         stg: 1,
         when_reg: false,
-    };
-    engine.apply(rt.alloc(), by, &cmd).expect(rt, "no memory")
+    })
 }
 
 #[test]
-fn reads_what_was_written(rt: HostRuntime) {
-    let mut engine = structure(&rt, 8, 8);
-    let first = read(&rt, &mut engine, A, b'1', 0);
-    assert!(rt; matches!(first, Ok(CacheReply::NoData)));
-    let second = read(&rt, &mut engine, B, b'1', 5);
-    assert!(rt; matches!(second, Ok(CacheReply::NoData)));
-    let written = write(&rt, &mut engine, A, b'1', 0, Some(1));
-    assert!(rt; matches!(written, Ok(CacheReply::Ok)));
-    assert!(rt; engine.stands(A, 0));
-    assert!(rt; !engine.stands(B, 5));
-    match read(&rt, &mut engine, B, b'1', 6) {
-        Ok(CacheReply::Data { body, adj, changed }) => {
-            assert!(rt; body.bytes() == b"data".as_slice());
-            assert!(rt; adj.is_none());
-            assert!(rt; changed);
-        }
-        _ => panic!(rt; "no data"),
-    }
-    engine.leave(A);
-    assert!(rt; !engine.stands(A, 0));
-    assert!(rt; engine.stands(B, 6));
-}
-
-#[test]
-fn refuses(rt: HostRuntime) {
-    let mut engine = structure(&rt, 8, 8);
-    let _ = read(&rt, &mut engine, A, b'1', 0);
-    let _ = write(&rt, &mut engine, A, b'2', 1, Some(16));
-    let in_use = read(&rt, &mut engine, A, b'3', 0);
-    assert!(rt; matches!(in_use, Err(Refusal::IndexInUse { .. })));
-    let past = read(&rt, &mut engine, A, b'3', 64);
-    assert!(rt; matches!(past, Err(Refusal::BadIndex { index: 64, len: 64 })));
-    let bad_class = write(&rt, &mut engine, A, b'3', 2, Some(17));
-    assert!(rt; matches!(bad_class, Err(Refusal::BadClass { class: 17 })));
-    let changed = write(&rt, &mut engine, A, b'2', 1, None);
-    assert!(rt; matches!(changed, Err(Refusal::IsChanged)));
-    let gives_up = CacheCmd::Read {
-        name: page(b'3'),
-        index: 0,
-        old: Some(page(b'1')),
-        stg: 9,
-    };
-    let bad_storage = engine
-        .apply(rt.alloc(), A, &gives_up)
-        .expect(&rt, "no memory");
-    assert!(rt; matches!(bad_storage, Err(Refusal::BadClass { class: 9 })));
-    let registered_only = CacheCmd::Write {
-        name: page(b'3'),
-        index: 2,
-        body: parse_body(rt.alloc(), b"b").expect(&rt, "no body"),
-        class: None,
-        adj: None,
+fn what_is_written_is_read(rt: HostRuntime) -> Result<(), Fail> {
+    let alloc = rt.alloc();
+    let mut engine = cache_of(alloc)?;
+    let mut out = Effects::new(alloc);
+    let write = write_of(alloc).ok_or("no data")?;
+    let read = CacheCmd::Read {
+        name: NAME,
+        index: 3,
         old: None,
         stg: 1,
-        when_reg: true,
     };
-    let outsider = engine
-        .apply(rt.alloc(), A, &registered_only)
-        .expect(&rt, "no memory");
-    assert!(rt; matches!(outsider, Err(Refusal::NotRegistered)));
-    assert!(rt; engine.stands(A, 0));
-    assert!(rt; !engine.stands(A, 2));
+    let _ = call(&mut engine, ConnId(1), &write, &mut out)?;
+    let Ok(CacheReply::Data { body, changed, .. }) = call(&mut engine, ConnId(2), &read, &mut out)?
+    else {
+        panic!(rt; "no data are read")
+    };
+    assert_eq!(rt; body.bytes(), b"data".as_slice());
+    assert!(rt; changed);
+    let mut copy = engine.copy(alloc)?;
+    copy.leave_ready(ConnId(2), &mut out)?;
+    copy.leave(ConnId(2), false, &mut out);
+    assert!(rt; engine.stands(ConnId(2), 3) && !copy.stands(ConnId(2), 3));
+    assert_eq!(rt; out.bits.items().len(), 3);
+    Ok(())
 }
 
 #[test]
-fn reclaims_unchanged_rows(rt: HostRuntime) {
-    let mut engine = structure(&rt, 2, 2);
-    let _ = write(&rt, &mut engine, A, b'1', 1, Some(1));
-    let _ = read(&rt, &mut engine, A, b'2', 2);
-    let third = read(&rt, &mut engine, A, b'3', 3);
-    assert!(rt; matches!(third, Ok(CacheReply::NoData)));
-    assert!(rt; engine.stands(A, 1) && !engine.stands(A, 2) && engine.stands(A, 3));
-    let _ = write(&rt, &mut engine, A, b'3', 3, Some(1));
-    let full = read(&rt, &mut engine, A, b'4', 4);
-    assert!(rt; matches!(full, Err(Refusal::DirectoryFull { entries: 2 })));
-}
-
-#[test]
-fn reclaims_for_elements(rt: HostRuntime) {
-    let mut engine = structure(&rt, 8, 1);
-    let _ = read(&rt, &mut engine, A, b'1', 1);
-    let _ = write(&rt, &mut engine, A, b'2', 2, None);
-    let third = write(&rt, &mut engine, A, b'3', 3, Some(1));
-    assert!(rt; matches!(third, Ok(CacheReply::Ok)));
-    assert!(rt; !engine.stands(A, 1) && !engine.stands(A, 2) && engine.stands(A, 3));
-    let short = write(&rt, &mut engine, A, b'4', 4, None);
-    assert!(rt; matches!(short, Err(Refusal::NoElements { need: 1, free: 0 })));
-}
-
-#[test]
-fn reclaims_the_least_recently_used(rt: HostRuntime) {
-    let mut engine = structure(&rt, 2, 2);
-    let _ = read(&rt, &mut engine, A, b'1', 1);
-    let _ = read(&rt, &mut engine, A, b'2', 2);
-    let _ = read(&rt, &mut engine, A, b'1', 1);
-    let _ = read(&rt, &mut engine, A, b'3', 3);
-    assert!(rt; engine.stands(A, 1) && !engine.stands(A, 2) && engine.stands(A, 3));
+fn a_changed_row_is_cast_out(rt: HostRuntime) -> Result<(), Fail> {
+    let alloc = rt.alloc();
+    let mut engine = cache_of(alloc)?;
+    let mut out = Effects::new(alloc);
+    let write = write_of(alloc).ok_or("no data")?;
+    let castout = CacheCmd::Castout { name: NAME };
+    let of_class = CacheCmd::CoClass { class: 1 };
+    let _ = call(&mut engine, ConnId(1), &write, &mut out)?;
+    let Ok(CacheReply::Names(names)) = call(&mut engine, ConnId(1), &of_class, &mut out)? else {
+        panic!(rt; "no names")
+    };
+    assert_eq!(rt; names.items(), [NAME].as_slice());
+    let Ok(CacheReply::CastData { body, .. }) = call(&mut engine, ConnId(1), &castout, &mut out)?
+    else {
+        panic!(rt; "no data are cast out")
+    };
+    assert_eq!(rt; body.bytes(), b"data".as_slice());
+    Ok(())
 }

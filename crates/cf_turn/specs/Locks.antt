@@ -9,4 +9,5 @@ pub record Lock (K : Type 0) : Type 0 where
   pub key : K
 
 abbrev pub lock_code : {K : Type 0} → Coded K → Coded (Lock K)
-lock_code {K} c = code_by (TableId × K) (coded× table_id_coded c) (λ l. (l.name, l.key)) (λ p. record { name = p.0; key = p.1 }) (λ _. refl)
+lock_code {K} c = code_by (TableId × K) (coded× table_id_coded c) (λ l. (l.name, l.key))
+    (λ p. record { name = p.0; key = p.1 }) (λ _. refl)

@@ -41,7 +41,8 @@ module _ {K : Type 0} where
 module _ {V K : Type 0} where
   -- The word is 0, no seat has the turn, and the slot is at home with a value that fits
   abbrev pub IsFree : (V → Type 0) → State (Option V) (Stand K) → Type 0
-  IsFree fits s = (s.words ≡ 0 ∷ []) × (turns_of s.views ≡ 0) × ((value : V) × (s.homes ≡ some (Some value) ∷ []) × fits value)
+  IsFree fits s = (s.words ≡ 0 ∷ []) × (turns_of s.views ≡ 0) ×
+      ((value : V) × (s.homes ≡ some (Some value) ∷ []) × fits value)
 
   -- the word is 1, just one seat has the turn, and the slot is out
   abbrev pub IsTaken : State (Option V) (Stand K) → Type 0
@@ -65,4 +66,5 @@ module _ {V K : Type 0} where
 
   -- where 0 was found the seat has the turn, and a value that stands to the key; else it is as it was
   abbrev pub Tries : (K → V → Type 0) → Step (Option V) → Me (Option V) (Stand K) → ℕ → Me (Option V) (Stand K) → Type 0
-  Tries stands s before found after = (found ≡ 0 → (key : K) → before.0.key ≡ Some key → HasValue (stands key) after) × (0 < found → after ≡ before)
+  Tries stands s before found after = (found ≡ 0 → (key : K) → before.0.key ≡ Some key → HasValue (stands key) after) ×
+      (0 < found → after ≡ before)

@@ -1,8 +1,8 @@
 // The lock and its ticket.
-ghost use Rattle.std.specs.Prelude.{◌≡◌, [], IfOk, IfErr};
+ghost use Rattle.std.specs.Prelude.{◌≡◌, [], true, false, IfOk, IfErr};
 ghost use Rattle.cf_turn.specs.Turns.{waiting, HasTurn, HasValue};
 
-use crate::keeps::Keeps;
+use crate::keeps::{Boxed, Keeps};
 use crate::turns::{Back, Stand, Start, Try, Turns, Two};
 use atomic_table::{Refused, Seat, Table};
 use std::alloc::Global;
@@ -51,6 +51,11 @@ impl<F: Keeps> Model for Ticket<F> {
     ghost invariant = { λ ticket. HasTurn ticket.seat.me };
 }
 
+// The word while nobody has the turn, and while somebody has.
+const FREE: u64 = 0;
+
+const TAKEN: u64 = 1;
+
 /// How often a thread looks at the word before it sleeps.
 const LOOKS: u32 = 100;
 
@@ -66,7 +71,7 @@ impl<F: Keeps> KeyLock<F> {
         };
         let start = Snapshot::of(&value);
         slots.push_reserved(Some(value));
-        match Table::new(alloc, &[0], slots, &start) {
+        match Table::new(alloc, &[FREE], slots, &start) {
             Ok((table, _seat)) => Ok(KeyLock {
                 table,
                 sleepers: AtomicU64::new(0),
@@ -91,8 +96,9 @@ impl<F: Keeps> KeyLock<F> {
         requires value { F.stands self.now.key value }
     {
         let Ticket { mut seat } = ticket;
-        drop(self.table.shared.exchange(&mut seat, 0, Some(value)));
-        self.table.shared.store::<Back>(&mut seat, 0, 0);
+        self.put(&mut seat, value);
+        self.free(&mut seat);
+        leave(seat);
         if self.sleepers.load(SeqCst) > 0 {
             self.table.shared.wake_one(0);
         }
@@ -134,16 +140,27 @@ impl<F: Keeps> KeyLock<F> {
     {
         let mut seat = self.enter();
         for _ in rt.forever() {
-            let found = self
-                .table
-                .shared
-                .compare_exchange::<Try<F>>(&mut seat, 0, 0, 1);
-            if found == 0 {
+            if self.try_turn(&mut seat) {
                 return seat;
             }
             self.wait(rt);
         }
         unreachable!()
+    }
+
+    // Tries for the turn once. True if it came.
+    fn try_turn(&self, seat: &mut Seat<Option<F::Value>, Stand<F::Key>>) -> bool
+        requires name { seat.old.table_id ≡ self.now.name }
+        requires waits { seat.old.me ≡ (waiting self.now.key, []) }
+        ensures name { seat.new.table_id ≡ seat.old.table_id }
+        ensures won { result ≡ true → HasValue (F.stands self.now.key) seat.new.me }
+        ensures lost { result ≡ false → seat.new.me ≡ seat.old.me }
+    {
+        let found = self
+            .table
+            .shared
+            .compare_exchange::<Try<F>>(seat, 0, FREE, TAKEN);
+        found == FREE
     }
 
     // Takes the value out of the slot.
@@ -157,16 +174,65 @@ impl<F: Keeps> KeyLock<F> {
         self.table.shared.exchange(seat, 0, None).unwrap()
     }
 
+    // Puts a value into the slot.
+    fn put(&self, seat: &mut Seat<Option<F::Value>, Stand<F::Key>>, value: F::Value)
+        requires name { seat.old.table_id ≡ self.now.name }
+        requires turn { HasTurn seat.old.me }
+        requires value { F.stands self.now.key value }
+        ensures name { seat.new.table_id ≡ seat.old.table_id }
+        ensures turn { HasValue (F.stands self.now.key) seat.new.me }
+    {
+        drop(self.table.shared.exchange(seat, 0, Some(value)));
+    }
+
+    // Gives the slot back, and the turn with it.
+    fn free(&self, seat: &mut Seat<Option<F::Value>, Stand<F::Key>>)
+        requires name { seat.old.table_id ≡ self.now.name }
+        requires turn { HasValue (F.stands self.now.key) seat.old.me }
+        ensures name { seat.new.table_id ≡ seat.old.table_id }
+        ensures turn { seat.new.me.0.turns ≡ 0 }
+    {
+        self.table.shared.store::<Back>(seat, 0, FREE);
+    }
+
     // Looks at the word for a while, and then sleeps until it may have changed.
     fn wait(&self, rt: &impl Wait) {
         for _ in 0..LOOKS {
-            if self.table.shared.peek(0) == 0 {
+            if self.table.shared.peek(0) == FREE {
                 return;
             }
             spin_loop();
         }
         self.sleepers.fetch_add(1, SeqCst);
-        self.table.shared.park(rt, 0, 1);
+        self.table.shared.park(rt, 0, TAKEN as u32);
         self.sleepers.fetch_sub(1, SeqCst);
+    }
+
+    // How many threads sleep, or are about to.
+    #[cfg(test)]
+    pub(crate) fn sleepers(&self) -> u64 {
+        self.sleepers.load(SeqCst)
+    }
+}
+
+// A seat leaves the lock, which it may not do with the turn.
+fn leave<V: Drop, K>(seat: Seat<V, Stand<K>>)
+    requires { seat.me.0.turns ≡ 0 }
+{
+    drop(seat);
+}
+
+impl<F: Keeps> KeyLock<Boxed<F>> {
+    /// A free lock round the value in a box, so that a turn moves a pointer however large the value is.
+    /// Where there is no memory the value comes back.
+    pub fn boxed(alloc: Global, value: F::Value) -> Result<KeyLock<Boxed<F>>, F::Value>
+        requires { F.stands (F.key_of value) value }
+        ensures made { IfOk result (λ lock. lock.key ≡ F.key_of value) }
+        ensures refused { IfErr result (λ back. back ≡ value) }
+    {
+        match Box::new(alloc, value) {
+            Ok(inside) => KeyLock::new(alloc, inside).map_err(Box::into_inner),
+            Err(failed) => Err(failed.value),
+        }
     }
 }

@@ -4,7 +4,7 @@ mod keeps;
 mod key_lock;
 mod turns;
 
-pub use keeps::Keeps;
+pub use keeps::{Boxed, Keeps};
 pub use key_lock::{KeyLock, Ticket};
 
 #[cfg(test)]

@@ -1,8 +1,13 @@
 ghost use Rattle.std.specs.Prelude.{◌≡◌, ◌+◌, sum, IfSome};
 
-use crate::{Keeps, KeyLock};
+use crate::{Boxed, Keeps, KeyLock};
 use std::alloc::Global;
+use std::cell::Cell;
+use std::hint::spin_loop;
+use std::marker::PhantomData;
 use std::sync::Wait;
+use std::sync::atomic::AtomicU64;
+use std::sync::atomic::Ordering::SeqCst;
 use std::test::*;
 use std::thread::{Threads, join, sleep};
 use std::time::{Clock, Duration};
@@ -20,11 +25,37 @@ impl Keeps for Twins {
     ghost stands = { λ _ pair. pair.0 ≡ pair.1 };
 }
 
-fn count_twins(rt: &impl Wait, lock: &KeyLock<Twins>, times: u32) {
-    for _ in 0..times {
-        let (pair, ticket) = lock.take(rt);
-        lock.give(ticket, (pair.0.wrapping_add(1), pair.1.wrapping_add(1)));
+// Counts a turn, and answers how many turns were counted before.
+fn count_turn(rt: &impl Wait, lock: &KeyLock<Twins>) -> u64 {
+    let (pair, ticket) = lock.take(rt);
+    lock.give(ticket, (pair.0.wrapping_add(1), pair.1.wrapping_add(1)));
+    pair.0
+}
+
+// How many turns were counted.
+fn turns_of(rt: &impl Wait, lock: &KeyLock<Twins>) -> u64 {
+    let (pair, ticket) = lock.take(rt);
+    lock.give(ticket, pair);
+    pair.0
+}
+
+// Counts so many turns. In the middle it waits until others have counted some. It answers how many turns of others it saw there.
+fn count_twins(rt: &impl Wait, lock: &KeyLock<Twins>, times: u64) -> u64 {
+    let half = times / 2;
+    for _ in 0..half {
+        count_turn(rt, lock);
     }
+    let mut others = 0;
+    for _ in rt.forever() {
+        others = turns_of(rt, lock).saturating_sub(half);
+        if others > 0 {
+            break;
+        }
+    }
+    for _ in half..times {
+        count_turn(rt, lock);
+    }
+    others
 }
 
 #[test]
@@ -32,12 +63,16 @@ fn turn_race(rt: HostRuntime) -> Result<(), Fail> {
     let Ok(lock) = KeyLock::<Twins>::new(rt.alloc(), (0, 0)) else {
         panic!(rt; "no memory")
     };
-    join(
+    let (first, second) = join(
         &rt,
         || count_twins(&rt, &lock, 10_000),
         || count_twins(&rt, &lock, 10_000),
     );
     assert_eq!(rt; lock.end(&rt), (20_000, 20_000));
+
+    // Whoever came through the middle first found the other between its first turn and its middle.
+    assert!(rt; first > 0 && second > 0);
+    assert!(rt; first.min(second) <= 5_000);
     Ok(())
 }
 
@@ -64,7 +99,8 @@ impl Keeps for Adds {
 impl Account {
     // Adds an amount, where it fits.
     fn add(&mut self, amount: u64)
-        ensures { self.new.total + sum self.old.amounts.items ≡ self.old.total + sum self.new.amounts.items }
+        ensures { self.new.total + sum self.old.amounts.items
+            ≡ self.old.total + sum self.new.amounts.items }
     {
         let Some(total) = self.total.checked_add(amount) else {
             return;
@@ -75,19 +111,34 @@ impl Account {
     }
 }
 
-fn add_all(rt: &impl Wait, lock: &KeyLock<Adds>, upto: u64) {
+// Adds the amounts below this. After the first it waits until others have added some.
+fn add_all(rt: &impl Wait, lock: &KeyLock<Boxed<Adds>>, upto: u64) {
     for amount in 0..upto {
         let (mut account, ticket) = lock.take(rt);
         account.add(amount);
         lock.give(ticket, account);
+        if amount == 0 {
+            wait_for_others(rt, lock);
+        }
     }
 }
 
-fn open(alloc: Global, start: u64) -> Option<KeyLock<Adds>>
+fn wait_for_others(rt: &impl Wait, lock: &KeyLock<Boxed<Adds>>) {
+    for _ in rt.forever() {
+        let (account, ticket) = lock.take(rt);
+        let added = account.amounts.len();
+        lock.give(ticket, account);
+        if added > 1 {
+            return;
+        }
+    }
+}
+
+fn open(alloc: Global, start: u64) -> Option<KeyLock<Boxed<Adds>>>
     ensures { IfSome result (λ lock. lock.key ≡ start) }
 {
     let amounts = Vec::new(alloc);
-    KeyLock::new(
+    KeyLock::boxed(
         alloc,
         Account {
             total: start,
@@ -109,7 +160,7 @@ fn sum_of_three(rt: HostRuntime) -> Result<(), Fail> {
             || add_all(&rt, &lock, 301),
         ),
     );
-    let account = lock.end(&rt);
+    let account = Box::into_inner(lock.end(&rt));
     let added = account.total - 7;
     assert_eq!(rt; added, 5_050 + 20_100 + 45_150);
     assert_eq!(rt; added, account.amounts.iter().sum::<u64>());
@@ -117,23 +168,87 @@ fn sum_of_three(rt: HostRuntime) -> Result<(), Fail> {
     Ok(())
 }
 
-fn hold<F: Keeps>(rt: &(impl Wait + Clock), lock: &KeyLock<F>) {
+/// Any fact-less value that may go to another thread, and need not be shared.
+struct Anything<V> {
+    of: PhantomData<V>,
+}
+
+impl<V: Send + Drop> Keeps for Anything<V> {
+    type Value = V;
+
+    type Key = ();
+
+    ghost key_of = { λ _. tt };
+
+    ghost stands = { λ _ _. Unit {0} };
+}
+
+// Takes a turn while another thread sleeps at the lock: it gives the value back once it sees a sleeper.
+fn hold<V: Send + Drop>(
+    rt: &(impl Wait + Clock),
+    lock: &KeyLock<Boxed<Anything<V>>>,
+    holds: &AtomicU64,
+) -> u64 {
     let (value, ticket) = lock.take(rt);
+    holds.store(1, SeqCst);
+    let mut sleepers = 0;
+    for _ in rt.forever() {
+        sleepers = lock.sleepers();
+        if sleepers > 0 {
+            break;
+        }
+        spin_loop();
+    }
     sleep(rt, Duration::from_millis(30));
+    lock.give(ticket, value);
+    sleepers
+}
+
+// Takes a turn once another thread holds it.
+fn come_second<V: Send + Drop>(
+    rt: &impl Wait,
+    lock: &KeyLock<Boxed<Anything<V>>>,
+    holds: &AtomicU64,
+) {
+    for _ in rt.forever() {
+        if holds.load(SeqCst) > 0 {
+            break;
+        }
+        spin_loop();
+    }
+    let (value, ticket) = lock.take(rt);
     lock.give(ticket, value);
 }
 
-// Any lock may be shared. One of the two sleeps while the other holds it.
-fn hold_in_two<F: Keeps + Sync, R: Threads + Wait + Clock + Sync>(rt: &R, lock: &KeyLock<F>) {
-    join(rt, || hold(rt, lock), || hold(rt, lock));
+// Two threads share a lock round a value that may be sent and not shared. It answers how many slept at it.
+fn share_in_two<V: Send + Drop, R: Threads + Wait + Clock + Sync>(
+    rt: &R,
+    lock: &KeyLock<Boxed<Anything<V>>>,
+) -> u64 {
+    let holds = AtomicU64::new(0);
+    join(
+        rt,
+        || hold(rt, lock, &holds),
+        || come_second(rt, lock, &holds),
+    )
+    .0
+}
+
+/// A count behind a `Cell`, which may be sent and not shared.
+#[derive(Drop)]
+struct Counter {
+    reads: Cell<u64>,
 }
 
 #[test]
 fn a_sleeper_wakes(rt: HostRuntime) -> Result<(), Fail> {
-    let Ok(lock) = KeyLock::<Twins>::new(rt.alloc(), (1, 1)) else {
+    let counter = Counter {
+        reads: Cell::new(5),
+    };
+    let Ok(lock) = KeyLock::<Boxed<Anything<Counter>>>::boxed(rt.alloc(), counter) else {
         panic!(rt; "no memory")
     };
-    hold_in_two(&rt, &lock);
-    assert_eq!(rt; lock.end(&rt), (1, 1));
+    assert_eq!(rt; share_in_two(&rt, &lock), 1);
+    assert_eq!(rt; lock.end(&rt).reads.get(), 5);
     Ok(())
 }

@@ -1,5 +1,5 @@
 // The rule of the lock's table, and what each step on its word tells.
-ghost use Rattle.std.specs.Prelude.{None};
+ghost use Rattle.std.specs.Prelude.{◌≡◌, None};
 ghost use Rattle.cf_turn.specs.Turns.{Kept, waiting, spent, cut, both, Starts, Tries};
 
 use crate::keeps::Keeps;
@@ -46,7 +46,7 @@ impl<F: Keeps> Play<Option<F::Value>, Stand<F::Key>> for Try<F> {
 pub struct Back;
 
 impl<V, K> Play<Option<V>, Stand<K>> for Back {
-    ghost then = { λ _ _ _ _. Unit {0} };
+    ghost then = { λ _ _ _ after. after.0.turns ≡ 0 };
 }
 
 /// The turns of two seats in one hand, which can't be.

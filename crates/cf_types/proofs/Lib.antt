@@ -3,3 +3,4 @@ pub mod GainsLaws
 pub mod ConnSetLaws
 pub mod ConnectionLaws
 pub mod MailLaws
+pub mod ResourceLaws

@@ -10,3 +10,4 @@ pub mod Name
 pub mod Stored
 pub mod Filled
 pub mod AdjunctBytes
+pub mod Resources

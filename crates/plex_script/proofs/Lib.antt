@@ -1,0 +1,9 @@
+pub mod UnitLaws
+pub mod FirstWords
+pub mod AskLaws
+pub mod ActLaws
+pub mod PolicyLaws
+pub mod CauseLaws
+pub mod ReadLaws
+pub mod LineLaws
+pub mod DecidedLaws

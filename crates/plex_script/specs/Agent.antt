@@ -9,8 +9,8 @@ use Rattle.engine_api.specs.declared.asks.Ask.TheVariants as ask
 use Rattle.engine_api.specs.declared.told.Told.{Told}
 use Rattle.plex_script.specs.declared.agents.Step.{Step}
 use Rattle.plex_script.specs.declared.agents.Step.TheVariants.{Call, Next, Respond, Rest}
-use Rattle.plex_script.specs.declared.asks.AnyAsk.{AnyAsk}
-use Rattle.plex_script.specs.declared.asks.AnyAsk.TheVariants as any
+use Rattle.plex_script.specs.declared.scripts.AnyAsk.{AnyAsk}
+use Rattle.plex_script.specs.declared.scripts.AnyAsk.TheVariants as any
 use Rattle.plex_script.specs.declared.scripts.Act.{Act}
 use Rattle.plex_script.specs.declared.scripts.Act.TheVariants as act
 

@@ -6,8 +6,8 @@ use Rattle.engine_api.specs.declared.asks.Ask.{Ask}
 use Rattle.engine_api.specs.declared.told.Told.{Told}
 use Rattle.engine_api.specs.History.{Call, calls}
 use Rattle.engine_api.specs.Told.{told}
-use Rattle.plex_script.specs.declared.asks.AnyAsk.{AnyAsk}
-use Rattle.plex_script.specs.declared.asks.AnyAsk.TheVariants as ask
+use Rattle.plex_script.specs.declared.scripts.AnyAsk.{AnyAsk}
+use Rattle.plex_script.specs.declared.scripts.AnyAsk.TheVariants as ask
 use Rattle.plex_script.specs.declared.asks.AnyHistory.{AnyHistory}
 use Rattle.plex_script.specs.declared.asks.AnyHistory.TheVariants as history
 

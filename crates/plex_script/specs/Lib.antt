@@ -1,3 +1,11 @@
+pub mod LineWords
+pub mod PolicyWords
+pub mod LineReading
+pub mod PolicyReading
+pub mod Causes
+pub mod Scripts
+pub mod Reading
+pub mod Laws
 pub mod Agent
 pub mod Heard
 pub mod Follows

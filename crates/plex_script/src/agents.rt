@@ -1,9 +1,13 @@
-ghost use Rattle.std.specs.Prelude.{◌≡◌, ◌≤◌, ◌<◌, ◌+◌, ◌*◌, ◌-◌};
-ghost use Rattle.plex_script.specs.Agent.{first_step, step_after, taking, after_round, most_asks};
-ghost use Rattle.plex_script.specs.declared.agents.Step.TheVariants.{Rest};
+ghost use Rattle.std.specs.Prelude.{◌≡◌, IfOk};
+ghost use Rattle.std.specs.Option.{option_copied};
+ghost use Rattle.cf_types.specs.declared.shell_commands.ShellCmd.TheVariants.{Disconnect};
+ghost use Rattle.plex_script.specs.Agent.{first_step, step_after, taking, after_round, asks_behind, most_asks, common, asked_by};
 
-use crate::scripts::Act;
-use engine_api::Told;
+use crate::copies::copy_ask;
+use crate::scripts::{Act, AnyAsk};
+use cf_types::{Kind, NoMemory, ShellCmd};
+use engine_api::{Ask, Told};
+use std::alloc::Global;
 
 /// How many events one round takes at most.
 pub const ROUND: u32 = 64;
@@ -37,6 +41,35 @@ impl Step {
         }
     }
 
+    /// How many asks are left at most.
+    pub fn most_asks(self) -> u64
+        ensures { result ≡ most_asks self }
+    {
+        match self {
+            Step::Call { asks } => 1 + 129 * u64::from(asks),
+            Step::Next { left, then } => 2 * u64::from(left) + 2 + asks_behind(then),
+            Step::Respond { left, then } => 2 * u64::from(left) + 1 + asks_behind(then),
+            Step::Rest => 0,
+        }
+    }
+
+    /// What is asked of a structure of this kind, if anything; the line's call is copied.
+    pub fn asked(
+        self,
+        alloc: Global,
+        kind: Kind,
+        line: Option<&AnyAsk>,
+    ) -> Result<Option<AnyAsk>, NoMemory>
+        ensures { IfOk result (λ asked. asked ≡ asked_by kind (option_copied line.entry) self) }
+    {
+        match self {
+            Step::Call { .. } => copied(alloc, line),
+            Step::Next { .. } => Ok(Some(common(kind, ShellCmd::Next))),
+            Step::Respond { .. } => Ok(Some(common(kind, ShellCmd::Respond))),
+            Step::Rest => Ok(None),
+        }
+    }
+
     /// What comes after a call of which this is told.
     pub fn after(self, told: &Told) -> Step
         ensures { result ≡ step_after self told.now }
@@ -55,6 +88,44 @@ impl Step {
             Step::Rest => Step::Rest,
         }
     }
+}
+
+// A copy of the line's call, if it has one.
+fn copied(alloc: Global, line: Option<&AnyAsk>) -> Result<Option<AnyAsk>, NoMemory>
+    ensures { IfOk result (λ copy. copy ≡ option_copied line.entry) }
+{
+    match line {
+        None => Ok(None),
+        Some(ask) => Ok(Some(copy_ask(alloc, ask)?)),
+    }
+}
+
+// How many asks an event round is followed by at most.
+fn asks_behind(then: Option<u32>) -> u64
+    ensures { result ≡ asks_behind then }
+{
+    match then {
+        None => 0,
+        Some(asks) => 1 + 129 * u64::from(asks),
+    }
+}
+
+// A common command, asked of a structure of this kind.
+fn common(kind: Kind, cmd: ShellCmd) -> AnyAsk
+    ensures { result ≡ common kind cmd }
+{
+    match kind {
+        Kind::Cache => AnyAsk::Cache(Ask::Shell(cmd)),
+        Kind::List { .. } => AnyAsk::List(Ask::Shell(cmd)),
+        Kind::Lock => AnyAsk::Lock(Ask::Shell(cmd)),
+    }
+}
+
+/// The departure of a connector that has done its lines, from a structure of this kind.
+pub fn closing_ask(kind: Kind) -> AnyAsk
+    ensures { result ≡ common kind Disconnect }
+{
+    common(kind, ShellCmd::Disconnect)
 }
 
 // NEXT again, so many times at most.

@@ -1,13 +1,5 @@
 use cf_types::{CacheCmd, CacheReply, ListCmd, ListReply, LockCmd, LockReply};
-use engine_api::{Ask, History};
-
-/// What is asked of a structure, of whatever kind.
-#[derive(Debug, Drop)]
-pub enum AnyAsk {
-    Cache(Ask<CacheCmd>),
-    List(Ask<ListCmd>),
-    Lock(Ask<LockCmd>),
-}
+use engine_api::History;
 
 /// The history of a structure, of whatever kind.
 #[derive(Debug, Drop)]

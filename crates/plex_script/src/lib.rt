@@ -1,13 +1,29 @@
-//! Scripts: what a policy declares, what its connectors and its operator do, line by line, and what
-//! each of them was shown.
+//! Scripts: what they say, and which texts are scripts.
 #![tactic(auto)]
 
+mod act_reader;
 mod agents;
 mod asks;
+mod checks;
+mod copies;
+mod declarations;
+mod draft;
+mod faults;
+mod judging;
+mod laws;
+mod line_faults;
+mod line_reader;
+mod policy_reader;
+mod reader;
 mod scripts;
 mod transcripts;
 
-pub use agents::{ROUND, Step};
-pub use asks::{AnyAsk, AnyHistory};
-pub use scripts::{Act, Line, Script};
+pub use agents::{ROUND, Step, closing_ask};
+pub use asks::AnyHistory;
+pub use copies::copy_ask;
+pub use declarations::Declaration;
+pub use faults::{ReadFault, Why};
+pub use laws::{never_both, one_script, script_or_fault};
+pub use reader::read;
+pub use scripts::{Act, AnyAsk, Line, Script};
 pub use transcripts::{AgentEnd, Shown, Transcript};

@@ -1,39 +1,49 @@
-use crate::asks::AnyAsk;
-use cf_types::{ConnId, Listing, Name16, Pref, StrForm, StrNo};
+use cf_types::{CacheCmd, ConnId, ListCmd, Listing, LockCmd, Name16, Pref, StrForm, StrNo};
+use engine_api::Ask;
 
-/// What a line has its caller do.
+/// A call of a structure of any kind.
+#[derive(Debug, Drop)]
+pub enum AnyAsk {
+    Cache(Ask<CacheCmd>),
+    List(Ask<ListCmd>),
+    Lock(Ask<LockCmd>),
+}
+
+/// What a line of a script does.
 #[derive(Debug, Drop)]
 pub enum Act {
-    /// A call of the structure.
+    /// Calls the structure.
     Call(AnyAsk),
-    /// A test of the bit at this index of the caller's vector (IXLVECTR, TESTLOCALCACHE and
-    /// TESTLISTSTATE).
+    /// Tests the bit at this index, from 0, of the connector's own vector (IXLVECTR).
     Test(u32),
-    /// A test of the 32 bits of this word of the vector, from 0 (IXLVECTR, LTVECENTRIES).
+    /// Tests the 32 bits of this word, from 0, of the connector's own vector (IXLVECTR).
     TestWord(u32),
-    /// The caller posts what it knows of the structure.
+    /// Shows how much of the structure's history the connector is sure of, to who takes it.
     Post,
-    /// The caller takes what was posted last.
+    /// Takes what was posted last.
     Take,
-    /// An event round: events are taken, and answered, until none waits.
+    /// Is given the events that wait, and answers those that are to be answered.
     Events,
 }
 
-/// A line of a script: its number in the text, from 1; who acts, on which structure, and how; and how
-/// often a call is asked again, 0 to 1,000 times, while it is refused for the stage of a rebuild.
+/// A line of a script that does something.
 #[derive(Debug, Drop)]
 pub struct Line {
+    /// The number of the line in the text, from 1; it stands still at the greatest of 32 bits.
     pub at: u32,
+    /// Who does it: the operator or a connector.
     pub by: ConnId,
+    /// The structure.
     pub on: StrNo,
     pub act: Act,
+    /// How many times a call is asked again while a rebuild holds it up, 0 to 1,000.
     pub retry: u32,
 }
 
-/// A script: the facilities with their units, the structures, the connectors, each in the order in
-/// which they are declared, and the lines.
+/// A script: the policy in the order in which it is declared, and the lines that do something.
 #[derive(Debug, Drop)]
 pub struct Script {
+    /// The facilities and their units.
     pub facilities: Listing<Pref>,
     pub structures: Listing<StrForm>,
     pub connectors: Listing<Name16>,

@@ -8,7 +8,7 @@ use Rattle.std.proofs.lemmas.Option.{slice_get_within}
 use Rattle.cf_types.specs.declared.forms.StrForm.{StrForm}
 use Rattle.cf_types.specs.declared.numbers.ConnId.{ConnId}
 use Rattle.cf_types.specs.declared.numbers.StrNo.{StrNo}
-use Rattle.plex_script.specs.declared.asks.AnyAsk.{AnyAsk}
+use Rattle.plex_script.specs.declared.scripts.AnyAsk.{AnyAsk}
 use Rattle.plex_script.specs.declared.asks.AnyHistory.{AnyHistory}
 use Rattle.plex_script.specs.declared.agents.Step.{Step}
 use Rattle.plex_script.specs.declared.scripts.Script.{Script}
@@ -46,7 +46,6 @@ counted_within bound first (suc n) (call ∷ calls) counted within =
 pub within_behind : (bound : ℕ) (xs ys : List AnyCall) → NumbersWithin bound (xs ++ ys) → NumbersWithin bound ys
 within_behind bound [] ys within = within
 within_behind bound (x ∷ xs) ys within = within_behind bound xs ys within.1
-
 
 itself : (n : ℕ) → n == n ≡ true
 itself n = grind (arith, nat_tests)
@@ -153,7 +152,7 @@ module _ (forms : List StrForm) (form : StrForm) (by : ConnId) (on : StrNo) (ent
       by_test true inside =
           rw inside (
             one_item forms form by on entries items run _ at kept (λ other. refl)
-            (record { form = form; entries = entries; known = known; there = at.there; within = omega (arith, reached); stood = bit_now index }),
+                (record { form = form; entries = entries; known = known; there = at.there; within = omega (arith, reached); stood = bit_now index }),
             refl,
             refl,
           )
@@ -166,16 +165,16 @@ module _ (forms : List StrForm) (form : StrForm) (by : ConnId) (on : StrNo) (ent
       by_test true inside =
           rw inside (
             one_item forms form by on entries items run _ at kept (λ other. refl)
-            (record {
-              form = form;
-              entries = entries;
-              known = known;
-              there = at.there;
-              within = omega (arith, reached);
-              bits = λ k. any_stands form entries by (32 * word + k);
-              made = refl;
-              each = λ k small within. bit_now (32 * word + k);
-            }),
+                (record {
+                  form = form;
+                  entries = entries;
+                  known = known;
+                  there = at.there;
+                  within = omega (arith, reached);
+                  bits = λ k. any_stands form entries by (32 * word + k);
+                  made = refl;
+                  each = λ k small within. bit_now (32 * word + k);
+                }),
             refl,
             refl,
           )
@@ -246,6 +245,7 @@ module _ (script : Script) (P Q : List AnyHistory → ConnId → List Shown → 
       by_place other entries' there false apart =
           was.callers other entries'
           (sym (elsewhere_same script.structures form by on entries items run run' change at known other apart) ∙ there)
+
       each_one : (conn : ConnId) (transcript : Transcript) → slice_get run'.transcripts conn.0 ≡ Some transcript → (b : Bool) → by.0 == conn.0 ≡ b
           → Q run'.histories conn transcript.items transcript.end
       each_one conn transcript shown' true same =
@@ -257,6 +257,7 @@ module _ (script : Script) (P Q : List AnyHistory → ConnId → List Shown → 
       each_one conn transcript shown' false apart =
           others conn transcript.items transcript.end apart (was.numbers conn transcript (sym (caller_before conn apart) ∙ shown'))
           (was.each conn transcript (sym (caller_before conn apart) ∙ shown'))
+
       numbers_one : (conn : ConnId) (transcript : Transcript) → slice_get run'.transcripts conn.0 ≡ Some transcript → (other : StrNo) → (b : Bool)
           → by.0 == conn.0 ≡ b
           → numbers_on other transcript.items ≡ map (λ call. call.no) (own_calls (calls_on run'.histories other) conn)
@@ -270,6 +271,7 @@ module _ (script : Script) (P Q : List AnyHistory → ConnId → List Shown → 
       numbers_one conn transcript shown' other false apart =
           change_numbers_other script.structures form by on entries items run run' change at known conn other transcript.items apart
           (was.numbers conn transcript (sym (caller_before conn apart) ∙ shown') other)
+
       shows_one : (conn : ConnId) (transcript : Transcript) → slice_get run'.transcripts conn.0 ≡ Some transcript → (b : Bool) → by.0 == conn.0 ≡ b
           → AreItems script.structures run'.histories conn [] transcript.items
       shows_one conn transcript shown' true same =

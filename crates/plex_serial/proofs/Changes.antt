@@ -83,6 +83,7 @@ module _ (forms : List StrForm) (form : StrForm) (by : ConnId) (on : StrNo) (ent
       longer : (other : StrNo) (b : Bool) → on.0 == other.0 ≡ b → length_on run.histories other ≤ length_on run'.histories other
       longer other true same = rw (there_later other same, there_before other same) change.length
       longer other false apart = rw (elsewhere_same other apart) (omega arith)
+
       stands : (other : StrNo) (form' : StrForm) (entries' : AnyHistory) → slice_get forms other.0 ≡ Some form'
           → slice_get run.histories other.0 ≡ Some entries' → (b : Bool) → on.0 == other.0 ≡ b
           → (entries'' : AnyHistory) × (slice_get run'.histories other.0 ≡ Some entries'')
@@ -96,10 +97,10 @@ module _ (forms : List StrForm) (form : StrForm) (by : ConnId) (on : StrNo) (ent
             change.later,
             there_later other same,
             λ at' conn index bit stood. (
-            subst (λ (f : StrForm). Stood f change.later at' conn index bit) same_form
-            (change.stood at' conn index bit
-            (subst (λ (h : AnyHistory). Stood form h at' conn index bit) (sym same_entries)
-            (subst (λ (f : StrForm). Stood f entries' at' conn index bit) (sym same_form) stood)))),
+                subst (λ (f : StrForm). Stood f change.later at' conn index bit) same_form
+                (change.stood at' conn index bit
+                (subst (λ (h : AnyHistory). Stood form h at' conn index bit) (sym same_entries)
+                (subst (λ (f : StrForm). Stood f entries' at' conn index bit) (sym same_form) stood)))),
           )
       stands other form' entries' known' there' false apart =
           (entries', elsewhere_same other apart ∙ there', λ at' conn index bit stood. stood)

@@ -11,7 +11,7 @@ use Rattle.cf_types.specs.declared.numbers.StrNo.{StrNo}
 use Rattle.cf_types.specs.declared.shell_commands.ShellCmd.TheVariants as cmd
 use Rattle.plex_script.specs.declared.agents.Step.{Step}
 use Rattle.plex_script.specs.declared.agents.Step.TheVariants as step
-use Rattle.plex_script.specs.declared.asks.AnyAsk.{AnyAsk}
+use Rattle.plex_script.specs.declared.scripts.AnyAsk.{AnyAsk}
 use Rattle.plex_script.specs.declared.asks.AnyHistory.{AnyHistory}
 use Rattle.plex_script.specs.declared.scripts.Script.{Script}
 use Rattle.plex_script.specs.declared.transcripts.AgentEnd.{AgentEnd}
@@ -86,13 +86,15 @@ pub closings_front : (histories later : List AnyHistory) (conn : ConnId) (on : �
     → AreFronts histories later → ShowsWithin histories conn before → ShowsClosings histories conn on forms before items
     → ShowsClosings later conn on forms before items
 closings_front histories later conn on [] before items fronts within shows = shows
-closings_front histories later conn on (form ∷ forms) before items fronts within (first, (others, split, here, rest)) =
-    (first, (
-      others,
-      split,
-      closing_front form _ _ conn (record { 0 = on }) before first (fronts (record { 0 = on })) (within (record { 0 = on })) here,
-      closings_front histories later conn (on + 1) forms before others fronts within rest,
-    ))
+closings_front histories later conn on (form ∷ forms) before items fronts within (first, (others, split, here, rest)) = (
+  first,
+  (
+    others,
+    split,
+    closing_front form _ _ conn (record { 0 = on }) before first (fronts (record { 0 = on })) (within (record { 0 = on })) here,
+    closings_front histories later conn (on + 1) forms before others fronts within rest,
+  ),
+)
 
 -- one structure more
 pub closings_more : (histories : List AnyHistory) (conn : ConnId) (on last : ℕ) (forms : List StrForm) (form : StrForm) (before items part : List Shown)
@@ -100,16 +102,24 @@ pub closings_more : (histories : List AnyHistory) (conn : ConnId) (on last : ℕ
     → ShowsClosing form (calls_on histories (record { 0 = last })) conn (record { 0 = last }) before part
     → ShowsClosings histories conn on (forms ++ form ∷ []) before (items ++ part)
 closings_more histories conn on last [] form before items part none is shows =
-    let here : last ≡ on = omega (arith, is) in
-    (part, ([], ap (λ (t : List Shown). t ++ part) none ∙ sym (append-nil part),
-    subst (λ (n : ℕ). (let place : StrNo = record { 0 = n } in ShowsClosing form (calls_on histories place) conn place before part)) here shows, refl))
-closings_more histories conn on last (first ∷ forms) form before items part (head, (rest, split, here, behind)) is shows =
-    (head, (
-      rest ++ part,
-      ap (λ (t : List Shown). t ++ part) split ∙ append_assoc head rest part,
-      here,
-      closings_more histories conn (on + 1) last forms form before rest part behind (omega (arith, is)) shows,
-    ))
+    let here : last ≡ on = omega (arith, is) in (
+      part,
+      (
+        [],
+        ap (λ (t : List Shown). t ++ part) none ∙ sym (append-nil part),
+        subst (λ (n : ℕ). (let place : StrNo = record { 0 = n } in ShowsClosing form (calls_on histories place) conn place before part)) here shows,
+        refl,
+      ),
+    )
+closings_more histories conn on last (first ∷ forms) form before items part (head, (rest, split, here, behind)) is shows = (
+  head,
+  (
+    rest ++ part,
+    ap (λ (t : List Shown). t ++ part) split ∙ append_assoc head rest part,
+    here,
+    closings_more histories conn (on + 1) last forms form before rest part behind (omega (arith, is)) shows,
+  ),
+)
 
 -- the closings at these structures show nothing of a later one
 pub closings_elsewhere : (histories : List AnyHistory) (conn : ConnId) (on : ℕ) (forms : List StrForm) (before items : List Shown) (other : StrNo)
@@ -117,8 +127,10 @@ pub closings_elsewhere : (histories : List AnyHistory) (conn : ConnId) (on : ℕ
 closings_elsewhere histories conn on [] before items other none past = ap (numbers_on other) none
 closings_elsewhere histories conn on (form ∷ forms) before items other (first, (rest, split, here, behind)) past =
     ap (numbers_on other) split ∙ filter_map-append (number_on other) first rest
-    ∙ rw (by_link (is_linked_by (calls_on histories (record { 0 = on })) conn (record { 0 = on }) before) here,
-    closings_elsewhere histories conn (on + 1) forms before rest other behind (omega (arith, past))) refl
+    ∙ rw (
+      by_link (is_linked_by (calls_on histories (record { 0 = on })) conn (record { 0 = on }) before) here,
+      closings_elsewhere histories conn (on + 1) forms before rest other behind (omega (arith, past)),
+    ) refl
   where
     by_link : (b : Bool)
         → MatchBool b (Runs form.kind (Some (common form.kind cmd.Disconnect)) (calls_on histories (record { 0 = on })) conn (record { 0 = on }) (step.Call 0) first) (first ≡ [])

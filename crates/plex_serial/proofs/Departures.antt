@@ -11,7 +11,7 @@ use Rattle.cf_types.specs.declared.numbers.ConnId.{ConnId}
 use Rattle.cf_types.specs.declared.numbers.StrNo.{StrNo}
 use Rattle.cf_types.specs.declared.shell_commands.ShellCmd.TheVariants as cmd
 use Rattle.plex_script.specs.declared.agents.Step.TheVariants as step
-use Rattle.plex_script.specs.declared.asks.AnyAsk.{AnyAsk}
+use Rattle.plex_script.specs.declared.scripts.AnyAsk.{AnyAsk}
 use Rattle.plex_script.specs.declared.asks.AnyHistory.{AnyHistory}
 use Rattle.plex_script.specs.declared.scripts.Script.{Script}
 use Rattle.plex_script.specs.declared.transcripts.AgentEnd.{AgentEnd}
@@ -221,7 +221,7 @@ module _ (limit : ℕ) (script : Script) (closed : ℕ → ℕ) (conn : ConnId) 
 
   pub departs : is_linked (own_calls (any_calls entries) conn) ≡ true
       → IsRunOf script (AreClosed limit script (closed_at conn (k + 1) closed))
-        (all_steps_made limit form (Some (common form.kind cmd.Disconnect)) conn place (step.Call 0) run)
+      (all_steps_made limit form (Some (common form.kind cmd.Disconnect)) conn place (step.Call 0) run)
   departs linked =
       let run' : Run = all_steps_made limit form (Some (common form.kind cmd.Disconnect)) conn place (step.Call 0) run in
       let steps : AreSteps limit form (Some (common form.kind cmd.Disconnect)) conn place (step.Call 0) entries items run run' =
@@ -275,6 +275,7 @@ stopped_stays limit script closed conn k run transcript was there stopped =
     by_end other items ended.Done m n stopped' is = absurd cc
     by_end other items (ended.JournalFull on) m n stopped' is = is
     by_end other items ended.NoMemory m n stopped' is = is
+
     by_caller : (other : ConnId) (shows : Transcript) → slice_get run.transcripts other.0 ≡ Some shows
         → AreClosed limit script (closed_at conn k closed) run.histories other shows.items shows.end → (b : Bool) → conn.0 == other.0 ≡ b
         → AreClosed limit script (closed_at conn (k + 1) closed) run.histories other shows.items shows.end
@@ -306,6 +307,7 @@ departure_runs limit script closed conn k form run was connector within known bu
         → IsRunOf script (AreClosed limit script (closed_at conn (k + 1) closed)) (departed limit conn (record { 0 = k }) form (Some h) run)
     by_link t h at true linked = rw linked (departs limit script closed conn k form run was connector known built first count h t.items at linked)
     by_link t h at false linked = rw linked (stays limit script closed conn k form run was connector known built first count h t.items at linked)
+
     by_end : (t : Transcript) (end : AgentEnd) → t.end ≡ end → slice_get run.transcripts conn.0 ≡ Some t → (h : AnyHistory)
         → slice_get run.histories k ≡ Some h
         → IsRunOf script (AreClosed limit script (closed_at conn (k + 1) closed)) (after_departure limit conn run (k, form))
@@ -330,7 +332,7 @@ pub departures_run : (limit : ℕ) (script : Script) (closed : ℕ → ℕ) (con
     → conn.0 ≤ length script.connectors
     → ((form : StrForm) (x : ℕ) → slice_get script.structures x ≡ Some form → IsBuiltKind form.kind)
     → IsRunOf script (AreClosed limit script (closed_at conn (length script.structures) closed))
-      (fold (after_departure limit conn) run (enumerate_from (length front) left))
+    (fold (after_departure limit conn) run (enumerate_from (length front) left))
 departures_run limit script closed conn front [] run split was connector within built =
     let all : length front ≡ length script.structures = ap length (sym (split ∙ append-nil front)) in
     subst (λ (n : ℕ). IsRunOf script (AreClosed limit script (closed_at conn n closed)) run) all was

@@ -9,7 +9,7 @@ use Rattle.cf_types.specs.declared.numbers.StrNo.{StrNo}
 use Rattle.engine_api.specs.declared.told.Told.{Told}
 use Rattle.plex_script.specs.declared.agents.Step.{Step}
 use Rattle.plex_script.specs.declared.agents.Step.TheVariants as step
-use Rattle.plex_script.specs.declared.asks.AnyAsk.{AnyAsk}
+use Rattle.plex_script.specs.declared.scripts.AnyAsk.{AnyAsk}
 use Rattle.plex_script.specs.declared.asks.AnyHistory.{AnyHistory}
 use Rattle.plex_script.specs.declared.scripts.Act.{Act}
 use Rattle.plex_script.specs.declared.scripts.Act.TheVariants as act
@@ -91,14 +91,19 @@ AreFronts histories longer = (on : StrNo) → IsFront (calls_on histories on) (c
 pub shows_lines_front : (forms : List StrForm) (histories longer : List AnyHistory) (lines : List Line) (items : List Shown)
     → AreFronts histories longer → ShowsLines forms histories lines items → ShowsLines forms longer lines items
 shows_lines_front forms histories longer [] items fronts shows = shows
-shows_lines_front forms histories longer (line ∷ lines) items fronts (form, (first, (others, known, split, here, rest))) =
-    (form, (first, (
+shows_lines_front forms histories longer (line ∷ lines) items fronts (form, (first, (others, known, split, here, rest))) = (
+  form,
+  (
+    first,
+    (
       others,
       known,
       split,
       shows_act_front form _ _ line.by line.on line.retry line.act first (fronts line.on) here,
       shows_lines_front forms histories longer lines others fronts rest,
-    )))
+    ),
+  ),
+)
 
 -- one line more
 pub shows_lines_more : (forms : List StrForm) (histories : List AnyHistory) (lines : List Line) (line : Line) (form : StrForm)
@@ -107,11 +112,16 @@ pub shows_lines_more : (forms : List StrForm) (histories : List AnyHistory) (lin
     → ShowsLines forms histories (lines ++ line ∷ []) (items ++ part)
 shows_lines_more forms histories [] line form items part none known shows =
     (form, (part, ([], known, ap (λ (t : List Shown). t ++ part) none ∙ sym (append-nil part), shows, refl)))
-shows_lines_more forms histories (first ∷ lines) line form items part (other, (head, (rest, found, split, here, behind))) known shows =
-    (other, (head, (
+shows_lines_more forms histories (first ∷ lines) line form items part (other, (head, (rest, found, split, here, behind))) known shows = (
+  other,
+  (
+    head,
+    (
       rest ++ part,
       found,
       ap (λ (t : List Shown). t ++ part) split ∙ append_assoc head rest part,
       here,
       shows_lines_more forms histories lines line form rest part behind known shows,
-    )))
+    ),
+  ),
+)

@@ -59,7 +59,7 @@ items-append forms histories conn before [] ys first second =
 items-append forms histories conn before (x ∷ xs) ys first second = (
   first.0,
   items-append forms histories conn (before ++ x ∷ []) xs ys first.1
-  (subst (λ (t : List Shown). AreItems forms histories conn t ys) (sym (append_assoc before (x ∷ []) xs)) second),
+      (subst (λ (t : List Shown). AreItems forms histories conn t ys) (sym (append_assoc before (x ∷ []) xs)) second),
 )
 
 -- ---- when histories grow

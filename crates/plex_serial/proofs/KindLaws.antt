@@ -13,8 +13,8 @@ use Rattle.engine_api.specs.Meaning.{Meaning}
 use Rattle.engine_api.specs.History.{Call, calls, numbers, next, next_entry, IsLegal, IsPoint, Tells, stands_after}
 use Rattle.engine_api.proofs.HistoryLaws.{calls-append, legal_none, legal_next, point-append, point-next}
 use Rattle.cache_core.specs.Meaning.{cache_meaning}
-use Rattle.plex_script.specs.declared.asks.AnyAsk.{AnyAsk}
-use Rattle.plex_script.specs.declared.asks.AnyAsk.TheVariants as ask
+use Rattle.plex_script.specs.declared.scripts.AnyAsk.{AnyAsk}
+use Rattle.plex_script.specs.declared.scripts.AnyAsk.TheVariants as ask
 use Rattle.plex_script.specs.declared.asks.AnyHistory.{AnyHistory}
 use Rattle.plex_script.specs.declared.asks.AnyHistory.TheVariants as history
 use Rattle.plex_script.specs.Heard.{AnyCall, any_call, any_calls, any_length}

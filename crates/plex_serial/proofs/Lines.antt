@@ -9,7 +9,7 @@ use Rattle.cf_types.specs.declared.numbers.ConnId.{ConnId}
 use Rattle.cf_types.specs.declared.numbers.StrNo.{StrNo}
 use Rattle.plex_script.specs.declared.agents.Step.{Step}
 use Rattle.plex_script.specs.declared.agents.Step.TheVariants as step
-use Rattle.plex_script.specs.declared.asks.AnyAsk.{AnyAsk}
+use Rattle.plex_script.specs.declared.scripts.AnyAsk.{AnyAsk}
 use Rattle.plex_script.specs.declared.asks.AnyHistory.{AnyHistory}
 use Rattle.plex_script.specs.declared.scripts.Act.{Act}
 use Rattle.plex_script.specs.declared.scripts.Act.TheVariants as act
@@ -220,7 +220,7 @@ module _ (limit : ℕ) (script : Script) (lines : List Line) (line : Line) (form
       → EndsAs limit form.kind (call_of line.act) line.by line.on (first_step line.act line.retry) entries' part ended.Done
       → (calls : List AnyCall) → calls ≡ any_calls entries' → ShowsAct form calls line.by line.on line.retry line.act part)
       → IsRunOf script (IsPlayed limit script.structures (lines ++ line ∷ []))
-        (all_steps_made limit form (call_of line.act) line.by line.on (first_step line.act line.retry) run)
+      (all_steps_made limit form (call_of line.act) line.by line.on (first_step line.act line.retry) run)
   calls_run of_kind ready shows =
       let run' : Run = all_steps_made limit form (call_of line.act) line.by line.on (first_step line.act line.retry) run in
       let steps : AreSteps limit form (call_of line.act) line.by line.on (first_step line.act line.retry) entries items run run' =
@@ -304,6 +304,7 @@ stopped_still limit script lines line run transcript was there stopped =
         rw (own_lines_same conn lines line same)
         (stopped_more limit script.structures run.histories (own_lines conn lines) line conn items on is)
     by_end conn items ended.NoMemory same ended_as is = absurd is
+
     by_caller : (conn : ConnId) (other : Transcript) → slice_get run.transcripts conn.0 ≡ Some other
         → IsPlayed limit script.structures lines run.histories conn other.items other.end → (b : Bool) → line.by.0 == conn.0 ≡ b
         → IsPlayed limit script.structures (lines ++ line ∷ []) run.histories conn other.items other.end
@@ -329,7 +330,7 @@ line_runs limit script lines line run was runnable built =
     by_end : (t : Transcript) (end : AgentEnd) → t.end ≡ end → slice_get run.transcripts line.by.0 ≡ Some t → (h : AnyHistory)
         → slice_get run.histories line.on.0 ≡ Some h
         → IsRunOf script (IsPlayed limit script.structures (lines ++ line ∷ []))
-          (cond (is_done run line.by) (act_made limit runnable.form line line.act run) run)
+        (cond (is_done run line.by) (act_made limit runnable.form line line.act run) run)
     by_end t ended.Done is caller h there =
         let same : record { items = t.items; end = ended.Done } ≡ t = ap (λ (e : AgentEnd). (let it : Transcript = record { items = t.items; end = e } in it)) (sym is) in
         let open' : is_done run line.by ≡ true =

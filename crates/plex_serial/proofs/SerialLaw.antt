@@ -129,8 +129,8 @@ closings_run : (limit : ℕ) (script : Script) (last left : ℕ) (run : Run)
     → last + left ≡ length script.connectors
     → IsRunOf script (AreClosed limit script (closed_upto (length script.structures) last)) run
     → IsRunOf script (AreClosed limit script (closed_upto (length script.structures) (length script.connectors)))
-      (fold (after_closing limit script) run
-      (map (λ (number : ℕ). (let conn : ConnId = record { 0 = number } in conn)) (numbers_from (last + 1) left)))
+    (fold (after_closing limit script) run
+    (map (λ (number : ℕ). (let conn : ConnId = record { 0 = number } in conn)) (numbers_from (last + 1) left)))
 closings_run limit script last zero run built all was =
     let done : last ≡ length script.connectors = omega (arith, all) in
     subst (λ (n : ℕ). IsRunOf script (AreClosed limit script (closed_upto (length script.structures) n)) run) done was

@@ -13,7 +13,7 @@ use Rattle.cf_types.specs.declared.numbers.StrNo.{StrNo}
 use Rattle.engine_api.specs.declared.told.Told.{Told}
 use Rattle.plex_script.specs.declared.agents.Step.{Step}
 use Rattle.plex_script.specs.declared.agents.Step.TheVariants as step
-use Rattle.plex_script.specs.declared.asks.AnyAsk.{AnyAsk}
+use Rattle.plex_script.specs.declared.scripts.AnyAsk.{AnyAsk}
 use Rattle.plex_script.specs.declared.asks.AnyHistory.{AnyHistory}
 use Rattle.plex_script.specs.declared.asks.AnyHistory.TheVariants as history
 use Rattle.plex_script.specs.declared.transcripts.AgentEnd.{AgentEnd}
@@ -26,7 +26,7 @@ use Rattle.cf_types.specs.declared.shell_commands.ShellCmd.{ShellCmd}
 use Rattle.cf_types.specs.declared.shell_commands.ShellCmd.TheVariants as cmd
 use Rattle.plex_script.specs.Agent.{step_after, most_asks, asks_behind, asked_by, taking, after_round, common}
 use Rattle.engine_api.specs.History.{Call, calls}
-use Rattle.plex_script.specs.declared.asks.AnyAsk.TheVariants as ask
+use Rattle.plex_script.specs.declared.scripts.AnyAsk.TheVariants as ask
 use Rattle.plex_script.specs.Heard.{AnyCall, any_call, any_calls, any_length, heard, own_calls}
 use Rattle.plex_script.specs.Follows.{IsHeard, Runs, RunsUpTo, numbers_on}
 use Rattle.plex_serial.specs.Kinds.{IsOfKind, IsAskOf, IsBuiltKind, IsAnyLegal, any_next, any_told, numbers_from}
@@ -229,7 +229,7 @@ more_steps : (limit : ℕ) (form : StrForm) (line : Option AnyAsk) (by : ConnId)
     → run1.histories ≡ set run.histories on.0 (any_next form entries by asked)
     → run1.transcripts ≡ set run.transcripts by.0 (record { items = items ++ shown.Call on (any_length entries + 1) ∷ []; end = ended.Done })
     → AreSteps limit form line by on (step_after now (any_told form entries by asked)) (any_next form entries by asked)
-      (items ++ shown.Call on (any_length entries + 1) ∷ []) run1 run'
+    (items ++ shown.Call on (any_length entries + 1) ∷ []) run1 run'
     → AreSteps limit form line by on now entries items run run'
 more_steps limit form line by on now entries items run run1 run' asked at kept takes asks histories transcripts rest =
     let number : ℕ = any_length entries + 1 in
@@ -356,6 +356,7 @@ first_step_is limit most form line by on now entries items run fewer_hold at kep
         (more_steps limit form line by on now entries items run run1 _ asked at kept takes asks refl transcripts
         (fewer_hold (step_after now told) later (items ++ item ∷ []) run1 at1
         (next_history form entries by asked takes kept) (ready_after line now told ready) (omega (arith, fewer, enough))))
+
     by_ask : (o : Option AnyAsk) → asked_by form.kind line now ≡ o
         → AreStepsFrom limit most form line by on now entries items run (step_made limit form line by on now run)
     by_ask None none =

@@ -8,8 +8,8 @@ use Rattle.engine_api.specs.declared.told.Told.{Told}
 use Rattle.engine_api.specs.History.{next, next_reply, stands_after, IsLegal, Tells, last_call_below}
 use Rattle.engine_api.specs.Told.{told, told_plainly}
 use Rattle.cache_core.specs.Meaning.{cache_meaning}
-use Rattle.plex_script.specs.declared.asks.AnyAsk.{AnyAsk}
-use Rattle.plex_script.specs.declared.asks.AnyAsk.TheVariants as ask
+use Rattle.plex_script.specs.declared.scripts.AnyAsk.{AnyAsk}
+use Rattle.plex_script.specs.declared.scripts.AnyAsk.TheVariants as ask
 use Rattle.plex_script.specs.declared.asks.AnyHistory.{AnyHistory}
 use Rattle.plex_script.specs.declared.asks.AnyHistory.TheVariants as history
 use Rattle.plex_script.specs.Heard.{any_length}

@@ -9,9 +9,6 @@ use plex_script::Script;
 /// journal of `limit` entries stops there.
 pub fn one_run(limit: u32, script: &Script)
     requires { IsRunnable script.now }
-    ensures {
-        ShowsHistories limit script.now (serial_run limit script.now).histories
-            (serial_run limit script.now).transcripts
-    }
-{
-}
+    ensures { ShowsHistories limit script.now (serial_run limit script.now).histories
+        (serial_run limit script.now).transcripts }
+{}

@@ -3,36 +3,64 @@ use Rattle.std.proofs.Common.{◌≡◌, ◌≤◌, ℕ, List, sym, ◌∙◌, s
 use Rattle.std.specs.Prelude.{All, max}
 use Rattle.std.proofs.lemmas.List.Elements.{All-weaker}
 use Rattle.vec_world.specs.Log.{IsCommitted}
+use Rattle.vec_world.proofs.LogLaws.{settled-max}
 use Rattle.vec_words.specs.declared.logged.Logged.{Logged}
 use Rattle.vec_words.specs.declared.view.View.{View}
-use Rattle.vec_words.specs.Logged.{count_of, steps_of, flying_of, IsIssued, IsHonest}
-use Rattle.vec_words.specs.Tokens.{IsBegun}
+use Rattle.vec_words.specs.Logged.{count_of, steps_of, flying_of, calls_of, IsIssued, IsHonest}
+use Rattle.atomic_table.specs.Seated.{TableId}
+use Rattle.vec_words.specs.Tokens.{WordTable, PassSeen, SeatSeen, pass_seen, seat_seen, IsShown, IsBegun}
 use Rattle.vec_words.specs.View.{with_log}
-use Rattle.vec_words.specs.Rule.{IsKept, Shows}
-use Rattle.vec_words.proofs.Kept.{issued_max}
+use Rattle.vec_words.specs.Rule.{Settled, IsKept, Shows}
 
 module _ {D : Type 0} where
-  pub issued_begun : (number n : ℕ) (log : List (Logged D)) → IsBegun number log → IsIssued log (flying_of log) n → IsIssued log number n
-  issued_begun number n log begun h =
-      ⊎_elim
-      (λ (z : n ≡ 0). inl z)
-      (⊎_elim
-      (λ (c : IsCommitted (steps_of log) n). inr (inl c))
-      (λ (e : n ≡ flying_of log). ⊎_elim (λ (z : flying_of log ≡ 0). inl (e ∙ z)) (λ (q : flying_of log ≡ number). inr (inr (e ∙ q))) begun.carried))
-      h
+  -- a settled number is issued, beside the engine's number in flight
+  pub issued_settled : (number n : ℕ) (log : List (Logged D)) → IsBegun number log → Settled log n
+      → IsIssued log number n
+  issued_settled number n log begun (inl low) =
+      ⊎_elim (λ (z : n ≡ 0). inl z) (λ (c : IsCommitted (steps_of log) n). inr (inl c)) low.1
+  issued_settled number n log begun (inr flies) =
+      ⊎_elim (λ (z : flying_of log ≡ 0). inl (flies ∙ z))
+      (λ (q : flying_of log ≡ number). inr (inr (flies ∙ q))) begun.carried
 
-  pub learned_tests : (len : ℕ) (v w view : View D) (count number : ℕ) → view ≡ with_log v w → IsBegun number w.log → Shows len view count → All (IsHonest w.log number len v.owner) v.tests
-  learned_tests len v w view count number is begun shown =
-      let shown' = subst (λ (x : View D). Shows len x count) is shown in
-      All-weaker (IsKept w.log len v.owner) (IsHonest w.log number len v.owner)
-      (λ t k. record { not_before = k.honest.not_before; issued = issued_begun number t.at w.log begun k.honest.issued; tells = k.honest.tells }) v.tests shown'.tests
+  -- what the engine's seat tells of a pass that held its log
+  pub record Learns (seat : SeatSeen D) (len raised : ℕ) (pass : PassSeen D) : Type 0 where
+    pub tests : All (IsHonest seat.log seat.number len pass.owner) pass.tests
+    pub before : IsIssued seat.log seat.number pass.known
+    pub known : IsIssued seat.log seat.number raised
 
-  pub learned_known : (len : ℕ) (v w view : View D) (count number known : ℕ) → view ≡ with_log v w → IsBegun number w.log → Shows len view count → known ≡ max v.known count → IsIssued w.log number known
-  learned_known len v w view count number known is begun shown known_is =
-      let shown' = subst (λ (x : View D). Shows len x count) is shown in
-      subst (IsIssued w.log number) (sym known_is) (issued_begun number (max v.known count) w.log begun (issued_max w.log (flying_of w.log) v.known count shown'.known shown'.counted))
+  pub shown : (len : ℕ) (pass_id seat_id : TableId) (v w view : View D) (count number raised : ℕ) (pass : PassSeen D)
+      (seat : SeatSeen D)
+      → pass_seen pass_id v ≡ pass → seat_seen seat_id number w ≡ seat → view ≡ with_log v w → IsBegun number w.log
+      → Shows len view count → raised ≡ max v.known count → Learns seat len raised pass
+  shown len pass_id seat_id v w view count number raised pass seat pass_is seat_is is begun shows raised_is =
+      let here = subst (λ (x : View D). Shows len x count) is shows in
+      subst (λ (x : PassSeen D × SeatSeen D). Learns x.1 len raised x.0) (λ i. (pass_is i, seat_is i)) record {
+        tests = All-weaker (IsKept w.log len v.owner) (IsHonest w.log number len v.owner)
+            (λ t k. record {
+              connector = k.connector;
+              within = k.within;
+              not_before = k.not_before;
+              issued = issued_settled number t.at w.log begun k.settled;
+              tells = k.tells;
+            }) v.tests here.tests;
+        before = issued_settled number v.known w.log begun here.known;
+        known = subst (IsIssued w.log number) (sym raised_is) (issued_settled number (max v.known count) w.log begun
+            (settled-max (steps_of w.log) (count_of w.log) (flying_of w.log) v.known count here.known here.counted));
+      }
 
-  pub learned_sure : (len : ℕ) (v w view : View D) (count : ℕ) → view ≡ with_log v w → Shows len view count → v.sure ≤ count_of w.log
-  learned_sure len v w view count is shown =
-      let shown' = subst (λ (x : View D). Shows len x count) is shown in
-      subst (λ k. v.sure ≤ k) shown'.count_is shown'.sure
+  -- the clauses of `learn`, as one fact of the pass
+  pub shown_pass : (table : WordTable) (seat now : SeatSeen D) (pass : PassSeen D) → now ≡ seat → pass.table ≡ table
+      → All (IsHonest now.log now.number table.len pass.owner) pass.tests → pass.mine ≡ calls_of pass.owner now.log
+      → IsIssued now.log now.number pass.known → pass.sure ≤ count_of now.log → pass.sure ≤ pass.known
+      → pass.owner ≤ table.conns
+      → IsShown seat pass
+  shown_pass table seat now pass is here tests mine known seen ordered owner =
+      subst (λ (s : SeatSeen D). IsShown s pass) is record {
+        tests = subst (λ (t : WordTable). All (IsHonest now.log now.number t.len pass.owner) pass.tests)
+            (sym here) tests;
+        mine = mine;
+        known = known;
+        seen = seen;
+        ordered = ordered;
+        owner = subst (λ (t : WordTable). pass.owner ≤ t.conns) (sym here) owner;
+      }

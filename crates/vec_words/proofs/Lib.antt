@@ -1,9 +1,13 @@
 pub mod Begun
-pub mod Changes
+pub mod Commits
 pub mod Kept
 pub mod Learned
 pub mod Logs
+pub mod OrderlyLaws
 pub mod Places
 pub mod Sound
 pub mod Steps
+pub mod StoreLaws
 pub mod Tables
+pub mod Walked
+pub mod Writes

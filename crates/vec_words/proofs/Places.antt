@@ -1,11 +1,13 @@
 -- A word of a connector's vector is a word of the table.
-use Rattle.std.proofs.Common.{◌≡◌, ◌+◌, ◌-◌, ◌*◌, ◌/◌, ◌^◌, ◌<◌, ◌≤◌, ℕ, suc, subst, sym, arith, mul-le-mul_right, suc-mul}
+use Rattle.std.proofs.Common.{◌≡◌, ◌+◌, ◌-◌, ◌*◌, ◌/◌, ◌^◌, ◌<◌, ◌≤◌, ℕ, suc, subst, sym, arith, mul-le-mul_right}
+use Rattle.std.proofs.Common.{suc-mul}
 use native.Mathlib.Decide.{dec_le}
 use Rattle.std.specs.Prelude.{All}
 use Rattle.std.proofs.lemmas.List.FromFn.{length-range_with_len, get_or-range_with_len}
 use Rattle.vec_words.specs.Logged.{words_of, word_number, indices_of}
 
-pub within_all : (len conn conns word : ℕ) → 0 < conn → conn ≤ conns → word < words_of len → word_number len conn word < conns * words_of len
+pub within_all : (len conn conns word : ℕ) → 0 < conn → conn ≤ conns → word < words_of len
+    → word_number len conn word < conns * words_of len
 within_all len conn conns word some most below =
     let n : ℕ = words_of len in
     let below' : word < n = below in
@@ -34,11 +36,13 @@ indices_within word k d below =
     subst (λ n. n / 32 ≡ word) (sym (get_or-range_with_len (32 * word) 32 k d few)) (omega arith)
 
 -- two vectors have no word in common, nor has one vector two words of one number
-pub word_number-same : (len conn other word next : ℕ) → 0 < conn → 0 < other → word < words_of len → next < words_of len → word_number len conn word ≡ word_number len other next → (conn ≡ other) × (word ≡ next)
+pub word_number-same : (len conn other word next : ℕ) → 0 < conn → 0 < other → word < words_of len → next < words_of len
+    → word_number len conn word ≡ word_number len other next → (conn ≡ other) × (word ≡ next)
 word_number-same len conn other word next some some' below below' same =
     let is : conn ≡ other = equal_by (dec_le conn other) (dec_le other conn) in (is, words is)
   where
-    apart : (low high w v : ℕ) → 0 < low → low < high → w < words_of len → word_number len low w ≡ word_number len high v → ⊥
+    apart : (low high w v : ℕ) → 0 < low → low < high → w < words_of len
+        → word_number len low w ≡ word_number len high v → ⊥
     apart low high w v some less small e =
         let m : ℕ = words_of len in
         let small' : w < m = small in
@@ -57,4 +61,5 @@ word_number-same len conn other word next some some' below below' same =
     words : conn ≡ other → word ≡ next
     words is =
         let a : ℕ = (other - 1) * words_of len in
-        let e : a + word ≡ a + next = subst (λ c. word_number len c word ≡ word_number len other next) is same in omega arith
+        let e : a + word ≡ a + next = subst (λ c. word_number len c word ≡ word_number len other next) is same in
+        omega arith

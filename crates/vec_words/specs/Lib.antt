@@ -2,3 +2,4 @@ pub mod Logged
 pub mod Tokens
 pub mod View
 pub mod Rule
+pub mod Stores

@@ -1,18 +1,18 @@
 -- The rule that holds between any two steps.
-use Rattle.std.specs.Prelude.{◌≡◌, ◌*◌, ◌^◌, ◌<◌, ◌≤◌, ◌⊎◌, ℕ, suc, List, true, All, length, slice_index}
+use Rattle.std.specs.Prelude.{◌≡◌, ◌*◌, ◌/◌, ◌^◌, ◌<◌, ◌≤◌, ℕ, suc, List, true, All, length, slice_index}
 use mathlib.Core.Option.{some}
 use lib.ListN.{get_elem?}
 use Rattle.atomic_table.specs.Table.{State}
-use Rattle.vec_world.specs.Log.{bits_at, HasStore, IsCommitted}
-use Rattle.vec_world.specs.World.{bits_of, stamp_of}
+use Rattle.vec_world.specs.Log.{IsSettled}
 use Rattle.vec_words.specs.declared.logged.Logged.{Logged}
 use Rattle.vec_words.specs.declared.logged.Sight.{Sight}
 use Rattle.vec_words.specs.declared.view.View.{View}
 use Rattle.vec_words.specs.declared.view.Shape.{Shape}
-use Rattle.vec_words.specs.Logged.{words_of, steps_of, count_of, flying_of, left_in, calls_of, IsIssued, IsHonest}
+use Rattle.vec_words.specs.Logged.{words_of, word_number, steps_of, count_of, flying_of, left_in, calls_of, IsOrderly}
+use Rattle.vec_words.specs.Logged.{Tells}
 
--- what the views of all seats have in common: the log and the seat that has it, the seat that makes passes and the next pass's number,
--- and the seat of each pass by its owner
+-- what the views of all seats have in common: the log and the seat that has it, the seat that makes passes and the next
+-- pass's number, and the seat of each pass by its owner
 pub record Roll (D : Type 0) : Type 0 where
   pub log : List (Logged D)
   pub holder : ℕ
@@ -21,28 +21,30 @@ pub record Roll (D : Type 0) : Type 0 where
   pub seat_of : ℕ → ℕ
 
 module _ {D : Type 0} where
-  -- The numbers of a log. The one in flight is above the count, and no commit is. The count is a commit's number. At its stamp and above,
-  -- a word has the bits that the log leaves in it, and the stamp is that of a store.
-  pub record IsSound (log : List (Logged D)) : Type 0 where
-    pub small : count_of log < 2 ^ 32
-    pub in_flight : 0 < flying_of log → count_of log < flying_of log
-    pub bounded : (number : ℕ) → IsCommitted (steps_of log) number → number ≤ count_of log
-    pub counted : (count_of log ≡ 0) ⊎ IsCommitted (steps_of log) (count_of log)
-    pub settled : (word number : ℕ) → stamp_of (left_in log word) ≤ number → bits_at (steps_of log) word number ≡ bits_of (left_in log word)
-    pub stamped : (word : ℕ) → IsIssued log (flying_of log) (stamp_of (left_in log word))
-    pub stored : (word : ℕ) → (stamp_of (left_in log word) ≡ 0) ⊎ HasStore (steps_of log) word (stamp_of (left_in log word))
+  -- the number is none, or committed and at most the count, or the number of the stores since the last commit
+  abbrev pub Settled : List (Logged D) → ℕ → Type 0
+  Settled log number = IsSettled (steps_of log) (count_of log) (flying_of log) number
+
+  -- the log is orderly beside the number of the stores since the last commit
+  abbrev pub IsSound : List (Logged D) → Type 0
+  IsSound log = IsOrderly log (flying_of log)
 
   -- a test, as the rule keeps it
   pub record IsKept (log : List (Logged D)) (len conn : ℕ) (test : Sight) : Type 0 where
-    pub honest : IsHonest log (flying_of log) len conn test
+    pub connector : 0 < conn
+    pub within : test.index / 32 < words_of len
+    pub not_before : test.sure ≤ test.at
     pub seen : test.sure ≤ count_of log
+    pub settled : Settled log test.at
+    pub tells : Tells log (word_number len conn (test.index / 32)) test
 
   -- what the rule says of one seat's view
   pub record Fits (len : ℕ) (roll : Roll D) (seat : ℕ) (view : View D) : Type 0 where
     pub keeps : view.keeps ≡ true → (seat ≡ roll.holder) × (view.log ≡ roll.log)
     pub makes : view.makes ≡ true → (seat ≡ roll.maker) × (view.next ≡ roll.next)
-    pub passes : view.passes ≡ true → (seat ≡ roll.seat_of view.owner) × (view.owner < roll.next) × (view.mine ≡ calls_of view.owner roll.log)
-    pub known : IsIssued roll.log (flying_of roll.log) view.known
+    pub passes : view.passes ≡ true → (seat ≡ roll.seat_of view.owner) × (view.owner < roll.next) ×
+        (view.mine ≡ calls_of view.owner roll.log)
+    pub known : Settled roll.log view.known
     pub sure : view.sure ≤ count_of roll.log
     pub tests : All (IsKept roll.log len view.owner) view.tests
 
@@ -66,7 +68,7 @@ module _ {D : Type 0} where
     pub count_is : count ≡ count_of view.log
     pub small : count < 2 ^ 32
     pub sure : view.sure ≤ count
-    pub known : IsIssued view.log (flying_of view.log) view.known
-    pub counted : IsIssued view.log (flying_of view.log) count
+    pub known : Settled view.log view.known
+    pub counted : Settled view.log count
     pub mine : view.mine ≡ calls_of view.owner view.log
     pub tests : All (IsKept view.log len view.owner) view.tests

@@ -1,5 +1,5 @@
 -- What contracts see of the word table and of its tokens.
-use Rattle.std.specs.Prelude.{◌≡◌, ◌*◌, ◌^◌, ◌<◌, ◌≤◌, ◌⊎◌, ℕ, suc, List, [], true, false}
+use Rattle.std.specs.Prelude.{◌≡◌, ◌*◌, ◌^◌, ◌<◌, ◌≤◌, ◌⊎◌, ℕ, suc, List, [], true, false, max, All}
 use Rattle.atomic_table.specs.Table.{Me}
 use Rattle.atomic_table.specs.declared.shared.Seat.{Seat}
 use Rattle.vec_words.specs.View.{first_view}
@@ -8,8 +8,7 @@ use Rattle.vec_words.specs.declared.logged.Logged.{Logged}
 use Rattle.vec_words.specs.declared.logged.Sight.{Sight}
 use Rattle.vec_words.specs.declared.view.View.{View}
 use Rattle.vec_words.specs.declared.view.Shape.{Shape}
-use Rattle.vec_world.specs.Log.{HasStore}
-use Rattle.vec_words.specs.Logged.{steps_of, count_of, flying_of, words_of}
+use Rattle.vec_words.specs.Logged.{count_of, flying_of, words_of, calls_of, IsOrderly, IsIssued, IsHonest}
 
 -- a word table: which it is, its connectors, and the bits of each one's vector
 pub record WordTable : Type 0 where
@@ -42,19 +41,40 @@ module _ {D : Type 0} where
   abbrev pub new_pass : WordTable → ℕ → PassSeen D
   new_pass table owner = record { table = table; owner = owner; known = 0; sure = 0; mine = []; tests = [] }
 
-  -- The number in flight, where there is one, is above the count. The stores since the last commit carry it, and the earlier ones have
-  -- stamps up to the count.
+  -- the pass once it has seen this number complete
+  abbrev pub learned_pass : ℕ → PassSeen D → PassSeen D
+  learned_pass count pass = record pass { known = max pass.known count; sure = max pass.sure count }
+
+  -- What the engine's seat shows of a pass: each test told the truth, the log has its owner's calls, the number that it
+  -- knows is none, committed or in flight, and what it saw complete is at most that number and the count.
+  pub record IsShown (seat : SeatSeen D) (pass : PassSeen D) : Type 0 where
+    pub tests : All (IsHonest seat.log seat.number pass.table.len pass.owner) pass.tests
+    pub mine : pass.mine ≡ calls_of pass.owner seat.log
+    pub known : IsIssued seat.log seat.number pass.known
+    pub seen : pass.sure ≤ count_of seat.log
+    pub ordered : pass.sure ≤ pass.known
+    pub owner : pass.owner ≤ pass.table.conns
+
+  -- The number in flight, where there is one, is above the count. The stores since the last commit carry it, and the
+  -- log is orderly beside it.
   pub record IsBegun (number : ℕ) (log : List (Logged D)) : Type 0 where
     pub above : 0 < number → count_of log < number
     pub carried : (flying_of log ≡ 0) ⊎ (flying_of log ≡ number)
-    pub earlier : (word stamp : ℕ) → HasStore (steps_of log) word stamp → (stamp ≤ count_of log) ⊎ (stamp ≡ number)
+    pub orderly : IsOrderly log number
 
   -- the values that contracts see, of the seats that the tokens hold
   abbrev pub table_seen : TableId → View D → WordTable
   table_seen id v = record { id = id; conns = v.conns; len = v.len }
 
   abbrev pub pass_seen : TableId → View D → PassSeen D
-  pass_seen id v = record { table = table_seen id v; owner = v.owner; known = v.known; sure = v.sure; mine = v.mine; tests = v.tests }
+  pass_seen id v = record {
+    table = table_seen id v;
+    owner = v.owner;
+    known = v.known;
+    sure = v.sure;
+    mine = v.mine;
+    tests = v.tests;
+  }
 
   abbrev pub note_seen : TableId → View D → NoteSeen
   note_seen id v = record { table = table_seen id v; known = v.known; sure = v.sure }

@@ -11,7 +11,20 @@ module _ {D : Type 0} where
   -- a seat that knows nothing but the numbers
   abbrev pub note_view : ℕ → ℕ → ℕ → ℕ → View D
   note_view conns len known sure =
-      record { conns = conns; len = len; keeps = false; log = []; makes = false; next = 0; passes = false; owner = 0; mine = []; known = known; sure = sure; tests = [] }
+      record {
+        conns = conns;
+        len = len;
+        keeps = false;
+        log = [];
+        makes = false;
+        next = 0;
+        passes = false;
+        owner = 0;
+        mine = [];
+        known = known;
+        sure = sure;
+        tests = [];
+      }
 
   abbrev pub blank : View D
   blank = note_view 0 0 0 0
@@ -58,7 +71,12 @@ module _ {D : Type 0} where
   -- calls were committed under a number: one, where there is one item of data
   abbrev pub committed_of : ℕ → List D → View D → View D
   committed_of number about v =
-      record v { log = v.log ++ map (Committed number v.owner) about; mine = v.mine ++ map (λ x. (number, x)) about; known = number; sure = number }
+      record v {
+        log = v.log ++ map (Committed number v.owner) about;
+        mine = v.mine ++ map (λ x. (number, x)) about;
+        known = number;
+        sure = number;
+      }
 
   -- the count was loaded
   abbrev pub learned_of : View D → ℕ → View D

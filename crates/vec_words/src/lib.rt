@@ -13,6 +13,7 @@ mod note;
 mod pass;
 mod plays;
 mod seat;
+mod stores;
 mod tell;
 mod vectors;
 mod view;
@@ -21,6 +22,7 @@ pub use logged::{Logged, Sight, Tested, TestedWord};
 pub use note::Note;
 pub use pass::Pass;
 pub use seat::EngineSeat;
+pub use stores::{Changes, Place};
 pub use vectors::Vectors;
 
 #[cfg(test)]

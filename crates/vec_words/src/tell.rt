@@ -1,5 +1,5 @@
 //! Notes of what passes know.
-ghost use Rattle.std.specs.Prelude.{◌≡◌, max};
+ghost use Rattle.std.specs.Prelude.{◌≡◌, ◌≤◌, max};
 
 use crate::note::Note;
 use crate::pass::Pass;
@@ -10,8 +10,13 @@ impl<D> Vectors<D> {
     /// A note of the numbers that the pass has.
     pub fn tell(&self, pass: &mut Pass<D>) -> Note<D>
         requires { pass.old.table ≡ self.now }
-        ensures note { result ≡ record { table = pass.old.table; known = pass.old.known; sure = pass.old.sure } }
+        ensures note { result ≡ record {
+          table = pass.old.table;
+          known = pass.old.known;
+          sure = pass.old.sure;
+        } }
         ensures pass { pass.new ≡ pass.old }
+        ensures ordered { result.sure ≤ result.known }
     {
         Note {
             known: pass.known,
@@ -25,6 +30,7 @@ impl<D> Vectors<D> {
         requires { note.old.table ≡ self.now }
         ensures copy { result ≡ note.old }
         ensures note { note.new ≡ note.old }
+        ensures ordered { result.sure ≤ result.known }
     {
         Note {
             known: note.known,
@@ -38,8 +44,12 @@ impl<D> Vectors<D> {
     pub fn told(&self, pass: &mut Pass<D>, note: Note<D>) -> u32
         requires pass { pass.old.table ≡ self.now }
         requires note { note.table ≡ self.now }
-        ensures pass { pass.new ≡ record pass.old { known = max pass.old.known note.known; sure = max pass.old.sure note.sure } }
+        ensures pass { pass.new ≡ record pass.old {
+          known = max pass.old.known note.known;
+          sure = max pass.old.sure note.sure;
+        } }
         ensures sure { result ≡ pass.new.sure }
+        ensures ordered { pass.new.sure ≤ pass.new.known }
     {
         pass.known = pass.known.max(note.known);
         pass.sure = pass.sure.max(note.sure);

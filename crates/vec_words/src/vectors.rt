@@ -3,7 +3,7 @@ ghost use Rattle.std.specs.Prelude.{◌≡◌, ◌+◌, ◌*◌, ◌^◌, ◌<�
 ghost use Rattle.std.specs.List.{range_with_len};
 ghost use Rattle.vec_world.specs.Log.{HasStore};
 ghost use Rattle.vec_words.specs.declared.logged.Logged.TheVariants.{Stored};
-ghost use Rattle.vec_words.specs.Logged.{words_of, word_number, steps_of, count_of};
+ghost use Rattle.vec_words.specs.Logged.{words_of, word_number, steps_of, count_of, IsOrderly};
 ghost use Rattle.vec_words.specs.Tokens.{new_pass, IsBegun, IsFirst};
 ghost use Rattle.vec_words.specs.View.{first_view, stored_to, Becomes};
 
@@ -15,9 +15,7 @@ use atomic_table::{Seat, Table};
 use cf_types::{ConnId, NoMemory};
 use std::alloc::{AllocError, Global};
 use std::marker::{Brand, Model};
-
-/// The bits of a word, beside which a stamp stands above them.
-pub(crate) const STAMP: u64 = 1 << 32;
+use vec_world::word_of;
 
 /// The words of all connectors' vectors, with the number that was committed last. Threads share it by `&`.
 /// `D` is the data of one answered call. It is never stored.
@@ -61,7 +59,8 @@ impl<D> Vectors<D> {
     ) -> Result<(Vectors<D>, EngineSeat<D>, Vec<Pass<D>>), NoMemory>
         ensures form { IfOk result (λ r. (r.0.conns ≡ conns) × (r.0.len ≡ len)) }
         ensures seat { IfOk result (λ r. r.1 ≡ record { table = r.0; number = 0; log = [] }) }
-        ensures passes { IfOk result (λ r. r.2.items ≡ map (new_pass r.0) (range_with_len 0 (conns + 1))) }
+        ensures passes { IfOk result (λ r. r.2.items ≡ map (new_pass r.0)
+            (range_with_len 0 (conns + 1))) }
     {
         let Ok((vectors, mut seat)) = Vectors::lay(alloc, conns, len) else {
             return Err(NoMemory);
@@ -79,7 +78,8 @@ impl<D> Vectors<D> {
         len: u32,
     ) -> Result<(Vectors<D>, Seat<u8, View<D>>), AllocError>
         ensures form { IfOk result (λ r. (r.0.conns ≡ conns) × (r.0.len ≡ len)) }
-        ensures seat { IfOk result (λ r. (r.1.table_id ≡ r.0.id) × (r.1.me ≡ (first_view (record { conns = conns; len = len }), []))) }
+        ensures seat { IfOk result (λ r. (r.1.table_id ≡ r.0.id)
+            × (r.1.me ≡ (first_view (record { conns = conns; len = len }), []))) }
     {
         let shape = Shape { conns, len };
         let span = (len as usize + 31) / 32;
@@ -101,7 +101,8 @@ impl<D> Vectors<D> {
         seat: &mut Seat<u8, View<D>>,
     ) -> Result<Vec<Pass<D>>, AllocError>
         requires { IsFirst self.now seat.old 0 }
-        ensures passes { IfOk result (λ v. v.items ≡ map (new_pass self.now) (range_with_len 0 (self.now.conns + 1))) }
+        ensures passes { IfOk result (λ v. v.items ≡ map (new_pass self.now)
+            (range_with_len 0 (self.now.conns + 1))) }
         ensures seat { IfOk result (λ v. IsFirst self.now seat.new (self.now.conns + 1)) }
     {
         let count = usize::from(self.conns) + 1;
@@ -137,6 +138,7 @@ impl<D> Vectors<D> {
         requires above { count_of seat.old.log < number }
         ensures seat { seat.new ≡ record seat.old { number = number } }
         ensures fresh { (word : ℕ) → ¬ HasStore (steps_of seat.new.log) word seat.new.number }
+        ensures log { IsOrderly seat.new.log seat.new.number }
     {
         let _ = self;
         seat.number = number;
@@ -149,8 +151,12 @@ impl<D> Vectors<D> {
         requires begun { 0 < seat.old.number }
         requires conn { (0 < conn.0) × (conn.0 ≤ self.now.conns) }
         requires word { word < words_of self.now.len }
-        requires once { ¬ HasStore (steps_of seat.old.log) (word_number self.now.len conn.0 word) seat.old.number }
-        ensures { seat.new ≡ record seat.old { log = seat.old.log ++ Stored (word_number self.now.len conn.0 word) bits seat.old.number ∷ [] } }
+        requires once { ¬ HasStore (steps_of seat.old.log)
+            (word_number self.now.len conn.0 word) seat.old.number }
+        ensures { seat.new ≡ record seat.old {
+          log = seat.old.log ++ Stored
+              (word_number self.now.len conn.0 word) bits seat.old.number ∷ [];
+        } }
     {
         let at = self.word_number(conn.0, word);
         self.put::<Brand>(&mut seat.seat, at, bits, seat.number);
@@ -171,14 +177,16 @@ impl<D> Vectors<D> {
     fn put<P: Places>(&self, seat: &mut Seat<u8, View<D>>, word: usize, bits: u32, stamp: u32)
         requires table { seat.old.table_id ≡ self.now.id }
         requires log { seat.old.me.0.keeps ≡ true }
-        requires word { (word < self.now.conns * words_of self.now.len) × (word < 2 ^ 40) }
-        requires stamp { IsBegun stamp seat.old.me.0.log × (0 < stamp) }
-        requires once { ¬ HasStore (steps_of seat.old.me.0.log) word stamp }
-        requires step { (P.word ≡ word) × (P.bits ≡ bits) × (P.stamp ≡ stamp) }
+        requires step { (word ≡ P.word) × (bits ≡ P.bits) × (stamp ≡ P.stamp) }
+        requires word { (P.word < self.now.conns * words_of self.now.len) × (P.word < 2 ^ 40) }
+        requires stamp { IsBegun P.stamp seat.old.me.0.log × (0 < P.stamp) }
+        requires once { ¬ HasStore (steps_of seat.old.me.0.log) P.word P.stamp }
         ensures table { seat.new.table_id ≡ seat.old.table_id }
-        ensures view { Becomes seat.old.me (stored_to word bits stamp seat.old.me.0) seat.new.me }
+        ensures view { Becomes seat.old.me (stored_to P.word P.bits P.stamp seat.old.me.0)
+            seat.new.me }
     {
-        let content = u64::from(stamp) * STAMP + u64::from(bits);
-        self.table.shared.store::<Put<P>>(seat, 1 + word, content);
+        self.table
+            .shared
+            .store::<Put<P>>(seat, 1 + word, word_of(bits, stamp));
     }
 }

@@ -1,104 +1,78 @@
 -- The law of a load: what it tells stays told by every log that later steps make.
-use Rattle.std.proofs.Common.{◌≡◌, ◌⊎◌, ℕ, ◌+◌, ◌-◌, ◌^◌, ◌<◌, ◌≤◌, max, List, [], ◌∷◌, ◌++◌, length, take, drop, get_or, set, Option, Some, None, refl, sym, ap, ◌∙◌, subst, inl, inr, arith}
+use Rattle.std.proofs.Common.{◌≡◌, ℕ, ◌+◌, ◌-◌, ◌^◌, ◌<◌, ◌≤◌, max, List, [], ◌∷◌, ◌++◌, length, take, drop, get_or}
+use Rattle.std.proofs.Common.{set}
+use Rattle.std.proofs.Common.{Option, Some, None, refl, sym, ap, ◌∙◌, subst, inl, arith}
 use Rattle.std.specs.Prelude.{All, fold, slice_get}
-use Rattle.std.proofs.lemmas.Bool.{cases_eq, cases_lt, cond_both}
+use Rattle.std.proofs.lemmas.Bool.{cond_both}
 use Rattle.std.proofs.lemmas.List.{length_push, drop-append-le, take-append-drop}
 use Rattle.std.proofs.lemmas.List.Sums.{fold-append, fold_more}
 use Rattle.std.proofs.lemmas.List.Elements.{All-drop, All-take}
 use Rattle.vec_world.specs.declared.step.Step.{Step}
 use Rattle.vec_world.specs.declared.step.Step.TheVariants.{Store, Commit, Load, LoadCount, Split, Join}
 use Rattle.vec_world.specs.declared.world.World.{World}
-use Rattle.vec_world.specs.Log.{FitsHalf}
-use Rattle.vec_world.specs.World.{bits_of, stamp_of, word_at, known_by, start, is_open, has_word, has_pass, can_store, stored, committed, learned, noted, told, act, world_of}
+use Rattle.vec_world.specs.Log.{IsOpen, FitsHalf}
+use Rattle.vec_world.specs.World.{bits_of, stamp_of, word_at, known_by, start, is_open, has_word, has_pass, can_store}
+use Rattle.vec_world.specs.World.{stored, committed}
+use Rattle.vec_world.specs.World.{learned, noted, told, act, world_of}
 use Rattle.vec_world.specs.Fresh.{Tells, TellsWord, EachLoadTells, known_at_load, logged_since}
-use Rattle.vec_world.proofs.LogLaws.{Carries-at, StampsUpTo-weaker, Tells-push_commit, Tells-push_other, Tells-push_above, Tells-push_same}
-use Rattle.vec_world.proofs.WorldLaws.{IsSettled, IsSound, IsOpen, CanStore, can_store_from_test, open_from_test, stamp-above, settled-max, settled-known, settled-stamp, sound-stored, sound-committed, sound-learned, sound-noted, sound-told, sound-act, sound-world_of, fold-act}
+use Rattle.vec_world.proofs.LogLaws.{Carries-at, StampsUpTo-weaker, settled-store, settled-commit, settled-max}
+use Rattle.vec_world.proofs.LogLaws.{settled-below, Tells-push_commit, Tells-push_store}
+use Rattle.vec_world.proofs.WorldLaws.{Settled, IsSound, CanStore, can_store_from_test, open_from_test, stamp-above}
+use Rattle.vec_world.proofs.WorldLaws.{settled-known, settled-stamp}
+use Rattle.vec_world.proofs.WorldLaws.{sound-stored, sound-committed, sound-learned, sound-noted, sound-told, sound-act}
+use Rattle.vec_world.proofs.WorldLaws.{sound-world_of, fold-act}
 
--- A world that later steps made of `before`, as a load of `word` at `before` sees it, which found these bits and then knew this number.
+-- A world that later steps made of `before`, as a load of `word` at `before` sees it, which found these bits and then
+-- knew this number.
 pub record IsAfterLoad (before : World) (word bits number : ℕ) (after : World) : Type 0 where
   pub sound : IsSound after
-  -- the number is committed, or still the one in flight
-  pub reached : (number ≤ after.count) ⊎ (number ≡ after.flying)
+  pub settled : Settled after number
   pub count : before.count ≤ after.count
   pub log : length before.log ≤ length after.log
   pub told : Tells after.log (logged_since before after) before.count word bits number
 
 -- one more step in the log is one more since the load
-logged_since-push : (before after : List Step) (step : Step) → length before ≤ length after → drop (length before) (after ++ step ∷ []) ≡ drop (length before) after ++ step ∷ []
+logged_since-push : (before after : List Step) (step : Step) → length before ≤ length after
+    → drop (length before) (after ++ step ∷ []) ≡ drop (length before) after ++ step ∷ []
 logged_since-push before after step grown = drop-append-le (length before) after (step ∷ []) grown
-
--- what was told, once the store of that very number to that word acts
-told-same : (before after : World) (word new bits number : ℕ) → CanStore after word number → IsAfterLoad before word bits number after
-    → Tells (after.log ++ Store word new number ∷ []) (logged_since before after ++ Store word new number ∷ []) before.count word bits number
-told-same before after word new bits number can since =
-    let above : stamp_of (word_at after word) < number = stamp-above after word number can since.sound in
-    let fresh : after.count < number = can.fresh.0 in
-    let grown : before.count ≤ after.count = since.count in
-    Tells-push_same after.log (logged_since before after) new before.count word bits number (omega arith)
-    (StampsUpTo-weaker after.log word (stamp_of (word_at after word)) (number - 1) (omega arith) (since.sound.words word).greatest) since.told
-
--- a store whose stamp isn't above the number that the load knew has that number
-same_number : (before after : World) (word bits number at stamp : ℕ) → CanStore after at stamp → IsAfterLoad before word bits number after → stamp ≤ number → number ≡ stamp
-same_number before after word bits number at stamp can since low =
-    let above : after.count < stamp = can.fresh.0 in
-    elim since.reached [
-      | inl done ↦ absurd (omega arith)
-      | inr flies ↦ elim can.fresh.1 [ inl none ↦ absurd (omega arith) | inr same ↦ flies ∙ same ]
-    ]
-
--- what was told, once any store acts
-told-stored : (before after : World) (word bits number at new stamp : ℕ) → CanStore after at stamp → IsAfterLoad before word bits number after
-    → Tells (after.log ++ Store at new stamp ∷ []) (logged_since before after ++ Store at new stamp ∷ []) before.count word bits number
-told-stored before after word bits number at new stamp can since =
-    elim (cases_eq at word) [
-      | inr other ↦ Tells-push_other after.log (logged_since before after) at new stamp before.count word bits number other since.told
-      | inl same ↦ elim (cases_lt number stamp) [
-        | inl high ↦ Tells-push_above after.log (logged_since before after) at new stamp before.count word bits number high since.told
-        | inr low ↦
-            let it : number ≡ stamp = same_number before after word bits number at stamp can since low in
-            let step : Store word new number ≡ Store at new stamp = cc in
-            let can' : CanStore after word number = subst (λ (n : ℕ). CanStore after word n) (sym it) (subst (λ (w : ℕ). CanStore after w stamp) same can) in
-            subst (λ (s : Step). Tells (after.log ++ s ∷ []) (logged_since before after ++ s ∷ []) before.count word bits number) step
-            (told-same before after word new bits number can' since)
-      ]
-    ]
 
 after_load-stored : (before after : World) (word bits number at new stamp : ℕ) → new < 2 ^ 32 → CanStore after at stamp
     → IsAfterLoad before word bits number after → IsAfterLoad before word bits number (stored after at new stamp)
 after_load-stored before after word bits number at new stamp fits can since =
+    let step : Step = Store at new stamp in
+    let above : stamp_of (word_at after at) < stamp = stamp-above after at stamp can since.sound in
+    let fresh : after.count < stamp = can.fresh.0 in
+    let grown : before.count ≤ after.count = since.count in
+    let more = length_push after.log step in
+    let longer : length before.log ≤ length after.log = since.log in
     record {
       sound = sound-stored after at new stamp fits can since.sound;
-      reached = elim since.reached [
-        | inl done ↦ inl done
-        | inr flies ↦ elim can.fresh.1 [
-          | inl none ↦ inl (let zero : number ≡ 0 = flies ∙ none in omega arith)
-          | inr same ↦ inr (flies ∙ same)
-        ]
-      ];
+      settled = settled-store after.log after.count after.flying at new stamp number can.fresh since.settled;
       count = since.count;
-      log = let more = length_push after.log (Store at new stamp) in let grown : length before.log ≤ length after.log = since.log in omega arith;
+      log = omega arith;
       told =
-          subst (λ (later : List Step). Tells (after.log ++ Store at new stamp ∷ []) later before.count word bits number)
-          (sym (logged_since-push before.log after.log (Store at new stamp) since.log))
-          (told-stored before after word bits number at new stamp can since);
+          subst (λ (later : List Step). Tells (after.log ++ step ∷ []) later before.count word bits number)
+          (sym (logged_since-push before.log after.log step since.log))
+          (Tells-push_store after.log (logged_since before after) at new stamp before.count word bits number
+          (omega arith)
+          (settled-below after.log after.count after.flying stamp number can.fresh since.settled)
+          (StampsUpTo-weaker after.log at (stamp_of (word_at after at)) (stamp - 1) (omega arith)
+          (since.sound.words at).greatest)
+          since.told);
     }
 
-after_load-committed : (before after : World) (word bits number done : ℕ) → IsOpen after done
+after_load-committed : (before after : World) (word bits number done : ℕ) → IsOpen after.count after.flying done
     → IsAfterLoad before word bits number after → IsAfterLoad before word bits number (committed after done)
 after_load-committed before after word bits number done fresh since =
     let above : after.count < done = fresh.0 in
     let grown : before.count ≤ after.count = since.count in
+    let more = length_push after.log (Commit done) in
+    let longer : length before.log ≤ length after.log = since.log in
     record {
       sound = sound-committed after done fresh since.sound;
-      reached = elim since.reached [
-        | inl low ↦ inl (omega arith)
-        | inr flies ↦ elim fresh.1 [
-          | inl none ↦ inl (let zero : number ≡ 0 = flies ∙ none in omega arith)
-          | inr same ↦ inl (let it : number ≡ done = flies ∙ same in omega arith)
-        ]
-      ];
+      settled = settled-commit after.log after.count after.flying done number fresh since.settled;
       count = omega arith;
-      log = let more = length_push after.log (Commit done) in let longer : length before.log ≤ length after.log = since.log in omega arith;
+      log = omega arith;
       told =
           subst (λ (later : List Step). Tells (after.log ++ Commit done ∷ []) later before.count word bits number)
           (sym (logged_since-push before.log after.log (Commit done) since.log))
@@ -111,85 +85,110 @@ after_load-learned : (before after : World) (word bits number pass at : ℕ) →
 after_load-learned before after word bits number pass at =
     cond_both (has_pass after pass) (record after { known = set after.known pass (max (known_by after pass) at) }) after
     (λ w. IsSound w → IsAfterLoad before word bits number after → IsAfterLoad before word bits number w)
-    (λ _ sound since. record { sound = sound; reached = since.reached; count = since.count; log = since.log; told = since.told })
+    (λ _ sound since. record {
+      sound = sound;
+      settled = since.settled;
+      count = since.count;
+      log = since.log;
+      told = since.told;
+    })
     (λ _ sound since. since)
 
 after_load-told : (before after : World) (word bits number into : ℕ) (note : Option ℕ) → IsSound (told after into note)
     → IsAfterLoad before word bits number after → IsAfterLoad before word bits number (told after into note)
 after_load-told before after word bits number into None sound since = since
 after_load-told before after word bits number into (Some note) sound since =
-    cond_both (has_pass after into) (record after { known = set after.known into (max (known_by after into) note) }) after
+    cond_both (has_pass after into) (record after { known = set after.known into (max (known_by after into) note) })
+    after
     (λ w. IsSound (record w { notes = take (length after.notes - 1) after.notes })
     → IsAfterLoad before word bits number (record w { notes = take (length after.notes - 1) after.notes }))
-    (λ _ new. record { sound = new; reached = since.reached; count = since.count; log = since.log; told = since.told })
-    (λ _ new. record { sound = new; reached = since.reached; count = since.count; log = since.log; told = since.told })
+    (λ _ new. record { sound = new; settled = since.settled; count = since.count; log = since.log; told = since.told })
+    (λ _ new. record { sound = new; settled = since.settled; count = since.count; log = since.log; told = since.told })
     sound
 
 after_load-act : (before : World) (word bits number : ℕ) (after : World) (step : Step) → FitsHalf step
     → IsAfterLoad before word bits number after → IsAfterLoad before word bits number (act after step)
 after_load-act before word bits number after (Store at new stamp) fits since =
     cond_both (can_store after at stamp) (stored after at new stamp) after (IsAfterLoad before word bits number)
-    (λ test. after_load-stored before after word bits number at new stamp fits (can_store_from_test after at stamp test) since) (λ _. since)
+    (λ test. after_load-stored before after word bits number at new stamp fits
+    (can_store_from_test after at stamp test) since) (λ _. since)
 after_load-act before word bits number after (Commit done) fits since =
     cond_both (is_open after done) (committed after done) after (IsAfterLoad before word bits number)
-    (λ test. after_load-committed before after word bits number done (open_from_test after done test) since) (λ _. since)
+    (λ test. after_load-committed before after word bits number done (open_from_test after done test) since)
+    (λ _. since)
 after_load-act before word bits number after (Load pass at) fits since =
-    cond_both (has_word after at) (learned after pass (stamp_of (word_at after at))) after (IsAfterLoad before word bits number)
+    cond_both (has_word after at) (learned after pass (stamp_of (word_at after at))) after
+    (IsAfterLoad before word bits number)
     (λ _. after_load-learned before after word bits number pass (stamp_of (word_at after at))
-    (sound-learned after pass (stamp_of (word_at after at)) (settled-stamp after at since.sound.stamps) since.sound) since)
+    (sound-learned after pass (stamp_of (word_at after at)) (settled-stamp after at since.sound.stamps) since.sound)
+    since)
     (λ _. since)
 after_load-act before word bits number after (LoadCount pass) fits since =
-    after_load-learned before after word bits number pass after.count (sound-act after (LoadCount pass) fits since.sound) since
+    after_load-learned before after word bits number pass after.count
+    (sound-act after (LoadCount pass) fits since.sound) since
 after_load-act before word bits number after (Split pass) fits since =
     cond_both (has_pass after pass) (noted after pass) after (IsAfterLoad before word bits number)
-    (λ _. record { sound = sound-noted after pass since.sound; reached = since.reached; count = since.count; log = since.log; told = since.told })
+    (λ _. record {
+      sound = sound-noted after pass since.sound;
+      settled = since.settled;
+      count = since.count;
+      log = since.log;
+      told = since.told;
+    })
     (λ _. since)
 after_load-act before word bits number after (Join into) fits since =
-    cond_both (has_pass after into) (told after into (slice_get after.notes (length after.notes - 1))) after (IsAfterLoad before word bits number)
+    cond_both (has_pass after into) (told after into (slice_get after.notes (length after.notes - 1))) after
+    (IsAfterLoad before word bits number)
     (λ _. after_load-told before after word bits number into (slice_get after.notes (length after.notes - 1))
     (sound-told after into (slice_get after.notes (length after.notes - 1)) refl since.sound) since)
     (λ _. since)
 
 -- At the load itself.
 
-reached-settled : (world : World) (number : ℕ) → IsSettled world number → (number ≤ world.count) ⊎ (number ≡ world.flying)
-reached-settled world number (inl low) = inl low.0
-reached-settled world number (inr flies) = inr flies
-
-after_load-now : (world : World) (pass word : ℕ) → IsSound world → IsAfterLoad world word (bits_of (word_at world word)) (known_at_load world pass word) world
+after_load-now : (world : World) (pass word : ℕ) → IsSound world
+    → IsAfterLoad world word (bits_of (word_at world word)) (known_at_load world pass word) world
 after_load-now world pass word sound =
     record {
       sound = sound;
-      reached =
-          reached-settled world (known_at_load world pass word)
-          (settled-max world (known_by world pass) (stamp_of (word_at world word)) (settled-known world pass sound.known) (settled-stamp world word sound.stamps));
+      settled =
+          settled-max world.log world.count world.flying (known_by world pass) (stamp_of (word_at world word))
+          (settled-known world pass sound.known) (settled-stamp world word sound.stamps);
       count = omega arith;
       log = omega arith;
       told =
-          inl (sym (Carries-at world.log word (bits_of (word_at world word)) (stamp_of (word_at world word)) (known_at_load world pass word) (omega arith) (sound.words word)));
+          inl (sym (Carries-at world.log word (bits_of (word_at world word)) (stamp_of (word_at world word))
+          (known_at_load world pass word)
+          (omega arith) (sound.words word)));
     }
 
 -- the law of a load, from any sound world on
-pub tells-fold : (before : World) (pass word : ℕ) (steps : List Step) → IsSound before → All FitsHalf steps → TellsWord before (fold act before steps) pass word
+pub tells-fold : (before : World) (pass word : ℕ) (steps : List Step) → IsSound before → All FitsHalf steps
+    → TellsWord before (fold act before steps) pass word
 tells-fold before pass word steps sound fits =
     (fold-act (IsAfterLoad before word (bits_of (word_at before word)) (known_at_load before pass word))
     (after_load-act before word (bits_of (word_at before word)) (known_at_load before pass word))
     before steps fits (after_load-now before pass word sound)).told
 
 -- a list of steps is run up to a place, and then on
-world_of-split : (words passes place : ℕ) (steps : List Step) → fold act (world_of words passes (take place steps)) (drop place steps) ≡ world_of words passes steps
+world_of-split : (words passes place : ℕ) (steps : List Step)
+    → fold act (world_of words passes (take place steps)) (drop place steps) ≡ world_of words passes steps
 world_of-split words passes place steps =
-    sym (fold-append act (start words passes) (take place steps) (drop place steps)) ∙ ap (world_of words passes) (take-append-drop place steps)
+    sym (fold-append act (start words passes) (take place steps) (drop place steps))
+    ∙ ap (world_of words passes) (take-append-drop place steps)
 
 -- the law of loads, for every list of steps
 pub each_load_tells : (words passes : ℕ) (steps : List Step) → All FitsHalf steps → EachLoadTells words passes steps
 each_load_tells words passes steps fits place pass word there in_passes in_words =
     let before : World = world_of words passes (take place steps) in
     subst (λ (after : World). TellsWord before after pass word) (world_of-split words passes place steps)
-    (tells-fold before pass word (drop place steps) (sound-world_of words passes (take place steps) (All-take FitsHalf place steps fits)) (All-drop FitsHalf place steps fits))
+    (tells-fold before pass word (drop place steps)
+    (sound-world_of words passes (take place steps) (All-take FitsHalf place steps fits))
+    (All-drop FitsHalf place steps fits))
 
 -- one more step of the list
 pub world_of-more : (words passes : ℕ) (steps : List Step) (i : ℕ) (d : Step) (world after : World) → i < length steps
-    → world ≡ world_of words passes (take i steps) → after ≡ act world (get_or steps i d) → after ≡ world_of words passes (take (i + 1) steps)
+    → world ≡ world_of words passes (take i steps) → after ≡ act world (get_or steps i d)
+    → after ≡ world_of words passes (take (i + 1) steps)
 world_of-more words passes steps i d world after within so_far acts =
-    acts ∙ ap (λ (w : World). act w (get_or steps i d)) so_far ∙ sym (fold_more act (start words passes) steps i d within)
+    acts ∙ ap (λ (w : World). act w (get_or steps i d)) so_far
+    ∙ sym (fold_more act (start words passes) steps i d within)

@@ -1,51 +1,44 @@
 -- What every step of the machine keeps.
-use Rattle.std.proofs.Common.{◌≡◌, ◌≢◌, ◌⊎◌, ℕ, ◌-◌, ◌^◌, ◌<◌, ◌≤◌, true, ◌&&◌, ◌||◌, not, eqb, ltb, max, List, [], ◌∷◌, ◌++◌, length, take, get_or, set, replicate, Option, Some, None, refl, sym, ap, ◌∙◌, subst, inl, inr, arith}
+use Rattle.std.proofs.Common.{◌≡◌, ◌≢◌, ◌⊎◌, ℕ, ◌-◌, ◌^◌, ◌<◌, ◌≤◌, true, ◌&&◌, ◌||◌, not, eqb, ltb, max, List, [], ◌∷◌}
+use Rattle.std.proofs.Common.{◌++◌}
+use Rattle.std.proofs.Common.{length, take, get_or, set, replicate, Option, Some, None, refl, sym, ap, ◌∙◌, subst, inl}
+use Rattle.std.proofs.Common.{inr, arith}
 use Rattle.std.specs.Prelude.{All, fold, slice_get}
-use Rattle.std.proofs.lemmas.Bool.{cases_eq, cases_lt, and_parts, or_cases, ltb-true, eqb-true, eqb-false, not-true, cond_both}
+use Rattle.std.proofs.lemmas.Bool.{cases_eq, cases_lt, and_parts, or_cases, ltb-true, eqb-true, eqb-false, not-true}
+use Rattle.std.proofs.lemmas.Bool.{cond_both}
 use Rattle.std.proofs.lemmas.Option.{slice_get_within, get_or_from_slice_get}
 use Rattle.std.proofs.lemmas.List.{get_or-set_same, get_or-set_other, get_or-replicate, get_or_past, length-replicate}
-use Rattle.std.proofs.lemmas.List.Elements.{All-nil, All-head, All-tail, All-get_or, All-push, All-set, All-take, All-weaker, All-replicate, Contains-append_left, Contains-push}
+use Rattle.std.proofs.lemmas.List.Elements.{All-nil, All-head, All-tail, All-get_or, All-push, All-set, All-take}
+use Rattle.std.proofs.lemmas.List.Elements.{All-weaker}
+use Rattle.std.proofs.lemmas.List.Elements.{All-replicate, Contains-push}
 use Rattle.vec_world.specs.declared.step.Step.{Step}
 use Rattle.vec_world.specs.declared.step.Step.TheVariants.{Store, Commit, Load, LoadCount, Split, Join}
 use Rattle.vec_world.specs.declared.world.World.{World}
-use Rattle.vec_world.specs.Log.{IsCommitted, Carries, FitsHalf}
-use Rattle.vec_world.specs.World.{bits_of, stamp_of, word_of, word_at, known_by, start, is_open, has_word, has_pass, can_store, stored, committed, learned, noted, told, act, world_of}
+use Rattle.vec_world.specs.Log.{IsOpen, IsSettled, FitsHalf}
+use Rattle.vec_world.specs.World.{bits_of, stamp_of, word_of, CarriesWord, word_at, known_by, start, is_open, has_word}
+use Rattle.vec_world.specs.World.{has_pass}
+use Rattle.vec_world.specs.World.{can_store, stored, committed, learned, noted, told, act, world_of}
 use Rattle.vec_world.specs.Fresh.{IsGenuine, HasGenuineNumbers}
-use Rattle.vec_world.proofs.LogLaws.{Carries-nil, Carries-push_store, Carries-push_other, Carries-push_commit}
-
--- The two halves of a word.
-
-pub stamp_of-word_of : (bits stamp : ℕ) → bits < 2 ^ 32 → stamp_of (word_of bits stamp) ≡ stamp
-stamp_of-word_of bits stamp fits = omega arith
-
-pub bits_of-word_of : (bits stamp : ℕ) → bits < 2 ^ 32 → bits_of (word_of bits stamp) ≡ bits
-bits_of-word_of bits stamp fits = omega arith
+use Rattle.vec_world.proofs.LogLaws.{Carries-nil, Carries-push_other, Carries-push_commit, CarriesWord-push_store}
+use Rattle.vec_world.proofs.LogLaws.{stamp_of-word_of}
+use Rattle.vec_world.proofs.LogLaws.{settled-store, settled-commit, settled-max}
 
 -- What holds of each world that steps make.
 
--- the number is committed, or none, or the one in flight
-abbrev pub IsSettled : World → ℕ → Type 0
-IsSettled world number = ((number ≤ world.count) × ((number ≡ 0) ⊎ IsCommitted world.log number)) ⊎ (number ≡ world.flying)
-
--- the word's two halves are the bits and the stamp of its last store
-abbrev pub CarriesWord : List Step → ℕ → ℕ → Type 0
-CarriesWord log word value = Carries log word (bits_of value) (stamp_of value)
+abbrev pub Settled : World → ℕ → Type 0
+Settled world number = IsSettled world.log world.count world.flying number
 
 pub record IsSound (world : World) : Type 0 where
   pub flight : (world.flying ≡ 0) ⊎ (world.count < world.flying)
-  pub count : IsSettled world world.count
-  pub known : All (IsSettled world) world.known
-  pub notes : All (IsSettled world) world.notes
-  pub stamps : All (λ value. IsSettled world (stamp_of value)) world.words
+  pub count : Settled world world.count
+  pub known : All (Settled world) world.known
+  pub notes : All (Settled world) world.notes
+  pub stamps : All (λ value. Settled world (stamp_of value)) world.words
   pub words : (word : ℕ) → CarriesWord world.log word (word_at world word)
 
 -- What the tests say.
 
--- the number is above the count, and is the one in flight if there is one
-abbrev pub IsOpen : World → ℕ → Type 0
-IsOpen world number = (world.count < number) × ((world.flying ≡ 0) ⊎ (world.flying ≡ number))
-
-pub open_from_test : (world : World) (number : ℕ) → is_open world number ≡ true → IsOpen world number
+pub open_from_test : (world : World) (number : ℕ) → is_open world number ≡ true → IsOpen world.count world.flying number
 open_from_test world number test =
     let parts = and_parts (ltb world.count number) (eqb world.flying 0 || eqb world.flying number) test in (
       ltb-true world.count number parts.0,
@@ -58,72 +51,48 @@ open_from_test world number test =
 -- a store can act: there is such a word, the stamp is open, and the word doesn't carry it
 pub record CanStore (world : World) (word stamp : ℕ) : Type 0 where
   pub within : word < length world.words
-  pub fresh : IsOpen world stamp
+  pub fresh : IsOpen world.count world.flying stamp
   pub other : stamp_of (word_at world word) ≢ stamp
 
-pub can_store_from_test : (world : World) (word stamp : ℕ) → can_store world word stamp ≡ true → CanStore world word stamp
+pub can_store_from_test : (world : World) (word stamp : ℕ) → can_store world word stamp ≡ true
+    → CanStore world word stamp
 can_store_from_test world word stamp test =
-    let parts = and_parts (has_word world word) (is_open world stamp && not (eqb (stamp_of (word_at world word)) stamp)) test in
-    let rest = and_parts (is_open world stamp) (not (eqb (stamp_of (word_at world word)) stamp)) parts.1 in
+    let same = eqb (stamp_of (word_at world word)) stamp in
+    let parts = and_parts (has_word world word) (is_open world stamp && not same) test in
+    let rest = and_parts (is_open world stamp) (not same) parts.1 in
     record {
       within = ltb-true word (length world.words) parts.0;
       fresh = open_from_test world stamp rest.0;
-      other = eqb-false (stamp_of (word_at world word)) stamp (not-true (eqb (stamp_of (word_at world word)) stamp) rest.1);
+      other = eqb-false (stamp_of (word_at world word)) stamp (not-true same rest.1);
     }
 
--- Numbers stay settled.
-
-settled-stored : (world : World) (word bits stamp number : ℕ) → IsOpen world stamp → IsSettled world number → IsSettled (stored world word bits stamp) number
-settled-stored world word bits stamp number fresh (inl low) =
-    inl (low.0, elim low.1 [ inl none ↦ inl none | inr done ↦ inr (Contains-append_left world.log (Store word bits stamp ∷ []) (Commit number) done) ])
-settled-stored world word bits stamp number fresh (inr flies) =
-    elim fresh.1 [
-      | inl none ↦ inl (let zero : number ≡ 0 = flies ∙ none in (omega arith, inl zero))
-      | inr same ↦ inr (flies ∙ same)
-    ]
-
-settled-committed : (world : World) (number at : ℕ) → IsOpen world number → IsSettled world at → IsSettled (committed world number) at
-settled-committed world number at fresh (inl low) =
-    let above : world.count < number = fresh.0 in
-    let below : at ≤ world.count = low.0 in
-    inl (omega arith, elim low.1 [ inl none ↦ inl none | inr done ↦ inr (Contains-append_left world.log (Commit number ∷ []) (Commit at) done) ])
-settled-committed world number at fresh (inr flies) =
-    elim fresh.1 [
-      | inl none ↦ inl (let zero : at ≡ 0 = flies ∙ none in (omega arith, inl zero))
-      | inr same ↦ inl (let it : at ≡ number = flies ∙ same in (omega arith, inr (subst (λ (n : ℕ). IsCommitted (world.log ++ Commit number ∷ []) n) (sym it) (Contains-push world.log (Commit number)))))
-    ]
-
-pub settled-max : (world : World) (a b : ℕ) → IsSettled world a → IsSettled world b → IsSettled world (max a b)
-settled-max world a b left right =
-    elim (cases_lt a b) [
-      | inl less ↦ let it : b ≡ max a b = omega arith in subst (IsSettled world) it right
-      | inr more ↦ let it : a ≡ max a b = omega arith in subst (IsSettled world) it left
-    ]
-
--- what a pass knows and what a word is stamped with are settled, also where there is no such pass or word: that reads as 0
-settled-zero : (world : World) (number : ℕ) → number ≡ 0 → IsSettled world number
+-- what a pass knows and what a word is stamped with are settled, also where there is no such pass or word: that reads
+-- as 0
+settled-zero : (world : World) (number : ℕ) → number ≡ 0 → Settled world number
 settled-zero world number none = inl (omega arith, inl none)
 
-pub settled-known : (world : World) (pass : ℕ) → All (IsSettled world) world.known → IsSettled world (known_by world pass)
+pub settled-known : (world : World) (pass : ℕ) → All (Settled world) world.known → Settled world (known_by world pass)
 settled-known world pass known =
     elim (cases_lt pass (length world.known)) [
-      | inl there ↦ All-get_or (IsSettled world) world.known pass 0 there known
+      | inl there ↦ All-get_or (Settled world) world.known pass 0 there known
       | inr past ↦ settled-zero world (known_by world pass) (get_or_past world.known pass 0 past)
     ]
 
-pub settled-stamp : (world : World) (word : ℕ) → All (λ value. IsSettled world (stamp_of value)) world.words → IsSettled world (stamp_of (word_at world word))
+pub settled-stamp : (world : World) (word : ℕ) → All (λ value. Settled world (stamp_of value)) world.words
+    → Settled world (stamp_of (word_at world word))
 settled-stamp world word stamps =
     elim (cases_lt word (length world.words)) [
-      | inl there ↦ All-get_or (λ value. IsSettled world (stamp_of value)) world.words word 0 there stamps
-      | inr past ↦ settled-zero world (stamp_of (word_at world word)) (ap stamp_of (get_or_past world.words word 0 past))
+      | inl there ↦ All-get_or (λ value. Settled world (stamp_of value)) world.words word 0 there stamps
+      | inr past ↦ settled-zero world (stamp_of (word_at world word))
+          (ap stamp_of (get_or_past world.words word 0 past))
     ]
 
 -- the stamp of a store that acts is above the word's
-pub stamp-above : (world : World) (word stamp : ℕ) → CanStore world word stamp → IsSound world → stamp_of (word_at world word) < stamp
+pub stamp-above : (world : World) (word stamp : ℕ) → CanStore world word stamp → IsSound world
+    → stamp_of (word_at world word) < stamp
 stamp-above world word stamp can sound =
-    let settled : IsSettled world (stamp_of (word_at world word)) = settled-stamp world word sound.stamps in
     let above : world.count < stamp = can.fresh.0 in
-    elim settled [
+    elim (settled-stamp world word sound.stamps) [
       | inl low ↦ omega (arith, low.0)
       | inr flies ↦ elim can.fresh.1 [
         | inl none ↦ omega arith
@@ -131,60 +100,71 @@ stamp-above world word stamp can sound =
       ]
     ]
 
-carries-word_of : (log : List Step) (word bits stamp : ℕ) → bits < 2 ^ 32 → Carries log word bits stamp → CarriesWord log word (word_of bits stamp)
-carries-word_of log word bits stamp fits carries =
-    subst (λ (s : ℕ). Carries log word (bits_of (word_of bits stamp)) s) (sym (stamp_of-word_of bits stamp fits))
-    (subst (λ (b : ℕ). Carries log word b stamp) (sym (bits_of-word_of bits stamp fits)) carries)
-
 -- Each change keeps the world sound.
 
-pub sound-stored : (world : World) (word bits stamp : ℕ) → bits < 2 ^ 32 → CanStore world word stamp → IsSound world → IsSound (stored world word bits stamp)
+pub sound-stored : (world : World) (word bits stamp : ℕ) → bits < 2 ^ 32 → CanStore world word stamp → IsSound world
+    → IsSound (stored world word bits stamp)
 sound-stored world word bits stamp fits can sound =
+    let later : World = stored world word bits stamp in
+    let Log : ℕ → ℕ → Type 0 = CarriesWord (world.log ++ Store word bits stamp ∷ []) in
+    let keeps_settled : (n : ℕ) → Settled world n → Settled later n =
+    λ n. settled-store world.log world.count world.flying word bits stamp n can.fresh in
     record {
       flight = inr can.fresh.0;
-      count = settled-stored world word bits stamp world.count can.fresh sound.count;
-      known = All-weaker (IsSettled world) (IsSettled (stored world word bits stamp)) (λ n. settled-stored world word bits stamp n can.fresh) world.known sound.known;
-      notes = All-weaker (IsSettled world) (IsSettled (stored world word bits stamp)) (λ n. settled-stored world word bits stamp n can.fresh) world.notes sound.notes;
+      count = keeps_settled world.count sound.count;
+      known = All-weaker (Settled world) (Settled later) keeps_settled world.known sound.known;
+      notes = All-weaker (Settled world) (Settled later) keeps_settled world.notes sound.notes;
       stamps =
-          All-set (λ value. IsSettled (stored world word bits stamp) (stamp_of value)) world.words word (word_of bits stamp)
+          All-set (λ value. Settled later (stamp_of value)) world.words word (word_of bits stamp)
           (inr (stamp_of-word_of bits stamp fits))
-          (All-weaker (λ value. IsSettled world (stamp_of value)) (λ value. IsSettled (stored world word bits stamp) (stamp_of value))
-          (λ value. settled-stored world word bits stamp (stamp_of value) can.fresh) world.words sound.stamps);
+          (All-weaker (λ value. Settled world (stamp_of value)) (λ value. Settled later (stamp_of value))
+          (λ value. keeps_settled (stamp_of value)) world.words sound.stamps);
       words = λ (at : ℕ). elim (cases_eq at word) [
         | inl same ↦
             let low : stamp_of (word_at world word) < stamp = stamp-above world word stamp can sound in
-            let last = carries-word_of (world.log ++ Store word bits stamp ∷ []) word bits stamp fits (Carries-push_store world.log word (bits_of (word_at world word)) (stamp_of (word_at world word)) bits stamp (omega arith) (sound.words word)) in
-            let there : get_or (set world.words word (word_of bits stamp)) word 0 ≡ word_of bits stamp = get_or-set_same world.words word (word_of bits stamp) 0 can.within in
-            subst (λ (n : ℕ). CarriesWord (world.log ++ Store word bits stamp ∷ []) n (get_or (set world.words word (word_of bits stamp)) n 0)) (sym same)
-            (subst (λ (v : ℕ). CarriesWord (world.log ++ Store word bits stamp ∷ []) word v) (sym there) last)
+            let last : Log word (word_of bits stamp) =
+            CarriesWord-push_store world.log word (word_at world word) bits stamp fits (omega arith)
+            (sound.words word) in
+            subst (λ (n : ℕ). Log n (get_or (set world.words word (word_of bits stamp)) n 0)) (sym same)
+            (subst (Log word) (sym (get_or-set_same world.words word (word_of bits stamp) 0 can.within)) last)
         | inr other ↦
-            subst (λ (v : ℕ). CarriesWord (world.log ++ Store word bits stamp ∷ []) at v) (sym (get_or-set_other world.words word at (word_of bits stamp) 0 other))
-            (Carries-push_other world.log word bits stamp at (bits_of (word_at world at)) (stamp_of (word_at world at)) (λ same. other (sym same)) (sound.words at))
+            subst (Log at) (sym (get_or-set_other world.words word at (word_of bits stamp) 0 other))
+            (Carries-push_other world.log word bits stamp at (bits_of (word_at world at)) (stamp_of (word_at world at))
+            (λ same. other (sym same)) (sound.words at))
       ];
     }
 
-pub sound-committed : (world : World) (number : ℕ) → IsOpen world number → IsSound world → IsSound (committed world number)
+pub sound-committed : (world : World) (number : ℕ) → IsOpen world.count world.flying number → IsSound world
+    → IsSound (committed world number)
 sound-committed world number fresh sound =
+    let later : World = committed world number in
+    let keeps_settled : (n : ℕ) → Settled world n → Settled later n =
+    λ n. settled-commit world.log world.count world.flying number n fresh in
     record {
       flight = inl refl;
       count = inl (omega arith, inr (Contains-push world.log (Commit number)));
-      known = All-weaker (IsSettled world) (IsSettled (committed world number)) (λ n. settled-committed world number n fresh) world.known sound.known;
-      notes = All-weaker (IsSettled world) (IsSettled (committed world number)) (λ n. settled-committed world number n fresh) world.notes sound.notes;
+      known = All-weaker (Settled world) (Settled later) keeps_settled world.known sound.known;
+      notes = All-weaker (Settled world) (Settled later) keeps_settled world.notes sound.notes;
       stamps =
-          All-weaker (λ value. IsSettled world (stamp_of value)) (λ value. IsSettled (committed world number) (stamp_of value))
-          (λ value. settled-committed world number (stamp_of value) fresh) world.words sound.stamps;
-      words = λ (word : ℕ). Carries-push_commit world.log number word (bits_of (word_at world word)) (stamp_of (word_at world word)) (sound.words word);
+          All-weaker (λ value. Settled world (stamp_of value)) (λ value. Settled later (stamp_of value))
+          (λ value. keeps_settled (stamp_of value)) world.words sound.stamps;
+      words = λ (word : ℕ).
+          Carries-push_commit world.log number word (bits_of (word_at world word)) (stamp_of (word_at world word))
+          (sound.words word);
     }
 
-pub sound-learned : (world : World) (pass number : ℕ) → IsSettled world number → IsSound world → IsSound (learned world pass number)
+pub sound-learned : (world : World) (pass number : ℕ) → Settled world number → IsSound world
+    → IsSound (learned world pass number)
 sound-learned world pass number settled sound =
-    cond_both (has_pass world pass) (record world { known = set world.known pass (max (known_by world pass) number) }) world IsSound
+    cond_both (has_pass world pass) (record world { known = set world.known pass (max (known_by world pass) number) })
+    world IsSound
     (λ _. record {
       flight = sound.flight;
       count = sound.count;
       known =
-          All-set (IsSettled world) world.known pass (max (known_by world pass) number)
-          (settled-max world (known_by world pass) number (settled-known world pass sound.known) settled)
+          All-set (Settled world) world.known pass (max (known_by world pass) number)
+          (settled-max world.log world.count world.flying (known_by world pass) number
+          (settled-known world pass sound.known) settled)
           sound.known;
       notes = sound.notes;
       stamps = sound.stamps;
@@ -198,42 +178,47 @@ sound-noted world pass sound =
       flight = sound.flight;
       count = sound.count;
       known = sound.known;
-      notes = All-push (IsSettled world) world.notes (known_by world pass) sound.notes (settled-known world pass sound.known);
+      notes = All-push (Settled world) world.notes (known_by world pass) sound.notes
+          (settled-known world pass sound.known);
       stamps = sound.stamps;
       words = sound.words;
     }
 
-sound-without_note : (world : World) → IsSound world → IsSound (record world { notes = take (length world.notes - 1) world.notes })
+sound-without_note : (world : World) → IsSound world
+    → IsSound (record world { notes = take (length world.notes - 1) world.notes })
 sound-without_note world sound =
     record {
       flight = sound.flight;
       count = sound.count;
       known = sound.known;
-      notes = All-take (IsSettled world) (length world.notes - 1) world.notes sound.notes;
+      notes = All-take (Settled world) (length world.notes - 1) world.notes sound.notes;
       stamps = sound.stamps;
       words = sound.words;
     }
 
-settled-note : (world : World) (at note : ℕ) → slice_get world.notes at ≡ Some note → IsSound world → IsSettled world note
+settled-note : (world : World) (at note : ℕ) → slice_get world.notes at ≡ Some note → IsSound world → Settled world note
 settled-note world at note there sound =
-    subst (IsSettled world) (get_or_from_slice_get world.notes at note 0 there)
-    (All-get_or (IsSettled world) world.notes at 0 (slice_get_within world.notes at note there) sound.notes)
+    subst (Settled world) (get_or_from_slice_get world.notes at note 0 there)
+    (All-get_or (Settled world) world.notes at 0 (slice_get_within world.notes at note there) sound.notes)
 
 -- a note that is told was among the notes
-pub sound-told : (world : World) (into : ℕ) (note : Option ℕ) → slice_get world.notes (length world.notes - 1) ≡ note → IsSound world → IsSound (told world into note)
+pub sound-told : (world : World) (into : ℕ) (note : Option ℕ) → slice_get world.notes (length world.notes - 1) ≡ note
+    → IsSound world → IsSound (told world into note)
 sound-told world into None there sound = sound
 sound-told world into (Some note) there sound =
-    let settled : IsSettled world note = settled-note world (length world.notes - 1) note there sound in
-    cond_both (has_pass world into) (record world { known = set world.known into (max (known_by world into) note) }) world
+    let settled : Settled world note = settled-note world (length world.notes - 1) note there sound in
+    cond_both (has_pass world into) (record world { known = set world.known into (max (known_by world into) note) })
+    world
     (λ w. IsSound (record w { notes = take (length world.notes - 1) world.notes }))
     (λ _. record {
       flight = sound.flight;
       count = sound.count;
       known =
-          All-set (IsSettled world) world.known into (max (known_by world into) note)
-          (settled-max world (known_by world into) note (settled-known world into sound.known) settled)
+          All-set (Settled world) world.known into (max (known_by world into) note)
+          (settled-max world.log world.count world.flying (known_by world into) note
+          (settled-known world into sound.known) settled)
           sound.known;
-      notes = All-take (IsSettled world) (length world.notes - 1) world.notes sound.notes;
+      notes = All-take (Settled world) (length world.notes - 1) world.notes sound.notes;
       stamps = sound.stamps;
       words = sound.words;
     })
@@ -252,9 +237,9 @@ sound-start words passes =
     record {
       flight = inl refl;
       count = inr refl;
-      known = All-replicate (IsSettled (start words passes)) passes 0 (inr refl);
-      notes = All-nil (IsSettled (start words passes));
-      stamps = All-replicate (λ value. IsSettled (start words passes) (stamp_of value)) words 0 (inr refl);
+      known = All-replicate (Settled (start words passes)) passes 0 (inr refl);
+      notes = All-nil (Settled (start words passes));
+      stamps = All-replicate (λ value. Settled (start words passes) (stamp_of value)) words 0 (inr refl);
       words = λ (word : ℕ).
           subst (λ (v : ℕ). CarriesWord [] word v) (sym (get_or-zeros words word)) (Carries-nil word);
     }
@@ -284,24 +269,29 @@ pub fold-act : (P : World → Type 0) → ((world : World) (step : Step) → Fit
     → (world : World) (steps : List Step) → All FitsHalf steps → P world → P (fold act world steps)
 fold-act P keeps world [] fits holds = holds
 fold-act P keeps world (step ∷ steps) fits holds =
-    fold-act P keeps (act world step) steps (All-tail FitsHalf step steps fits) (keeps world step (All-head FitsHalf step steps fits) holds)
+    fold-act P keeps (act world step) steps (All-tail FitsHalf step steps fits)
+    (keeps world step (All-head FitsHalf step steps fits) holds)
 
 pub sound-world_of : (words passes : ℕ) (steps : List Step) → All FitsHalf steps → IsSound (world_of words passes steps)
-sound-world_of words passes steps fits = fold-act IsSound sound-act (start words passes) steps fits (sound-start words passes)
+sound-world_of words passes steps fits = fold-act IsSound sound-act (start words passes) steps fits
+    (sound-start words passes)
 
 -- Numbers are genuine.
 
-genuine_from_settled : (world : World) (number : ℕ) → IsSettled world number → IsGenuine world number
-genuine_from_settled world number (inl low) =
-    (elim low.1 [ inl none ↦ inl none | inr done ↦ inr (inl done) ], let below : number ≤ world.count = low.0 in omega arith)
+genuine_from_settled : (world : World) (number : ℕ) → Settled world number → IsGenuine world number
+genuine_from_settled world number (inl low) = (
+  elim low.1 [ inl none ↦ inl none | inr done ↦ inr (inl done) ],
+  let below : number ≤ world.count = low.0 in
+      omega arith,
+)
 genuine_from_settled world number (inr flies) = (inr (inr flies), omega arith)
 
 pub genuine_from_sound : (world : World) → IsSound world → HasGenuineNumbers world
 genuine_from_sound world sound =
     record {
-      known = All-weaker (IsSettled world) (IsGenuine world) (genuine_from_settled world) world.known sound.known;
-      notes = All-weaker (IsSettled world) (IsGenuine world) (genuine_from_settled world) world.notes sound.notes;
+      known = All-weaker (Settled world) (IsGenuine world) (genuine_from_settled world) world.known sound.known;
+      notes = All-weaker (Settled world) (IsGenuine world) (genuine_from_settled world) world.notes sound.notes;
       stamps =
-          All-weaker (λ value. IsSettled world (stamp_of value)) (λ value. IsGenuine world (stamp_of value))
+          All-weaker (λ value. Settled world (stamp_of value)) (λ value. IsGenuine world (stamp_of value))
           (λ value. genuine_from_settled world (stamp_of value)) world.words sound.stamps;
     }

@@ -6,8 +6,8 @@ use Rattle.vec_world.specs.declared.world.World.{World}
 use Rattle.vec_world.specs.Log.{bits_at, HasStore, IsCommitted}
 use Rattle.vec_world.specs.World.{bits_of, stamp_of, word_at, known_by, world_of}
 
--- The bits tell what the log has of the word at this number; or, where the number wasn't committed yet, what it has just below the
--- number, and then the store of that number to the word came later.
+-- The bits tell what the log has of the word at this number; or, where the number wasn't committed yet, what it has
+-- just below the number, and then the store of that number to the word came later.
 abbrev pub Tells : List Step → List Step → ℕ → ℕ → ℕ → ℕ → Type 0
 Tells log later count word bits number =
     (bits ≡ bits_at log word number)
@@ -24,7 +24,8 @@ logged_since before after = drop (length before.log) after.log
 -- the load of this word by this pass, in the world `before`, tells what the log of `after` has
 abbrev pub TellsWord : World → World → ℕ → ℕ → Type 0
 TellsWord before after pass word =
-    Tells after.log (logged_since before after) before.count word (bits_of (word_at before word)) (known_at_load before pass word)
+    Tells after.log (logged_since before after) before.count word (bits_of (word_at before word))
+    (known_at_load before pass word)
 
 -- at each place of the list that is a load within range, the load tells what the log of the whole list has
 abbrev pub EachLoadTells : ℕ → ℕ → List Step → Type 0

@@ -1,8 +1,11 @@
 -- The machine of vector words: what each step does to the world, and the world that a whole list of steps makes.
-use Rattle.std.specs.Prelude.{◌+◌, ◌-◌, ◌*◌, ◌/◌, ◌%◌, ◌^◌, ◌==◌, ◌&&◌, ◌||◌, ℕ, Bool, not, List, [], ◌∷◌, ◌++◌, length, fold, max, nat_lt, if◌then◌else◌, slice_index, slice_set, take, replicate, Option, None, Some, slice_get}
+use Rattle.std.specs.Prelude.{◌+◌, ◌-◌, ◌*◌, ◌/◌, ◌%◌, ◌^◌, ◌==◌, ◌&&◌, ◌||◌, ℕ, Bool, not, List, [], ◌∷◌, ◌++◌, length}
+use Rattle.std.specs.Prelude.{fold, max, nat_lt, if◌then◌else◌, slice_index, slice_set, take, replicate, Option, None}
+use Rattle.std.specs.Prelude.{Some, slice_get}
 use Rattle.vec_world.specs.declared.step.Step.{Step}
 use Rattle.vec_world.specs.declared.step.Step.TheVariants.{Store, Commit, Load, LoadCount, Split, Join}
 use Rattle.vec_world.specs.declared.world.World.{World}
+use Rattle.vec_world.specs.Log.{Carries}
 
 -- a word holds its bits in the lower half and its stamp in the upper half
 abbrev pub bits_of : ℕ → ℕ
@@ -13,6 +16,10 @@ stamp_of word = word / 2 ^ 32
 
 abbrev pub word_of : ℕ → ℕ → ℕ
 word_of bits stamp = stamp * 2 ^ 32 + bits
+
+-- the word's two halves are the bits and the stamp of its last store
+abbrev pub CarriesWord : List Step → ℕ → ℕ → Type 0
+CarriesWord log word value = Carries log word (bits_of value) (stamp_of value)
 
 -- the word of this number, and the number that this pass knows
 abbrev pub word_at : World → ℕ → ℕ
@@ -58,7 +65,8 @@ committed world number = record world { count = number; flying = 0; log = world.
 -- the pass, where there is one, knows the larger of what it knew and this number
 abbrev pub learned : World → ℕ → ℕ → World
 learned world pass number =
-    if has_pass world pass then record world { known = slice_set world.known pass (max (known_by world pass) number) } else world
+    if has_pass world pass then record world { known = slice_set world.known pass (max (known_by world pass) number) }
+    else world
 
 -- the pass's number stands last among the notes
 abbrev pub noted : World → ℕ → World
@@ -76,7 +84,8 @@ act world (Commit number) = if is_open world number then committed world number 
 act world (Load pass word) = if has_word world word then learned world pass (stamp_of (word_at world word)) else world
 act world (LoadCount pass) = learned world pass world.count
 act world (Split pass) = if has_pass world pass then noted world pass else world
-act world (Join into) = if has_pass world into then told world into (slice_get world.notes (length world.notes - 1)) else world
+act world (Join into) = if has_pass world into then told world into
+    (slice_get world.notes (length world.notes - 1)) else world
 
 -- the world that a whole list of steps makes of the start
 abbrev pub world_of : ℕ → ℕ → List Step → World

@@ -19,4 +19,5 @@ pub use items::Items;
 pub use machine::run;
 pub use no_memory::NoMemory;
 pub use step::Step;
+pub use word::{bits_of, stamp_of, word_of};
 pub use world::World;

@@ -2,4 +2,4 @@ use Rattle.std.proofs.Common.{◌≡◌, ◌<◌}
 use Rattle.vec_words.proofs.tests.test_words.Given as goal
 
 abbrev pub invariant-loop : goal.invariant-loop
-invariant-loop l = (l.pass.table ≡ l.vectors) × (0 < l.pass.owner)
+invariant-loop g l = (l.pass.table ≡ l.vectors) × (0 < l.pass.owner)

@@ -11,7 +11,8 @@ pub loop-step-preserved : goal.loop-step-preserved
 loop-step-preserved c =
     let steps = c.args.steps.now in
     let within : c.loop-step.step-index < length steps = c.loop-step-test.true in (
-      world_of-more c.args.words c.args.passes steps c.loop-step.step-index _ c.loop-step.world c.act.new.self within c.loop-step.invariant.0 c.in_ok-act.ensures.ok,
+      world_of-more c.args.words c.args.passes steps c.loop-step.step-index _ c.loop-step.world c.act.new.self within
+          c.loop-step.invariant.0 c.in_ok-act.ensures.ok,
       All-more FitsHalf steps c.loop-step.step-index _ within c.loop-step.invariant.1 c.in_ok-act.ensures.fits,
     )
 
@@ -25,4 +26,5 @@ pub returns-clause-genuine : goal.returns-clause-genuine
 returns-clause-genuine c =
     let so_far = take c.loop-step.step-index c.args.steps.now in
     genuine_from_sound c.loop-step.world
-    (subst IsSound (sym c.loop-step.invariant.0) (sound-world_of c.args.words c.args.passes so_far c.loop-step.invariant.1))
+    (subst IsSound (sym c.loop-step.invariant.0)
+    (sound-world_of c.args.words c.args.passes so_far c.loop-step.invariant.1))

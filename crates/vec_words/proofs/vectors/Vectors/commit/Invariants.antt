@@ -1,5 +1,5 @@
 use Rattle.std.proofs.Common.{[], ◌∷◌}
 use Rattle.vec_words.proofs.vectors.Vectors.commit.Given as goal
 
-abbrev pub ghosts-publish : goal.ghosts-publish
-ghosts-publish g a = record { about = g.about ∷ [] }
+abbrev pub ghosts-commit_of : goal.ghosts-commit_of
+ghosts-commit_of g a = record { about = g.about ∷ [] }

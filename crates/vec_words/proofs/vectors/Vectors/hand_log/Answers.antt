@@ -20,5 +20,6 @@ join_seat-requires g c =
       cut.3 ∙ (c.requires.tables.0 ∙ sym (ap (λ (t : WordTable). t.id) c.self.view_is)),
       ap (λ (m : Me ℕ (View g.row.D.Denot)). m.1) cut.4,
       omega (arith, c.self.invariant.words_is),
-      joins_log c.self.inside.table.shared.key c.args.to.now.id c.args.to.now.me.0 c.split_seat-log.result.id c.split_seat-log.result.me.0 (ap (λ (m : Me ℕ (View g.row.D.Denot)). m.0.keeps) cut.4),
+      joins_log c.self.inside.table.shared.key c.args.to.now.id c.args.to.now.me.0 c.split_seat-log.result.id
+          c.split_seat-log.result.me.0 (ap (λ (m : Me ℕ (View g.row.D.Denot)). m.0.keeps) cut.4),
     )

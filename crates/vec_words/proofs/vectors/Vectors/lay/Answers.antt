@@ -11,4 +11,5 @@ of_words-requires g c =
     let len = c.args.len in
     starts (record { conns = c.args.conns; len = len }) c.as_slice.result.now
     (c.as_slice.ensures.value ∙ c.in_ok-words.ensures.items_if_clones_equal (λ y e. e)
-    ∙ ap (λ k. replicate (1 + k * words_of len) 0) c.from.ensures ∙ ap (λ n. replicate n 0) (one_more (c.args.conns * words_of len)))
+    ∙ ap (λ k. replicate (1 + k * words_of len) 0) c.from.ensures
+    ∙ ap (λ n. replicate n 0) (one_more (c.args.conns * words_of len)))

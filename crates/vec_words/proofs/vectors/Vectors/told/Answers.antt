@@ -10,5 +10,6 @@ join_seat-requires g c = (
   id_of _ _ _ (ap (λ (p : NoteSeen). p.table) c.into_seat.ensures.seen ∙ c.requires.note) c.self.view_is,
   c.into_seat.ensures.no_slot,
   omega (arith, c.self.invariant.words_is),
-  joins_note c.self.inside.table.shared.key c.pass.inside.seat.id c.pass.inside.seat.me.0 c.into_seat.result.id c.into_seat.result.me.0,
+  joins_note c.self.inside.table.shared.key c.pass.inside.seat.id c.pass.inside.seat.me.0 c.into_seat.result.id
+      c.into_seat.result.me.0,
 )

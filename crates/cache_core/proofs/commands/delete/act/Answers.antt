@@ -1,0 +1,8 @@
+use Rattle.std.proofs.Common.{arith}
+use Rattle.list_laws.proofs.FilterLaws.{length-filter-le}
+use Rattle.std.proofs.Common.{Some, None}
+use Rattle.cache_regs.specs.Registrations.{ends_with_name}
+use Rattle.cache_core.proofs.commands.delete.act.Goals as goal
+
+pub drop_name-requires : goal.drop_name-requires
+drop_name-requires c = omega (arith, c.requires, length-filter-le (ends_with_name c.args.name.now None) c.args.regs.now.regs)

@@ -1,0 +1,44 @@
+use Rattle.std.proofs.Common.{◌≡◌, Some, Option, List, refl, ap, sym, ◌∙◌, subst}
+use Rattle.cf_types.specs.declared.names.Name16.{Name16}
+use Rattle.cf_types.proofs.GainsLaws.{gains_none}
+use Rattle.cache_model.specs.Contents.{Content, IsContent}
+use Rattle.cache_model.specs.Step.{after, victims}
+use Rattle.cache_model.proofs.ContentLaws.{content-done}
+use Rattle.cache_core.specs.declared.plans.Plan.{Plan}
+use Rattle.cache_core.specs.Plans.{plan_for, IsSpared}
+use Rattle.cache_core.specs.Seen.{Seen, content_of}
+use Rattle.cache_core.proofs.PlanLaws.{plan_taken, plan_accepted, spared_victims}
+use Rattle.cache_core.proofs.engine.CacheEngineEngine.apply.Goals as goal
+
+pub act-requires-clause-spared : goal.act-requires-clause-spared
+act-requires-clause-spared c =
+    let e = c.self.inside in
+    let planned = subst (λ (s : Seen). s.plan ≡ Some (plan_for s.held.shape.vector s.held.caps s.held.state c.args.by c.args.cmd.now)) (sym c.self.view_is) c.requires.ready.planned in
+    let is = plan_taken c.take.result e.plan c.in-Some.plan (plan_for e.shape.vector e.caps (content_of e) c.args.by c.args.cmd.now) c.take.ensures.value c.in-Some.is planned in
+    let accepted = plan_accepted e.shape.vector e.caps (content_of e) c.args.by c.args.cmd.now c.in-Some.plan c.in-Ok.reply is c.in-Ok.is in
+    rw (c.items.ensures, accepted.gone) (spared_victims e.caps e.rows.rows c.args.cmd.now c.self.invariant.content.directory)
+
+pub act-requires-clause-copied : goal.act-requires-clause-copied
+act-requires-clause-copied c =
+    let e = c.self.inside in
+    let planned = subst (λ (s : Seen). s.plan ≡ Some (plan_for s.held.shape.vector s.held.caps s.held.state c.args.by c.args.cmd.now)) (sym c.self.view_is) c.requires.ready.planned in
+    let is = plan_taken c.take.result e.plan c.in-Some.plan (plan_for e.shape.vector e.caps (content_of e) c.args.by c.args.cmd.now) c.take.ensures.value c.in-Some.is planned in
+    (plan_accepted e.shape.vector e.caps (content_of e) c.args.by c.args.cmd.now c.in-Some.plan c.in-Ok.reply is c.in-Ok.is).body
+
+pub invariant_of-self : goal.invariant_of-self
+invariant_of-self c =
+    let e = c.self.inside in
+    let planned = subst (λ (s : Seen). s.plan ≡ Some (plan_for s.held.shape.vector s.held.caps s.held.state c.args.by c.args.cmd.now)) (sym c.self.view_is) c.requires.ready.planned in
+    let is = plan_taken c.take.result e.plan c.in-Some.plan (plan_for e.shape.vector e.caps (content_of e) c.args.by c.args.cmd.now) c.take.ensures.value c.in-Some.is planned in
+    let accepted = plan_accepted e.shape.vector e.caps (content_of e) c.args.by c.args.cmd.now c.in-Some.plan c.in-Ok.reply is c.in-Ok.is in
+    let left : record { rows = c.act.new.rows.rows; regs = c.act.new.regs.regs } ≡ after (victims e.caps e.rows.rows c.args.cmd.now) (content_of e) c.args.by c.args.cmd.now =
+    c.act.ensures.content ∙ ap (λ (l : List Name16). after l (content_of e) c.args.by c.args.cmd.now) (c.items.ensures ∙ accepted.gone) in
+    record {
+      cache = c.self.invariant.cache;
+      caps = c.self.invariant.caps;
+      content = subst (λ (k : Content). IsContent e.caps k) (sym left)
+          (content-done e.shape.vector e.caps (content_of e) c.args.by c.args.cmd.now c.self.invariant.content accepted.none);
+    }
+
+pub returns-in-Some-clause-bits : goal.returns-in-Some-clause-bits
+returns-in-Some-clause-bits c = rw (← c.self.view_is) (gains_none _ _ _ (λ conn index. refl))

@@ -1,0 +1,48 @@
+-- What is got ready for a command: its reply, the names of the rows that are reclaimed, and a copy of its data.
+use Rattle.std.specs.Prelude.{◌≡◌, ℕ, Bool, false, List, [], Option, Some, None, Result, Ok, Err}
+use Rattle.cf_types.specs.declared.forms.Caps.{Caps}
+use Rattle.cf_types.specs.declared.names.Name16.{Name16}
+use Rattle.cf_types.specs.declared.numbers.ConnId.{ConnId}
+use Rattle.cf_types.specs.declared.refusals.Refusal.{Refusal}
+use Rattle.cf_types.specs.declared.cache_commands.CacheCmd.{CacheCmd}
+use Rattle.cf_types.specs.declared.cache_commands.CacheCmd.TheVariants.{Read, Write, CrossInval, RegList, Castout, Unlock, CoClass, CoStats, DirInfo, Delete, StgStats}
+use Rattle.cache_core.specs.declared.plans.Plan.{Plan}
+use Rattle.cache_model.specs.Contents.{Content, is_among}
+use Rattle.cache_model.specs.Step.{cause, reply, victims}
+
+-- the data that a command brings
+abbrev pub body_of : CacheCmd → Option (List ℕ)
+body_of (Read name index old stg) = None
+body_of (Write name index body class adj old stg when_reg) = Some body
+body_of (CrossInval name) = None
+body_of RegList = None
+body_of (Castout name) = None
+body_of (Unlock name) = None
+body_of (CoClass class) = None
+body_of CoStats = None
+body_of (DirInfo name) = None
+body_of (Delete name) = None
+body_of (StgStats stg) = None
+
+-- a refused command asks for nothing
+abbrev pub plan_unless : Option Refusal → Caps → Content → ConnId → CacheCmd → Plan
+plan_unless None caps content by cmd =
+    record { reply = Ok (reply content by cmd); gone = victims caps content.rows cmd; body = body_of cmd }
+plan_unless (Some refusal) caps content by cmd = record { reply = Err refusal; gone = []; body = None }
+
+abbrev pub plan_for : ℕ → Caps → Content → ConnId → CacheCmd → Plan
+plan_for vector caps content by cmd = plan_unless (cause vector caps content by cmd) caps content by cmd
+
+-- the name of a command that may reclaim isn't among those that are reclaimed
+abbrev pub IsSpared : List Name16 → CacheCmd → Type 0
+IsSpared gone (Read name index old stg) = is_among gone name ≡ false
+IsSpared gone (Write name index body class adj old stg when_reg) = is_among gone name ≡ false
+IsSpared gone (CrossInval name) = Unit {0}
+IsSpared gone RegList = Unit {0}
+IsSpared gone (Castout name) = Unit {0}
+IsSpared gone (Unlock name) = Unit {0}
+IsSpared gone (CoClass class) = Unit {0}
+IsSpared gone CoStats = Unit {0}
+IsSpared gone (DirInfo name) = Unit {0}
+IsSpared gone (Delete name) = Unit {0}
+IsSpared gone (StgStats stg) = Unit {0}

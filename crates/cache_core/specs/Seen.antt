@@ -1,0 +1,54 @@
+-- The engine as contracts see it.
+use Rattle.std.specs.Prelude.{◌≡◌, ℕ, ◌+◌, ◌≤◌, Bool, true, false, IsTrue, length, Option, Some}
+use Rattle.cf_types.specs.declared.effects.Effects.{Effects}
+use Rattle.cf_types.specs.declared.forms.Kind.{Kind}
+use Rattle.cf_types.specs.declared.forms.Kind.TheVariants as kind
+use Rattle.cf_types.specs.declared.cache_commands.CacheCmd.{CacheCmd}
+use Rattle.cf_types.specs.Forms.{IsCapacity}
+use Rattle.engine_api.specs.Meaning.{Held, Wish}
+use Rattle.engine_api.specs.Meaning.Wish.{ForCmd, ForLeave, ForForget}
+use Rattle.cache_core.specs.declared.plans.Plan.{Plan}
+use Rattle.cache_core.specs.declared.engine.CacheEngine.TheInside.{Inside}
+use Rattle.cache_model.specs.Contents.{Content, IsContent}
+use Rattle.cache_core.specs.Plans.{plan_for}
+
+-- what it holds, what it is ready for, and for how many rows and registrations it has room
+pub record Seen : Type 0 where
+  pub held : Held Content
+  pub plan : Option Plan
+  pub row_room : ℕ
+  pub reg_room : ℕ
+
+abbrev pub content_of : Inside → Content
+content_of e = record { rows = e.rows.rows; regs = e.regs.regs }
+
+abbrev pub seen : Inside → Seen
+seen e =
+    record {
+      held = record { shape = e.shape; caps = e.caps; state = content_of e };
+      plan = e.plan;
+      row_room = e.rows.room;
+      reg_room = e.regs.room;
+    }
+
+abbrev pub is_cache : Kind → Bool
+is_cache kind.Cache = true
+is_cache (kind.List headers locks refs) = false
+is_cache kind.Lock = false
+
+pub record IsKept (e : Inside) : Type 0 where
+  pub cache : IsTrue (is_cache e.shape.kind)
+  pub caps : IsCapacity e.caps
+  pub content : IsContent e.caps (content_of e)
+
+-- the plan is that for the command, and there is room for a row, a registration and the bits that change
+pub record IsReadyFor (e : Seen) (plan : Plan) (out : Effects) : Type 0 where
+  pub planned : e.plan ≡ Some plan
+  pub row : 1 ≤ e.row_room
+  pub reg : 1 ≤ e.reg_room
+  pub bits : length e.held.state.regs + 3 ≤ out.bits.room
+
+abbrev pub IsReady : Seen → Wish CacheCmd → Effects → Type 0
+IsReady e (ForCmd by cmd) out = IsReadyFor e (plan_for e.held.shape.vector e.held.caps e.held.state by cmd) out
+IsReady e (ForLeave conn) out = length e.held.state.regs ≤ out.bits.room
+IsReady e ForForget out = length e.held.state.regs ≤ out.bits.room

@@ -1,0 +1,55 @@
+//! The commands of a cache structure, a file each: why one is refused, its reply, and what it does.
+ghost use Rattle.std.specs.Prelude.{◌≡◌, ◌≤◌, [], false, length};
+ghost use Rattle.cf_types.specs.Gains.{Gains};
+ghost use Rattle.cache_regs.specs.Registrations.{stands, regs_with};
+ghost use Rattle.cache_model.specs.Rows.{has_row, row_or_new, rows_without};
+ghost use Rattle.cache_model.specs.Contents.{is_among, regs_spared};
+
+pub(crate) mod castout;
+pub(crate) mod co_class;
+pub(crate) mod co_stats;
+pub(crate) mod cross_inval;
+pub(crate) mod delete;
+pub(crate) mod dir_info;
+pub(crate) mod read;
+pub(crate) mod reg_list;
+pub(crate) mod stg_stats;
+pub(crate) mod unlock;
+pub(crate) mod write;
+
+use crate::rows::Rows;
+use cache_model::CacheItem;
+use cache_regs::Regs;
+use cf_types::{ConnId, Effects, Name16};
+
+// Takes out the row of a name, or makes one: unchanged, without data, of this storage class.
+fn take_or_new(rows: &mut Rows, name: &Name16, stg: u32) -> CacheItem
+    ensures row { result ≡ row_or_new name.now stg rows.old.rows }
+    ensures named { result.name ≡ name.now }
+    ensures rest { rows.new.rows ≡ rows_without name.now rows.old.rows }
+    ensures room { rows.old.room ≤ rows.new.room }
+{
+    match rows.take(name) {
+        Some(row) => row,
+        None => CacheItem {
+            name: *name,
+            body: None,
+            adj: None,
+            class: None,
+            holder: None,
+            stg,
+        },
+    }
+}
+
+// The registrations for these names end.
+fn end_regs(regs: &mut Regs, names: &[Name16], out: &mut Effects)
+    requires { length regs.old.regs ≤ out.old.bits.room }
+    ensures regs { regs.new.regs ≡ regs_spared names.now regs.old.regs }
+    ensures bits { Gains (stands regs.old.regs) (stands regs.new.regs) out.old.bits.items out.new.bits.items }
+    ensures mail { out.new.mail ≡ out.old.mail }
+{
+    for name in names {
+        let _ = regs.drop_name(name, None, out);
+    }
+}

@@ -1,0 +1,38 @@
+//! CROSS_INVAL of IXLCACHE: ends the registrations of all others for a name.
+ghost use Rattle.std.specs.Prelude.{◌≡◌, ◌≤◌, Some, length};
+ghost use Rattle.cf_types.specs.Gains.{Gains};
+ghost use Rattle.engine_api.specs.Meaning.{first_refusal};
+ghost use Rattle.cache_regs.specs.Registrations.{stands, regs_without_name};
+ghost use Rattle.cache_model.specs.Commands.CrossInval as cross_inval;
+
+use crate::refusals::{entry_refusal, first_refusal};
+use cache_model::CacheItem;
+use cache_regs::Regs;
+use cf_types::{CacheReply, ConnId, Effects, Name16, Refusal};
+
+/// Why the command is refused.
+pub(crate) fn refusal(rows: &[CacheItem], name: &Name16) -> Option<Refusal>
+    ensures { result ≡ first_refusal (cross_inval.causes rows.now name.now) }
+{
+    let entry_cause = entry_refusal(rows, name);
+    first_refusal(&[entry_cause])
+}
+
+/// The reply where the command isn't refused.
+pub(crate) fn reply(regs: &Regs, by: ConnId, name: &Name16) -> CacheReply
+    ensures { result ≡ cross_inval.reply regs.now.regs by name.now }
+{
+    CacheReply::OkCount {
+        n: regs.count(name, Some(by)),
+    }
+}
+
+/// Does the command.
+pub(crate) fn act(regs: &mut Regs, by: ConnId, name: &Name16, out: &mut Effects)
+    requires { length regs.old.regs ≤ out.old.bits.room }
+    ensures regs { regs.new.regs ≡ regs_without_name name.now (Some by) regs.old.regs }
+    ensures bits { Gains (stands regs.old.regs) (stands regs.new.regs) out.old.bits.items out.new.bits.items }
+    ensures mail { out.new.mail ≡ out.old.mail }
+{
+    let _ = regs.drop_name(name, Some(by), out);
+}

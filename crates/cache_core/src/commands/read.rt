@@ -1,0 +1,125 @@
+//! READ_DATA of IXLCACHE: registers the caller for a name, and answers the data of its row.
+ghost use Rattle.std.specs.Prelude.{◌≡◌, ◌+◌, ◌^◌, ◌<◌, ◌≤◌, false, IfOk, length};
+ghost use Rattle.cf_types.specs.Gains.{Gains};
+ghost use Rattle.engine_api.specs.Meaning.{first_refusal};
+ghost use Rattle.cache_regs.specs.Registrations.{stands, regs_with};
+ghost use Rattle.cache_model.specs.Rows.{elements_in};
+ghost use Rattle.cache_model.specs.Contents.{is_among, regs_spared};
+ghost use Rattle.cache_model.specs.Commands.Read as read;
+
+use super::{end_regs, take_or_new};
+use crate::refusals::{first_refusal, index_refusal, storage_refusal};
+use crate::room::room_refusal;
+use crate::rows::{Rows, row_of};
+use cache_model::{CacheItem, Request};
+use cache_regs::Regs;
+use cf_types::{CacheReply, Caps, ConnId, Effects, Name16, NoMemory, Refusal, copy_body};
+use std::alloc::Global;
+
+/// What the command asks room for.
+pub(crate) fn request(name: &Name16, stg: u32) -> Request
+    ensures { result ≡ read.request name.now stg }
+{
+    Request {
+        name: *name,
+        elements: 0,
+        stg,
+    }
+}
+
+/// Why the command is refused.
+pub(crate) fn refusal(
+    vector: u32,
+    caps: Caps,
+    rows: &[CacheItem],
+    regs: &Regs,
+    by: ConnId,
+    name: &Name16,
+    index: u32,
+    old: Option<Name16>,
+    stg: u32,
+) -> Option<Refusal>
+    requires { elements_in rows.now < 2 ^ 32 }
+    ensures { result ≡ first_refusal (read.causes vector caps (record { rows = rows.now; regs = regs.now.regs })
+        by name.now index old stg) }
+{
+    let index_cause = index_refusal(vector, regs, by, name, index, old);
+    let storage_cause = storage_refusal(stg);
+    let room_cause = room_refusal(caps, rows, &request(name, stg));
+    first_refusal(&[index_cause, storage_cause, room_cause])
+}
+
+// The answer to a row.
+fn data_reply(alloc: Global, row: &CacheItem) -> Result<CacheReply, NoMemory>
+    ensures { IfOk result (λ reply. reply ≡ read.data_reply row.now row.now.body) }
+{
+    match &row.body {
+        None => Ok(CacheReply::NoData),
+        Some(body) => Ok(CacheReply::Data {
+            body: copy_body(alloc, body)?,
+            adj: row.adj,
+            changed: row.class.is_some(),
+        }),
+    }
+}
+
+/// The reply where the command isn't refused.
+pub(crate) fn reply(
+    alloc: Global,
+    rows: &[CacheItem],
+    name: &Name16,
+    stg: u32,
+) -> Result<CacheReply, NoMemory>
+    ensures { IfOk result (λ reply. reply ≡ read.reply rows.now name.now stg) }
+{
+    match row_of(rows, name) {
+        Some(row) => data_reply(alloc, row),
+        None => Ok(CacheReply::NoData),
+    }
+}
+
+// The caller is registered for the name, and the registrations for other names end.
+fn register(
+    regs: &mut Regs,
+    gone: &[Name16],
+    by: ConnId,
+    name: &Name16,
+    index: u32,
+    out: &mut Effects,
+)
+    requires place { 1 ≤ regs.old.room }
+    requires room { length regs.old.regs + 3 ≤ out.old.bits.room }
+    requires spared { is_among gone.now name.now ≡ false }
+    ensures regs { regs.new.regs ≡ regs_spared gone.now (regs_with by index name.now regs.old.regs) }
+    ensures bits { Gains (stands regs.old.regs) (stands regs.new.regs) out.old.bits.items out.new.bits.items }
+    ensures mail { out.new.mail ≡ out.old.mail }
+{
+    regs.set(by, index, *name, out);
+    end_regs(regs, gone, out);
+}
+
+/// Does the command, where the rows of these names are reclaimed for it.
+pub(crate) fn act(
+    rows: &mut Rows,
+    regs: &mut Regs,
+    gone: &[Name16],
+    by: ConnId,
+    name: &Name16,
+    index: u32,
+    stg: u32,
+    out: &mut Effects,
+)
+    requires row_room { 1 ≤ rows.old.room }
+    requires reg_room { 1 ≤ regs.old.room }
+    requires bit_room { length regs.old.regs + 3 ≤ out.old.bits.room }
+    requires spared { is_among gone.now name.now ≡ false }
+    ensures content { record { rows = rows.new.rows; regs = regs.new.regs }
+        ≡ read.after gone.now (record { rows = rows.old.rows; regs = regs.old.regs }) by name.now index stg }
+    ensures bits { Gains (stands regs.old.regs) (stands regs.new.regs) out.old.bits.items out.new.bits.items }
+    ensures mail { out.new.mail ≡ out.old.mail }
+{
+    let row = take_or_new(rows, name, stg);
+    rows.end_named(gone);
+    rows.put(row);
+    register(regs, gone, by, name, index, out);
+}

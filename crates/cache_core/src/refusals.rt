@@ -1,0 +1,245 @@
+//! Causes of refusals that commands share.
+ghost use Rattle.std.specs.Prelude.{◌≡◌};
+ghost use Rattle.engine_api.specs.Meaning.{first_refusal};
+ghost use Rattle.cache_model.specs.Rows.{is_held_by, row_of};
+ghost use Rattle.cache_model.specs.Refusals.{gives_up, use_refusal, index_refusal, storage_refusal, class_refusal, castout_refusal, registration_refusal, change_refusal, entry_refusal, holder_refusal, held_refusal, held_by_other_refusal, not_held_refusal, unchanged_refusal};
+
+use crate::rows::row_of;
+use cache_model::{CacheItem, Holder};
+use cache_regs::Regs;
+use cf_types::limits::{CASTOUT_CLASSES, STORAGE_CLASSES};
+use cf_types::{ConnId, Name16, Refusal};
+
+/// The first cause that holds.
+pub(crate) fn first_refusal(causes: &[Option<Refusal>]) -> Option<Refusal>
+    ensures { result ≡ first_refusal causes.now }
+{
+    for cause in causes {
+        if let Some(refusal) = cause {
+            return Some(*refusal);
+        }
+    }
+    None
+}
+
+// Whether the caller gives up a name.
+fn gives_up(old: Option<Name16>, name: &Name16) -> bool
+    ensures { result ≡ gives_up old name.now }
+{
+    match old {
+        Some(old) => old == *name,
+        None => false,
+    }
+}
+
+// The index is in use for another name than the one asked and the one given up.
+fn use_refusal(held: Option<Name16>, name: &Name16, old: Option<Name16>) -> Option<Refusal>
+    ensures { result ≡ use_refusal held name.now old }
+{
+    match held {
+        Some(held) => {
+            if held == *name || gives_up(old, &held) {
+                None
+            } else {
+                Some(Refusal::IndexInUse { name: held })
+            }
+        }
+        None => None,
+    }
+}
+
+/// The index rule.
+pub(crate) fn index_refusal(
+    vector: u32,
+    regs: &Regs,
+    conn: ConnId,
+    name: &Name16,
+    index: u32,
+    old: Option<Name16>,
+) -> Option<Refusal>
+    ensures { result ≡ index_refusal vector regs.now.regs conn name.now index old }
+{
+    if vector <= index {
+        return Some(Refusal::BadIndex { index, len: vector });
+    }
+    use_refusal(regs.at(conn, index), name, old)
+}
+
+/// The storage class is one of 1 to 8.
+pub(crate) fn storage_refusal(stg: u32) -> Option<Refusal>
+    ensures { result ≡ storage_refusal stg }
+{
+    if 1 <= stg && stg <= STORAGE_CLASSES {
+        None
+    } else {
+        Some(Refusal::BadClass { class: stg })
+    }
+}
+
+/// The castout class is one of 1 to 16.
+pub(crate) fn class_refusal(class: u32) -> Option<Refusal>
+    ensures { result ≡ class_refusal class }
+{
+    if 1 <= class && class <= CASTOUT_CLASSES {
+        None
+    } else {
+        Some(Refusal::BadClass { class })
+    }
+}
+
+/// The same where there is a class.
+pub(crate) fn castout_refusal(class: Option<u32>) -> Option<Refusal>
+    ensures { result ≡ castout_refusal class }
+{
+    match class {
+        Some(class) => class_refusal(class),
+        None => None,
+    }
+}
+
+/// Where it is asked for, only a caller that is registered for the name may write.
+pub(crate) fn registration_refusal(
+    regs: &Regs,
+    conn: ConnId,
+    name: &Name16,
+    when_reg: bool,
+) -> Option<Refusal>
+    ensures { result ≡ registration_refusal regs.now.regs conn name.now when_reg }
+{
+    if when_reg && !regs.is_registered(conn, name) {
+        return Some(Refusal::NotRegistered);
+    }
+    None
+}
+
+// Whether the row of a name is changed.
+fn is_changed_row(row: Option<&CacheItem>) -> bool
+    ensures { result ≡ is_changed_row (option_map (λ r. r.now) row.entry) }
+{
+    match row {
+        Some(row) => row.class.is_some(),
+        None => false,
+    }
+}
+
+ghost use Rattle.std.specs.Prelude.{option_map};
+ghost use Rattle.cache_model.specs.Refusals.{is_changed_row};
+
+/// A changed row isn't written as unchanged.
+pub(crate) fn change_refusal(
+    rows: &[CacheItem],
+    name: &Name16,
+    class: Option<u32>,
+) -> Option<Refusal>
+    ensures { result ≡ change_refusal rows.now name.now class }
+{
+    if class.is_none() && is_changed_row(row_of(rows, name)) {
+        return Some(Refusal::IsChanged);
+    }
+    None
+}
+
+/// The name has no row.
+pub(crate) fn entry_refusal(rows: &[CacheItem], name: &Name16) -> Option<Refusal>
+    ensures { result ≡ entry_refusal (row_of name.now rows.now) }
+{
+    match row_of(rows, name) {
+        Some(_) => None,
+        None => Some(Refusal::NoEntry),
+    }
+}
+
+// The row is held by anyone.
+fn holder_refusal(holder: Option<Holder>) -> Option<Refusal>
+    ensures { result ≡ holder_refusal holder }
+{
+    match holder {
+        Some(holder) => Some(Refusal::CastoutHeld { by: holder.conn }),
+        None => None,
+    }
+}
+
+// Whether a connector holds the castout lock.
+fn is_held_by(conn: ConnId, holder: Option<Holder>) -> bool
+    ensures { result ≡ is_held_by conn holder }
+{
+    match holder {
+        Some(holder) => holder.conn == conn,
+        None => false,
+    }
+}
+
+/// The row of the name is held by anyone.
+pub(crate) fn held_refusal(rows: &[CacheItem], name: &Name16) -> Option<Refusal>
+    ensures { result ≡ held_refusal (row_of name.now rows.now) }
+{
+    match row_of(rows, name) {
+        Some(row) => holder_refusal(row.holder),
+        None => None,
+    }
+}
+
+// A row is held by another than the connector.
+fn other_refusal(conn: ConnId, holder: Option<Holder>) -> Option<Refusal>
+    ensures { result ≡ (if is_held_by conn holder then None else holder_refusal holder) }
+{
+    if is_held_by(conn, holder) {
+        None
+    } else {
+        holder_refusal(holder)
+    }
+}
+
+/// The row of the name is held by another than the connector.
+pub(crate) fn held_by_other_refusal(
+    rows: &[CacheItem],
+    conn: ConnId,
+    name: &Name16,
+) -> Option<Refusal>
+    ensures { result ≡ held_by_other_refusal conn (row_of name.now rows.now) }
+{
+    match row_of(rows, name) {
+        Some(row) => other_refusal(conn, row.holder),
+        None => None,
+    }
+}
+
+ghost use Rattle.std.specs.Prelude.{if◌then◌else◌, Some, None};
+ghost use Rattle.cf_types.specs.declared.refusals.Refusal.TheVariants.{NotHeld};
+
+// A row isn't held by the connector.
+fn no_hold_refusal(conn: ConnId, holder: Option<Holder>) -> Option<Refusal>
+    ensures { result ≡ (if is_held_by conn holder then None else Some NotHeld) }
+{
+    if is_held_by(conn, holder) {
+        None
+    } else {
+        Some(Refusal::NotHeld)
+    }
+}
+
+/// The row of the name isn't held by the connector.
+pub(crate) fn not_held_refusal(rows: &[CacheItem], conn: ConnId, name: &Name16) -> Option<Refusal>
+    ensures { result ≡ not_held_refusal conn (row_of name.now rows.now) }
+{
+    match row_of(rows, name) {
+        Some(row) => no_hold_refusal(conn, row.holder),
+        None => None,
+    }
+}
+
+/// The row of the name is unchanged.
+pub(crate) fn unchanged_refusal(rows: &[CacheItem], name: &Name16) -> Option<Refusal>
+    ensures { result ≡ unchanged_refusal (row_of name.now rows.now) }
+{
+    match row_of(rows, name) {
+        Some(row) => {
+            if row.class.is_some() {
+                None
+            } else {
+                Some(Refusal::NotChanged)
+            }
+        }
+        None => None,
+    }
+}

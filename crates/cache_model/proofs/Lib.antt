@@ -1,0 +1,6 @@
+pub mod RowLaws
+pub mod RoomLaws
+pub mod ContentLaws
+pub mod EngineLaws
+pub mod CopyLaws
+pub mod UncastLaws

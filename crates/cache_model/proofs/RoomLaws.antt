@@ -1,0 +1,127 @@
+-- The rows that are reclaimed, and what room they leave.
+use Rattle.std.proofs.Common.{◌≡◌, ℕ, ◌+◌, ◌-◌, ◌≤◌, ◌<◌, Bool, true, false, not, ◌&&◌, ◌||◌, cond, List, [], ◌∷◌, ◌++◌, Option, Some, None, is_some, length, filter, find, map, sum_by, nat_lt, nat_le, refl, sym, ap, ◌∙◌, subst, arith}
+use Rattle.std.specs.List.{list_any, list_all}
+use Rattle.std.proofs.lemmas.Bool.{and_parts, and_from, not-true, false≢true}
+use Rattle.std.proofs.lemmas.Bool.Decides.{nat_tests}
+use Rattle.std.proofs.lemmas.List.Folds.{list_all-append}
+use Rattle.cf_types.specs.declared.forms.Caps.{Caps}
+use Rattle.cf_types.specs.declared.names.Name16.{Name16}
+use Rattle.cf_types.specs.declared.refusals.Refusal.{Refusal}
+use Rattle.cf_types.specs.declared.refusals.Refusal.TheVariants.{DirectoryFull, NoElements}
+use Rattle.cf_types.specs.Name.{same_name}
+use Rattle.list_laws.specs.Pairwise.{pairwise}
+use Rattle.list_laws.specs.Prefixes.{shortest_prefix}
+use Rattle.list_laws.proofs.FilterLaws.{list_any-map, list_all-filter, list_all_weaker, list_all-filter_same, none_from_all, any_is_found, filter-filter}
+use Rattle.list_laws.proofs.PairwiseLaws.{pairwise-filter, pairwise_split}
+use Rattle.list_laws.proofs.PrefixLaws.{list_all-shortest_prefix, pairwise-shortest_prefix, shortest_prefix-enough}
+use Rattle.list_laws.proofs.KeyLaws.{AllFound, found_filter, found_append, found_prefix, sum_by_spared, length_spared, find-spared, apart_sym}
+use Rattle.cache_regs.proofs.NameLaws.{same_name-eq, same_name-refl, same_name-sym}
+use Rattle.cache_model.specs.declared.items.CacheItem.{CacheItem}
+use Rattle.cache_model.specs.declared.requests.Request.{Request}
+use Rattle.cache_model.specs.Rows.{is_row_of, is_changed, has_storage, elements_of, elements_in, row_of, has_row, rows_without, names_apart, IsDirectory}
+use Rattle.cache_model.specs.Contents.{is_among, rows_spared}
+use Rattle.cache_model.specs.Room.{is_reclaimable, reclaim_order, has_place, free_elements, has_room, victims, elements_refusal, room_refusal}
+use Rattle.cache_model.proofs.RowLaws.{name_of, size}
+
+-- the rows that go
+abbrev pub gone : Caps → Request → List CacheItem → List CacheItem
+gone caps request rows = shortest_prefix (has_room caps request rows) (reclaim_order request rows)
+
+abbrev pub OnesFound : List CacheItem → List CacheItem → Type 0
+OnesFound = AllFound name_of same_name same_name-eq same_name-refl
+
+order_found : (request : Request) (rows : List CacheItem) → IsDirectory rows → OnesFound (reclaim_order request rows) rows
+order_found request rows is =
+    let reclaimable = filter (is_reclaimable request.name) rows in
+    let first : OnesFound (filter (has_storage request.stg) reclaimable) rows =
+    subst (λ (l : List CacheItem). OnesFound l rows) (sym (filter-filter (has_storage request.stg) (is_reclaimable request.name) rows))
+    (found_filter name_of same_name same_name-eq same_name-refl (λ row. is_reclaimable request.name row && has_storage request.stg row) rows is.one_for_name) in
+    let others : OnesFound (filter (λ row. not (has_storage request.stg row)) reclaimable) rows =
+    subst (λ (l : List CacheItem). OnesFound l rows) (sym (filter-filter (λ row. not (has_storage request.stg row)) (is_reclaimable request.name) rows))
+    (found_filter name_of same_name same_name-eq same_name-refl (λ row. is_reclaimable request.name row && not (has_storage request.stg row)) rows is.one_for_name) in
+    found_append name_of same_name same_name-eq same_name-refl (filter (has_storage request.stg) reclaimable)
+    (filter (λ row. not (has_storage request.stg row)) reclaimable) rows first others
+
+order_apart : (request : Request) (rows : List CacheItem) → IsDirectory rows → pairwise names_apart (reclaim_order request rows) ≡ true
+order_apart request rows is =
+    pairwise_split names_apart (apart_sym name_of same_name same_name-eq same_name-refl) (has_storage request.stg)
+    (filter (is_reclaimable request.name) rows) (pairwise-filter names_apart (is_reclaimable request.name) rows is.one_for_name)
+
+-- what holds of all reclaimable rows holds of the order
+order_all : (p : CacheItem → Bool) (request : Request) (rows : List CacheItem) → ((row : CacheItem) → is_reclaimable request.name row ≡ true → p row ≡ true)
+    → list_all p (reclaim_order request rows) ≡ true
+order_all p request rows h =
+    let reclaimable = filter (is_reclaimable request.name) rows in
+    let each = list_all_weaker (is_reclaimable request.name) p h reclaimable (list_all-filter_same (is_reclaimable request.name) rows) in
+    list_all-append p (filter (has_storage request.stg) reclaimable) (filter (λ row. not (has_storage request.stg row)) reclaimable)
+    ∙ and_from (list_all p (filter (has_storage request.stg) reclaimable)) (list_all p (filter (λ row. not (has_storage request.stg row)) reclaimable))
+    (list_all-filter p (has_storage request.stg) reclaimable each) (list_all-filter p (λ row. not (has_storage request.stg row)) reclaimable each)
+
+-- the rows that go are apart, each is the one of its name, and none has the request's name
+pub record Goes (caps : Caps) (request : Request) (rows : List CacheItem) : Type 0 where
+  pub found : OnesFound (gone caps request rows) rows
+  pub apart : pairwise names_apart (gone caps request rows) ≡ true
+  pub other : list_all (λ row. not (is_row_of request.name row)) (gone caps request rows) ≡ true
+  pub unchanged : list_all (λ row. not (is_changed row)) (gone caps request rows) ≡ true
+
+pub goes : (caps : Caps) (request : Request) (rows : List CacheItem) → IsDirectory rows → Goes caps request rows
+goes caps request rows is =
+    record {
+      found = found_prefix name_of same_name same_name-eq same_name-refl (has_room caps request rows) (reclaim_order request rows) rows
+          (order_found request rows is);
+      apart = pairwise-shortest_prefix names_apart (has_room caps request rows) (reclaim_order request rows) (order_apart request rows is);
+      other = list_all-shortest_prefix (λ row. not (is_row_of request.name row)) (has_room caps request rows) (reclaim_order request rows)
+          (order_all (λ row. not (is_row_of request.name row)) request rows
+          (λ row h. (and_parts (not (is_changed row)) (not (is_row_of request.name row)) h).1));
+      unchanged = list_all-shortest_prefix (λ row. not (is_changed row)) (has_room caps request rows) (reclaim_order request rows)
+          (order_all (λ row. not (is_changed row)) request rows
+          (λ row h. (and_parts (not (is_changed row)) (not (is_row_of request.name row)) h).0));
+    }
+
+-- the request's name isn't among them
+pub request_spared : (caps : Caps) (request : Request) (rows : List CacheItem) → IsDirectory rows → is_among (victims caps request rows) request.name ≡ false
+request_spared caps request rows is =
+    list_any-map (λ other. same_name other request.name) name_of (gone caps request rows)
+    ∙ none_from_all (is_row_of request.name) (gone caps request rows) (goes caps request rows is).other
+
+pub length-spared : (caps : Caps) (request : Request) (rows : List CacheItem) → IsDirectory rows
+    → length (rows_spared (victims caps request rows) rows) + length (gone caps request rows) ≡ length rows
+length-spared caps request rows is =
+    let g = goes caps request rows is in
+    length_spared name_of same_name same_name-eq same_name-refl (gone caps request rows) rows is.one_for_name g.apart g.found
+
+pub elements-spared : (caps : Caps) (request : Request) (rows : List CacheItem) → IsDirectory rows
+    → elements_in (rows_spared (victims caps request rows) rows) + elements_in (gone caps request rows) ≡ elements_in rows
+elements-spared caps request rows is =
+    let g = goes caps request rows is in
+    sum_by_spared name_of same_name same_name-eq same_name-refl size (gone caps request rows) rows is.one_for_name g.apart g.found
+
+-- a row whose name isn't among them stays
+pub row_of-spared : (name : Name16) (names : List Name16) (rows : List CacheItem) → is_among names name ≡ false
+    → row_of name (rows_spared names rows) ≡ row_of name rows
+row_of-spared name names rows h = find-spared name_of same_name same_name-eq same_name-refl name names rows h
+
+pub has_row-spared : (name : Name16) (names : List Name16) (rows : List CacheItem) → is_among names name ≡ false
+    → has_row name (rows_spared names rows) ≡ has_row name rows
+has_row-spared name names rows h =
+    any_is_found (is_row_of name) (rows_spared names rows) ∙ ap (λ o. is_some o) (row_of-spared name names rows h)
+    ∙ sym (any_is_found (is_row_of name) rows)
+
+-- ---- room
+
+room_step : (place : Bool) (need free entries : ℕ) → cond place (elements_refusal need free) (Some (DirectoryFull entries)) ≡ None
+    → place && nat_le need free ≡ true
+room_step true need free entries h = free_step (nat_le need free) h
+  where
+    free_step : (b : Bool) → cond b None (Some (NoElements need free)) ≡ None → b ≡ true
+    free_step true h = refl
+    free_step false h = absurd (cc)
+room_step false need free entries h = absurd (cc)
+
+-- where there is no want of room, the rows that go leave room
+pub room_left : (caps : Caps) (request : Request) (rows : List CacheItem) → room_refusal caps request rows ≡ None
+    → has_room caps request rows (gone caps request rows) ≡ true
+room_left caps request rows h =
+    let all = reclaim_order request rows in
+    shortest_prefix-enough (has_room caps request rows) all
+    (room_step (has_place caps request rows all) request.elements (free_elements caps request rows all) caps.entries h)

@@ -1,0 +1,9 @@
+pub mod Rows
+pub mod Contents
+pub mod Room
+pub mod Refusals
+pub mod Commands
+pub mod Step
+pub mod Meaning
+pub mod Runs
+pub mod Uncast

@@ -1,0 +1,208 @@
+-- The bits that change when registrations come and end.
+use Rattle.std.proofs.Common.{◌≡◌, ℕ, Bool, true, false, not, ◌&&◌, ◌||◌, ◌==◌, nat_lt, cond, List, [], ◌∷◌, ◌++◌, filter, map, refl, sym, ap, ◌∙◌, subst₂, inl, inr, ◌⊎◌, arith}
+use Rattle.std.specs.List.{list_any, list_all}
+use Rattle.std.proofs.lemmas.Bool.{and_parts, or_cases, false≢true, eqb-true, eq-eqb}
+use Rattle.std.proofs.lemmas.Bool.Decides.{nat_tests}
+use Rattle.std.proofs.lemmas.Map.Views.{any-filter_same}
+use Rattle.cf_types.specs.declared.names.Name16.{Name16}
+use Rattle.cf_types.specs.declared.numbers.ConnId.{ConnId}
+use Rattle.cf_types.specs.declared.effects.BitChange.{BitChange}
+use Rattle.cf_types.specs.Name.{same_name}
+use Rattle.cf_types.specs.Gains.{Gains, told, difference}
+use Rattle.cf_types.proofs.GainsLaws.{Falls, gains_none, gains_one, gains_then}
+use Rattle.list_laws.specs.Pairwise.{pairwise}
+use Rattle.list_laws.specs.Insertions.{insertion}
+use Rattle.list_laws.proofs.FilterLaws.{any-filter, none-filter, none_from_all, list_all_weaker}
+use Rattle.list_laws.proofs.InsertionLaws.{list_any-insertion, list_any-insertion_kept}
+use Rattle.cache_regs.specs.declared.registrations.Registration.{Registration}
+use Rattle.cache_regs.specs.Registrations.{is_of, is_at, is_for, is_replaced, regs_with, stands, stands_before}
+use Rattle.cache_regs.specs.Ends.{clear_change}
+use Rattle.cache_regs.proofs.RegLaws.{places_apart}
+
+-- ---- registrations end
+
+same_place : (c i d j k n : ℕ) → (c == k) && (i == n) ≡ true → not ((d == c) && (j == i)) ≡ true → not ((d == k) && (j == n)) ≡ true
+same_place c i d j k n h e = grind (arith, nat_tests)
+
+-- where one stands at an index, no later one does
+none_later : (reg : Registration) (regs : List Registration) (conn : ConnId) (index : ℕ) → pairwise stands_before (reg ∷ regs) ≡ true
+    → is_at conn index reg ≡ true → stands regs conn index ≡ false
+none_later reg regs conn index ordered here =
+    none_from_all (is_at conn index) regs
+    (list_all_weaker (stands_before reg) (λ other. not (is_at conn index other))
+    (λ other h. same_place reg.conn.0 reg.index other.conn.0 other.index conn.0 index here (places_apart reg other h)) regs
+    (and_parts (list_all (stands_before reg) regs) (pairwise stands_before regs) ordered).0)
+
+ended_step : (p : Registration → Bool) (conn : ConnId) (index : ℕ) (a b : Bool) (reg : Registration) (regs : List Registration)
+    → is_at conn index reg ≡ a → p reg ≡ b → (a ≡ true → stands regs conn index ≡ false)
+    → told (map clear_change (filter p regs)) conn index ≡ difference (stands regs conn index) (stands (filter (λ r. not (p r)) regs) conn index)
+    → told (map clear_change (filter p (reg ∷ regs))) conn index
+    ≡ difference (stands (reg ∷ regs) conn index) (stands (filter (λ r. not (p r)) (reg ∷ regs)) conn index)
+ended_step p conn index true true reg regs e f none ih =
+    let gone : stands (filter (λ r. not (p r)) regs) conn index ≡ false = none-filter (is_at conn index) (λ r. not (p r)) regs (none refl) in
+    let quiet : told (map clear_change (filter p regs)) conn index ≡ [] = ih ∙ rw (none refl, gone) refl in
+    rw (f, e, gone, quiet) refl
+ended_step p conn index true false reg regs e f none ih =
+    let gone : stands (filter (λ r. not (p r)) regs) conn index ≡ false = none-filter (is_at conn index) (λ r. not (p r)) regs (none refl) in
+    let quiet : told (map clear_change (filter p regs)) conn index ≡ [] = ih ∙ rw (none refl, gone) refl in
+    rw (f, e, quiet) refl
+ended_step p conn index false true reg regs e f none ih = rw (f, e) ih
+ended_step p conn index false false reg regs e f none ih = rw (f, e) ih
+
+ended_told : (p : Registration → Bool) (conn : ConnId) (index : ℕ) (regs : List Registration) → pairwise stands_before regs ≡ true
+    → told (map clear_change (filter p regs)) conn index ≡ difference (stands regs conn index) (stands (filter (λ r. not (p r)) regs) conn index)
+ended_told p conn index [] h = refl
+ended_told p conn index (reg ∷ regs) h =
+    ended_step p conn index (is_at conn index reg) (p reg) reg regs refl refl (none_later reg regs conn index h)
+    (ended_told p conn index regs (and_parts (list_all (stands_before reg) regs) (pairwise stands_before regs) h).1)
+
+-- each registration that ends clears its bit
+pub gains_ended : (p : Registration → Bool) (regs : List Registration) (bits : List BitChange) → pairwise stands_before regs ≡ true
+    → Gains (stands regs) (stands (filter (λ reg. not (p reg)) regs)) bits (bits ++ map clear_change (filter p regs))
+gains_ended p regs bits h =
+    record { added = map clear_change (filter p regs); behind = refl; exactly = λ conn index. ended_told p conn index regs h }
+
+-- ---- one registration comes
+
+same_test : (a b c d x y : ℕ) → (a == c) && (b == d) ≡ true → not ((a == x) && (b == y)) ≡ not ((x == c) && (y == d))
+same_test a b c d x y e = grind (arith, nat_tests)
+
+-- without what stood at an index
+stands_elsewhere : (regs : List Registration) (by conn : ConnId) (index i : ℕ)
+    → stands (filter (λ reg. not (is_at by index reg)) regs) conn i ≡ (not ((by.0 == conn.0) && (index == i)) && stands regs conn i)
+stands_elsewhere regs by conn index i =
+    any-filter_same (is_at conn i) (λ reg. not (is_at by index reg)) (not ((by.0 == conn.0) && (index == i)))
+    (λ reg e. same_test reg.conn.0 reg.index conn.0 i by.0 index e) regs
+
+-- with the new one in its place
+abbrev pub with_reg : Registration → List Registration → List Registration
+with_reg new regs = insertion (λ reg. stands_before reg new) new (filter (λ reg. not (is_at new.conn new.index reg)) regs)
+
+stands_with : (new : Registration) (regs : List Registration) (conn : ConnId) (i : ℕ)
+    → stands (with_reg new regs) conn i ≡ ((new.conn.0 == conn.0) && (new.index == i)) || (not ((new.conn.0 == conn.0) && (new.index == i)) && stands regs conn i)
+stands_with new regs conn i =
+    list_any-insertion (is_at conn i) (λ reg. stands_before reg new) new (filter (λ reg. not (is_at new.conn new.index reg)) regs)
+    ∙ ap (λ b. ((new.conn.0 == conn.0) && (new.index == i)) || b) (stands_elsewhere regs new.conn conn new.index i)
+
+-- other bits stay
+pub stands_with-other : (new : Registration) (regs : List Registration) (conn : ConnId) (i : ℕ) → (new.conn.0 == conn.0) && (new.index == i) ≡ false
+    → stands (with_reg new regs) conn i ≡ stands regs conn i
+stands_with-other new regs conn i e = stands_with new regs conn i ∙ rw e refl
+
+self : (a b : ℕ) → (a == a) && (b == b) ≡ true
+self a b = grind (arith, nat_tests)
+
+pub stands_with-here : (new : Registration) (regs : List Registration) → stands (with_reg new regs) new.conn new.index ≡ true
+stands_with-here new regs = stands_with new regs new.conn new.index ∙ rw (self new.conn.0 new.index) refl
+
+-- where the bit stood, nothing changes
+same_pair : (new : Registration) (regs : List Registration) (conn : ConnId) (i : ℕ) (b : Bool) → (new.conn.0 == conn.0) && (new.index == i) ≡ b
+    → stands regs new.conn new.index ≡ true → stands (with_reg new regs) conn i ≡ stands regs conn i
+same_pair new regs conn i true e stood =
+    let parts = and_parts (new.conn.0 == conn.0) (new.index == i) e in
+    let there : stands regs conn i ≡ true =
+    subst₂ (λ (c n : ℕ). list_any (λ (reg : Registration). (reg.conn.0 == c) && (reg.index == n)) regs ≡ true)
+    (eqb-true new.conn.0 conn.0 parts.0) (eqb-true new.index i parts.1) stood in
+    stands_with new regs conn i ∙ rw e (sym there)
+same_pair new regs conn i false e stood = stands_with-other new regs conn i e
+
+pub gains_stood : (new : Registration) (regs : List Registration) (bits : List BitChange) → stands regs new.conn new.index ≡ true
+    → Gains (stands regs) (stands (with_reg new regs)) bits bits
+gains_stood new regs bits stood =
+    gains_none (stands regs) (stands (with_reg new regs)) bits
+    (λ conn i. same_pair new regs conn i ((new.conn.0 == conn.0) && (new.index == i)) refl stood)
+
+-- where it didn't, it does now
+pub gains_new : (new : Registration) (regs : List Registration) (bits : List BitChange) → stands regs new.conn new.index ≡ false
+    → Gains (stands regs) (stands (with_reg new regs)) bits (bits ++ record { conn = new.conn; index = new.index; bit = true } ∷ [])
+gains_new new regs bits stood =
+    let now : stands (with_reg new regs) new.conn new.index ≡ true = stands_with-here new regs in
+    let one = gains_one new.conn new.index (stands regs) (stands (with_reg new regs)) bits
+    (λ e. false≢true (sym stood ∙ e ∙ now)) (λ conn i e. stands_with-other new regs conn i e) in
+    rw now at one
+
+-- ---- a connector's registration for the name at another index ends, and it is registered at the index
+
+spared : (f b : Bool) → b ≡ true → not (f && not b) ≡ true
+spared true true e = refl
+spared false b e = refl
+spared true false e = absurd (false≢true e)
+
+at_index : (f c : Bool) (j i n : ℕ) → c && (j == i) ≡ true → n ≡ i → not (f && not (j == n)) ≡ true
+at_index f c j i n h e = spared f (j == n) (eq-eqb j n (eqb-true j i (and_parts c (j == i) h).1 ∙ sym e))
+
+pub gains_with : (new : Registration) (regs : List Registration) (xs ys zs : List BitChange)
+    → let middle = filter (λ reg. not (is_for new.conn new.name reg && not (reg.index == new.index))) regs in
+    Gains (stands regs) (stands middle) xs ys → Gains (stands middle) (stands (with_reg new middle)) ys zs
+    → Gains (stands regs) (stands (with_reg new middle)) xs zs
+gains_with new regs xs ys zs first second =
+    let middle = filter (λ reg. not (is_for new.conn new.name reg && not (reg.index == new.index))) regs in
+    gains_then (stands regs) (stands middle) (stands (with_reg new middle)) xs ys zs
+    (λ conn i. once conn i ((new.conn.0 == conn.0) && (new.index == i)) refl) first second
+  where
+    once : (conn : ConnId) (i : ℕ) (b : Bool) → (new.conn.0 == conn.0) && (new.index == i) ≡ b
+        → (stands (filter (λ reg. not (is_for new.conn new.name reg && not (reg.index == new.index))) regs) conn i ≡ stands regs conn i)
+        ⊎ (stands (with_reg new (filter (λ reg. not (is_for new.conn new.name reg && not (reg.index == new.index))) regs)) conn i
+        ≡ stands (filter (λ reg. not (is_for new.conn new.name reg && not (reg.index == new.index))) regs) conn i)
+    once conn i true e =
+        inl (any-filter_same (is_at conn i) (λ reg. not (is_for new.conn new.name reg && not (reg.index == new.index))) true
+        (λ reg h. at_index (is_for new.conn new.name reg) (is_of conn reg) reg.index i new.index h
+        (eqb-true new.index i (and_parts (new.conn.0 == conn.0) (new.index == i) e).1)) regs)
+    once conn i false e = inr (stands_with-other new (filter (λ reg. not (is_for new.conn new.name reg && not (reg.index == new.index))) regs) conn i e)
+
+-- ---- after a registration, others end
+
+-- the new one stands among those that are kept
+pub stands_kept : (q : Registration → Bool) (by : ConnId) (index : ℕ) (name : Name16) (regs : List Registration)
+    → q (record { conn = by; index = index; name = name }) ≡ true → stands (filter q (regs_with by index name regs)) by index ≡ true
+stands_kept q by index name regs h =
+    let new : Registration = record { conn = by; index = index; name = name } in
+    list_any-insertion_kept (is_at by index) q (λ reg. stands_before reg new) new (filter (λ reg. not (is_replaced by index name reg)) regs)
+    (self by.0 index) h
+
+-- elsewhere no bit rises
+stood_elsewhere : (by : ConnId) (index : ℕ) (name : Name16) (regs : List Registration) (conn : ConnId) (i : ℕ) → (by.0 == conn.0) && (index == i) ≡ false
+    → stands (regs_with by index name regs) conn i ≡ true → stands regs conn i ≡ true
+stood_elsewhere by index name regs conn i apart h =
+    let new : Registration = record { conn = by; index = index; name = name } in
+    let others = filter (λ reg. not (is_replaced by index name reg)) regs in
+    let split : ((by.0 == conn.0) && (index == i)) || stands others conn i ≡ true =
+    sym (list_any-insertion (is_at conn i) (λ reg. stands_before reg new) new others) ∙ h in
+    let left : stands others conn i ≡ true = second ((by.0 == conn.0) && (index == i)) (stands others conn i) apart split in
+    any-filter (is_at conn i) (λ reg. not (is_replaced by index name reg)) regs left
+  where
+    second : (a b : Bool) → a ≡ false → a || b ≡ true → b ≡ true
+    second true b e f = absurd (false≢true (sym e))
+    second false b e f = f
+
+only_falls : (a b c : Bool) → (b ≡ true → a ≡ true) → (c ≡ true → b ≡ true) → (b ≡ a) ⊎ (c ≡ b)
+only_falls false false c h k = inl refl
+only_falls true true c h k = inl refl
+only_falls true false false h k = inr refl
+only_falls true false true h k = absurd (false≢true (k refl))
+only_falls false true c h k = absurd (false≢true (h refl))
+
+-- a connector registers, and then bits fall, but not its own there
+pub gains_then_falls : (by : ConnId) (index : ℕ) (name : Name16) (regs later : List Registration) (xs ys zs : List BitChange)
+    → stands later by index ≡ true → Falls (stands (regs_with by index name regs)) (stands later)
+    → Gains (stands regs) (stands (regs_with by index name regs)) xs ys → Gains (stands (regs_with by index name regs)) (stands later) ys zs
+    → Gains (stands regs) (stands later) xs zs
+gains_then_falls by index name regs later xs ys zs there falls first second =
+    gains_then (stands regs) (stands (regs_with by index name regs)) (stands later) xs ys zs
+    (λ conn i. once conn i ((by.0 == conn.0) && (index == i)) refl) first second
+  where
+    once : (conn : ConnId) (i : ℕ) (b : Bool) → (by.0 == conn.0) && (index == i) ≡ b
+        → (stands (regs_with by index name regs) conn i ≡ stands regs conn i) ⊎ (stands later conn i ≡ stands (regs_with by index name regs) conn i)
+    once conn i true e =
+        let parts = and_parts (by.0 == conn.0) (index == i) e in
+        let here : stands later conn i ≡ true =
+        subst₂ (λ (c n : ℕ). list_any (λ (reg : Registration). (reg.conn.0 == c) && (reg.index == n)) later ≡ true)
+        (eqb-true by.0 conn.0 parts.0) (eqb-true index i parts.1) there in
+        inr (here ∙ sym (falls conn i here))
+    once conn i false e =
+        only_falls (stands regs conn i) (stands (regs_with by index name regs) conn i) (stands later conn i)
+        (stood_elsewhere by index name regs conn i e) (falls conn i)
+
+-- where registrations end, bits fall
+pub falls_filter : (q : Registration → Bool) (regs : List Registration) → Falls (stands regs) (stands (filter q regs))
+falls_filter q regs conn i h = any-filter (is_at conn i) q regs h

@@ -1,0 +1,141 @@
+-- Registrations stay in order, with one for an index and one for a name.
+use Rattle.std.proofs.Common.{◌≡◌, ℕ, ◌≤◌, ◌<◌, Bool, true, false, not, ◌&&◌, ◌||◌, ◌==◌, nat_lt, cond, List, [], ◌∷◌, length, filter, refl, sym, ap, ◌∙◌, subst₂, arith}
+use Rattle.std.specs.List.{list_any, list_all}
+use Rattle.std.proofs.lemmas.Bool.{and_parts, and_from, or_parts, or_from, not-true, not_from_false, false≢true, eqb-true}
+use Rattle.std.proofs.lemmas.Bool.Decides.{nat_tests}
+use Rattle.std.proofs.lemmas.List.Elements.{filter_agree}
+use Rattle.cf_types.specs.declared.names.Name16.{Name16}
+use Rattle.cf_types.specs.declared.numbers.ConnId.{ConnId}
+use Rattle.cf_types.specs.Name.{same_name}
+use Rattle.list_laws.specs.Pairwise.{pairwise}
+use Rattle.list_laws.specs.Insertions.{insertion}
+use Rattle.list_laws.proofs.FilterLaws.{filter-filter, filter_none, length-filter-le, none_from_all, list_all_weaker, list_all-filter_same}
+use Rattle.list_laws.proofs.PairwiseLaws.{FindsPlace, pairwise-filter, pairwise-insertion, pairwise-insertion_any}
+use Rattle.cache_regs.specs.declared.registrations.Registration.{Registration}
+use Rattle.cache_regs.specs.Registrations.{is_of, is_at, is_for, is_replaced, regs_with, stands_before, names_apart, IsRegistry}
+use Rattle.cache_regs.proofs.NameLaws.{same_name-eq, same_name-sym}
+
+-- ---- the order
+
+before_stop : (c i d j : ℕ) → not ((d == c) && (j == i)) ≡ true → nat_lt d c || ((d == c) && nat_lt j i) ≡ false
+    → nat_lt c d || ((c == d) && nat_lt i j) ≡ true
+before_stop c i d j h e = grind (arith, nat_tests)
+
+before_follows : (c i d j e k : ℕ) → nat_lt c d || ((c == d) && nat_lt i j) ≡ true → nat_lt d e || ((d == e) && nat_lt j k) ≡ true
+    → nat_lt c e || ((c == e) && nat_lt i k) ≡ true
+before_follows c i d j e k h g = grind (arith, nat_tests)
+
+before_apart : (c i d j : ℕ) → nat_lt c d || ((c == d) && nat_lt i j) ≡ true → not ((d == c) && (j == i)) ≡ true
+before_apart c i d j h = grind (arith, nat_tests)
+
+-- what stands before another has another place
+pub places_apart : (reg other : Registration) → stands_before reg other ≡ true → not (is_at reg.conn reg.index other) ≡ true
+places_apart reg other h = before_apart reg.conn.0 reg.index other.conn.0 other.index h
+
+finds_place : (reg : Registration) → FindsPlace stands_before (λ other. stands_before other reg) (λ other. not (is_at reg.conn reg.index other)) reg
+finds_place reg =
+    record {
+      front = λ other h. h;
+      stop = λ other h e. before_stop reg.conn.0 reg.index other.conn.0 other.index h e;
+      follows = λ y z h e. before_follows reg.conn.0 reg.index y.conn.0 y.index z.conn.0 z.index h e;
+    }
+
+-- ---- what takes the place of others
+
+split_test : (c i n : Bool) → not ((c && n) && not i) && not (c && i) ≡ not ((c && i) || (c && n))
+split_test true true true = refl
+split_test true true false = refl
+split_test true false true = refl
+split_test true false false = refl
+split_test false i n = refl
+
+-- the registrations elsewhere for the name go first, and then the one at the index
+pub filter-replaced : (conn : ConnId) (index : ℕ) (name : Name16) (regs : List Registration)
+    → filter (λ reg. not (is_at conn index reg)) (filter (λ reg. not (is_for conn name reg && not (reg.index == index))) regs)
+    ≡ filter (λ reg. not (is_replaced conn index name reg)) regs
+filter-replaced conn index name regs =
+    filter-filter (λ reg. not (is_at conn index reg)) (λ reg. not (is_for conn name reg && not (reg.index == index))) regs
+    ∙ filter_agree (λ reg. not (is_for conn name reg && not (reg.index == index)) && not (is_at conn index reg))
+    (λ reg. not (is_replaced conn index name reg)) (λ reg. split_test (is_of conn reg) (reg.index == index) (same_name reg.name name)) regs
+
+not_at : (c i n : Bool) → not ((c && i) || (c && n)) ≡ true → not (c && i) ≡ true
+not_at true true n h = h
+not_at true false n h = refl
+not_at false i n h = refl
+
+turn : (a b : ℕ) → (a == b) ≡ (b == a)
+turn a b = grind (arith, nat_tests)
+
+not_for : (c i n d m : Bool) → c ≡ d → n ≡ m → not ((c && i) || (c && n)) ≡ true → not (d && m) && not (c && n) ≡ true
+not_for true i n d m e f h = rw (← e, ← f) (both i n h)
+  where
+    both : (i n : Bool) → not (i || n) ≡ true → not n && not n ≡ true
+    both true n h = absurd (false≢true h)
+    both false true h = absurd (false≢true h)
+    both false false h = refl
+not_for false i n d m e f h = rw (← e) refl
+
+-- the registrations of a connector that registers are a registry
+pub registry-with : (conn : ConnId) (index : ℕ) (name : Name16) (regs : List Registration) → IsRegistry regs
+    → IsRegistry (regs_with conn index name regs)
+registry-with conn index name regs is =
+    let reg : Registration = record { conn = conn; index = index; name = name } in
+    let others = filter (λ other. not (is_replaced conn index name other)) regs in
+    let spared = list_all-filter_same (λ other. not (is_replaced conn index name other)) regs in
+    record {
+      ordered =
+          pairwise-insertion stands_before (λ other. stands_before other reg) (λ other. not (is_at conn index other)) reg others
+          (finds_place reg)
+          (list_all_weaker (λ other. not (is_replaced conn index name other)) (λ other. not (is_at conn index other))
+          (λ other. not_at (is_of conn other) (other.index == index) (same_name other.name name)) others spared)
+          (pairwise-filter stands_before (λ other. not (is_replaced conn index name other)) regs is.ordered);
+      one_for_name =
+          pairwise-insertion_any names_apart (λ other. stands_before other reg) reg others
+          (pairwise-filter names_apart (λ other. not (is_replaced conn index name other)) regs is.one_for_name)
+          (list_all_weaker (λ other. not (is_replaced conn index name other)) (λ other. names_apart reg other && names_apart other reg)
+          (λ other. not_for (is_of conn other) (other.index == index) (same_name other.name name) (conn.0 == other.conn.0)
+          (same_name name other.name) (turn other.conn.0 conn.0) (same_name-sym other.name name)) others spared);
+    }
+
+pub registry-filter : (q : Registration → Bool) (regs : List Registration) → IsRegistry regs → IsRegistry (filter q regs)
+registry-filter q regs is =
+    record {
+      ordered = pairwise-filter stands_before q regs is.ordered;
+      one_for_name = pairwise-filter names_apart q regs is.one_for_name;
+    }
+
+-- ---- one at most for a name
+
+same_for : (reg other : Registration) (conn : ConnId) (name : Name16) → is_for conn name reg ≡ true → names_apart reg other ≡ true
+    → not (is_for conn name other) ≡ true
+same_for reg other conn name h e =
+    let parts = and_parts (reg.conn.0 == conn.0) (same_name reg.name name) h in
+    let here : not ((conn.0 == other.conn.0) && same_name name other.name) ≡ true =
+    subst₂ (λ (k : ℕ) (m : Name16). not ((k == other.conn.0) && same_name m other.name) ≡ true) (eqb-true reg.conn.0 conn.0 parts.0)
+    (same_name-eq reg.name name parts.1) e in
+    rw (turn other.conn.0 conn.0, same_name-sym other.name name) here
+
+one_step : (conn : ConnId) (name : Name16) (b : Bool) (reg : Registration) (regs : List Registration) → is_for conn name reg ≡ b
+    → list_all (names_apart reg) regs ≡ true → length (filter (is_for conn name) regs) ≤ 1
+    → length (cond b (reg ∷ filter (is_for conn name) regs) (filter (is_for conn name) regs)) ≤ 1
+one_step conn name true reg regs e apart ih =
+    let none = none_from_all (is_for conn name) regs
+    (list_all_weaker (names_apart reg) (λ other. not (is_for conn name other)) (λ other h. same_for reg other conn name e h) regs apart) in
+    let empty : filter (is_for conn name) regs ≡ [] = filter_none (is_for conn name) regs none in
+    rw empty (omega arith)
+one_step conn name false reg regs e apart ih = ih
+
+pub one_for_name : (conn : ConnId) (name : Name16) (regs : List Registration) → pairwise names_apart regs ≡ true
+    → length (filter (is_for conn name) regs) ≤ 1
+one_for_name conn name [] h = omega arith
+one_for_name conn name (reg ∷ regs) h =
+    let parts = and_parts (list_all (names_apart reg) regs) (pairwise names_apart regs) h in
+    one_step conn name (is_for conn name reg) reg regs refl parts.0 (one_for_name conn name regs parts.1)
+
+-- at another index than one
+pub one_elsewhere : (conn : ConnId) (index : ℕ) (name : Name16) (regs : List Registration) → pairwise names_apart regs ≡ true
+    → length (filter (λ reg. is_for conn name reg && not (reg.index == index)) regs) ≤ 1
+one_elsewhere conn index name regs h =
+    let all = one_for_name conn name regs h in
+    let few = length-filter-le (λ reg. not (reg.index == index)) (filter (is_for conn name) regs) in
+    rw (← filter-filter (λ reg. not (reg.index == index)) (is_for conn name) regs) (omega (arith, all, few))

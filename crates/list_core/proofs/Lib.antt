@@ -1,0 +1,11 @@
+pub mod Recs
+pub mod Shown
+pub mod Tied
+pub mod Moved
+pub mod Ordered
+pub mod Contents
+pub mod Steps
+pub mod ItemLaws
+pub mod Sums
+pub mod Refused
+pub mod Engines

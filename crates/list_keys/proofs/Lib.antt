@@ -1,0 +1,3 @@
+pub mod ListsCounted
+pub mod ListsAscending
+pub mod TableLaws

@@ -1,0 +1,226 @@
+-- Filters, and what holds of all elements, of some, or of the first that passes.
+use Rattle.std.proofs.Common.{◌≡◌, ℕ, ◌+◌, ◌≤◌, Bool, true, false, not, ◌&&◌, ◌||◌, cond, List, [], ◌∷◌, Option, Some, None, length, filter, find, sum_by, is_some, map, refl, sym, ap, ◌∙◌, subst, arith}
+use Rattle.std.specs.List.{list_any, list_all}
+use Rattle.std.proofs.lemmas.Bool.{and_parts, and_from, or_cases, or_left, or_right, false≢true}
+use Rattle.std.proofs.lemmas.List.Elements.{filter_agree}
+use Rattle.std.proofs.lemmas.List.Filters.{length-filter_both, sum_by-filter_both}
+
+-- ---- two filters
+
+both_step : {X : Type 0} (a b : Bool) (x : X) (g : X → Bool) (ys zs : List X) → g x ≡ b → filter g ys ≡ zs
+    → filter g (cond a (x ∷ ys) ys) ≡ cond (a && b) (x ∷ zs) zs
+both_step true true x g ys zs e ih = rw e (ap (λ l. x ∷ l) ih)
+both_step true false x g ys zs e ih = rw e ih
+both_step false b x g ys zs e ih = ih
+
+-- one filter after another keeps what passes both
+pub filter-filter : {X : Type 0} (g f : X → Bool) (xs : List X) → filter g (filter f xs) ≡ filter (λ x. f x && g x) xs
+filter-filter g f [] = refl
+filter-filter g f (x ∷ xs) =
+    both_step (f x) (g x) x g (filter f xs) (filter (λ y. f y && g y) xs) refl (filter-filter g f xs)
+
+and_swap : (a b : Bool) → a && b ≡ b && a
+and_swap true true = refl
+and_swap true false = refl
+and_swap false true = refl
+and_swap false false = refl
+
+-- filters commute
+pub filter_swap : {X : Type 0} (g f : X → Bool) (xs : List X) → filter g (filter f xs) ≡ filter f (filter g xs)
+filter_swap g f xs =
+    filter-filter g f xs ∙ filter_agree (λ x. f x && g x) (λ x. g x && f x) (λ x. and_swap (f x) (g x)) xs
+    ∙ sym (filter-filter f g xs)
+
+absorb : (a b : Bool) → (a ≡ true → b ≡ true) → a && b ≡ a
+absorb true b h = h refl
+absorb false b h = refl
+
+-- a filter that keeps all that the first one kept
+pub filter_absorbed : {X : Type 0} (g f : X → Bool) → ((x : X) → f x ≡ true → g x ≡ true) → (xs : List X)
+    → filter g (filter f xs) ≡ filter f xs
+filter_absorbed g f h xs =
+    filter-filter g f xs ∙ filter_agree (λ x. f x && g x) f (λ x. absorb (f x) (g x) (h x)) xs
+
+-- ---- all elements
+
+keep_step : {X : Type 0} (b : Bool) (x : X) (xs ys : List X) → b ≡ true → ys ≡ xs → cond b (x ∷ ys) ys ≡ x ∷ xs
+keep_step true x xs ys e ih = ap (λ l. x ∷ l) ih
+keep_step false x xs ys e ih = absurd (false≢true e)
+
+-- a filter that all elements pass
+pub filter_all : {X : Type 0} (p : X → Bool) (xs : List X) → list_all p xs ≡ true → filter p xs ≡ xs
+filter_all p [] h = refl
+filter_all p (x ∷ xs) h =
+    let parts = and_parts (p x) (list_all p xs) h in
+    keep_step (p x) x xs (filter p xs) parts.0 (filter_all p xs parts.1)
+
+kept_step : {X : Type 0} (p : X → Bool) (b : Bool) (x : X) (ys : List X) → p x ≡ true → list_all p ys ≡ true
+    → list_all p (cond b (x ∷ ys) ys) ≡ true
+kept_step p true x ys e ih = and_from (p x) (list_all p ys) e ih
+kept_step p false x ys e ih = ih
+
+-- a filter keeps what holds of all elements
+pub list_all-filter : {X : Type 0} (p q : X → Bool) (xs : List X) → list_all p xs ≡ true → list_all p (filter q xs) ≡ true
+list_all-filter p q [] h = refl
+list_all-filter p q (x ∷ xs) h =
+    let parts = and_parts (p x) (list_all p xs) h in
+    kept_step p (q x) x (filter q xs) parts.0 (list_all-filter p q xs parts.1)
+
+-- what each element of a list has, and what follows from that
+pub list_all_weaker : {X : Type 0} (p q : X → Bool) → ((x : X) → p x ≡ true → q x ≡ true) → (xs : List X)
+    → list_all p xs ≡ true → list_all q xs ≡ true
+list_all_weaker p q h [] e = refl
+list_all_weaker p q h (x ∷ xs) e =
+    let parts = and_parts (p x) (list_all p xs) e in
+    and_from (q x) (list_all q xs) (h x parts.0) (list_all_weaker p q h xs parts.1)
+
+pub list_all_always : {X : Type 0} (p : X → Bool) → ((x : X) → p x ≡ true) → (xs : List X) → list_all p xs ≡ true
+list_all_always p h [] = refl
+list_all_always p h (x ∷ xs) = and_from (p x) (list_all p xs) (h x) (list_all_always p h xs)
+
+pub list_all_both : {X : Type 0} (p q : X → Bool) (xs : List X) → list_all p xs ≡ true → list_all q xs ≡ true
+    → list_all (λ x. p x && q x) xs ≡ true
+list_all_both p q [] e f = refl
+list_all_both p q (x ∷ xs) e f =
+    let left = and_parts (p x) (list_all p xs) e in
+    let right = and_parts (q x) (list_all q xs) f in
+    and_from (p x && q x) (list_all (λ y. p y && q y) xs) (and_from (p x) (q x) left.0 right.0)
+    (list_all_both p q xs left.1 right.1)
+
+passes_step : {X : Type 0} (q : X → Bool) (b : Bool) (x : X) (ys : List X) → q x ≡ b → list_all q ys ≡ true
+    → list_all q (cond b (x ∷ ys) ys) ≡ true
+passes_step q true x ys e ih = and_from (q x) (list_all q ys) e ih
+passes_step q false x ys e ih = ih
+
+-- all that a filter keeps passes it
+pub list_all-filter_same : {X : Type 0} (q : X → Bool) (xs : List X) → list_all q (filter q xs) ≡ true
+list_all-filter_same q [] = refl
+list_all-filter_same q (x ∷ xs) = passes_step q (q x) x (filter q xs) refl (list_all-filter_same q xs)
+
+-- what holds of none, and of not all
+pub none_from_all : {X : Type 0} (p : X → Bool) (xs : List X) → list_all (λ x. not (p x)) xs ≡ true → list_any p xs ≡ false
+none_from_all p [] h = refl
+none_from_all p (x ∷ xs) h =
+    let parts = and_parts (not (p x)) (list_all (λ y. not (p y)) xs) h in
+    rest (p x) (list_any p xs) parts.0 (none_from_all p xs parts.1)
+  where
+    rest : (a b : Bool) → not a ≡ true → b ≡ false → a || b ≡ false
+    rest true b e f = absurd (false≢true e)
+    rest false b e f = f
+
+pub all_from_none : {X : Type 0} (p : X → Bool) (xs : List X) → list_any p xs ≡ false → list_all (λ x. not (p x)) xs ≡ true
+all_from_none p [] h = refl
+all_from_none p (x ∷ xs) h = step (p x) (list_any p xs) h (all_from_none p xs)
+  where
+    step : (a b : Bool) {c : Bool} → a || b ≡ false → (b ≡ false → c ≡ true) → not a && c ≡ true
+    step true b e f = absurd (false≢true (sym e))
+    step false b e f = f e
+
+-- nothing passes p where a filter left out all that does
+pub none_filtered : {X : Type 0} (p : X → Bool) (xs : List X) → list_any p (filter (λ x. not (p x)) xs) ≡ false
+none_filtered p xs = none_from_all p (filter (λ x. not (p x)) xs) (list_all-filter_same (λ x. not (p x)) xs)
+
+leave_step : {X : Type 0} (b c : Bool) (x : X) (ys : List X) → b || c ≡ false → (c ≡ false → ys ≡ []) → cond b (x ∷ ys) ys ≡ []
+leave_step true c x ys e ih = absurd (false≢true (sym e))
+leave_step false c x ys e ih = ih e
+
+-- a filter that no element passes
+pub filter_none : {X : Type 0} (p : X → Bool) (xs : List X) → list_any p xs ≡ false → filter p xs ≡ []
+filter_none p [] h = refl
+filter_none p (x ∷ xs) h = leave_step (p x) (list_any p xs) x (filter p xs) h (filter_none p xs)
+
+pub filter_nothing : {X : Type 0} (xs : List X) → filter (λ x. false) xs ≡ []
+filter_nothing [] = refl
+filter_nothing (x ∷ xs) = filter_nothing xs
+
+-- ---- some element
+
+any_step : {X : Type 0} (p : X → Bool) (b : Bool) (x : X) (ys : List X) (c : Bool) → (list_any p ys ≡ true → c ≡ true)
+    → list_any p (cond b (x ∷ ys) ys) ≡ true → p x || c ≡ true
+any_step p true x ys c ih h = either (p x) (list_any p ys) c ih h
+  where
+    either : (a b c : Bool) → (b ≡ true → c ≡ true) → a || b ≡ true → a || c ≡ true
+    either true b c ih e = refl
+    either false b c ih e = ih e
+any_step p false x ys c ih h = or_right (p x) c (ih h)
+
+-- what a filter kept was there
+pub any-filter : {X : Type 0} (p q : X → Bool) (xs : List X) → list_any p (filter q xs) ≡ true → list_any p xs ≡ true
+any-filter p q [] h = h
+any-filter p q (x ∷ xs) h = any_step p (q x) x (filter q xs) (list_any p xs) (any-filter p q xs) h
+
+-- nothing new comes by a filter
+pub none-filter : {X : Type 0} (p q : X → Bool) (xs : List X) → list_any p xs ≡ false → list_any p (filter q xs) ≡ false
+none-filter p q xs h = contra (list_any p (filter q xs)) (list_any p xs) (any-filter p q xs) h
+  where
+    contra : (a b : Bool) → (a ≡ true → b ≡ true) → b ≡ false → a ≡ false
+    contra true b f e = absurd (false≢true (sym e ∙ f refl))
+    contra false b f e = refl
+
+pub list_any-map : {X Y : Type 0} (p : X → Bool) (f : Y → X) (ys : List Y) → list_any p (map f ys) ≡ list_any (λ y. p (f y)) ys
+list_any-map p f [] = refl
+list_any-map p f (y ∷ ys) = ap (λ b. p (f y) || b) (list_any-map p f ys)
+
+-- ---- the first element that passes
+
+found_step : {X : Type 0} (b c : Bool) (x : X) (o : Option X) → c ≡ is_some o → b || c ≡ is_some (cond b (Some x) o)
+found_step true c x o e = refl
+found_step false c x o e = e
+
+-- something passes exactly where it is found
+pub any_is_found : {X : Type 0} (p : X → Bool) (xs : List X) → list_any p xs ≡ is_some (find p xs)
+any_is_found p [] = refl
+any_is_found p (x ∷ xs) = found_step (p x) (list_any p xs) x (find p xs) (any_is_found p xs)
+
+find_step : {X : Type 0} (p : X → Bool) (a b : Bool) (x : X) (ys : List X) (o : Option X) → p x ≡ a → (a ≡ true → b ≡ true)
+    → find p ys ≡ o → find p (cond b (x ∷ ys) ys) ≡ cond a (Some x) o
+find_step p true true x ys o e h ih = rw e refl
+find_step p true false x ys o e h ih = absurd (false≢true (h refl))
+find_step p false true x ys o e h ih = rw e ih
+find_step p false false x ys o e h ih = ih
+
+-- what is looked for is kept
+pub find-filter : {X : Type 0} (p q : X → Bool) → ((x : X) → p x ≡ true → q x ≡ true) → (xs : List X)
+    → find p (filter q xs) ≡ find p xs
+find-filter p q h [] = refl
+find-filter p q h (x ∷ xs) = find_step p (p x) (q x) x (filter q xs) (find p xs) refl (h x) (find-filter p q h xs)
+
+unfound_step : {X : Type 0} (a b : Bool) (x : X) (o : Option X) → a || b ≡ false → (b ≡ false → o ≡ None)
+    → cond a (Some x) o ≡ None
+unfound_step true b x o e f = absurd (false≢true (sym e))
+unfound_step false b x o e f = f e
+
+-- nothing is found where nothing passes
+pub find_none : {X : Type 0} (p : X → Bool) (xs : List X) → list_any p xs ≡ false → find p xs ≡ None
+find_none p [] h = refl
+find_none p (x ∷ xs) h = unfound_step (p x) (list_any p xs) x (find p xs) h (find_none p xs)
+
+all_found_step : {X : Type 0} (q : X → Bool) (b : Bool) (x y : X) (o : Option X) → q x ≡ true → (o ≡ Some y → q y ≡ true)
+    → cond b (Some x) o ≡ Some y → q y ≡ true
+all_found_step q true x y o e ih h = let same : x ≡ y = cc in subst (λ z. q z ≡ true) same e
+all_found_step q false x y o e ih h = ih h
+
+-- what is found has what all have
+pub all_found : {X : Type 0} (p q : X → Bool) (xs : List X) (y : X) → list_all q xs ≡ true → find p xs ≡ Some y → q y ≡ true
+all_found p q [] y h e = absurd (cc)
+all_found p q (x ∷ xs) y h e =
+    let parts = and_parts (q x) (list_all q xs) h in
+    all_found_step q (p x) x y (find p xs) parts.0 (all_found p q xs y parts.1) e
+
+found_passes_step : {X : Type 0} (p : X → Bool) (b : Bool) (x y : X) (o : Option X) → p x ≡ b → (o ≡ Some y → p y ≡ true)
+    → cond b (Some x) o ≡ Some y → p y ≡ true
+found_passes_step p true x y o e ih h = let same : x ≡ y = cc in subst (λ z. p z ≡ true) same e
+found_passes_step p false x y o e ih h = ih h
+
+-- what is found passes
+pub found_passes : {X : Type 0} (p : X → Bool) (xs : List X) (y : X) → find p xs ≡ Some y → p y ≡ true
+found_passes p [] y e = absurd (cc)
+found_passes p (x ∷ xs) y e = found_passes_step p (p x) x y (find p xs) refl (found_passes p xs y) e
+
+-- ---- lengths and sums
+
+pub length-filter-le : {X : Type 0} (p : X → Bool) (xs : List X) → length (filter p xs) ≤ length xs
+length-filter-le p xs = omega (arith, length-filter_both p (λ x. not (p x)) (λ _. refl) xs)
+
+pub sum_by-filter-le : {X : Type 0} (f : X → ℕ) (p : X → Bool) (xs : List X) → sum_by f (filter p xs) ≤ sum_by f xs
+sum_by-filter-le f p xs = omega (arith, sum_by-filter_both p (λ x. not (p x)) (λ _. refl) f xs)

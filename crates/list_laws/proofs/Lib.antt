@@ -1,0 +1,6 @@
+pub mod FilterLaws
+pub mod InsertionLaws
+pub mod PairwiseLaws
+pub mod PrefixLaws
+pub mod KeyLaws
+pub mod MapLaws

@@ -1,0 +1,3 @@
+pub mod Pairwise
+pub mod Insertions
+pub mod Prefixes

@@ -1,0 +1,4 @@
+pub mod ListsFound
+pub mod ListsOnce
+pub mod RecordLaws
+pub mod KeptLists

@@ -1,0 +1,4 @@
+pub mod ListsCounted
+pub mod Told
+pub mod Turning
+pub mod Setting

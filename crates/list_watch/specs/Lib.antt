@@ -1,0 +1,4 @@
+pub mod Monitors
+pub mod Parts
+pub mod Changes
+pub mod WatchTable

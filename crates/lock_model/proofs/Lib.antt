@@ -1,0 +1,10 @@
+pub mod ListsMapped
+pub mod ListsKeyed
+pub mod InterestLaws
+pub mod ContentLaws
+pub mod CountLaws
+pub mod GrantLaws
+pub mod StepLaws
+pub mod ItemLaws
+pub mod EngineLaws
+pub mod SizeLaws

@@ -1,0 +1,18 @@
+use Rattle.std.proofs.Common.{◌≡◌, ◌≤◌, length, insert, arith, rules, ◌∙◌}
+use Rattle.std.specs.List.{prefix_len}
+use Rattle.std.proofs.lemmas.List.Sums.{prefix_len-le-length}
+use Rattle.list_laws.proofs.PlacingLaws.{insert-prefix_len}
+use Rattle.cf_types.specs.Resources.{resource_up_to}
+use Rattle.lock_record.proofs.records.put_record.Goals as goal
+
+pub insert-requires : goal.insert-requires
+insert-requires c =
+    let within : c.index_for-at.result ≤ length c.deref.result.now =
+    rw c.index_for-at.ensures (prefix_len-le-length (λ one. resource_up_to one.r c.args.one.r) c.deref.result.now) in
+    omega arith
+
+pub returns-clause-items : goal.returns-clause-items
+returns-clause-items c =
+    let e : c.insert.new.self.items ≡ insert c.args.records.now.items (prefix_len (λ one. resource_up_to one.r c.args.one.r) c.args.records.now.items) c.args.one =
+    search rules in
+    e ∙ insert-prefix_len (λ one. resource_up_to one.r c.args.one.r) c.args.one c.args.records.now.items

@@ -1,0 +1,2 @@
+pub mod ListsChanged
+pub mod OwnerLaws

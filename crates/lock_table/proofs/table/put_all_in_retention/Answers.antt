@@ -1,0 +1,11 @@
+use Rattle.std.proofs.Common.{if◌then◌else◌}
+use Rattle.lock_table.specs.declared.held.Held.{Held}
+use Rattle.lock_table.specs.Owners.{is_of, in_retention}
+use Rattle.lock_table.proofs.ListsChanged.{changed_more}
+use Rattle.lock_table.proofs.table.put_all_in_retention.Goals as goal
+
+pub loop-one-preserved : goal.loop-one-preserved
+loop-one-preserved c =
+    changed_more (λ (held : Held). if is_of c.args.conn held then in_retention c.args.retained held else held)
+    c.args.held.now c.loop-one.held c.loop-one.one-index c.retain.new.one _
+    c.loop-one-test.true c.loop-one.auto.held c.loop-one.invariant c.retain.ensures

@@ -1,0 +1,4 @@
+pub mod TokenLaws
+pub mod CommandLaws
+pub mod Digits
+pub mod LinesAt

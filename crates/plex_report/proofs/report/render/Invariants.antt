@@ -1,0 +1,8 @@
+use Rattle.std.proofs.Common.{◌≡◌, take}
+use Rattle.std.specs.List.{flat_map}
+use Rattle.plex_report.specs.Report.{report_lines, ended}
+use Rattle.plex_report.proofs.report.render.Given as goal
+
+-- the lines before this one stand there
+abbrev pub invariant-loop-k : goal.invariant-loop-k
+invariant-loop-k l = l.text.items ≡ flat_map ended (take l.k (report_lines l.script l.histories l.transcripts))

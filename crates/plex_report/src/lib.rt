@@ -1,0 +1,16 @@
+//! The report of a run, line by line.
+#![tactic(auto)]
+
+mod cache_text;
+mod events;
+mod items;
+mod line_text;
+mod lines;
+mod list_text;
+mod lock_text;
+mod options;
+mod refusals;
+mod report;
+mod shell_text;
+mod spelled;
+mod spots;

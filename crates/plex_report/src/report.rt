@@ -1,0 +1,291 @@
+//! The report, line by line and whole.
+
+ghost use Rattle.std.specs.Prelude.{◌≡◌, ℕ, ◌∷◌, ◌++◌, [], ◌==◌, codes, map, option_map, slice_get, IfOk, OnOk};
+ghost use Rattle.plex_report.specs.Lines.{connector_line, structure_lines, entry_lines, history_lines, transcript_lines};
+ghost use Rattle.plex_report.specs.Report.{with_number, by_number, structures_lines, histories_lines, transcripts_lines, report_lines, report, ended};
+
+use crate::lines::{
+    connector_line, entry_line, facility_line, form_line, history_heading, pref_line, shown_line,
+    transcript_heading,
+};
+use crate::spelled::Spelled;
+use crate::spots::{Spot, spot_of};
+use cf_types::{NoMemory, Pref, StrForm};
+use engine_api::Entry;
+use plex_script::{AnyHistory, Script, Transcript};
+use std::alloc::Global;
+
+// Puts the facilities with this number behind others.
+fn put_numbered(
+    sorted: &mut Vec<Pref>,
+    facilities: &[Pref],
+    number: u8,
+) -> Result<(), NoMemory>
+    ensures { OnOk result (sorted.new.items ≡ sorted.old.items
+        ++ with_number number facilities.now) }
+{
+    for facility in facilities {
+        if facility.cf.0 == number {
+            sorted.push(*facility)?;
+        }
+    }
+    Ok(())
+}
+
+// The facilities CF1 to CF4 by number.
+fn by_number(alloc: Global, facilities: &[Pref]) -> Result<Vec<Pref>, NoMemory>
+    ensures { IfOk result (λ sorted. sorted.items ≡ by_number facilities.now) }
+{
+    let mut sorted = Vec::new(alloc);
+    put_numbered(&mut sorted, facilities, 1)?;
+    put_numbered(&mut sorted, facilities, 2)?;
+    put_numbered(&mut sorted, facilities, 3)?;
+    put_numbered(&mut sorted, facilities, 4)?;
+    Ok(sorted)
+}
+
+// The k-th line of a structure: its own, and then those of its facilities.
+fn structure_line(
+    alloc: Global,
+    script: &Script,
+    form: &StrForm,
+    k: usize,
+) -> Result<Option<Vec<u8>>, NoMemory>
+    ensures { IfOk result (λ line. option_map (λ v. v.items) line
+        ≡ slice_get (structure_lines script.now form.now) k) }
+{
+    if k == 0 {
+        return Ok(Some(form_line(alloc, script, form)?));
+    }
+    match form.prefs.items().get(k - 1) {
+        Some(pref) => Ok(Some(pref_line(alloc, form, pref)?)),
+        None => Ok(None),
+    }
+}
+
+// The k-th line of entries under their heading.
+fn told_line<C: Spelled, R: Spelled>(
+    alloc: Global,
+    script: &Script,
+    number: usize,
+    entries: &[Entry<C, R>],
+    k: usize,
+) -> Result<Option<Vec<u8>>, NoMemory>
+    ensures { IfOk result (λ line. option_map (λ v. v.items) line
+        ≡ slice_get (entry_lines C.words R.words script.now number entries.now) k) }
+{
+    if k == 0 {
+        return Ok(Some(history_heading(alloc, script, number, entries.len())?));
+    }
+    match entries.get(k - 1) {
+        Some(entry) => Ok(Some(entry_line(alloc, script, entry)?)),
+        None => Ok(None),
+    }
+}
+
+// The k-th line of the history of the structure with this number.
+fn history_line(
+    alloc: Global,
+    script: &Script,
+    number: usize,
+    history: &AnyHistory,
+    k: usize,
+) -> Result<Option<Vec<u8>>, NoMemory>
+    ensures { IfOk result (λ line. option_map (λ v. v.items) line
+        ≡ slice_get (history_lines script.now number history.now) k) }
+{
+    match history {
+        AnyHistory::Cache(history) => told_line(alloc, script, number, history.entries(), k),
+        AnyHistory::List(history) => told_line(alloc, script, number, history.entries(), k),
+        AnyHistory::Lock(history) => told_line(alloc, script, number, history.entries(), k),
+    }
+}
+
+// The k-th line of the transcript of the caller with this number.
+fn transcript_line(
+    alloc: Global,
+    script: &Script,
+    number: usize,
+    transcript: &Transcript,
+    k: usize,
+) -> Result<Option<Vec<u8>>, NoMemory>
+    ensures { IfOk result (λ line. option_map (λ v. v.items) line
+        ≡ slice_get (transcript_lines script.now number transcript.now) k) }
+{
+    let items = transcript.items.items();
+    if k == 0 {
+        return Ok(Some(transcript_heading(alloc, script, number, items.len())?));
+    }
+    match items.get(k - 1) {
+        Some(shown) => Ok(Some(shown_line(alloc, script, shown)?)),
+        None => Ok(None),
+    }
+}
+
+// The k-th line from the transcripts on.
+fn told_to_callers(
+    alloc: Global,
+    script: &Script,
+    transcripts: &[Transcript],
+    k: usize,
+) -> Result<Option<Vec<u8>>, NoMemory>
+    ensures { IfOk result (λ line. option_map (λ v. v.items) line
+        ≡ slice_get (transcripts_lines script.now transcripts.now ++ codes "END" ∷ []) k) }
+{
+    match spot_of(transcripts, k) {
+        Spot::Within { section, line } => {
+            transcript_line(alloc, script, section, &transcripts[section], line)
+        }
+        Spot::Past { lines } => {
+            if lines > 0 {
+                return Ok(None);
+            }
+            let line = Vec::from_slice(alloc, b"END")?;
+            Ok(Some(line))
+        }
+    }
+}
+
+// The k-th line from the histories on.
+fn told_of_structures(
+    alloc: Global,
+    script: &Script,
+    histories: &[AnyHistory],
+    transcripts: &[Transcript],
+    k: usize,
+) -> Result<Option<Vec<u8>>, NoMemory>
+    ensures { IfOk result (λ line. option_map (λ v. v.items) line
+        ≡ slice_get (histories_lines script.now histories.now
+            ++ (transcripts_lines script.now transcripts.now ++ codes "END" ∷ [])) k) }
+{
+    match spot_of(histories, k) {
+        Spot::Within { section, line } => {
+            history_line(alloc, script, section, &histories[section], line)
+        }
+        Spot::Past { lines } => told_to_callers(alloc, script, transcripts, lines),
+    }
+}
+
+// The k-th line from the connectors on.
+fn behind_structures(
+    alloc: Global,
+    script: &Script,
+    histories: &[AnyHistory],
+    transcripts: &[Transcript],
+    k: usize,
+) -> Result<Option<Vec<u8>>, NoMemory>
+    ensures { IfOk result (λ line. option_map (λ v. v.items) line
+        ≡ slice_get (map connector_line script.now.connectors
+            ++ (histories_lines script.now histories.now
+            ++ (transcripts_lines script.now transcripts.now ++ codes "END" ∷ []))) k) }
+{
+    let names = script.connectors.items();
+    if k < names.len() {
+        return Ok(Some(connector_line(alloc, &names[k])?));
+    }
+    told_of_structures(alloc, script, histories, transcripts, k - names.len())
+}
+
+// The k-th line from the structures on.
+fn behind_facilities(
+    alloc: Global,
+    script: &Script,
+    histories: &[AnyHistory],
+    transcripts: &[Transcript],
+    k: usize,
+) -> Result<Option<Vec<u8>>, NoMemory>
+    ensures { IfOk result (λ line. option_map (λ v. v.items) line
+        ≡ slice_get (structures_lines script.now ++ (map connector_line script.now.connectors
+            ++ (histories_lines script.now histories.now
+            ++ (transcripts_lines script.now transcripts.now ++ codes "END" ∷ [])))) k) }
+{
+    let forms = script.structures.items();
+    match spot_of(forms, k) {
+        Spot::Within { section, line } => structure_line(alloc, script, &forms[section], line),
+        Spot::Past { lines } => behind_structures(alloc, script, histories, transcripts, lines),
+    }
+}
+
+// The k-th line of the report, from 0, without its line feed.
+fn bare_line(
+    alloc: Global,
+    script: &Script,
+    histories: &[AnyHistory],
+    transcripts: &[Transcript],
+    k: usize,
+) -> Result<Option<Vec<u8>>, NoMemory>
+    ensures { IfOk result (λ line. option_map (λ v. v.items) line
+        ≡ slice_get (report_lines script.now histories.now transcripts.now) k) }
+{
+    let facilities = by_number(alloc, script.facilities.items())?;
+    if k < facilities.len() {
+        return Ok(Some(facility_line(alloc, &facilities[k])?));
+    }
+    behind_facilities(alloc, script, histories, transcripts, k - facilities.len())
+}
+
+// The k-th line of the report, from 0, with its line feed.
+fn ended_line(
+    alloc: Global,
+    script: &Script,
+    histories: &[AnyHistory],
+    transcripts: &[Transcript],
+    k: usize,
+) -> Result<Option<Vec<u8>>, NoMemory>
+    ensures { IfOk result (λ line. option_map (λ v. v.items) line
+        ≡ slice_get (map ended (report_lines script.now histories.now transcripts.now)) k) }
+{
+    match bare_line(alloc, script, histories, transcripts, k)? {
+        None => Ok(None),
+        Some(mut line) => {
+            line.push(b'\n')?;
+            Ok(Some(line))
+        }
+    }
+}
+
+/// The k-th line of the report, from 0, with its line feed; `None` exactly past the last. It walks
+/// over structures, histories and transcripts, and not over what they hold, and takes memory for
+/// the facilities and for this line alone.
+///
+/// # Errors
+///
+/// `NoMemory` where there is no memory for the line.
+pub fn line(
+    alloc: Global,
+    script: &Script,
+    histories: &[AnyHistory],
+    transcripts: &[Transcript],
+    k: u32,
+) -> Result<Option<Vec<u8>>, NoMemory>
+    ensures { IfOk result (λ line. option_map (λ v. v.items) line
+        ≡ slice_get (map ended (report_lines script.now histories.now transcripts.now)) k) }
+{
+    ended_line(alloc, script, histories, transcripts, k as usize)
+}
+
+/// The whole report.
+///
+/// # Errors
+///
+/// `NoMemory` where there is no memory for the text, or the report has more lines than memory could
+/// hold.
+pub fn render(
+    alloc: Global,
+    script: &Script,
+    histories: &[AnyHistory],
+    transcripts: &[Transcript],
+) -> Result<Vec<u8>, NoMemory>
+    ensures { IfOk result (λ text. text.items
+        ≡ report script.now histories.now transcripts.now) }
+{
+    let mut text = Vec::new(alloc);
+    for k in 0..usize::MAX {
+        let Some(line) = ended_line(alloc, script, histories, transcripts, k)? else {
+            return Ok(text);
+        };
+        text.extend_from_slice(line.as_slice())?;
+    }
+    // No memory holds a report of so many lines.
+    Err(NoMemory)
+}

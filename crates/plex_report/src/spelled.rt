@@ -1,0 +1,18 @@
+//! What is spelled by words of a line: commands and replies.
+
+ghost use Rattle.std.specs.Prelude.{◌≡◌, ℕ, List, ◌++◌, OnOk};
+ghost use Rattle.plex_spell.specs.Words.{spaced};
+ghost use Rattle.plex_script.specs.declared.scripts.Script.{Script};
+
+use cf_types::NoMemory;
+use plex_script::Script;
+
+/// A command or a reply, and its words in a script's report.
+pub(crate) trait Spelled {
+    ghost words: { Script → Self → List (List ℕ) };
+
+    /// Puts the words to a line, with a blank before each.
+    fn put(&self, line: &mut Vec<u8>, script: &Script) -> Result<(), NoMemory>
+        ensures { OnOk result (line.new.items ≡ line.old.items
+            ++ spaced (words script.now self.now)) };
+}

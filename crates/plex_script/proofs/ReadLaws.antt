@@ -1,0 +1,139 @@
+-- Reading a text line by line.
+use Rattle.std.proofs.Common.{◌≡◌, ◌≢◌, ℕ, ◌<◌, ◌+◌, ◌-◌, ◌==◌, ◌||◌, Bool, true, false, min, nat_lt, List, [], ◌∷◌, ◌++◌, length, get_or, take, drop, Some, None, position, refl, sym, ap, ◌∙◌, arith, zero, suc, append_assoc, length-append}
+use Rattle.std.specs.List.{slice_split, list_any, position_or_len, before_first, after_first}
+use Rattle.std.proofs.lemmas.Bool.Decides.{nat_tests}
+use Rattle.std.proofs.lemmas.List.{append-nil}
+use Rattle.std.proofs.lemmas.List.Splits.{slice_split_first}
+use Rattle.plex_spell.specs.Words.{is_nonempty, without_return, lines_in, lines_of}
+use Rattle.plex_spell.proofs.TextLaws.{any-some, any-none, any-place}
+use Rattle.plex_script.specs.declared.scripts.Script.{Script}
+use Rattle.plex_script.specs.declared.line_faults.LineFault.{LineFault}
+use Rattle.plex_script.specs.declared.line_faults.LineFault.TheVariants.{Wrong, NoMemory}
+use Rattle.plex_script.specs.Causes.{LineCause}
+use Rattle.plex_script.specs.Scripts.{empty_script, Adds, AddsAll, line_number, IsScript}
+use Rattle.plex_script.specs.Reading.{IsFaultBy, fault_at, TellsFault}
+
+-- ---- carriage returns
+
+pub return-yes : (line : List ℕ) (n : ℕ) → length line ≡ suc n → get_or line n 0 ≡ 13 → without_return line ≡ take n line
+return-yes [] n e h = absurd (omega (arith, e))
+return-yes (b ∷ []) zero e h = rw h refl
+return-yes (b ∷ []) (suc n) e h = absurd (omega (arith, e))
+return-yes (b ∷ c ∷ bs) zero e h = absurd (omega (arith, e))
+return-yes (b ∷ c ∷ bs) (suc n) e h = ap (λ (l : List ℕ). b ∷ l) (return-yes (c ∷ bs) n (omega (arith, e)) h)
+
+pub return-no : (line : List ℕ) (n : ℕ) → length line ≡ suc n → get_or line n 0 ≢ 13 → without_return line ≡ line
+return-no [] n e h = refl
+return-no (b ∷ []) zero e h = let other : (b == 13) ≡ false = grind (arith, nat_tests) in rw other refl
+return-no (b ∷ []) (suc n) e h = absurd (omega (arith, e))
+return-no (b ∷ c ∷ bs) zero e h = absurd (omega (arith, e))
+return-no (b ∷ c ∷ bs) (suc n) e h = ap (λ (l : List ℕ). b ∷ l) (return-no (c ∷ bs) n (omega (arith, e)) h)
+
+-- ---- line feeds
+
+split_cons : (p : ℕ → Bool) (xs : List ℕ) → (y : List ℕ) × (ys : List (List ℕ)) × (slice_split p xs ≡ y ∷ ys)
+split_cons p [] = ([], [], refl)
+split_cons p (x ∷ xs) = at_test (p x) refl (split_cons p xs)
+  where
+    at_test : (b : Bool) → p x ≡ b → ((y : List ℕ) × (ys : List (List ℕ)) × (slice_split p xs ≡ y ∷ ys))
+        → (y : List ℕ) × (ys : List (List ℕ)) × (slice_split p (x ∷ xs) ≡ y ∷ ys)
+    at_test true e more = ([], slice_split p xs, rw e refl)
+    at_test false e more = (x ∷ more.0, more.1, rw (e, more.2) refl)
+
+lines_in-more : (part : List ℕ) (p : ℕ → Bool) (xs : List ℕ) → lines_in (part ∷ slice_split p xs) ≡ without_return part ∷ lines_in (slice_split p xs)
+lines_in-more part p xs = let more = split_cons p xs in rw more.2 refl
+
+pub lines-feed : (text : List ℕ) (place : ℕ) → position (λ b. b == 10) text ≡ Some place
+    → lines_of text ≡ without_return (take place text) ∷ lines_of (drop (place + 1) text)
+lines-feed text place h =
+    let p = λ (b : ℕ). b == 10 in
+    let any = any-some p text place h in
+    let within : nat_lt (position_or_len p text) (length text) ≡ true = sym (any-place p text) ∙ any.0 in
+    let lt : position_or_len p text < length text = grind (arith, nat_tests) in
+    ap lines_in (slice_split_first p text 0 lt) ∙ lines_in-more (before_first p text) p (after_first p text)
+    ∙ ap (λ (n : ℕ). without_return (take n text) ∷ lines_of (drop (n + 1) text)) (sym any.1)
+
+or_none : (a b : Bool) → (a || b) ≡ false → (a ≡ false) × (b ≡ false)
+or_none true b h = absurd (cc)
+or_none false b h = (refl, h)
+
+split_free : (p : ℕ → Bool) (xs : List ℕ) → list_any p xs ≡ false → slice_split p xs ≡ xs ∷ []
+split_free p [] h = refl
+split_free p (x ∷ xs) h = let parts = or_none (p x) (list_any p xs) h in rw (parts.0, split_free p xs parts.1) refl
+
+nonempty_is : (text : List ℕ) → 0 < length text → is_nonempty text ≡ true
+nonempty_is [] h = absurd (omega arith)
+nonempty_is (b ∷ bs) h = refl
+
+pub lines-last : (text : List ℕ) → 0 < length text → position (λ b. b == 10) text ≡ None → lines_of text ≡ text ∷ []
+lines-last text some h =
+    let p = λ (b : ℕ). b == 10 in
+    ap lines_in (split_free p text (any-none p text h)) ∙ rw (nonempty_is text some) refl
+
+-- ---- line after line
+
+pub AddsAll-more : (script : Script) (count : ℕ) (front : List (List ℕ)) (mid : Script) (line : List ℕ) (next : Script) → AddsAll script count front mid
+    → Adds mid (line_number (count + length front + 1)) line next → AddsAll script count (front ++ line ∷ []) next
+AddsAll-more script count [] mid line next h k =
+    let n : count + 0 + 1 ≡ count + 1 = omega arith in
+    let here : Adds script (line_number (count + 1)) line next = rw (← h, ← n) k in
+    (next, here, refl)
+AddsAll-more script count (l ∷ front) mid line next h k =
+    let n : count + length (l ∷ front) + 1 ≡ count + 1 + length front + 1 = omega arith in
+    (h.0, h.1, AddsAll-more h.0 (count + 1) front mid line next h.2 (rw n at k))
+
+-- these lines are read, and this text is left
+pub record IsRead (text : List ℕ) (script : Script) (number : ℕ) (rest : List ℕ) : Type 0 where
+  pub front : List (List ℕ)
+  pub whole : lines_of text ≡ front ++ lines_of rest
+  pub count : number ≡ line_number (length front)
+  pub fine : AddsAll empty_script 0 front script
+
+next_number : (n : ℕ) → min (min n 4294967295 + 1) 4294967295 ≡ min (n + 1) 4294967295
+next_number n = omega arith
+
+number_more : (number count : ℕ) → number ≡ line_number count → min (number + 1) 4294967295 ≡ line_number (count + 1)
+number_more number count h = rw h (next_number count)
+
+pub IsRead-more : (text : List ℕ) (script : Script) (number : ℕ) (rest line more : List ℕ) (next : Script) (after : ℕ) → IsRead text script number rest
+    → lines_of rest ≡ line ∷ lines_of more → after ≡ min (number + 1) 4294967295 → Adds script after line next → IsRead text next after more
+IsRead-more text script number rest line more next after h lines is adds =
+    let as_count : after ≡ line_number (length h.front + 1) = is ∙ number_more number (length h.front) h.count in
+    let len : length (h.front ++ line ∷ []) ≡ length h.front + 1 = omega (arith, length-append h.front (line ∷ [])) in
+    let zero_more : 0 + length h.front + 1 ≡ length h.front + 1 = omega arith in
+    record {
+      front = h.front ++ line ∷ [];
+      whole = h.whole ∙ ap (λ (ls : List (List ℕ)). h.front ++ ls) lines ∙ sym (append_assoc h.front (line ∷ []) (lines_of more));
+      count = rw len as_count;
+      fine = AddsAll-more empty_script 0 h.front script line next h.fine (rw zero_more (rw as_count at adds));
+    }
+
+pub IsScript-read : (text : List ℕ) (script : Script) (number : ℕ) (rest : List ℕ) → IsRead text script number rest → length rest ≡ 0 → IsScript text script
+IsScript-read text script number [] h e = let all : lines_of text ≡ h.front = h.whole ∙ append-nil h.front in rw all h.fine
+IsScript-read text script number (b ∷ rest) h e = absurd (omega (arith, e))
+
+pub fault-read : (text : List ℕ) (script : Script) (number : ℕ) (rest line more : List ℕ) (after : ℕ) (fault : LineFault) → IsRead text script number rest
+    → lines_of rest ≡ line ∷ lines_of more → after ≡ min (number + 1) 4294967295 → IsFaultBy (LineCause script line) fault → TellsFault text (fault_at after fault)
+fault-read text script number rest line more after (Wrong why) h lines is cause =
+    record {
+      front = h.front;
+      line = line;
+      behind = lines_of more;
+      whole = h.whole ∙ ap (λ (ls : List (List ℕ)). h.front ++ ls) lines;
+      before = script;
+      fine = h.fine;
+      cause = cause;
+      here = is ∙ number_more number (length h.front) h.count;
+    }
+fault-read text script number rest line more after NoMemory h lines is cause = tt
+
+drop_whole : (xs : List ℕ) → drop (length xs) xs ≡ []
+drop_whole [] = refl
+drop_whole (x ∷ xs) = drop_whole xs
+
+take_none : (n : ℕ) → take {A = ℕ} n [] ≡ []
+take_none zero = refl
+take_none (suc n) = refl
+
+pub nothing_left : (text : List ℕ) → take (length text - length text) (drop (length text) text) ≡ []
+nothing_left text = rw (drop_whole text) (take_none (length text - length text))

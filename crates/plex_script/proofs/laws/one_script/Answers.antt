@@ -1,0 +1,7 @@
+use Rattle.plex_spell.specs.Words.{lines_of}
+use Rattle.plex_script.specs.Scripts.{empty_script}
+use Rattle.plex_script.proofs.LineLaws.{all-one}
+use Rattle.plex_script.proofs.laws.one_script.Goals as goal
+
+pub returns : goal.returns
+returns c = λ text one other h k. all-one (lines_of text) empty_script 0 one other h k

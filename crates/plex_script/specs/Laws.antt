@@ -1,0 +1,17 @@
+-- What is true of all texts.
+use Rattle.std.specs.Prelude.{◌≡◌, ℕ, List, ◌⊎◌}
+use Rattle.plex_script.specs.declared.faults.Why.{Why}
+use Rattle.plex_script.specs.declared.scripts.Script.{Script}
+use Rattle.plex_script.specs.Scripts.{IsScript, IsFault}
+
+-- a text says one script
+abbrev pub SaysOne : Type 0
+SaysOne = (text : List ℕ) (one other : Script) → IsScript text one → IsScript text other → one ≡ other
+
+-- each text is a script or has a first fault
+abbrev pub IsDecided : Type 0
+IsDecided = (text : List ℕ) → ((script : Script) × IsScript text script) ⊎ ((number : ℕ) × (why : Why) × IsFault text number why)
+
+-- and not both
+abbrev pub IsExclusive : Type 0
+IsExclusive = (text : List ℕ) (script : Script) (number : ℕ) (why : Why) → IsScript text script → IsFault text number why → ⊥

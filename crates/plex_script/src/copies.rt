@@ -1,0 +1,180 @@
+ghost use Rattle.std.specs.Prelude.{◌≡◌, IfOk};
+
+use crate::scripts::AnyAsk;
+use cf_types::{Body, CacheCmd, ListCmd, NoMemory, copy_body};
+use engine_api::Ask;
+use std::alloc::Global;
+
+fn copy_data(alloc: Global, body: &Option<Body>) -> Result<Option<Body>, NoMemory>
+    ensures { IfOk result (λ copy. copy ≡ body.now) }
+{
+    match body {
+        Some(body) => Ok(Some(copy_body(alloc, body)?)),
+        None => Ok(None),
+    }
+}
+
+fn copy_cache(alloc: Global, cmd: &CacheCmd) -> Result<CacheCmd, NoMemory>
+    ensures { IfOk result (λ copy. copy ≡ cmd.now) }
+{
+    match cmd {
+        CacheCmd::Read {
+            name,
+            index,
+            old,
+            stg,
+        } => Ok(CacheCmd::Read {
+            name: *name,
+            index: *index,
+            old: *old,
+            stg: *stg,
+        }),
+        CacheCmd::Write {
+            name,
+            index,
+            body,
+            class,
+            adj,
+            old,
+            stg,
+            when_reg,
+        } => Ok(CacheCmd::Write {
+            name: *name,
+            index: *index,
+            body: copy_body(alloc, body)?,
+            class: *class,
+            adj: *adj,
+            old: *old,
+            stg: *stg,
+            when_reg: *when_reg,
+        }),
+        CacheCmd::CrossInval { name } => Ok(CacheCmd::CrossInval { name: *name }),
+        CacheCmd::RegList => Ok(CacheCmd::RegList),
+        CacheCmd::Castout { name } => Ok(CacheCmd::Castout { name: *name }),
+        CacheCmd::Unlock { name } => Ok(CacheCmd::Unlock { name: *name }),
+        CacheCmd::CoClass { class } => Ok(CacheCmd::CoClass { class: *class }),
+        CacheCmd::CoStats => Ok(CacheCmd::CoStats),
+        CacheCmd::DirInfo { name } => Ok(CacheCmd::DirInfo { name: *name }),
+        CacheCmd::Delete { name } => Ok(CacheCmd::Delete { name: *name }),
+        CacheCmd::StgStats { stg } => Ok(CacheCmd::StgStats { stg: *stg }),
+    }
+}
+
+fn copy_list(alloc: Global, cmd: &ListCmd) -> Result<ListCmd, NoMemory>
+    ensures { IfOk result (λ copy. copy ≡ cmd.now) }
+{
+    match cmd {
+        ListCmd::Write {
+            header,
+            head,
+            name,
+            key,
+            body,
+            adj,
+            cond,
+        } => Ok(ListCmd::Write {
+            header: *header,
+            head: *head,
+            name: *name,
+            key: *key,
+            body: copy_data(alloc, body)?,
+            adj: *adj,
+            cond: *cond,
+        }),
+        ListCmd::Update {
+            at,
+            body,
+            adj,
+            cond,
+        } => Ok(ListCmd::Update {
+            at: *at,
+            body: copy_data(alloc, body)?,
+            adj: *adj,
+            cond: *cond,
+        }),
+        ListCmd::Read { at, cond } => Ok(ListCmd::Read {
+            at: *at,
+            cond: *cond,
+        }),
+        ListCmd::Move {
+            at,
+            header,
+            head,
+            key,
+            cond,
+        } => Ok(ListCmd::Move {
+            at: *at,
+            header: *header,
+            head: *head,
+            key: *key,
+            cond: *cond,
+        }),
+        ListCmd::Delete { at, cond } => Ok(ListCmd::Delete {
+            at: *at,
+            cond: *cond,
+        }),
+        ListCmd::ReadList { header } => Ok(ListCmd::ReadList { header: *header }),
+        ListCmd::LockSet { lock } => Ok(ListCmd::LockSet { lock: *lock }),
+        ListCmd::LockReset { lock } => Ok(ListCmd::LockReset { lock: *lock }),
+        ListCmd::LockTest { lock } => Ok(ListCmd::LockTest { lock: *lock }),
+        ListCmd::LControls { header } => Ok(ListCmd::LControls { header: *header }),
+        ListCmd::SetLimit { header, n } => Ok(ListCmd::SetLimit {
+            header: *header,
+            n: *n,
+        }),
+        ListCmd::Monitor { header, index } => Ok(ListCmd::Monitor {
+            header: *header,
+            index: *index,
+        }),
+        ListCmd::Unmonitor { header } => Ok(ListCmd::Unmonitor { header: *header }),
+    }
+}
+
+/// A second call, equal to the first.
+pub fn copy_ask(alloc: Global, ask: &AnyAsk) -> Result<AnyAsk, NoMemory>
+    ensures { IfOk result (λ copy. copy ≡ ask.now) }
+{
+    match ask {
+        AnyAsk::Cache(Ask::Shell(cmd)) => Ok(AnyAsk::Cache(Ask::Shell(*cmd))),
+        AnyAsk::Cache(Ask::Content(cmd)) => {
+            Ok(AnyAsk::Cache(Ask::Content(copy_cache(alloc, cmd)?)))
+        }
+        AnyAsk::List(Ask::Shell(cmd)) => Ok(AnyAsk::List(Ask::Shell(*cmd))),
+        AnyAsk::List(Ask::Content(cmd)) => Ok(AnyAsk::List(Ask::Content(copy_list(alloc, cmd)?))),
+        AnyAsk::Lock(Ask::Shell(cmd)) => Ok(AnyAsk::Lock(Ask::Shell(*cmd))),
+        AnyAsk::Lock(Ask::Content(cmd)) => Ok(AnyAsk::Lock(Ask::Content(*cmd))),
+    }
+}
+
+#[cfg(test)]
+mod tests {
+    use super::*;
+    use cf_types::parse_body;
+    use std::test::Fail;
+
+    #[test]
+    fn calls_are_copied(rt: HostRuntime) -> Result<(), Fail> {
+        let body = parse_body(rt.alloc(), b"abc").ok();
+        let update = ListCmd::Update {
+            at: cf_types::At::Head(3),
+            body,
+            adj: None,
+            cond: None,
+        };
+        let copy = copy_ask(rt.alloc(), &AnyAsk::List(Ask::Content(update)))?;
+        match copy {
+            AnyAsk::List(
+                Ask::Content(
+                    ListCmd::Update {
+                        body: Some(body),
+                        ..
+                    },
+                ),
+            ) => {
+                assert_eq!(rt; body.bytes(), b"abc".as_slice());
+            }
+            _ => return Err("another call".into()),
+        }
+        Ok(())
+    }
+}

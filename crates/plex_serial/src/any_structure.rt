@@ -1,0 +1,96 @@
+//! A structure of whatever kind.
+ghost use Rattle.std.specs.Prelude.{◌≡◌, ◌+◌, ◌<◌, ◌^◌, IfOk, OnOk, OnErr, IsOk};
+ghost use Rattle.cf_types.specs.Forms.{IsForm, IsCaller};
+ghost use Rattle.cf_types.specs.declared.forms.Kind.TheVariants.{Cache};
+ghost use Rattle.plex_script.specs.Heard.{any_length, any_calls, own_calls, is_linked};
+ghost use Rattle.plex_serial.specs.Kinds.{IsAskOf, IsBuiltKind, no_calls, any_next, any_told, any_stands};
+ghost use Rattle.plex_serial.specs.Runnable.{MayAskAny};
+ghost use Rattle.plex_serial.specs.Boards.{form_of, history_of};
+
+use crate::structure::Structure;
+use cache_core::CacheEngine;
+use cf_types::{ConnId, Kind, NoMemory, StrForm};
+use engine_api::Told;
+use plex_script::{AnyAsk, AnyHistory};
+use std::alloc::Global;
+
+/// A structure of whatever kind.
+#[derive(Drop)]
+pub enum AnyStructure {
+    Cache(Structure<CacheEngine>),
+}
+
+impl AnyStructure {
+    /// A structure of this form, without calls yet.
+    pub fn start(alloc: Global, form: StrForm) -> Result<AnyStructure, NoMemory>
+        requires formed { IsForm form }
+        requires built { IsBuiltKind form.kind }
+        ensures form { IfOk result (λ one. form_of one ≡ form) }
+        ensures history { IfOk result (λ one. history_of one ≡ no_calls form.kind) }
+    {
+        match form.kind {
+            Kind::Cache => Ok(AnyStructure::Cache(Structure::start(alloc, form)?)),
+            Kind::List { .. } | Kind::Lock => unreachable!(),
+        }
+    }
+
+    /// How many calls there were.
+    pub fn len(&self) -> u32
+        ensures { result ≡ any_length (history_of self.now) }
+    {
+        match self {
+            AnyStructure::Cache(structure) => structure.len(),
+        }
+    }
+
+    /// The bit of a connector's vector.
+    pub fn stands(&self, conn: ConnId, index: u32) -> bool
+        requires { IsCaller conn }
+        ensures { result ≡ any_stands (form_of self.now) (history_of self.now) conn index }
+    {
+        match self {
+            AnyStructure::Cache(structure) => structure.stands(conn, index),
+        }
+    }
+
+    /// Whether a connector is active, by the replies to its own calls.
+    pub fn linked(&self, conn: ConnId) -> bool
+        requires { IsCaller conn }
+        ensures { result ≡ is_linked (own_calls (any_calls (history_of self.now)) conn) }
+    {
+        match self {
+            AnyStructure::Cache(structure) => structure.linked(conn),
+        }
+    }
+
+    /// A call is answered and journalled at once; what is told of it.
+    pub fn call(&mut self, alloc: Global, by: ConnId, ask: AnyAsk) -> Result<Told, NoMemory>
+        requires kind { IsAskOf (form_of self.old).kind ask }
+        requires built { IsBuiltKind (form_of self.old).kind }
+        requires may { MayAskAny by ask }
+        requires numbered { any_length (history_of self.old) + 1 < 2 ^ 32 }
+        ensures form { form_of self.new ≡ form_of self.old }
+        ensures history { OnOk result (history_of self.new
+            ≡ any_next (form_of self.old) (history_of self.old) by ask) }
+        ensures told { IfOk result (λ it. it
+            ≡ any_told (form_of self.old) (history_of self.old) by ask) }
+        ensures number { IfOk result (λ it. it.no ≡ any_length (history_of self.old) + 1) }
+        ensures err { OnErr result (history_of self.new ≡ history_of self.old) }
+    {
+        match self {
+            AnyStructure::Cache(structure) => match ask {
+                AnyAsk::Cache(ask) => structure.call(alloc, by, ask),
+                AnyAsk::List(_) | AnyAsk::Lock(_) => unreachable!(),
+            },
+        }
+    }
+
+    /// The history.
+    pub fn into_history(self) -> AnyHistory
+        ensures { result ≡ history_of self }
+    {
+        match self {
+            AnyStructure::Cache(structure) => AnyHistory::Cache(structure.into_history()),
+        }
+    }
+}

@@ -1,0 +1,173 @@
+-- Words of two parts: data that are repeated, and resources.
+use Rattle.std.proofs.Common.{◌≡◌, ℕ, ◌<◌, ◌≤◌, ◌+◌, ◌*◌, ◌==◌, ◌||◌, Bool, true, false, not, cond, nat_lt, nat_le, List, [], ◌∷◌, ◌++◌, length, get_or, take, drop, Option, Some, None, option_map, refl, sym, ap, ◌∙◌, arith, inl, inr, lit<}
+use Rattle.std.specs.Fmt.{decimal}
+use Rattle.std.specs.List.{list_all, repeat, before_first, after_first, position_or_len, take_while}
+use Rattle.std.proofs.lemmas.Bool.{and_parts, and_from}
+use Rattle.std.proofs.lemmas.Bool.Decides.{nat_tests}
+use Rattle.std.proofs.lemmas.List.Sums.{take_while-cons, split_at_first, passes_at_first}
+use Rattle.cf_types.specs.declared.names.Name16.{Name16}
+use Rattle.cf_types.specs.declared.resources.Resource.{Resource}
+use Rattle.cf_types.specs.Term.{term_byte, padded}
+use Rattle.plex_spell.specs.declared.rigour.Rigour.{Rigour}
+use Rattle.plex_spell.specs.declared.rigour.Rigour.TheVariants.{Form, Limits, Names}
+use Rattle.plex_spell.specs.Tokens.{IsCut, AtLimits, IsNumber, IsRepeated, IsData, IsResource, is_term}
+use Rattle.plex_spell.specs.Places.{◌>>=◌, kept, number_of, text_of, name_of, stands_in, repeated_of, data_of, resource_in, resource_of}
+use Rattle.plex_spell.proofs.Choices.{chosen, not_some, mapped, bound}
+use Rattle.plex_spell.proofs.TextLaws.{any-place, characters-term, length-repeat}
+use Rattle.plex_spell.proofs.WordLaws.{Finds, kept_value, kept_finds, at_limits-map, at_limits-both, number-sound, number-complete, number-strict, text-sound, text-complete, name-sound, name-complete, le_true, true_le}
+
+abbrev is_free : ℕ → List ℕ → Bool
+is_free at word = list_all (λ b. not (b == at)) word
+
+-- ---- where a byte first stands
+
+list_all-passed : (q : ℕ → Bool) (x : ℕ) (xs : List ℕ) (b : Bool) → q x ≡ b → list_all q xs ≡ true → list_all q (cond b (x ∷ xs) []) ≡ true
+list_all-passed q x xs true e h = and_from (q x) (list_all q xs) e h
+list_all-passed q x xs false e h = refl
+
+list_all-take_while : (q : ℕ → Bool) (xs : List ℕ) → list_all q (take_while q xs) ≡ true
+list_all-take_while q [] = refl
+list_all-take_while q (x ∷ xs) =
+    rw (take_while-cons q x xs) (list_all-passed q x (take_while q xs) (q x) refl (list_all-take_while q xs))
+
+pub IsCut-stands : (at : ℕ) (word : List ℕ) → stands_in at word ≡ true → IsCut at word (before_first (λ b. b == at) word) (after_first (λ b. b == at) word)
+IsCut-stands at word h =
+    let p = λ (b : ℕ). b == at in
+    let i = position_or_len p word in
+    let within : nat_lt i (length word) ≡ true = sym (any-place p word) ∙ h in
+    let lt : i < length word = grind (arith, nat_tests) in
+    let passes : (get_or word i 0 == at) ≡ true = passes_at_first p word 0 lt in
+    let found : get_or word i 0 ≡ at = grind (arith, nat_tests) in
+    record {
+      whole = split_at_first p word 0 lt ∙ ap (λ (b : ℕ). take i word ++ b ∷ drop (i + 1) word) found;
+      first = list_all-take_while (λ b. not (b == at)) word;
+    }
+
+not_free-middle : (at : ℕ) (xs ys : List ℕ) → is_free at (xs ++ at ∷ ys) ≡ true → ⊥
+not_free-middle at [] ys h = let same : (at == at) ≡ true = grind (arith, nat_tests) in let free = (and_parts (not (at == at)) (is_free at ys) h).0 in cc
+not_free-middle at (x ∷ xs) ys h = not_free-middle at xs ys (and_parts (not (x == at)) (is_free at (xs ++ at ∷ ys)) h).1
+
+same_cut : (at : ℕ) (a b c d : List ℕ) → is_free at a ≡ true → is_free at c ≡ true → a ++ at ∷ b ≡ c ++ at ∷ d → (a ≡ c) × (b ≡ d)
+same_cut at [] b [] d free_a free_c e = (refl, cc)
+same_cut at [] b (y ∷ c) d free_a free_c e = let same : at ≡ y = cc in absurd (not_free-middle at [] c (rw (← same) at free_c))
+same_cut at (x ∷ a) b [] d free_a free_c e = let same : x ≡ at = cc in absurd (not_free-middle at [] a (rw same at free_a))
+same_cut at (x ∷ a) b (y ∷ c) d free_a free_c e =
+    let more = same_cut at a b c d (and_parts (not (x == at)) (is_free at a) free_a).1 (and_parts (not (y == at)) (is_free at c) free_c).1 (cc) in
+    (cc (more.0), more.1)
+
+stands-middle : (at : ℕ) (xs ys : List ℕ) → stands_in at (xs ++ at ∷ ys) ≡ true
+stands-middle at [] ys = let same : (at == at) ≡ true = grind (arith, nat_tests) in rw same refl
+stands-middle at (x ∷ xs) ys = or_right (x == at) (stands_in at (xs ++ at ∷ ys)) (stands-middle at xs ys)
+  where
+    or_right : (b c : Bool) → c ≡ true → (b || c) ≡ true
+    or_right true c h = refl
+    or_right false c h = h
+
+-- a cut is the one that a reader makes
+pub record Parts (at : ℕ) (word before after : List ℕ) : Type 0 where
+  pub stands : stands_in at word ≡ true
+  pub before_is : before_first (λ b. b == at) word ≡ before
+  pub after_is : after_first (λ b. b == at) word ≡ after
+
+pub parts-IsCut : (at : ℕ) (word before after : List ℕ) → IsCut at word before after → Parts at word before after
+parts-IsCut at word before after h =
+    let stands : stands_in at word ≡ true = rw h.whole (stands-middle at before after) in
+    let made = IsCut-stands at word stands in
+    let same = same_cut at (before_first (λ b. b == at) word) (after_first (λ b. b == at) word) before after made.first h.first (sym made.whole ∙ h.whole) in
+    record { stands = stands; before_is = same.0; after_is = same.1 }
+
+-- ---- resources
+
+pub resource-sound : (rigour : Rigour) (word : List ℕ) (r : Resource) → resource_of rigour word ≡ Some r → IsResource rigour r word
+resource-sound rigour word r h =
+    chosen (stands_in 64 word) (resource_in rigour (before_first (λ b. b == 64) word) (after_first (λ b. b == 64) word)) None r
+    (λ stands read. from_parts (before_first (λ b. b == 64) word) (after_first (λ b. b == 64) word) (IsCut-stands 64 word stands) read)
+    (λ _ none. not_some r none) h
+  where
+    from_parts : (name hash : List ℕ) → IsCut 64 word name hash → resource_in rigour name hash ≡ Some r → IsResource rigour r word
+    from_parts name hash cut read =
+        let b = bound (λ (n : Name16). option_map (λ (k : ℕ). (let res : Resource = record { name = n; hash = k } in res)) (number_of rigour 0 4294967295 hash)) (name_of rigour name) r read in
+        let m = mapped (λ (k : ℕ). (let res : Resource = record { name = b.value; hash = k } in res)) (number_of rigour 0 4294967295 hash) r b.then_ in
+        let n = name-sound rigour name b.value b.read in
+        let same_name : b.value ≡ r.name = ap (λ (res : Resource). res.name) m.made in
+        let same_hash : m.value ≡ r.hash = ap (λ (res : Resource). res.hash) m.made in
+        record {
+          name = name;
+          hash = hash;
+          cut = cut;
+          named = (n.0, at_limits-map rigour (Unit {0}) ((length name ≤ 16) × (b.value.0 ≡ padded name)) ((length name ≤ 16) × (name ≡ name)) (λ q. (q.0, refl)) n.1);
+          padded = at_limits-map rigour (Unit {0}) ((length name ≤ 16) × (b.value.0 ≡ padded name)) (r.name.0 ≡ padded name) (λ q. sym (ap (λ (x : Name16). x.0) same_name) ∙ q.1) n.1;
+          numeral = rw (← same_hash) (number-sound rigour 0 4294967295 hash m.value (lit< tt) m.read);
+        }
+
+pub resource-complete : (rigour : Rigour) (word : List ℕ) (r : Resource) → IsResource rigour r word → Finds rigour (resource_of rigour word) r
+resource-complete rigour word r h =
+    let p = parts-IsCut 64 word h.name h.hash h.cut in
+    let n = name-complete rigour h.name r.name h.named.0
+    (at_limits-both rigour (length h.name ≤ 16) (r.name.0 ≡ padded h.name)
+    (at_limits-map rigour (Unit {0}) ((length h.name ≤ 16) × (h.name ≡ h.name)) (length h.name ≤ 16) (λ q. q.0) h.named.1) h.padded) in
+    let k = number-complete rigour 0 4294967295 h.hash r.hash (lit< tt) h.numeral in
+    let made : Name16 → ℕ → Resource = λ name hash. record { name = name; hash = hash } in
+    let read : resource_in rigour h.name h.hash ≡ Some (made n.found k.found) = rw (n.read, k.read) refl in
+    rw (p.stands, p.before_is, p.after_is) (record {
+      found = made n.found k.found;
+      read = read;
+      same = λ e. ap (λ (x : Name16). made x k.found) (n.same e) ∙ ap (λ (y : ℕ). made r.name y) (k.same e);
+    })
+
+-- ---- data
+
+star_free : (word : List ℕ) → list_all term_byte word ≡ true → stands_in 42 word ≡ false
+star_free [] h = refl
+star_free (b ∷ word) h =
+    let parts = and_parts (term_byte b) (list_all term_byte word) h in
+    let other : (b == 42) ≡ false = grind (arith, nat_tests) in
+    rw other (star_free word parts.1)
+
+pub data-sound : (rigour : Rigour) (word text : List ℕ) → data_of rigour word ≡ Some text → IsData rigour text word
+data-sound rigour word text h =
+    chosen (stands_in 42 word) (repeated_of rigour (before_first (λ b. b == 42) word) (after_first (λ b. b == 42) word)) (text_of rigour 4096 word) text
+    (λ stands read. inr (from_parts (before_first (λ b. b == 42) word) (after_first (λ b. b == 42) word) (IsCut-stands 42 word stands) read))
+    (λ _ read. inl (text-sound rigour 4096 word text read)) h
+  where
+    from_parts : (piece times : List ℕ) → IsCut 42 word piece times → repeated_of rigour piece times ≡ Some text → IsRepeated rigour text word
+    from_parts piece times cut read =
+        let kept_text : ℕ → Option (List ℕ) = λ n. kept rigour (nat_le (n * length piece) 4096) (repeat n piece) (take 1 piece) in
+        chosen (is_term piece) (number_of rigour 1 4096 times >>= kept_text) None text
+        (λ term made.
+        let b = bound kept_text (number_of rigour 1 4096 times) text made in
+        let n = b.value in
+        record {
+          piece = piece;
+          times = times;
+          cut = cut;
+          term = term;
+          count = n;
+          numeral = number-sound rigour 1 4096 times n (lit< tt) b.read;
+          whole = kept_value rigour (nat_le (n * length piece) 4096) (repeat n piece) (take 1 piece) text (Unit {0})
+              (λ (t : List ℕ). (t ≡ repeat n piece) × (length t ≤ 4096)) tt
+              (λ fits. (refl, omega (arith, length-repeat n piece, true_le (n * length piece) 4096 fits))) b.then_;
+        })
+        (λ _ none. not_some text none) read
+
+repeated-strict : (rigour : Rigour) (text piece times : List ℕ) (count : ℕ) → is_term piece ≡ true → times ≡ decimal count → 1 ≤ count → count ≤ 4096
+    → text ≡ repeat count piece → length text ≤ 4096 → Finds rigour (repeated_of rigour piece times) text
+repeated-strict rigour text piece times count term e low high is short =
+    let n = number-strict rigour 1 4096 times count (lit< tt) e low high in
+    let len : length text ≡ count * length piece = ap length is ∙ length-repeat count piece in
+    let fits = le_true (count * length piece) 4096 (omega (arith, len, short)) in
+    record { found = text; read = rw (term, n, fits) (ap Some (sym is)); same = λ _. refl }
+
+repeated-complete : (rigour : Rigour) (text piece times : List ℕ) (count : ℕ) → is_term piece ≡ true → IsNumber rigour 1 4096 count times
+    → AtLimits rigour (Unit {0}) ((text ≡ repeat count piece) × (length text ≤ 4096)) → Finds rigour (repeated_of rigour piece times) text
+repeated-complete Form text piece times count term numeral whole =
+    let n = number-complete Form 1 4096 times count (lit< tt) numeral in
+    rw (term, n.read) (kept_finds Form (nat_le (n.found * length piece) 4096) (repeat n.found piece) (take 1 piece) text (Unit {0}) ⊥ (λ x. absurd x) tt)
+repeated-complete Limits text piece times count term numeral whole = repeated-strict Limits text piece times count term numeral.1.0 numeral.1.1 numeral.1.2 whole.0 whole.1
+repeated-complete Names text piece times count term numeral whole = repeated-strict Names text piece times count term numeral.1.0 numeral.1.1 numeral.1.2 whole.0 whole.1
+
+pub data-complete : (rigour : Rigour) (word text : List ℕ) → IsData rigour text word → Finds rigour (data_of rigour word) text
+data-complete rigour word text (inl h) = rw (star_free word (characters-term word h.0)) (text-complete rigour 4096 word text h)
+data-complete rigour word text (inr h) =
+    let p = parts-IsCut 42 word h.piece h.times h.cut in
+    rw (p.stands, p.before_is, p.after_is) (repeated-complete rigour text h.piece h.times h.count h.term h.numeral h.whole)

@@ -1,0 +1,15 @@
+pub mod WordLists
+pub mod NumberLaws
+pub mod TextLaws
+pub mod Choices
+pub mod WordLaws
+pub mod CutLaws
+pub mod PlaceLaws
+pub mod RowLaws
+pub mod PatternLaws
+pub mod VerbLaws
+pub mod CacheLaws
+pub mod LockLaws
+pub mod ListLaws
+pub mod ShellLaws
+pub mod RigourLaws

@@ -1,0 +1,100 @@
+-- Texts of term characters, and where a byte stands in a text.
+use Rattle.std.proofs.Common.{◌≡◌, ℕ, ◌<◌, ◌≤◌, ◌+◌, ◌-◌, ◌==◌, ◌||◌, Bool, true, false, not, cond, nat_lt, List, [], ◌∷◌, ◌++◌, length, take, drop, Some, None, position, refl, ◌∙◌, arith, zero, suc, length-drop, length-append, ◌*◌}
+use Rattle.std.specs.List.{list_all, list_any, position_or_len, repeat}
+use Rattle.std.proofs.lemmas.Bool.{and_parts, and_from}
+use Rattle.std.proofs.lemmas.Bool.Decides.{nat_tests}
+use Rattle.std.proofs.lemmas.List.{take_all, length-take}
+use Rattle.cf_types.specs.Term.{IsTerm, term_byte, fault_at}
+use Rattle.cf_types.proofs.TermFaults.{fails_at_some}
+use Rattle.plex_spell.specs.Tokens.{is_term}
+
+pub characters-term : (word : List ℕ) → is_term word ≡ true → list_all term_byte word ≡ true
+characters-term [] h = absurd (cc)
+characters-term (b ∷ bs) h = h
+
+pub nonempty-term : (word : List ℕ) → is_term word ≡ true → 0 < length word
+nonempty-term [] h = absurd (cc)
+nonempty-term (b ∷ bs) h = omega arith
+
+pub term_from : (word : List ℕ) → 0 < length word → list_all term_byte word ≡ true → is_term word ≡ true
+term_from [] h k = absurd (omega arith)
+term_from (b ∷ bs) h k = k
+
+list_all-take : (q : ℕ → Bool) (n : ℕ) (xs : List ℕ) → list_all q xs ≡ true → list_all q (take n xs) ≡ true
+list_all-take q zero xs h = refl
+list_all-take q (suc n) [] h = refl
+list_all-take q (suc n) (x ∷ xs) h =
+    let parts = and_parts (q x) (list_all q xs) h in and_from (q x) (list_all q (take n xs)) parts.0 (list_all-take q n xs parts.1)
+
+-- the front of such a text
+pub IsTerm-take : (limit : ℕ) (word : List ℕ) → 0 < limit → is_term word ≡ true → IsTerm limit (take limit word)
+IsTerm-take limit word some h =
+    record {
+      nonempty = omega (arith, length-take limit word, nonempty-term word h);
+      short = omega (arith, length-take limit word);
+      characters = list_all-take term_byte limit word (characters-term word h);
+    }
+
+pub IsTerm-whole : (limit : ℕ) (word : List ℕ) → length word ≤ limit → is_term word ≡ true → IsTerm limit word
+IsTerm-whole limit word short h =
+    record { nonempty = nonempty-term word h; short = short; characters = characters-term word h }
+
+-- a byte stands in a text where its place is within
+any_step : (here : Bool) (any : Bool) (n m : ℕ) → any ≡ nat_lt n m → (here || any) ≡ nat_lt (cond (not here) (1 + n) 0) (suc m)
+any_step true any n m h = grind (arith, nat_tests)
+any_step false any n m h = h ∙ grind (arith, nat_tests)
+
+pub any-place : (p : ℕ → Bool) (xs : List ℕ) → list_any p xs ≡ nat_lt (position_or_len p xs) (length xs)
+any-place p [] = refl
+any-place p (x ∷ xs) = any_step (p x) (list_any p xs) (position_or_len p xs) (length xs) (any-place p xs)
+
+pub any-some : (p : ℕ → Bool) (xs : List ℕ) (i : ℕ) → position p xs ≡ Some i → (list_any p xs ≡ true) × (i ≡ position_or_len p xs)
+any-some p xs i h = at_test (nat_lt (position_or_len p xs) (length xs)) refl h
+  where
+    at_test : (b : Bool) → nat_lt (position_or_len p xs) (length xs) ≡ b → cond b (Some (position_or_len p xs)) None ≡ Some i
+        → (list_any p xs ≡ true) × (i ≡ position_or_len p xs)
+    at_test true e h = (any-place p xs ∙ e, cc)
+    at_test false e h = absurd (cc)
+
+pub any-none : (p : ℕ → Bool) (xs : List ℕ) → position p xs ≡ None → list_any p xs ≡ false
+any-none p xs h = at_test (nat_lt (position_or_len p xs) (length xs)) refl h
+  where
+    at_test : (b : Bool) → nat_lt (position_or_len p xs) (length xs) ≡ b → cond b (Some (position_or_len p xs)) None ≡ None → list_any p xs ≡ false
+    at_test true e h = absurd (cc)
+    at_test false e h = any-place p xs ∙ e
+
+pub rest_whole : (i : ℕ) (xs : List ℕ) → take (length xs - (i + 1)) (drop (i + 1) xs) ≡ drop (i + 1) xs
+rest_whole i xs = take_all (length xs - (i + 1)) (drop (i + 1) xs) (omega (arith, length-drop (i + 1) xs))
+
+-- a text of term characters has no fault
+pub no_fault : (limit : ℕ) (text : List ℕ) (at : ℕ) → IsTerm limit text → fault_at text ≡ Some at → ⊥
+no_fault limit text at term fault = at_empty (length text == 0) refl fault
+  where
+    at_empty : (b : Bool) → (length text == 0) ≡ b → cond b (Some 0) (position (λ c. not (term_byte c)) text) ≡ Some at → ⊥
+    at_empty true none e = let empty : length text ≡ 0 = grind (arith, nat_tests) in omega (arith, term.nonempty)
+    at_empty false some e = let fails = fails_at_some term_byte text at e in let passes = term.characters in cc
+
+list_all-append : (q : ℕ → Bool) (xs ys : List ℕ) → list_all q xs ≡ true → list_all q ys ≡ true → list_all q (xs ++ ys) ≡ true
+list_all-append q [] ys h k = k
+list_all-append q (x ∷ xs) ys h k =
+    let parts = and_parts (q x) (list_all q xs) h in and_from (q x) (list_all q (xs ++ ys)) parts.0 (list_all-append q xs ys parts.1 k)
+
+list_all-repeat : (q : ℕ → Bool) (n : ℕ) (xs : List ℕ) → list_all q xs ≡ true → list_all q (repeat n xs) ≡ true
+list_all-repeat q zero xs h = refl
+list_all-repeat q (suc n) xs h = list_all-append q xs (repeat n xs) h (list_all-repeat q n xs h)
+
+pub length-repeat : (n : ℕ) (xs : List ℕ) → length (repeat n xs) ≡ n * length xs
+length-repeat zero xs = grind arith
+length-repeat (suc n) xs = omega (arith, length-append xs (repeat n xs), length-repeat n xs)
+
+pub IsTerm-repeat : (limit n : ℕ) (word : List ℕ) → is_term word ≡ true → 0 < n → n * length word ≤ limit → IsTerm limit (repeat n word)
+IsTerm-repeat limit n word h some short =
+    record {
+      nonempty = nonempty-repeat n some;
+      short = omega (arith, length-repeat n word);
+      characters = list_all-repeat term_byte n word (characters-term word h);
+    }
+  where
+    nonempty-repeat : (m : ℕ) → 0 < m → 0 < length (repeat m word)
+    nonempty-repeat zero k = absurd (omega arith)
+    nonempty-repeat (suc m) k = omega (arith, length-append word (repeat m word), nonempty-term word h)

@@ -1,0 +1,13 @@
+pub mod Words
+pub mod Tokens
+pub mod Fields
+pub mod ShellWords
+pub mod CacheWords
+pub mod ListWords
+pub mod LockWords
+pub mod Places
+pub mod Patterns
+pub mod CacheReading
+pub mod ListReading
+pub mod LockReading
+pub mod ShellReading

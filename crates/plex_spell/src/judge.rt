@@ -1,0 +1,18 @@
+ghost use Rattle.std.specs.Prelude.{◌≤◌, length};
+
+use crate::rigour::Rigour;
+use cf_types::{Name16, Pref, StrForm};
+
+/// What words are judged by.
+#[derive(Drop)]
+pub struct Judge<'a> {
+    pub rigour: Rigour,
+    /// The facilities that are declared before the words.
+    pub facilities: &'a [Pref],
+    /// The structures that are declared before the words, at most 16.
+    pub structures: &'a [StrForm],
+    /// The connectors that are declared before the words, at most 32.
+    pub connectors: &'a [Name16],
+    ghost few_structures: { length structures.now ≤ 16 },
+    ghost few_connectors: { length connectors.now ≤ 32 },
+}

@@ -1,0 +1,8 @@
+use cf_types::{Key16, Name16};
+
+/// What a new list record is known by.
+#[derive(Clone, Copy, Debug)]
+pub(crate) enum Label {
+    Name(Name16),
+    Key(Key16),
+}

@@ -1,0 +1,29 @@
+//! The words of a script: what they stand for, how they are read, and how commands are spelled.
+#![tactic(auto)]
+
+mod cache_reader;
+mod cuts;
+pub mod fields;
+mod judge;
+mod labels;
+mod list_reader;
+mod lock_reader;
+mod misses;
+mod numerals;
+mod rigour;
+mod shell_reader;
+mod singles;
+mod texts;
+mod words;
+
+pub use cache_reader::cache;
+pub use judge::Judge;
+pub use list_reader::list;
+pub use lock_reader::lock;
+pub use misses::Miss;
+pub use numerals::{is_numeral, number};
+pub use rigour::Rigour;
+pub use shell_reader::shell;
+pub use singles::{connector_number, is_about, structure_number};
+pub use texts::{is_name, is_term, name_text};
+pub use words::{Words, is};

@@ -1,0 +1,168 @@
+-- The steps that change a word keep the rule.
+use Rattle.std.proofs.Common.{◌≡◌, ◌≢◌, ◌*◌, ◌^◌, ◌<◌, ◌≤◌, ℕ, suc, true, List, [], ◌∷◌, ◌++◌, length, set, refl, sym}
+use Rattle.std.proofs.Common.{ap, ◌∙◌, subst}
+use Rattle.std.proofs.Common.{⊎_elim, arith, length-set, get_or-set_other, get_or-set_same}
+use Rattle.std.specs.Prelude.{All, slice_index}
+use Rattle.std.proofs.lemmas.Bool.{cases_eq}
+use Rattle.std.proofs.lemmas.List.Elements.{All-weaker}
+use Rattle.atomic_table.specs.Table.{Me, keeps, Allows}
+use Rattle.vec_world.specs.Log.{IsOpen}
+use Rattle.vec_world.specs.World.{word_of}
+use Rattle.vec_words.specs.declared.logged.Logged.{Logged}
+use Rattle.vec_words.specs.declared.logged.Logged.TheVariants.{Stored, Committed}
+use Rattle.vec_words.specs.declared.view.View.{View}
+use Rattle.vec_words.specs.declared.view.Shape.{Shape}
+use Rattle.vec_words.specs.Logged.{words_of, count_of, flying_of, left_in, IsOrderly}
+use Rattle.vec_words.specs.View.{stored_to, committed_of, Becomes}
+use Rattle.vec_words.specs.Rule.{Settled, IsKept, Roll, Fits, AreLeft, Kept}
+use Rattle.vec_words.proofs.Logs.{count-push, left-push, left-here, left-other}
+use Rattle.vec_words.proofs.Commits.{calls-store, calls-here, calls-other}
+use Rattle.vec_words.proofs.Sound.{CanStore, settled-count, settled-store_now, settled-commit_now, sound-store}
+use Rattle.vec_words.proofs.Sound.{sound-commit}
+use Rattle.vec_words.proofs.Kept.{kept-store, kept-commit, all_set}
+
+module _ {D : Type 0} where
+  left-store : (shape : Shape) (log : List (Logged D)) (words : List ℕ) (word bits stamp : ℕ)
+      → word < shape.conns * words_of shape.len
+      → AreLeft shape log words → AreLeft shape (log ++ Stored word bits stamp ∷ [])
+      (set words (suc word) (word_of bits stamp))
+  left-store shape log words word bits stamp within left =
+      let later = log ++ Stored word bits stamp ∷ [] in
+      let content : ℕ = word_of bits stamp in
+      let long : length words ≡ suc (shape.conns * words_of shape.len) = left.length_is in
+      record {
+        count =
+            get_or-set_other words (suc word) 0 content 0 (λ e. omega arith) ∙ left.count
+            ∙ sym (count-push log (Stored word bits stamp));
+        length_is = length-set words (suc word) content ∙ left.length_is;
+        vectors = λ k below. ⊎_elim
+            (λ (is : word ≡ k). subst (λ j. slice_index (set words (suc word) content) (suc j) ≡ left_in later j) is
+            (get_or-set_same words (suc word) content 0 (omega arith) ∙ sym (left-here log word bits stamp)))
+            (λ (apart : word ≢ k). get_or-set_other words (suc word) (suc k) content 0 (λ e. apart (omega arith))
+            ∙ left.vectors k below ∙ sym (left-other log word bits stamp k apart))
+            (cases_eq word k);
+      }
+
+  left-commit : (shape : Shape) (log : List (Logged D)) (words : List ℕ) (number by : ℕ) (about : D)
+      → AreLeft shape log words
+      → AreLeft shape (log ++ Committed number by about ∷ []) (set words 0 number)
+  left-commit shape log words number by about left =
+      let x : Logged D = Committed number by about in
+      let long : length words ≡ suc (shape.conns * words_of shape.len) = left.length_is in
+      record {
+        count = get_or-set_same words 0 number 0 (omega arith) ∙ sym (count-push log x);
+        length_is = length-set words 0 number ∙ left.length_is;
+        vectors = λ k below.
+            get_or-set_other words 0 (suc k) number 0 (λ e. omega arith) ∙ left.vectors k below
+            ∙ sym (left-push log x k);
+      }
+
+  -- the views, after a store of the seat that holds the log
+  fits-store : (len : ℕ) (roll : Roll D) (word bits stamp : ℕ) (j : ℕ) (u : View D) (log : List (Logged D))
+      → (u.keeps ≡ true → (j ≡ roll.holder) × (log ≡ roll.log ++ Stored word bits stamp ∷ []))
+      → IsOrderly roll.log (flying_of roll.log) → CanStore roll.log word bits stamp → Fits len roll j u
+      → Fits len (record roll { log = roll.log ++ Stored word bits stamp ∷ [] }) j (record u { log = log })
+  fits-store len roll word bits stamp j u log h sound can f =
+      let later = roll.log ++ Stored word bits stamp ∷ [] in
+      record {
+        keeps = h;
+        makes = f.makes;
+        passes = λ p. let t = f.passes p in (t.0, t.1, t.2 ∙ sym (calls-store u.owner roll.log word bits stamp));
+        known = settled-store_now roll.log word bits stamp u.known can.fresh f.known;
+        sure = subst (λ c. u.sure ≤ c) (sym (count-push roll.log (Stored word bits stamp))) f.sure;
+        tests = All-weaker (IsKept roll.log len u.owner) (IsKept later len u.owner)
+            (λ t k. kept-store roll.log word bits stamp len u.owner t sound can k) u.tests f.tests;
+      }
+
+  -- the seat that holds the log stores a vector word
+  pub puts : (shape : Shape) (slots id : ℕ) (me : Me ℕ (View D)) (i n word bits stamp : ℕ) → i ≡ suc word
+      → n ≡ word_of bits stamp
+      → me.0.keeps ≡ true → word < shape.conns * words_of shape.len → CanStore me.0.log word bits stamp
+      → Allows (Kept shape) slots id me i (λ _. n) (λ _ after. Becomes me (stored_to word bits stamp me.0) after)
+  puts shape slots id me i n word bits stamp i_is n_is has_log within can s kept width at small =
+      let v = me.0 in
+      let old = kept.roll in
+      let mine = kept.fit id v at in
+      let held = mine.keeps has_log in
+      let can' = subst (λ l. CanStore l word bits stamp) held.1 can in
+      let log = old.log ++ Stored word bits stamp ∷ [] in
+      let roll : Roll D = record old { log = log } in (
+        stored_to word bits stamp v,
+        keeps,
+        tt,
+        (record {
+          roll = roll;
+          sound = sound-store old.log word bits stamp kept.sound can';
+          left = subst (λ (x : ℕ × ℕ). AreLeft shape log (set s.words x.0 x.1)) (λ k. (sym i_is k, sym n_is k))
+              (left-store shape old.log s.words word bits stamp within kept.left);
+          fit = all_set shape.len roll s.views id (stored_to word bits stamp v)
+              (λ j u apart e. let f = kept.fit j u e in
+              fits-store shape.len old word bits stamp j u u.log
+              (λ k. absurd (apart ((f.keeps k).0 ∙ sym held.0))) kept.sound can' f)
+              (fits-store shape.len old word bits stamp id v (v.log ++ Stored word bits stamp ∷ [])
+              (λ _. (held.0, ap (λ l. l ++ Stored word bits stamp ∷ []) held.1)) kept.sound can' mine);
+        }),
+        (refl, refl),
+      )
+
+  -- the number is the one in flight, for the seat that holds the log
+  pub publishes : (shape : Shape) (slots id : ℕ) (me : Me ℕ (View D)) (number : ℕ) (about : List D) (x : D)
+      → about ≡ x ∷ []
+      → me.0.keeps ≡ true → me.0.passes ≡ true → number < 2 ^ 32
+      → IsOpen (count_of me.0.log) (flying_of me.0.log) number
+      → Allows (Kept shape) slots id me 0 (λ _. number) (λ _ after. Becomes me (committed_of number about me.0) after)
+  publishes shape slots id me number about x one has_log is_pass fits fresh =
+      subst (λ a. Allows (Kept shape) slots id me 0 (λ _. number)
+      (λ _ after. Becomes me (committed_of number a me.0) after)) (sym one)
+      (λ s kept width at small.
+      let v = me.0 in
+      let old = kept.roll in
+      let mine = kept.fit id v at in
+      let held = mine.keeps has_log in
+      let passed = mine.passes is_pass in
+      let fresh' = subst (λ l. IsOpen (count_of l) (flying_of l) number) held.1 fresh in
+      let higher : count_of old.log < number = fresh'.0 in
+      let log = old.log ++ Committed number v.owner x ∷ [] in
+      let count : count_of log ≡ number = count-push old.log (Committed number v.owner x) in
+      let roll : Roll D = record old { log = log } in
+      let sound = sound-commit old.log number v.owner x fits fresh' kept.sound in
+      let tests : (u : View D) (j : ℕ) → Fits shape.len old j u → All (IsKept log shape.len u.owner) u.tests
+      = λ u j f. All-weaker (IsKept old.log shape.len u.owner) (IsKept log shape.len u.owner)
+      (λ t k. kept-commit old.log number v.owner x shape.len u.owner t fresh' k) u.tests f.tests in (
+        committed_of number (x ∷ []) v,
+        keeps,
+        tt,
+        (record {
+          roll = roll;
+          sound = sound;
+          left = left-commit shape old.log s.words number v.owner x kept.left;
+          fit = all_set shape.len roll s.views id (committed_of number (x ∷ []) v)
+              (λ j u apart e. let f = kept.fit j u e in let seen : u.sure ≤ count_of old.log = f.sure in record {
+                keeps = λ k. absurd (apart ((f.keeps k).0 ∙ sym held.0));
+                makes = f.makes;
+                passes = λ p. let t = f.passes p in (
+                  t.0,
+                  t.1,
+                  t.2 ∙ sym (calls-other u.owner v.owner number x old.log
+                      (λ e'. apart (t.0 ∙ ap old.seat_of (sym e') ∙ sym passed.0))),
+                );
+                known = settled-commit_now old.log number v.owner x u.known fresh' f.known;
+                sure = omega (arith, count, seen, higher);
+                tests = tests u j f;
+              })
+              (record {
+                keeps = λ _. (held.0, ap (λ l. l ++ Committed number v.owner x ∷ []) held.1);
+                makes = mine.makes;
+                passes = λ _. (
+                  passed.0,
+                  passed.1,
+                  ap (λ l. l ++ (number, x) ∷ []) passed.2
+                      ∙ sym (calls-here v.owner number x old.log),
+                );
+                known = subst (Settled log) count (settled-count log sound);
+                sure = omega (arith, count);
+                tests = tests v id mine;
+              });
+        }),
+        (refl, refl),
+      ))

@@ -1,0 +1,14 @@
+use Rattle.std.proofs.Common.{rules}
+use Rattle.vec_words.proofs.StoreLaws.{spared-below, contains-below}
+use Rattle.vec_words.proofs.stores.is_first.Goals as goal
+
+pub returns-then-other-place-2-clause-again : goal.returns-then-other-place-2-clause-again
+returns-then-other-place-2-clause-again g c is =
+    contains-below (g.C.Changes.places c.args.changes.now) c.args.at _ c.place-other.result c.args.place
+    (search rules) c.requires
+    c.place-other.ensures (search rules)
+
+pub returns-clause-first : goal.returns-clause-first
+returns-clause-first g c is =
+    spared-below (g.C.Changes.places c.args.changes.now) c.args.at c.args.place.conn.0 c.args.place.word c.requires
+    (λ k p from below there. c.loop-before.invariant.1 k p (search rules) below there)

@@ -1,0 +1,5 @@
+use Rattle.std.proofs.Common.{[], ◌∷◌}
+use Rattle.vec_words.proofs.vectors.Vectors.commit_as.Given as goal
+
+abbrev pub ghosts-commit_of : goal.ghosts-commit_of
+ghosts-commit_of g a = record { about = a.of.now ∷ [] }
