@@ -11,13 +11,13 @@ use Rattle.engine_api.specs.Shell.{is_built}
 abbrev pub IsOperator : ConnId → Type 0
 IsOperator conn = conn.0 ≡ 0
 
--- who may give a common command, and which numbers it may name. The operator's NEXT is asked too, and refused
+-- who may give a common command, and which numbers it may name. The operator's NEXT and RESPOND are asked too, and refused
 abbrev pub MayCommand : ConnId → ShellCmd → Type 0
 MayCommand by (cmd.Connect keep) = IsConnector by
 MayCommand by cmd.Disconnect = IsConnector by
 MayCommand by cmd.Fail = IsConnector by
 MayCommand by cmd.Next = IsCaller by
-MayCommand by cmd.Respond = IsConnector by
+MayCommand by cmd.Respond = IsCaller by
 MayCommand by (cmd.RebuildStart caps) = IsCaller by × IsCapacity caps
 MayCommand by cmd.RebuildStop = IsCaller by
 MayCommand by cmd.RebuildConnect = IsConnector by

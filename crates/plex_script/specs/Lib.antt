@@ -9,3 +9,4 @@ pub mod Laws
 pub mod Agent
 pub mod Heard
 pub mod Follows
+pub mod WellFormed
