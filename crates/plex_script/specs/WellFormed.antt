@@ -35,9 +35,9 @@ pub record IsLineOf (script : Script) (line : Line) : Type 0 where
   pub act : IsActOf form.kind line.by line.act
   pub retry : line.retry ≤ 1000
 
--- at most 8 structures, and at most 32 connectors
+-- at most 16 structures, and at most 32 connectors
 pub record IsWellFormed (script : Script) : Type 0 where
-  pub structures : length script.structures ≤ 8
+  pub structures : length script.structures ≤ 16
   pub connectors : length script.connectors ≤ 32
   pub forms : All IsForm script.structures
   pub lines : All (IsLineOf script) script.lines
