@@ -12,7 +12,7 @@ use Rattle.engine_api.specs.declared.histories.Entry.{Entry}
 use Rattle.engine_api.specs.Meaning.{Meaning}
 use Rattle.engine_api.specs.History.{Call, calls, numbers, next, next_entry, IsLegal, IsPoint, Tells, stands_after}
 use Rattle.engine_api.proofs.HistoryLaws.{calls-append, legal_none, legal_next, point-append, point-next}
-use Rattle.cache_core.specs.Meaning.{cache_meaning}
+use Rattle.cache_model.specs.Meaning.{cache_meaning}
 use Rattle.plex_script.specs.declared.scripts.AnyAsk.{AnyAsk}
 use Rattle.plex_script.specs.declared.scripts.AnyAsk.TheVariants as ask
 use Rattle.plex_script.specs.declared.asks.AnyHistory.{AnyHistory}

@@ -11,7 +11,7 @@ use Rattle.cf_types.specs.declared.forms.Kind.TheVariants as kind
 use Rattle.cf_types.specs.declared.numbers.ConnId.{ConnId}
 use Rattle.cf_types.specs.declared.numbers.StrNo.{StrNo}
 use Rattle.engine_api.proofs.HistoryLaws.{legal_none}
-use Rattle.cache_core.specs.Meaning.{cache_meaning}
+use Rattle.cache_model.specs.Meaning.{cache_meaning}
 use Rattle.plex_script.specs.declared.asks.AnyHistory.{AnyHistory}
 use Rattle.plex_script.specs.declared.scripts.Line.{Line}
 use Rattle.plex_script.specs.declared.scripts.Script.{Script}

@@ -7,7 +7,7 @@ use Rattle.cf_types.specs.declared.numbers.ConnId.{ConnId}
 use Rattle.engine_api.specs.declared.told.Told.{Told}
 use Rattle.engine_api.specs.History.{next, next_reply, stands_after, IsLegal, Tells, last_call_below}
 use Rattle.engine_api.specs.Told.{told, told_plainly}
-use Rattle.cache_core.specs.Meaning.{cache_meaning}
+use Rattle.cache_model.specs.Meaning.{cache_meaning}
 use Rattle.plex_script.specs.declared.scripts.AnyAsk.{AnyAsk}
 use Rattle.plex_script.specs.declared.scripts.AnyAsk.TheVariants as ask
 use Rattle.plex_script.specs.declared.asks.AnyHistory.{AnyHistory}
