@@ -1,6 +1,6 @@
 -- Every command, departure and end of registrations leads from content to content.
-use Rattle.std.proofs.Common.{◌≡◌, ℕ, ◌+◌, ◌-◌, ◌≤◌, ◌<◌, Bool, true, false, not, ◌&&◌, ◌||◌, cond, List, [], ◌∷◌, ◌++◌, Option, Some, None, is_some, is_none, unwrap_or, option_map, length, filter, find, map, nat_lt, nat_le, ◌⊎◌, inl, inr, refl, sym, ap, ◌∙◌, subst, arith}
-use Rattle.std.specs.List.{list_any, list_all}
+use Rattle.std.proofs.Common.{◌≡◌, ℕ, ◌+◌, ◌-◌, ◌≤◌, Bool, true, false, not, ◌&&◌, ◌||◌, cond, List, [], ◌∷◌, Option, Some, None, is_some, is_none, unwrap_or, option_map, length, filter, map, nat_lt, nat_le, ◌⊎◌, inl, inr, refl, sym, ap, ◌∙◌, subst, arith}
+use Rattle.std.specs.List.{list_all}
 use Rattle.std.proofs.lemmas.Bool.{and_parts, and_from, or_cases, or_right, not-true, false≢true, ltb-true, leb-true}
 use Rattle.std.proofs.lemmas.List.{length-map}
 use Rattle.std.proofs.lemmas.Map.Views.{any-filter_same}
@@ -14,12 +14,11 @@ use Rattle.cf_types.specs.declared.cache_commands.CacheCmd.TheVariants.{Read, Wr
 use Rattle.cf_types.specs.declared.cache_commands.CacheReply.{CacheReply}
 use Rattle.cf_types.specs.Name.{same_name}
 use Rattle.engine_api.specs.Meaning.{Outcome, first_refusal, unless_refused}
-use Rattle.list_laws.specs.Insertions.{insertion}
-use Rattle.list_laws.proofs.FilterLaws.{list_all-filter, list_all_weaker, list_all_both, list_all-filter_same, length-filter-le, sum_by-filter-le, any_is_found, none-filter, all_found, found_passes}
+use Rattle.list_laws.proofs.FilterLaws.{list_all-filter, list_all_weaker, list_all_both, list_all-filter_same, length-filter-le, sum_by-filter-le, any_is_found, none-filter, all_found}
 use Rattle.list_laws.proofs.InsertionLaws.{list_all-insertion}
 use Rattle.cache_regs.specs.declared.registrations.Registration.{Registration}
 use Rattle.cache_regs.specs.Registrations.{is_of, is_replaced, stands_before as before, regs_with, regs_without, regs_without_name, ends_with_name, IsRegistry}
-use Rattle.cache_regs.proofs.NameLaws.{same_name-eq, same_name-refl, same_name-sym}
+use Rattle.cache_regs.proofs.NameLaws.{same_name-eq, same_name-refl}
 use Rattle.cache_regs.proofs.RegLaws.{registry-with, registry-filter}
 use Rattle.cache_model.specs.declared.items.CacheItem.{CacheItem}
 use Rattle.cache_model.specs.declared.items.Holder.{Holder}
@@ -30,7 +29,6 @@ use Rattle.cache_model.specs.Room.{victims, has_place, free_elements, room_refus
 use Rattle.cache_model.specs.Refusals.{entry_refusal, held_refusal, unchanged_refusal, not_held_refusal, is_changed_row}
 use Rattle.cache_model.specs.Commands.Read as read
 use Rattle.cache_model.specs.Commands.Write as write
-use Rattle.cache_model.specs.Commands.CrossInval as cross_inval
 use Rattle.cache_model.specs.Commands.Castout as castout
 use Rattle.cache_model.specs.Commands.Unlock as unlock
 use Rattle.cache_model.specs.Commands.Delete as delete

@@ -1,7 +1,6 @@
 -- A valid bit tells a fresh copy: what a registered connector has at the index is what the name's row has.
-use Rattle.std.proofs.Common.{◌≡◌, ℕ, ◌+◌, Bool, true, false, not, ◌&&◌, ◌||◌, ◌==◌, cond, List, [], ◌∷◌, ◌++◌, Option, Some, None, option_map, unwrap_or, filter, find, map, refl, sym, ap, ◌∙◌, subst, arith}
+use Rattle.std.proofs.Common.{◌≡◌, ℕ, Bool, true, false, not, ◌&&◌, ◌||◌, ◌==◌, cond, List, [], ◌∷◌, ◌++◌, Option, Some, None, option_map, unwrap_or, filter, find, map, refl, sym, ap, ◌∙◌, subst, arith}
 use Rattle.std.specs.Prelude.{option_and_then}
-use Rattle.std.specs.List.{list_any}
 use Rattle.std.specs.Option.{option_or}
 use Rattle.std.proofs.lemmas.Bool.{and_parts, or_parts, not-true, false≢true, eqb-true}
 use Rattle.std.proofs.lemmas.Bool.Decides.{nat_tests}
@@ -15,14 +14,14 @@ use Rattle.cf_types.specs.declared.cache_commands.CacheCmd.TheVariants.{Read, Wr
 use Rattle.cf_types.specs.Name.{same_name}
 use Rattle.engine_api.specs.Meaning.{unless_refused}
 use Rattle.list_laws.specs.Insertions.{insertion}
-use Rattle.list_laws.proofs.FilterLaws.{find-filter, find_none, none_filtered, found_passes}
+use Rattle.list_laws.proofs.FilterLaws.{find-filter, find_none, none_filtered}
 use Rattle.list_laws.proofs.InsertionLaws.{find-insertion_past, find-insertion_here}
 use Rattle.cache_regs.specs.declared.registrations.Registration.{Registration}
-use Rattle.cache_regs.specs.Registrations.{is_of, is_at, is_for, is_replaced, registered_at, stands_before as before, regs_with, regs_without, regs_without_name, ends_with_name}
+use Rattle.cache_regs.specs.Registrations.{is_of, is_at, is_for, is_replaced, registered_at, stands_before as before, regs_with, regs_without_name, ends_with_name}
 use Rattle.cache_regs.proofs.NameLaws.{same_name-eq, same_name-refl, same_name-sym}
 use Rattle.cache_model.specs.declared.items.CacheItem.{CacheItem}
-use Rattle.cache_model.specs.Rows.{is_row_of, is_changed, row_of, has_row, rows_without, stands_before, rows_with, rows_replaced, new_row, row_or_new}
-use Rattle.cache_model.specs.Contents.{Content, IsContent, nothing, content_without, content_forgotten, without_hold, is_among, rows_spared, regs_spared}
+use Rattle.cache_model.specs.Rows.{is_row_of, is_changed, row_of, has_row, rows_without, stands_before, rows_replaced, new_row, row_or_new}
+use Rattle.cache_model.specs.Contents.{Content, IsContent, nothing, content_without, without_hold, is_among, rows_spared}
 use Rattle.cache_model.specs.Commands.Read as read
 use Rattle.cache_model.specs.Commands.Write as write
 use Rattle.cache_model.specs.Commands.Castout as castout

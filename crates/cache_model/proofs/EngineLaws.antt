@@ -1,6 +1,6 @@
 -- The laws of the engine's meaning.
-use Rattle.std.proofs.Common.{◌≡◌, ℕ, ◌+◌, ◌-◌, ◌≤◌, Bool, true, false, not, ◌&&◌, List, [], ◌∷◌, ◌++◌, Option, Some, None, append-nil, append_assoc, length, length-append, take, drop, fold, filter, map, sum_by, refl, sym, ap, ◌∙◌, subst, arith}
-use Rattle.std.specs.List.{list_all, list_any}
+use Rattle.std.proofs.Common.{◌≡◌, ◌-◌, ◌≤◌, true, false, List, [], ◌∷◌, ◌++◌, append-nil, append_assoc, length, length-append, take, drop, fold, refl, sym, ap, ◌∙◌, arith}
+use Rattle.std.specs.List.{list_all}
 use Rattle.std.proofs.lemmas.Bool.{and_parts, or_from, or_left, not-true}
 use Rattle.cf_types.specs.Name.{same_name}
 use Rattle.list_laws.proofs.FilterLaws.{list_all_weaker}
@@ -18,7 +18,7 @@ use Rattle.engine_api.specs.Items.{IsNoMore, IsNoMoreOf}
 use Rattle.list_laws.specs.Pairwise.{pairwise}
 use Rattle.list_laws.proofs.PairwiseLaws.{pairwise_front}
 use Rattle.cache_model.specs.declared.items.CacheItem.{CacheItem}
-use Rattle.cache_model.specs.Rows.{is_row_of, elements_in, has_row, may_precede, names_apart, is_sound, IsDirectory}
+use Rattle.cache_model.specs.Rows.{is_row_of, elements_in, has_row, may_precede, names_apart, is_sound}
 use Rattle.cache_model.specs.Contents.{Content, IsContent, nothing, content_without, content_forgotten, content_with, content_without_last, need_of, without_hold}
 use Rattle.cache_model.specs.Meaning.{cache_meaning}
 use Rattle.cache_model.proofs.RowLaws.{size, elements-without_hold}

@@ -1,5 +1,5 @@
 -- What a cache structure contains, and what every content keeps.
-use Rattle.std.specs.Prelude.{ℕ, ◌+◌, ◌-◌, ◌≤◌, Bool, IsTrue, not, if◌then◌else◌, List, [], ◌∷◌, ◌++◌, length, Option, None, filter, map, take}
+use Rattle.std.specs.Prelude.{◌-◌, ◌≤◌, Bool, IsTrue, not, if◌then◌else◌, List, [], ◌∷◌, ◌++◌, length, None, filter, map, take}
 use Rattle.std.specs.List.{list_any, list_all}
 use Rattle.cf_types.specs.declared.forms.Caps.{Caps}
 use Rattle.cf_types.specs.declared.names.Name16.{Name16}

@@ -1,5 +1,5 @@
 -- Causes of refusals that commands share. Each is none where it doesn't hold.
-use Rattle.std.specs.Prelude.{ℕ, Bool, false, not, ◌&&◌, ◌||◌, ◌==◌, nat_le, if◌then◌else◌, List, Option, Some, None, is_none}
+use Rattle.std.specs.Prelude.{ℕ, Bool, false, not, ◌&&◌, ◌||◌, nat_le, if◌then◌else◌, List, Option, Some, None, is_none}
 use Rattle.std.specs.List.{list_any}
 use Rattle.cf_types.specs.declared.limits.TheConstants.{CASTOUT_CLASSES, STORAGE_CLASSES}
 use Rattle.cf_types.specs.declared.names.Name16.{Name16}
@@ -11,7 +11,7 @@ use Rattle.cache_regs.specs.declared.registrations.Registration.{Registration}
 use Rattle.cache_regs.specs.Registrations.{is_for, registered_at}
 use Rattle.cache_model.specs.declared.items.CacheItem.{CacheItem}
 use Rattle.cache_model.specs.declared.items.Holder.{Holder}
-use Rattle.cache_model.specs.Rows.{is_changed, is_held_by, has_row, row_of}
+use Rattle.cache_model.specs.Rows.{is_changed, is_held_by, row_of}
 
 -- the caller gives up this name
 abbrev pub gives_up : Option Name16 → Name16 → Bool

@@ -1,8 +1,7 @@
 -- Changed WRITEs that aren't cast out: the data, adjunct and class that each name's row must have after a run.
-use Rattle.std.specs.Prelude.{ℕ, Bool, IsTrue, true, false, ◌||◌, ◌≡◌, if◌then◌else◌, List, [], ◌∷◌, Option, None, Some, option_map}
+use Rattle.std.specs.Prelude.{ℕ, Bool, IsTrue, true, false, ◌||◌, ◌≡◌, if◌then◌else◌, List, [], ◌∷◌, Option, None, Some}
 use Rattle.cf_types.specs.declared.forms.Caps.{Caps}
 use Rattle.cf_types.specs.declared.names.Name16.{Name16}
-use Rattle.cf_types.specs.declared.numbers.ConnId.{ConnId}
 use Rattle.cf_types.specs.declared.refusals.Refusal.{Refusal}
 use Rattle.cf_types.specs.declared.cache_commands.CacheCmd.{CacheCmd}
 use Rattle.cf_types.specs.declared.cache_commands.CacheCmd.TheVariants.{Read, Write, CrossInval, RegList, Castout, Unlock, CoClass, CoStats, DirInfo, Delete, StgStats}

@@ -1,8 +1,7 @@
 -- The words of commands with options.
-use Rattle.std.proofs.Common.{◌≡◌, ℕ, Bool, true, false, List, [], ◌∷◌, ◌++◌, Option, None, Some, codes, refl, sym, ap, ◌∙◌}
+use Rattle.std.proofs.Common.{◌≡◌, ℕ, Bool, true, false, List, [], ◌∷◌, ◌++◌, Option, None, Some, codes, refl, ap, ◌∙◌}
 use Rattle.std.specs.Prelude.{if◌then◌else◌}
 use Rattle.std.specs.Fmt.{decimal}
-use Rattle.cf_types.specs.Term.{unpadded}
 use Rattle.cf_types.specs.declared.names.Name16.{Name16}
 use Rattle.cf_types.specs.declared.names.Key16.{Key16}
 use Rattle.cf_types.specs.declared.resources.Resource.{Resource}
@@ -10,7 +9,6 @@ use Rattle.cf_types.specs.declared.cache_commands.CacheCmd.TheVariants as cache
 use Rattle.cf_types.specs.declared.list_commands.At.{At}
 use Rattle.cf_types.specs.declared.list_commands.Cond.{Cond}
 use Rattle.cf_types.specs.declared.list_commands.ListCmd.TheVariants as list
-use Rattle.cf_types.specs.declared.lock_commands.LockCmd.TheVariants as lock
 use Rattle.plex_spell.specs.Tokens.{Token, name_word}
 use Rattle.plex_spell.specs.Tokens.Token.{Literal, OnResource}
 use Rattle.plex_spell.specs.Fields.{joined, disposition, references, number, end, state, option_tokens, flag_tokens, name_tokens, key_tokens, short_tokens, data_tokens, number_tokens}
@@ -23,7 +21,7 @@ use Rattle.plex_spell.specs.CacheWords.{class_tokens}
 use Rattle.plex_spell.specs.ListWords.{at_tokens, cond_tokens}
 use Rattle.plex_script.specs.declared.scripts.Script.{Script}
 use Rattle.plex_report.specs.Naming.{resource_word, token_word, token_words}
-use Rattle.plex_report.specs.CommandWords.{class_told, castout_words, keep_word, end_word, cache_words, list_words, lock_words}
+use Rattle.plex_report.specs.CommandWords.{class_told, castout_words, keep_word, end_word, cache_words, list_words}
 use Rattle.plex_report.specs.RefusalWords.{state_word, refs_word}
 use Rattle.plex_report.specs.ReplyWords.{told_words, number_words, text_words, name_words, key_words}
 use Rattle.plex_report.proofs.TokenLaws.{words_option, words_flag, words_joined}
@@ -85,6 +83,7 @@ words_make script header head name key body adj cond =
     parts : List Token
     parts = joined (option_tokens (codes "NAME") name_tokens name ∷ option_tokens (codes "KEY") key_tokens key
         ∷ option_tokens (codes "DATA") data_tokens body ∷ option_tokens (codes "ADJ") short_tokens adj ∷ cond_tokens cond ∷ [])
+
     heads : (head : Bool) → codes "WRITE" ∷ decimal header ∷ token_word script (end head) ∷ token_words script parts
         ≡ codes "WRITE" ∷ decimal header ∷ end_word head ∷ token_words script parts
     heads head = ap (λ word. codes "WRITE" ∷ decimal header ∷ word ∷ token_words script parts) (word_end script head)

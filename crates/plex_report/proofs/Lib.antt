@@ -2,3 +2,4 @@ pub mod TokenLaws
 pub mod CommandLaws
 pub mod Digits
 pub mod LinesAt
+pub mod Sections

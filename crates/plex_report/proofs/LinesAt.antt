@@ -1,9 +1,11 @@
 -- Which line stands where in lists of lines that follow each other.
-use Rattle.std.proofs.Common.{◌≡◌, ℕ, ◌+◌, ◌-◌, ◌<◌, ◌≤◌, zero, suc, List, [], ◌∷◌, ◌++◌, length, get_or, take, map, Some, option_map, refl, sym, ap, ◌∙◌, arith, append_assoc, length-append}
-use Rattle.std.specs.List.{slice_get, sum_by}
+use Rattle.std.proofs.Common.{◌≡◌, ℕ, add-one, ◌+◌, ◌<◌, ◌≤◌, zero, suc, List, [], ◌∷◌, ◌++◌, length, get_or, take, map, Option, Some, option_map, unwrap_or, append-nil, refl, sym, ap, ◌∙◌, arith, append_assoc}
+use Rattle.std.specs.List.{slice_get, sum_by, flat_map}
+use Rattle.std.specs.Option.{option_map_or}
+use Rattle.std.proofs.lemmas.List.Sums.{sum_by-cons}
 use Rattle.std.proofs.lemmas.List.{length-map}
-use Rattle.std.proofs.lemmas.Option.{slice_get-map, slice_get-get_or}
-use Rattle.plex_report.specs.Report.{lines_each}
+use Rattle.std.proofs.lemmas.Option.{slice_get-map, slice_get-get_or, slice_get_read}
+use Rattle.plex_report.specs.Report.{lines_each, ended}
 
 -- ---- lists
 
@@ -21,17 +23,6 @@ pub get_behind : {X : Type 0} (x : X) (xs : List X) (k n : ℕ) → k ≡ n + 1 
 get_behind x xs zero n h = absurd (omega arith)
 get_behind x xs (suc k) n h = let e : k ≡ n = omega arith in ap (slice_get xs) e
 
--- a line of one element each, and lines behind them
-pub get_mapped : {X : Type 0} (f : X → List ℕ) (xs : List X) (ys : List (List ℕ)) (k : ℕ) (d : X)
-    → k < length xs → slice_get (map f xs ++ ys) k ≡ Some (f (get_or xs k d))
-get_mapped f xs ys k d h =
-    let len : length (map f xs) ≡ length xs = length-map xs f in
-    get_left (map f xs) ys k (omega arith) ∙ slice_get-map f xs k ∙ ap (λ o. option_map f o) (slice_get-get_or xs k d h)
-
-pub get_past : {X : Type 0} (f : X → List ℕ) (xs : List X) (ys : List (List ℕ)) (k n : ℕ)
-    → k ≡ length xs + n → slice_get (map f xs ++ ys) k ≡ slice_get ys n
-get_past f xs ys k n h = let len : length (map f xs) ≡ length xs = length-map xs f in get_right (map f xs) ys k n (omega arith)
-
 -- ---- sections
 
 module _ {X : Type 0} (lines : ℕ → X → List (List ℕ)) (size : X → ℕ) (sized : (i : ℕ) (x : X) → length (lines i x) ≡ size x + 1) where
@@ -42,13 +33,17 @@ module _ {X : Type 0} (lines : ℕ → X → List (List ℕ)) (size : X → ℕ)
   get_within first [] rest i k j d h e within = absurd (omega arith)
   get_within first (x ∷ xs) rest zero k j d h e within =
       let same : k ≡ j = omega arith in
+      let at : first ≡ first + zero = omega arith in
       let len : length (lines first x) ≡ size x + 1 = sized first x in
       ap (λ l. slice_get l k) (append_assoc (lines first x) (lines_each lines (first + 1) xs) rest)
       ∙ ap (slice_get (lines first x ++ (lines_each lines (first + 1) xs ++ rest))) same
       ∙ get_left (lines first x) (lines_each lines (first + 1) xs ++ rest) j (omega arith)
+      ∙ ap (λ m. slice_get (lines m x) j) at
   get_within first (x ∷ xs) rest (suc i) k j d h e within =
       let len : length (lines first x) ≡ size x + 1 = sized first x in
       let n = sum_by (λ x. size x + 1) (take i xs) + j in
+      let sum : sum_by (λ x. size x + 1) (x ∷ take i xs) ≡ size x + 1 + sum_by (λ x. size x + 1) (take i xs) =
+      sum_by-cons (λ x. size x + 1) x (take i xs) in
       let at : first + 1 + i ≡ first + suc i = omega arith in
       ap (λ l. slice_get l k) (append_assoc (lines first x) (lines_each lines (first + 1) xs) rest)
       ∙ get_right (lines first x) (lines_each lines (first + 1) xs ++ rest) k n (omega arith)
@@ -62,6 +57,51 @@ module _ {X : Type 0} (lines : ℕ → X → List (List ℕ)) (size : X → ℕ)
   get_after first (x ∷ xs) rest k n e =
       let len : length (lines first x) ≡ size x + 1 = sized first x in
       let m = sum_by (λ x. size x + 1) xs + n in
+      let sum : sum_by (λ x. size x + 1) (x ∷ xs) ≡ size x + 1 + sum_by (λ x. size x + 1) xs = sum_by-cons (λ x. size x + 1) x xs in
       ap (λ l. slice_get l k) (append_assoc (lines first x) (lines_each lines (first + 1) xs) rest)
       ∙ get_right (lines first x) (lines_each lines (first + 1) xs ++ rest) k m (omega arith)
       ∙ get_after (first + 1) xs rest m n refl
+
+  -- a line of the section at a place
+  pub get_spot : (xs : List X) (rest : List (List ℕ)) (i k j : ℕ) (x : X)
+      → i < length xs → x ≡ get_or xs i x → k ≡ sum_by (λ x. size x + 1) (take i xs) + j
+      → j ≤ option_map_or size (slice_get xs i) 0
+      → slice_get (lines_each lines 0 xs ++ rest) k ≡ slice_get (lines i x) j
+  get_spot xs rest i k j x h is e within =
+      let at : 0 + i ≡ i = omega arith in
+      let here : option_map_or size (slice_get xs i) 0 ≡ size (get_or xs i x) = ap (λ o. option_map_or size o 0) (slice_get-get_or xs i x h) in
+      get_within 0 xs rest i k j x h e (omega (arith, here, within))
+      ∙ ap (λ m. slice_get (lines m (get_or xs i x)) j) at
+      ∙ ap (λ y. slice_get (lines i y) j) (sym is)
+
+-- ---- headings
+
+-- the line of an element stands behind the heading
+pub get_under : {X : Type 0} (f : X → List ℕ) (head : List ℕ) (xs : List X) (k n : ℕ) (o : Option X)
+    → k ≡ n + 1 → slice_get xs n ≡ o → slice_get (head ∷ map f xs) k ≡ option_map f o
+get_under f head xs k n o e at =
+    get_behind head (map f xs) k n e ∙ slice_get-map f xs n ∙ ap (λ o. option_map f o) at
+
+pub get_read : {X : Type 0} (f : X → List ℕ) (head : List ℕ) (xs : List X) (k n : ℕ) (x : X)
+    → k ≡ n + 1 → n < length xs → x ≡ get_or xs n x → slice_get (head ∷ map f xs) k ≡ Some (f x)
+get_read f head xs k n x e h is = get_under f head xs k n (Some x) e (slice_get_read xs (length xs) n x refl h is)
+
+pub get_item : {X : Type 0} (f : X → List ℕ) (head : List ℕ) (xs : List X) (k n : ℕ) (d : X)
+    → k ≡ n + 1 → n < length xs → slice_get (head ∷ map f xs) k ≡ Some (f (get_or xs n d))
+get_item f head xs k n d e h = get_under f head xs k n (Some (get_or xs n d)) e (slice_get-get_or xs n d h)
+
+pub length-under : {X : Type 0} (f : X → List ℕ) (head : List ℕ) (xs : List X) → length (head ∷ map f xs) ≡ length xs + 1
+length-under f head xs = let len : length (map f xs) ≡ length xs = length-map xs f in omega arith
+
+-- ---- the text
+
+pub text_more : (lines : List (List ℕ)) (k : ℕ) (line : List ℕ) → slice_get (map ended lines) k ≡ Some line
+    → flat_map ended (take (k + 1) lines) ≡ flat_map ended (take k lines) ++ line
+text_more lines k line h = rw add-one (one_more lines k line h)
+  where
+    one_more : (lines : List (List ℕ)) (k : ℕ) (line : List ℕ) → slice_get (map ended lines) k ≡ Some line
+        → flat_map ended (take (suc k) lines) ≡ flat_map ended (take k lines) ++ line
+    one_more [] k line h = cc
+    one_more (l ∷ ls) zero line h = append-nil (ended l) ∙ ap (λ o. unwrap_or o []) h
+    one_more (l ∷ ls) (suc k) line h =
+        ap (λ t. ended l ++ t) (one_more ls k line h) ∙ sym (append_assoc (ended l) (flat_map ended (take k ls)) line)

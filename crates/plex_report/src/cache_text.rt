@@ -42,7 +42,7 @@ fn put_old(
 ) -> Result<(), NoMemory>
     ensures { OnOk result (line.new.items ≡ line.old.items
         ++ spaced (told_words (codes "OLD") name_words old.now
-            ++ (told_words (codes "STG") number_words (class_told stg) ++ []))) }
+        ++ (told_words (codes "STG") number_words (class_told stg) ++ []))) }
 {
     put_option(line, script, b"OLD", old)?;
     put_option(line, script, b"STG", &class_told(stg))
@@ -94,7 +94,7 @@ fn put_data(
 ) -> Result<(), NoMemory>
     ensures { OnOk result (line.new.items ≡ line.old.items
         ++ spaced (body.now ∷ (castout_words class
-            ++ told_words (codes "ADJ") text_words adj.now))) }
+        ++ told_words (codes "ADJ") text_words adj.now))) }
 {
     put_word(line, body.bytes())?;
     put_class(line, class)?;
@@ -111,8 +111,8 @@ fn put_options(
 ) -> Result<(), NoMemory>
     ensures { OnOk result (line.new.items ≡ line.old.items
         ++ spaced (told_words (codes "OLD") name_words old.now
-            ++ (told_words (codes "STG") number_words (class_told stg)
-            ++ ((if when_reg then codes "WHENREG" ∷ [] else []) ++ [])))) }
+        ++ (told_words (codes "STG") number_words (class_told stg)
+        ++ ((if when_reg then codes "WHENREG" ∷ [] else []) ++ [])))) }
 {
     put_option(line, script, b"OLD", old)?;
     put_option(line, script, b"STG", &class_told(stg))?;
@@ -196,7 +196,7 @@ fn put_directory(
 ) -> Result<(), NoMemory>
     ensures { OnOk result (line.new.items ≡ line.old.items
         ++ spaced (codes "STG" ∷ decimal stg ∷ codes "LOCK" ∷ holder_word script.now holder
-            ∷ codes "REGS" ∷ decimal regs ∷ [])) }
+        ∷ codes "REGS" ∷ decimal regs ∷ [])) }
 {
     put_of(line, b"STG", stg)?;
     put_word(line, b"LOCK")?;

@@ -6,19 +6,12 @@ ghost use Rattle.std.specs.Fmt.{decimal};
 ghost use Rattle.plex_report.specs.Naming.{caller_word, resource_word};
 ghost use Rattle.plex_report.specs.ReplyWords.{event_words};
 
-use crate::line_text::{
-    put_caller, put_facility, put_number, put_resource, put_word, state_text,
-};
+use crate::line_text::{put_caller, put_facility, put_number, put_resource, put_word, state_text};
 use cf_types::{ConnId, Event, NoMemory, Resource};
 use plex_script::Script;
 
 // A word and a connector.
-fn put_about(
-    line: &mut Vec<u8>,
-    script: &Script,
-    word: &[u8],
-    conn: ConnId,
-) -> Result<(), NoMemory>
+fn put_about(line: &mut Vec<u8>, script: &Script, word: &[u8], conn: ConnId) -> Result<(), NoMemory>
     ensures { OnOk result (line.new.items ≡ line.old.items
         ++ spaced (word.now ∷ caller_word script.now conn ∷ [])) }
 {
@@ -52,11 +45,7 @@ fn put_waiter(
 }
 
 /// Puts an event to a line.
-pub(crate) fn put_event(
-    line: &mut Vec<u8>,
-    script: &Script,
-    event: &Event,
-) -> Result<(), NoMemory>
+pub(crate) fn put_event(line: &mut Vec<u8>, script: &Script, event: &Event) -> Result<(), NoMemory>
     ensures { OnOk result (line.new.items ≡ line.old.items
         ++ spaced (event_words script.now event.now)) }
 {

@@ -46,7 +46,6 @@ fn put_count(line: &mut Vec<u8>, count: u32) -> Result<(), NoMemory>
     put_digits(line, u64::from(count))
 }
 
-
 impl Item for (u32, u32) {
     ghost word = { count_word };
 

@@ -115,11 +115,7 @@ pub(crate) fn put_caller_name(
 }
 
 /// Puts a blank and a caller to a line.
-pub(crate) fn put_caller(
-    line: &mut Vec<u8>,
-    script: &Script,
-    by: ConnId,
-) -> Result<(), NoMemory>
+pub(crate) fn put_caller(line: &mut Vec<u8>, script: &Script, by: ConnId) -> Result<(), NoMemory>
     ensures { OnOk result (line.new.items ≡ line.old.items
         ++ spaced (caller_word script.now by ∷ [])) }
 {

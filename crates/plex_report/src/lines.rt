@@ -36,7 +36,7 @@ pub(crate) fn facility_line(alloc: Global, facility: &Pref) -> Result<Vec<u8>, N
 fn put_caps(line: &mut Vec<u8>, kind: &[u8], form: &StrForm) -> Result<(), NoMemory>
     ensures { OnOk result (line.new.items ≡ line.old.items
         ++ spaced (kind.now ∷ decimal form.now.caps.entries ∷ decimal form.now.caps.elements
-            ∷ decimal form.now.conns ∷ [])) }
+        ∷ decimal form.now.conns ∷ [])) }
 {
     put_word(line, kind)?;
     put_numbers(line, form.caps.entries, form.caps.elements)?;
@@ -87,11 +87,7 @@ fn put_form(line: &mut Vec<u8>, script: &Script, form: &StrForm) -> Result<(), N
 }
 
 /// The line that declares a structure.
-pub(crate) fn form_line(
-    alloc: Global,
-    script: &Script,
-    form: &StrForm,
-) -> Result<Vec<u8>, NoMemory>
+pub(crate) fn form_line(alloc: Global, script: &Script, form: &StrForm) -> Result<Vec<u8>, NoMemory>
     ensures { IfOk result (λ line. line.items ≡ form_line script.now form.now) }
 {
     let mut line = Vec::from_slice(alloc, b"STRUCTURE")?;
@@ -101,11 +97,7 @@ pub(crate) fn form_line(
 }
 
 /// The line that sets units of a facility aside for a structure.
-pub(crate) fn pref_line(
-    alloc: Global,
-    form: &StrForm,
-    pref: &Pref,
-) -> Result<Vec<u8>, NoMemory>
+pub(crate) fn pref_line(alloc: Global, form: &StrForm, pref: &Pref) -> Result<Vec<u8>, NoMemory>
     ensures { IfOk result (λ line. line.items ≡ pref_line form.now pref.now) }
 {
     let mut line = Vec::from_slice(alloc, b"PREF")?;
@@ -221,11 +213,7 @@ fn put_reply<R: Spelled>(
     }
 }
 
-fn put_ask<C: Spelled>(
-    line: &mut Vec<u8>,
-    script: &Script,
-    ask: &Ask<C>,
-) -> Result<(), NoMemory>
+fn put_ask<C: Spelled>(line: &mut Vec<u8>, script: &Script, ask: &Ask<C>) -> Result<(), NoMemory>
     ensures { OnOk result (line.new.items ≡ line.old.items
         ++ spaced (ask_words C.words script.now ask.now)) }
 {
@@ -317,12 +305,7 @@ fn put_of(line: &mut Vec<u8>, word: &[u8], number: u32) -> Result<(), NoMemory>
 }
 
 // A test of a bit.
-fn put_test(
-    line: &mut Vec<u8>,
-    index: u32,
-    bit: &[u8],
-    at: u32,
-) -> Result<(), NoMemory>
+fn put_test(line: &mut Vec<u8>, index: u32, bit: &[u8], at: u32) -> Result<(), NoMemory>
     ensures { OnOk result (line.new.items ≡ line.old.items
         ++ spaced (codes "TEST" ∷ decimal index ∷ bit.now ∷ decimal at ∷ [])) }
 {
@@ -357,11 +340,7 @@ fn put_bad_index(line: &mut Vec<u8>, index: u32, word: bool, len: u32) -> Result
 }
 
 /// The line of an item of a transcript.
-pub(crate) fn shown_line(
-    alloc: Global,
-    script: &Script,
-    shown: &Shown,
-) -> Result<Vec<u8>, NoMemory>
+pub(crate) fn shown_line(alloc: Global, script: &Script, shown: &Shown) -> Result<Vec<u8>, NoMemory>
     ensures { IfOk result (λ line. line.items ≡ shown_line script.now shown.now) }
 {
     match shown {

@@ -74,7 +74,7 @@ fn put_content(
 ) -> Result<(), NoMemory>
     ensures { OnOk result (line.new.items ≡ line.old.items
         ++ spaced (told_words (codes "DATA") text_words body.now
-            ++ told_words (codes "ADJ") text_words adj.now)) }
+        ++ told_words (codes "ADJ") text_words adj.now)) }
 {
     put_option(line, script, b"DATA", body)?;
     put_option(line, script, b"ADJ", adj)
@@ -89,7 +89,7 @@ fn put_label(
 ) -> Result<(), NoMemory>
     ensures { OnOk result (line.new.items ≡ line.old.items
         ++ spaced (told_words (codes "NAME") name_words name.now
-            ++ told_words (codes "KEY") key_words key.now)) }
+        ++ told_words (codes "KEY") key_words key.now)) }
 {
     put_option(line, script, b"NAME", name)?;
     put_option(line, script, b"KEY", key)
@@ -115,7 +115,7 @@ fn put_at(
 ) -> Result<(), NoMemory>
     ensures { OnOk result (line.new.items ≡ line.old.items
         ++ spaced (token_words script.now (Literal verb.now
-            ∷ joined (at_tokens at.now ∷ cond_tokens cond.now ∷ [])))) }
+        ∷ joined (at_tokens at.now ∷ cond_tokens cond.now ∷ [])))) }
 {
     put_word(line, verb)?;
     at.put(line, script)?;

@@ -49,7 +49,7 @@ fn put_request(
 ) -> Result<(), NoMemory>
     ensures { OnOk result (line.new.items ≡ line.old.items
         ++ spaced (token_words script.now (Literal verb.now ∷ OnResource r ∷ state excl
-            ∷ joined (option_tokens (codes "REC") short_tokens rec.now ∷ [])))) }
+        ∷ joined (option_tokens (codes "REC") short_tokens rec.now ∷ [])))) }
 {
     put_about(line, verb, r)?;
     put_word(line, state_text(excl))?;

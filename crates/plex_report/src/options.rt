@@ -9,7 +9,6 @@ use crate::spelled::Spelled;
 use cf_types::{Adjunct, Body, Key16, Name16, NoMemory};
 use plex_script::Script;
 
-
 impl Spelled for u32 {
     ghost words = { λ script n. number_words n };
 

@@ -161,7 +161,11 @@ fn refusal_text(refusal: &Refusal) -> &'static [u8]
 }
 
 /// Puts the fields of a refusal to a line.
-fn put_refusal_fields(line: &mut Vec<u8>, script: &Script, refusal: &Refusal) -> Result<(), NoMemory>
+fn put_refusal_fields(
+    line: &mut Vec<u8>,
+    script: &Script,
+    refusal: &Refusal,
+) -> Result<(), NoMemory>
     ensures { OnOk result (line.new.items ≡ line.old.items
         ++ spaced (refusal_fields script.now refusal.now)) }
 {

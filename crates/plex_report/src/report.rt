@@ -16,11 +16,7 @@ use plex_script::{AnyHistory, Script, Transcript};
 use std::alloc::Global;
 
 // Puts the facilities with this number behind others.
-fn put_numbered(
-    sorted: &mut Vec<Pref>,
-    facilities: &[Pref],
-    number: u8,
-) -> Result<(), NoMemory>
+fn put_numbered(sorted: &mut Vec<Pref>, facilities: &[Pref], number: u8) -> Result<(), NoMemory>
     ensures { OnOk result (sorted.new.items ≡ sorted.old.items
         ++ with_number number facilities.now) }
 {
@@ -57,10 +53,11 @@ fn structure_line(
     if k == 0 {
         return Ok(Some(form_line(alloc, script, form)?));
     }
-    match form.prefs.items().get(k - 1) {
-        Some(pref) => Ok(Some(pref_line(alloc, form, pref)?)),
-        None => Ok(None),
+    let prefs = form.prefs.items();
+    if k > prefs.len() {
+        return Ok(None);
     }
+    Ok(Some(pref_line(alloc, form, &prefs[k - 1])?))
 }
 
 // The k-th line of entries under their heading.
@@ -77,10 +74,10 @@ fn told_line<C: Spelled, R: Spelled>(
     if k == 0 {
         return Ok(Some(history_heading(alloc, script, number, entries.len())?));
     }
-    match entries.get(k - 1) {
-        Some(entry) => Ok(Some(entry_line(alloc, script, entry)?)),
-        None => Ok(None),
+    if k > entries.len() {
+        return Ok(None);
     }
+    Ok(Some(entry_line(alloc, script, &entries[k - 1])?))
 }
 
 // The k-th line of the history of the structure with this number.
@@ -116,10 +113,10 @@ fn transcript_line(
     if k == 0 {
         return Ok(Some(transcript_heading(alloc, script, number, items.len())?));
     }
-    match items.get(k - 1) {
-        Some(shown) => Ok(Some(shown_line(alloc, script, shown)?)),
-        None => Ok(None),
+    if k > items.len() {
+        return Ok(None);
     }
+    Ok(Some(shown_line(alloc, script, &items[k - 1])?))
 }
 
 // The k-th line from the transcripts on.
@@ -156,7 +153,7 @@ fn told_of_structures(
 ) -> Result<Option<Vec<u8>>, NoMemory>
     ensures { IfOk result (λ line. option_map (λ v. v.items) line
         ≡ slice_get (histories_lines script.now histories.now
-            ++ (transcripts_lines script.now transcripts.now ++ codes "END" ∷ [])) k) }
+        ++ (transcripts_lines script.now transcripts.now ++ codes "END" ∷ [])) k) }
 {
     match spot_of(histories, k) {
         Spot::Within { section, line } => {
@@ -176,8 +173,8 @@ fn behind_structures(
 ) -> Result<Option<Vec<u8>>, NoMemory>
     ensures { IfOk result (λ line. option_map (λ v. v.items) line
         ≡ slice_get (map connector_line script.now.connectors
-            ++ (histories_lines script.now histories.now
-            ++ (transcripts_lines script.now transcripts.now ++ codes "END" ∷ []))) k) }
+        ++ (histories_lines script.now histories.now
+        ++ (transcripts_lines script.now transcripts.now ++ codes "END" ∷ []))) k) }
 {
     let names = script.connectors.items();
     if k < names.len() {
@@ -196,8 +193,8 @@ fn behind_facilities(
 ) -> Result<Option<Vec<u8>>, NoMemory>
     ensures { IfOk result (λ line. option_map (λ v. v.items) line
         ≡ slice_get (structures_lines script.now ++ (map connector_line script.now.connectors
-            ++ (histories_lines script.now histories.now
-            ++ (transcripts_lines script.now transcripts.now ++ codes "END" ∷ [])))) k) }
+        ++ (histories_lines script.now histories.now
+        ++ (transcripts_lines script.now transcripts.now ++ codes "END" ∷ [])))) k) }
 {
     let forms = script.structures.items();
     match spot_of(forms, k) {
@@ -289,3 +286,6 @@ pub fn render(
     // No memory holds a report of so many lines.
     Err(NoMemory)
 }
+
+#[cfg(test)]
+mod tests;

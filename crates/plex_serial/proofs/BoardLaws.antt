@@ -1,10 +1,17 @@
 -- The tables of a board: a structure's form stays, and its history goes on, where the structure is called.
-use Rattle.std.proofs.Common.{◌≡◌, ℕ, ◌<◌, ◌+◌, nat_le, true, false, List, [], ◌∷◌, map, set, length, get_or, slice_get, Some, None, Option, refl, sym, ap, arith, ◌∙◌, Result, Ok, Err}
+use Rattle.std.proofs.Common.{◌≡◌, ℕ, ◌<◌, ◌+◌, nat_le, true, false, List, [], ◌∷◌, map, set, length, get_or, slice_get, Some, None, Option, refl, sym, ap, subst, arith, ◌∙◌, Result, Ok, Err}
 use Rattle.std.proofs.lemmas.List.{map-set}
 use Rattle.std.proofs.lemmas.List.{length-map}
 use Rattle.std.proofs.lemmas.Option.{slice_get-map, slice_get-get_or, slice_get_within}
 use Rattle.std.specs.Prelude.{IfOk, OnOk, IfSome}
+use Rattle.std.specs.Prelude.{IsTrue}
+use Rattle.cf_types.specs.declared.forms.Kind.{Kind}
+use Rattle.cf_types.specs.declared.forms.Kind.TheVariants as kind
 use Rattle.cf_types.specs.declared.forms.StrForm.{StrForm}
+use Rattle.cf_types.specs.declared.shell_commands.ShellCmd.{ShellCmd}
+use Rattle.cf_types.specs.declared.shell_commands.ShellCmd.TheVariants as cmd
+use Rattle.engine_api.specs.Asking.{MayCommand}
+use Rattle.engine_api.specs.Shell.{is_built}
 use Rattle.cf_types.specs.declared.memory.NoMemory.{NoMemory}
 use Rattle.cf_types.specs.declared.numbers.ConnId.{ConnId}
 use Rattle.cf_types.specs.declared.numbers.StrNo.{StrNo}
@@ -14,12 +21,14 @@ use Rattle.plex_script.specs.declared.agents.Step.TheVariants as step
 use Rattle.plex_script.specs.declared.asks.AnyHistory.{AnyHistory}
 use Rattle.plex_script.specs.declared.scripts.AnyAsk.{AnyAsk}
 use Rattle.plex_script.specs.declared.transcripts.Shown.TheVariants as shown
-use Rattle.plex_script.specs.Agent.{asked_by, step_after}
+use Rattle.plex_script.specs.declared.transcripts.Shown.{Shown}
+use Rattle.plex_script.specs.Agent.{asked_by, step_after, common}
 use Rattle.plex_script.specs.Heard.{any_length}
-use Rattle.plex_serial.specs.Kinds.{any_next, any_told}
+use Rattle.plex_serial.specs.Kinds.{IsAskOf, any_next, any_told}
+use Rattle.plex_serial.specs.Runnable.{MayAskAny}
 use Rattle.plex_serial.specs.declared.any_structure.AnyStructure.{AnyStructure}
-use Rattle.plex_serial.specs.Boards.{form_of, history_of}
-use Rattle.plex_serial.specs.Serial.{Run, shown_to, stopped_at, step_made}
+use Rattle.plex_serial.specs.Boards.{Board, form_of, history_of, IsPlace, IsSameBoard, CanAsk, AllMayAsk}
+use Rattle.plex_serial.specs.Serial.{Run, shown_to, stopped_at, step_made, with_shown}
 use Rattle.plex_serial.proofs.Tables.{set_same}
 
 -- what stands within a list is there
@@ -107,3 +116,56 @@ step_full limit form line by on now asked old new asks there full stops =
         → record { run = new; now = step.Rest } ≡ step_made limit form line by on now old
     by_history None nowhere full = absurd (missing old.histories on.0 there nowhere)
     by_history (Some entries) stands full = rw (asks, stands, sym full, stops) refl
+
+-- ---- what a caller may ask in a line
+
+common_asked : (kind : Kind) (command : ShellCmd) → IsAskOf kind (common kind command)
+common_asked kind.Cache command = tt
+common_asked (kind.List headers locks refs) command = tt
+common_asked kind.Lock command = tt
+
+common_may : (kind : Kind) (by : ConnId) (command : ShellCmd) → MayCommand by command → IsTrue (is_built command) → MayAskAny by (common kind command)
+common_may kind.Cache by command may built = (may, built)
+common_may (kind.List headers locks refs) by command may built = (may, built)
+common_may kind.Lock by command may built = (may, built)
+
+pub can_ask : (form : StrForm) (line : Option AnyAsk) (by : ConnId) (now : Step) → AllMayAsk form line by → CanAsk form line by now
+can_ask form None by (step.Call asks) all asked asks' = absurd cc
+can_ask form (Some call) by (step.Call asks) all asked same =
+    let here : call ≡ asked = cc in subst (λ ask. IsAskOf form.kind ask × MayAskAny by ask) here all.line
+can_ask form line by (step.Next left behind) all asked same =
+    let here : common form.kind cmd.Next ≡ asked = cc in
+    subst (λ ask. IsAskOf form.kind ask × MayAskAny by ask) here (common_asked form.kind cmd.Next, common_may form.kind by cmd.Next all.caller tt)
+can_ask form line by (step.Respond left behind) all asked same =
+    let here : common form.kind cmd.Respond ≡ asked = cc in
+    subst (λ ask. IsAskOf form.kind ask × MayAskAny by ask) here
+    (common_asked form.kind cmd.Respond, common_may form.kind by cmd.Respond all.caller tt)
+can_ask form line by step.Rest all asked same = absurd cc
+
+-- ---- boards that are the same but for calls
+
+pub place_kept : (old new : Board) (form : StrForm) (by : ConnId) (on : StrNo) → IsPlace old form by on → IsSameBoard old new
+    → IsPlace new form by on
+place_kept old new form by on place same =
+    record {
+      known = rw same.forms place.known;
+      there = rw same.structures place.there;
+      kind = place.kind;
+      caller = place.caller;
+      shown = rw same.callers place.shown;
+    }
+
+pub same_after : (old mid new : Board) → IsSameBoard old mid → IsSameBoard mid new → IsSameBoard old new
+same_after old mid new first second =
+    record {
+      forms = second.forms ∙ first.forms;
+      limit = second.limit ∙ first.limit;
+      structures = second.structures ∙ first.structures;
+      callers = second.callers ∙ first.callers;
+    }
+
+-- a test shows what the structure shows
+pub test_there : (structures : List AnyStructure) (n : ℕ) (one : AnyStructure) (by : ConnId) (item : AnyHistory → Shown) (run : Run)
+    → slice_get structures n ≡ Some one
+    → with_shown by (slice_get (map history_of structures) n) item run ≡ shown_to by (item (history_of one)) run
+test_there structures n one by item run there = rw (history_there structures n one there) refl

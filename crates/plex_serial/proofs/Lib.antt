@@ -13,3 +13,4 @@ pub mod DeedLaws
 pub mod KeptLaws
 pub mod LinkLaws
 pub mod BoardLaws
+pub mod WordLaws

@@ -1,5 +1,5 @@
 -- The structures of a script and its callers' transcripts, as the run on one thread keeps them.
-use Rattle.std.specs.Prelude.{◌≡◌, ℕ, ◌≤◌, ◌<◌, List, map, length, slice_get, Option, Some}
+use Rattle.std.specs.Prelude.{◌≡◌, ℕ, ◌≤◌, ◌<◌, List, map, length, slice_get, Option, Some, IfSome}
 use Rattle.cf_types.specs.declared.forms.StrForm.{StrForm}
 use Rattle.cf_types.specs.declared.numbers.ConnId.{ConnId}
 use Rattle.cf_types.specs.declared.numbers.StrNo.{StrNo}
@@ -52,3 +52,8 @@ pub record IsPlace (board : Board) (form : StrForm) (by : ConnId) (on : StrNo) :
 abbrev pub CanAsk : StrForm → Option AnyAsk → ConnId → Step → Type 0
 CanAsk form line by now =
     (asked : AnyAsk) → asked_by form.kind line now ≡ Some asked → IsAskOf form.kind asked × MayAskAny by asked
+
+-- its caller may ask what the line asks of such a structure, and the common commands of an event round
+pub record AllMayAsk (form : StrForm) (line : Option AnyAsk) (by : ConnId) : Type 0 where
+  pub caller : IsCaller by
+  pub line : IfSome line (λ asked. IsAskOf form.kind asked × MayAskAny by asked)

@@ -35,6 +35,7 @@ pub record IsRunnableLine (script : Script) (line : Line) : Type 0 where
   pub act : IsRunnableAct form line.by line.act
 
 pub record IsRunnable (script : Script) : Type 0 where
+  pub structures : length script.structures ≤ 16
   pub connectors : length script.connectors ≤ 32
   pub forms : All IsForm script.structures
   pub kinds : All (λ form. IsBuiltKind form.kind) script.structures

@@ -1,17 +1,17 @@
 //! A structure of whatever kind.
-ghost use Rattle.std.specs.Prelude.{◌≡◌, ◌+◌, ◌<◌, ◌^◌, IfOk, OnOk, OnErr, IsOk};
+ghost use Rattle.std.specs.Prelude.{◌≡◌, ◌+◌, ◌*◌, ◌<◌, ◌^◌, IfOk, OnOk, OnErr, IsOk};
 ghost use Rattle.cf_types.specs.Forms.{IsForm, IsCaller};
-ghost use Rattle.cf_types.specs.declared.forms.Kind.TheVariants.{Cache};
 ghost use Rattle.plex_script.specs.Heard.{any_length, any_calls, own_calls, is_linked};
-ghost use Rattle.plex_serial.specs.Kinds.{IsAskOf, IsBuiltKind, no_calls, any_next, any_told, any_stands};
+ghost use Rattle.plex_serial.specs.Kinds.{IsAskOf, IsBuiltKind, no_calls, any_next, any_told, any_stands, any_word};
+ghost use Rattle.plex_serial.specs.Serial.{test_shown, word_shown};
 ghost use Rattle.plex_serial.specs.Runnable.{MayAskAny};
 ghost use Rattle.plex_serial.specs.Boards.{form_of, history_of};
 
 use crate::structure::Structure;
 use cache_core::CacheEngine;
-use cf_types::{ConnId, Kind, NoMemory, StrForm};
+use cf_types::{ConnId, Kind, NoMemory, StrForm, StrNo};
 use engine_api::Told;
-use plex_script::{AnyAsk, AnyHistory};
+use plex_script::{AnyAsk, AnyHistory, Shown};
 use std::alloc::Global;
 
 /// A structure of whatever kind.
@@ -60,6 +60,65 @@ impl AnyStructure {
     {
         match self {
             AnyStructure::Cache(structure) => structure.linked(conn),
+        }
+    }
+
+    // The 32 bits of a word of a connector's vector; those past its end are 0.
+    fn word(&self, form: &StrForm, conn: ConnId, word: u32) -> u32
+        requires caller { IsCaller conn }
+        requires form { form_of self.now ≡ form.now }
+        requires within { 32 * word < form.now.vector }
+        ensures { result ≡ any_word form.now (history_of self.now) conn word }
+    {
+        let mut bits = 0u64;
+        let mut unit = 1u64;
+        for k in 0..32u32 {
+            let index = 32 * word + k;
+            if index < form.vector && self.stands(conn, index) {
+                bits += unit;
+            }
+            unit *= 2;
+        }
+        bits as u32
+    }
+
+    /// What a test of one bit shows.
+    pub fn test(&self, form: &StrForm, by: ConnId, on: StrNo, index: u32) -> Shown
+        requires caller { IsCaller by }
+        requires form { form_of self.now ≡ form.now }
+        ensures { result ≡ test_shown form.now on index by (history_of self.now) }
+    {
+        if index < form.vector {
+            let bit = self.stands(by, index);
+            let at = self.len();
+            Shown::Test { on, index, bit, at }
+        } else {
+            Shown::BadIndex {
+                on,
+                index,
+                word: false,
+                len: form.vector,
+            }
+        }
+    }
+
+    /// What a test of a word of bits shows.
+    pub fn test_word(&self, form: &StrForm, by: ConnId, on: StrNo, word: u32) -> Shown
+        requires caller { IsCaller by }
+        requires form { form_of self.now ≡ form.now }
+        ensures { result ≡ word_shown form.now on word by (history_of self.now) }
+    {
+        if 32 * u64::from(word) < u64::from(form.vector) {
+            let bits = self.word(form, by, word);
+            let at = self.len();
+            Shown::Word { on, word, bits, at }
+        } else {
+            Shown::BadIndex {
+                on,
+                index: word,
+                word: true,
+                len: form.vector,
+            }
         }
     }
 

@@ -1,20 +1,22 @@
 //! The run of a script's lines, one after another.
-ghost use Rattle.std.specs.Prelude.{◌≡◌, ◌≤◌, ◌<◌, ◌+◌, ◌-◌, ◌*◌, ◌^◌, IfOk, IfSome, OnOk, length, map, fold, slice_get, slice_set, Some, None, nat_le};
+ghost use Rattle.std.specs.Prelude.{◌≡◌, ◌≤◌, ◌<◌, ◌+◌, ◌-◌, ◌*◌, ◌^◌, IfOk, IfSome, OnOk, length, map, fold, slice_get, slice_set, Some, None, nat_le, All};
 ghost use Rattle.std.specs.List.{enumerate_from};
 ghost use Rattle.std.specs.Option.{option_copied};
-ghost use Rattle.cf_types.specs.Forms.{IsForm, IsCaller};
+ghost use Rattle.cf_types.specs.Forms.{IsForm, IsCaller, IsConnector};
 ghost use Rattle.cf_types.specs.declared.numbers.StrNo.{StrNo};
 ghost use Rattle.plex_script.specs.Agent.{asked_by};
-ghost use Rattle.plex_script.specs.Heard.{any_length};
-ghost use Rattle.plex_serial.specs.Boards.{CanAsk, IsPlace, IsSameBoard};
+ghost use Rattle.plex_script.specs.Heard.{any_length, any_calls, own_calls, is_linked};
+ghost use Rattle.plex_serial.specs.Boards.{AllMayAsk, CanAsk, IsPlace, IsSameBoard};
 ghost use Rattle.plex_serial.specs.Runnable.{IsRunnableAct, MayAskAny};
-ghost use Rattle.plex_serial.specs.Serial.{shown_to, stopped_at, is_done, step_made, all_steps_made, test_shown, word_shown, with_shown, act_made, line_made, after_departure};
-ghost use Rattle.plex_serial.specs.Kinds.{IsAskOf, any_next, any_told, any_word};
+ghost use Rattle.plex_serial.specs.Serial.{start, shown_to, stopped_at, is_done, step_made, all_steps_made, test_shown, word_shown, with_shown, act_made, line_made, after_departure};
+ghost use Rattle.plex_serial.specs.Kinds.{IsAskOf, IsBuiltKind, any_next, any_told, any_word};
 
 use crate::any_structure::AnyStructure;
-use cf_types::{ConnId, NoMemory, StrForm, StrNo};
+use crate::runs::Finished;
+use cf_types::{ConnId, Listing, NoMemory, StrForm, StrNo};
 use engine_api::Told;
-use plex_script::{Act, AgentEnd, AnyAsk, AnyHistory, Line, Shown, Step, Transcript, closing_ask};
+use plex_script::{Act, AgentEnd, AnyAsk, Line, Script, Shown, Step, Transcript, closing_ask};
+use plex_shell::copy_form;
 use std::alloc::Global;
 use std::marker::Model;
 use std::mem::drop;
@@ -136,5 +138,174 @@ impl Board {
         let told = self.call(alloc, form, by, on, ask)?;
         self.show(by, Shown::Call { on, no: told.no })?;
         Ok(now.after(&told))
+    }
+
+    // A step and the steps behind it.
+    fn steps(
+        &mut self,
+        alloc: Global,
+        form: &StrForm,
+        line: Option<&AnyAsk>,
+        by: ConnId,
+        on: StrNo,
+        first: Step,
+    ) -> Result<(), NoMemory>
+        requires place { IsPlace self.old form.now by on }
+        requires may { AllMayAsk form.now (option_copied line) by }
+        ensures same { IsSameBoard self.old self.new }
+        ensures run { OnOk result (self.new.run ≡ all_steps_made self.old.limit form.now
+            (option_copied line.entry) by on first self.old.run) }
+    {
+        let mut now = first;
+        for _ in 0..first.most_asks() {
+            now = self.step(alloc, form, line, by, on, now)?;
+        }
+        Ok(())
+    }
+
+    // A test of one bit is shown.
+    fn test(&mut self, form: &StrForm, by: ConnId, on: StrNo, index: u32) -> Result<(), NoMemory>
+        requires place { IsPlace self.old form.now by on }
+        ensures same { IsSameBoard self.old self.new }
+        ensures run { OnOk result (self.new.run ≡ with_shown by
+            (slice_get self.old.run.histories on.0) (test_shown form.now on index by) self.old.run) }
+    {
+        let item = self.structures[usize::from(on.0)].test(form, by, on, index);
+        self.show(by, item)
+    }
+
+    // A test of a word of bits is shown.
+    fn test_word(
+        &mut self,
+        form: &StrForm,
+        by: ConnId,
+        on: StrNo,
+        word: u32,
+    ) -> Result<(), NoMemory>
+        requires place { IsPlace self.old form.now by on }
+        ensures same { IsSameBoard self.old self.new }
+        ensures run { OnOk result (self.new.run ≡ with_shown by
+            (slice_get self.old.run.histories on.0) (word_shown form.now on word by) self.old.run) }
+    {
+        let item = self.structures[usize::from(on.0)].test_word(form, by, on, word);
+        self.show(by, item)
+    }
+
+    /// A line of the script.
+    pub fn line(&mut self, alloc: Global, form: &StrForm, line: &Line) -> Result<(), NoMemory>
+        requires place { IsPlace self.old form.now line.now.by line.now.on }
+        requires act { IsRunnableAct form.now line.now.by line.now.act }
+        ensures same { IsSameBoard self.old self.new }
+        ensures run { OnOk result (self.new.run
+            ≡ line_made self.old.limit (Some form.now) line.now self.old.run) }
+    {
+        let (by, on) = (line.by, line.on);
+        if !self.is_done(by) {
+            return Ok(());
+        }
+        let first = Step::first(&line.act, line.retry);
+        match &line.act {
+            Act::Call(ask) => self.steps(alloc, form, Some(ask), by, on, first),
+            Act::Events => self.steps(alloc, form, None, by, on, first),
+            Act::Test(index) => self.test(form, by, on, *index),
+            Act::TestWord(word) => self.test_word(form, by, on, *word),
+            Act::Post | Act::Take => Ok(()),
+        }
+    }
+
+    // Whether a connector is active at a structure.
+    fn linked(&self, conn: ConnId, on: StrNo) -> bool
+        requires caller { IsCaller conn }
+        requires { on.0 < length self.now.run.histories }
+        ensures { IfSome (slice_get self.now.run.histories on.0)
+            (λ entries. result ≡ is_linked (own_calls (any_calls entries) conn)) }
+    {
+        self.structures[usize::from(on.0)].linked(conn)
+    }
+
+    // A connector departs from a structure at which it is active.
+    fn depart(
+        &mut self,
+        alloc: Global,
+        form: &StrForm,
+        conn: ConnId,
+        on: StrNo,
+    ) -> Result<(), NoMemory>
+        requires place { IsPlace self.old form.now conn on }
+        requires connector { IsConnector conn }
+        ensures same { IsSameBoard self.old self.new }
+        ensures run { OnOk result (self.new.run
+            ≡ after_departure self.old.limit conn self.old.run (on.0, form.now)) }
+    {
+        if !self.is_done(conn) || !self.linked(conn, on) {
+            return Ok(());
+        }
+        let ask = closing_ask(form.kind);
+        self.steps(alloc, form, Some(&ask), conn, on, Step::Call { asks: 0 })
+    }
+
+    /// A connector departs from each structure at which it is active.
+    pub fn close(&mut self, alloc: Global, forms: &[StrForm], conn: ConnId) -> Result<(), NoMemory>
+        requires forms { self.old.forms ≡ forms.now }
+        requires few { length forms.now ≤ 256 }
+        requires built { All (λ form. IsBuiltKind form.kind) forms.now }
+        requires structures { length self.old.run.histories ≡ length forms.now }
+        requires connector { IsConnector conn }
+        requires caller { conn.0 < length self.old.run.transcripts }
+        ensures same { IsSameBoard self.old self.new }
+        ensures run { OnOk result (self.new.run
+            ≡ fold (after_departure self.old.limit conn) self.old.run (enumerate_from 0 forms.now)) }
+    {
+        for (place, form) in forms.iter().enumerate() {
+            self.depart(alloc, form, conn, StrNo(place as u8))?;
+        }
+        Ok(())
+    }
+
+    /// A board before any line: no calls, and nothing shown to the operator and the connectors.
+    pub fn start(alloc: Global, limit: u32, script: &Script) -> Result<Board, NoMemory>
+        requires forms { All IsForm script.now.structures }
+        requires built { All (λ form. IsBuiltKind form.kind) script.now.structures }
+        ensures forms { IfOk result (λ board. board.forms ≡ script.now.structures) }
+        ensures run { IfOk result (λ board. board.run ≡ start script.now) }
+        ensures limit { IfOk result (λ board. board.limit ≡ limit) }
+    {
+        let mut structures = Vec::new(alloc);
+        for form in script.structures.items() {
+            let form = copy_form(alloc, form)?;
+            structures.push(AnyStructure::start(alloc, form)?)?;
+        }
+        let mut transcripts = Vec::new(alloc);
+        for _ in 0..script.connectors.items().len() + 1 {
+            transcripts.push(Transcript {
+                items: Listing::new(alloc),
+                end: AgentEnd::Done,
+            })?;
+        }
+        Ok(Board {
+            structures,
+            transcripts,
+            limit,
+        })
+    }
+
+    /// The histories and the transcripts.
+    pub fn into_run(self, alloc: Global) -> Result<Finished, NoMemory>
+        ensures { IfOk result (λ it.
+            record { histories = it.histories; transcripts = it.transcripts } ≡ self.run) }
+    {
+        let Board {
+            structures,
+            transcripts,
+            ..
+        } = self;
+        let mut histories = Vec::new(alloc);
+        for structure in structures {
+            histories.push(structure.into_history())?;
+        }
+        Ok(Finished {
+            histories: Listing::from_vec(histories),
+            transcripts: Listing::from_vec(transcripts),
+        })
     }
 }

@@ -3,7 +3,8 @@ ghost use Rattle.std.specs.Prelude.{◌≡◌, IfOk};
 ghost use Rattle.plex_serial.specs.Runnable.{IsRunnable};
 ghost use Rattle.plex_serial.specs.Serial.{serial_run};
 
-use cf_types::{Listing, NoMemory};
+use crate::board::Board;
+use cf_types::{ConnId, Listing, NoMemory};
 use plex_script::{AnyHistory, Script, Transcript};
 use std::alloc::Global;
 
@@ -22,5 +23,13 @@ pub fn serial(alloc: Global, limit: u32, script: &Script) -> Result<Finished, No
     ensures { IfOk result (λ it. record { histories = it.histories; transcripts = it.transcripts }
         ≡ serial_run limit script.now) }
 {
-    Err(NoMemory)
+    let mut board = Board::start(alloc, limit, script)?;
+    let forms = script.structures.items();
+    for line in script.lines.items() {
+        board.line(alloc, &forms[usize::from(line.on.0)], line)?;
+    }
+    for place in 0..script.connectors.items().len() {
+        board.close(alloc, forms, ConnId(place as u8 + 1))?;
+    }
+    board.into_run(alloc)
 }

@@ -12,5 +12,5 @@ mod tests;
 mod verdicts;
 
 pub use engine_api::Deeds;
-pub use shell::{ACT_LETTERS, Shell};
+pub use shell::{ACT_LETTERS, Shell, copy_form};
 pub use verdicts::{Room, Verdict};

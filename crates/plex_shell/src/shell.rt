@@ -196,8 +196,8 @@ pub(crate) fn no_deeds() -> Deeds
     }
 }
 
-// A second form that is the same.
-fn copy_form(alloc: Global, form: &StrForm) -> Result<StrForm, NoMemory>
+/// An equal form.
+pub fn copy_form(alloc: Global, form: &StrForm) -> Result<StrForm, NoMemory>
     ensures { IfOk result (λ copy. copy ≡ form.now) }
 {
     let prefs = Vec::from_slice(alloc, form.prefs.items())?;

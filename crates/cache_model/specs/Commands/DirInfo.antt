@@ -1,5 +1,5 @@
 -- DIRINFO: what the directory says of a name.
-use Rattle.std.specs.Prelude.{List, [], ◌∷◌, length, Option, Some, option_map}
+use Rattle.std.specs.Prelude.{List, [], ◌∷◌, length, Option, option_map}
 use Rattle.cf_types.specs.declared.names.Name16.{Name16}
 use Rattle.cf_types.specs.declared.refusals.Refusal.{Refusal}
 use Rattle.cf_types.specs.declared.cache_commands.CacheReply.{CacheReply}
