@@ -25,7 +25,8 @@ get_behind x xs (suc k) n h = let e : k ≡ n = omega arith in ap (slice_get xs)
 
 -- ---- sections
 
-module _ {X : Type 0} (lines : ℕ → X → List (List ℕ)) (size : X → ℕ) (sized : (i : ℕ) (x : X) → length (lines i x) ≡ size x + 1) where
+module _ {X : Type 0} (lines : ℕ → X → List (List ℕ)) (size : X → ℕ) (sized : (i : ℕ) (x : X)
+    → length (lines i x) ≡ size x + 1) where
   -- a line of the i-th section
   pub get_within : (first : ℕ) (xs : List X) (rest : List (List ℕ)) (i k j : ℕ) (d : X)
       → i < length xs → k ≡ sum_by (λ x. size x + 1) (take i xs) + j → j ≤ size (get_or xs i d)
@@ -57,7 +58,8 @@ module _ {X : Type 0} (lines : ℕ → X → List (List ℕ)) (size : X → ℕ)
   get_after first (x ∷ xs) rest k n e =
       let len : length (lines first x) ≡ size x + 1 = sized first x in
       let m = sum_by (λ x. size x + 1) xs + n in
-      let sum : sum_by (λ x. size x + 1) (x ∷ xs) ≡ size x + 1 + sum_by (λ x. size x + 1) xs = sum_by-cons (λ x. size x + 1) x xs in
+      let sum : sum_by (λ x. size x + 1) (x ∷ xs) ≡ size x + 1 + sum_by (λ x. size x + 1) xs =
+      sum_by-cons (λ x. size x + 1) x xs in
       ap (λ l. slice_get l k) (append_assoc (lines first x) (lines_each lines (first + 1) xs) rest)
       ∙ get_right (lines first x) (lines_each lines (first + 1) xs ++ rest) k m (omega arith)
       ∙ get_after (first + 1) xs rest m n refl
@@ -69,7 +71,8 @@ module _ {X : Type 0} (lines : ℕ → X → List (List ℕ)) (size : X → ℕ)
       → slice_get (lines_each lines 0 xs ++ rest) k ≡ slice_get (lines i x) j
   get_spot xs rest i k j x h is e within =
       let at : 0 + i ≡ i = omega arith in
-      let here : option_map_or size (slice_get xs i) 0 ≡ size (get_or xs i x) = ap (λ o. option_map_or size o 0) (slice_get-get_or xs i x h) in
+      let here : option_map_or size (slice_get xs i) 0 ≡ size (get_or xs i x) =
+      ap (λ o. option_map_or size o 0) (slice_get-get_or xs i x h) in
       get_within 0 xs rest i k j x h e (omega (arith, here, within))
       ∙ ap (λ m. slice_get (lines m (get_or xs i x)) j) at
       ∙ ap (λ y. slice_get (lines i y) j) (sym is)
@@ -90,7 +93,8 @@ pub get_item : {X : Type 0} (f : X → List ℕ) (head : List ℕ) (xs : List X)
     → k ≡ n + 1 → n < length xs → slice_get (head ∷ map f xs) k ≡ Some (f (get_or xs n d))
 get_item f head xs k n d e h = get_under f head xs k n (Some (get_or xs n d)) e (slice_get-get_or xs n d h)
 
-pub length-under : {X : Type 0} (f : X → List ℕ) (head : List ℕ) (xs : List X) → length (head ∷ map f xs) ≡ length xs + 1
+pub length-under : {X : Type 0} (f : X → List ℕ) (head : List ℕ) (xs : List X)
+    → length (head ∷ map f xs) ≡ length xs + 1
 length-under f head xs = let len : length (map f xs) ≡ length xs = length-map xs f in omega arith
 
 -- ---- the text

@@ -23,7 +23,9 @@ abbrev pub joined_words : Script → List (List Token) → List (List ℕ)
 joined_words script [] = []
 joined_words script (part ∷ parts) = token_words script part ++ joined_words script parts
 
-pub words_joined : (script : Script) (parts : List (List Token)) → token_words script (joined parts) ≡ joined_words script parts
+pub words_joined : (script : Script) (parts : List (List Token))
+    → token_words script (joined parts) ≡ joined_words script parts
 words_joined script [] = refl
 words_joined script (part ∷ parts) =
-    map-append (token_word script) part (joined parts) ∙ ap (λ words. token_words script part ++ words) (words_joined script parts)
+    map-append (token_word script) part (joined parts)
+    ∙ ap (λ words. token_words script part ++ words) (words_joined script parts)

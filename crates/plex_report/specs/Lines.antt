@@ -38,7 +38,8 @@ abbrev pub facility_line : Pref → List ℕ
 facility_line facility = line_of (codes "FACILITY" ∷ facility_word facility.cf ∷ decimal facility.units ∷ [])
 
 abbrev pub form_line : Script → StrForm → List ℕ
-form_line script form = line_of (codes "STRUCTURE" ∷ name_word form.name ∷ token_words script (form_tokens form.kind form))
+form_line script form = line_of (codes "STRUCTURE" ∷ name_word form.name ∷ token_words script
+    (form_tokens form.kind form))
 
 abbrev pub pref_line : StrForm → Pref → List ℕ
 pref_line form pref = line_of (codes "PREF" ∷ name_word form.name ∷ facility_word pref.cf ∷ decimal pref.units ∷ [])
@@ -93,9 +94,11 @@ module _ {C R : Type 0} where
       line_of (decimal entry.no ∷ what_words cmd_words script entry.by entry.what
       ++ codes "->" ∷ reply_words answer_words script (is_of_vary entry.what) entry.reply)
 
-  abbrev pub entry_lines : (Script → C → List (List ℕ)) → (Script → R → List (List ℕ)) → Script → ℕ → List (Entry C R) → List (List ℕ)
+  abbrev pub entry_lines : (Script → C → List (List ℕ)) → (Script → R → List (List ℕ)) → Script → ℕ → List (Entry C R)
+      → List (List ℕ)
   entry_lines cmd_words answer_words script n entries =
-      heading (codes "HISTORY") (structure_name script n) (length entries) ∷ map (entry_line cmd_words answer_words script) entries
+      heading (codes "HISTORY") (structure_name script n) (length entries) ∷ map
+      (entry_line cmd_words answer_words script) entries
 
 -- the history of the structure with this number
 abbrev pub history_lines : Script → ℕ → AnyHistory → List (List ℕ)
@@ -133,7 +136,8 @@ test_word false = codes "TEST"
 abbrev pub shown_line : Script → Shown → List ℕ
 shown_line script (Call on number) = line_of (structure_word script on ∷ decimal number ∷ [])
 shown_line script (Test on index bit at) =
-    line_of (structure_word script on ∷ codes "TEST" ∷ decimal index ∷ bit_word (kind_of script.structures on) bit ∷ decimal at ∷ [])
+    line_of (structure_word script on ∷ codes "TEST" ∷ decimal index ∷ bit_word
+    (kind_of script.structures on) bit ∷ decimal at ∷ [])
 shown_line script (Word on word bits at) =
     line_of (structure_word script on ∷ codes "TESTWORD" ∷ decimal word ∷ binary_digits 32 bits ∷ decimal at ∷ [])
 shown_line script (BadIndex on index word len) =
@@ -144,4 +148,5 @@ shown_line script (Took on sure) = line_of (structure_word script on ∷ codes "
 -- the transcript of the caller with this number
 abbrev pub transcript_lines : Script → ℕ → Transcript → List (List ℕ)
 transcript_lines script n transcript =
-    heading (codes "TRANSCRIPT") (caller_name script n) (length transcript.items) ∷ map (shown_line script) transcript.items
+    heading (codes "TRANSCRIPT") (caller_name script n) (length transcript.items) ∷ map
+    (shown_line script) transcript.items

@@ -32,7 +32,8 @@ caller_word script by = caller_name script by.0
 
 -- the structure with this number by its name; a number that no structure has stands for itself
 abbrev pub structure_name : Script → ℕ → List ℕ
-structure_name script n = option_map_or (λ (form : StrForm). name_word form.name) (slice_get script.structures n) (decimal n)
+structure_name script n = option_map_or (λ (form : StrForm). name_word form.name) (slice_get script.structures n)
+    (decimal n)
 
 abbrev pub structure_word : Script → StrNo → List ℕ
 structure_word script on = structure_name script on.0

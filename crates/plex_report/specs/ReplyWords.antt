@@ -96,7 +96,8 @@ class_words None = codes "UNCHANGED" ∷ codes "NONE" ∷ []
 class_words (Some class) = codes "CHANGED" ∷ decimal class ∷ []
 
 abbrev pub cache_reply_words : Script → CacheReply → List (List ℕ)
-cache_reply_words script (cache.Data body adj changed) = codes "DATA" ∷ body ∷ adjunct_words adj ++ changed_word changed ∷ []
+cache_reply_words script (cache.Data body adj changed) =
+    codes "DATA" ∷ body ∷ adjunct_words adj ++ changed_word changed ∷ []
 cache_reply_words script cache.NoData = codes "NODATA" ∷ []
 cache_reply_words script cache.Ok = codes "OK" ∷ []
 cache_reply_words script (cache.OkCount n) = codes "OK" ∷ decimal n ∷ []

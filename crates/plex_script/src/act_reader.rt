@@ -139,7 +139,8 @@ fn any_ask(
     kind: Kind,
     words: &mut Words,
 ) -> Result<AnyAsk, Miss>
-    ensures { Gives result words.new (any_ask_at judge.now.rigour (seen judge.now) by kind words.old) }
+    ensures { Gives result words.new (any_ask_at judge.now.rigour
+        (seen judge.now) by kind words.old) }
 {
     match kind {
         Kind::Cache => Ok(AnyAsk::Cache(cache_ask(alloc, judge, by, words)?)),

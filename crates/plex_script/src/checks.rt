@@ -70,7 +70,8 @@ pub(crate) fn is_full(draft: &Draft, word: &[u8]) -> bool
 }
 
 fn is_structure(structures: &[StrForm], name: &Name16) -> bool
-    ensures { result ≡ list_any (λ other. same_word (name_word other.name) (name_word name.now)) structures.now }
+    ensures { result ≡ list_any (λ other. same_word (name_word other.name)
+        (name_word name.now)) structures.now }
 {
     structures
         .iter()
@@ -78,7 +79,8 @@ fn is_structure(structures: &[StrForm], name: &Name16) -> bool
 }
 
 fn is_connector(connectors: &[Name16], name: &Name16) -> bool
-    ensures { result ≡ list_any (λ other. same_word (name_word other) (name_word name.now)) connectors.now }
+    ensures { result ≡ list_any (λ other. same_word (name_word other)
+        (name_word name.now)) connectors.now }
 {
     connectors
         .iter()

@@ -38,7 +38,8 @@ fn declaration_by(
     rigour: Rigour,
     line: &[u8],
 ) -> Result<Declaration, Miss>
-    ensures { Reads result (declaration_at rigour (declared_in (script_of draft.now)) (words_of line.now)) }
+    ensures { Reads result (declaration_at rigour (declared_in (script_of draft.now))
+        (words_of line.now)) }
 {
     declaration(alloc, &judge(draft, rigour), Words::of(line))
 }

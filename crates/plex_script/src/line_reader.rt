@@ -48,7 +48,8 @@ fn add_declaration(
     declaration: Declaration,
 ) -> Result<(), LineFault>
     requires { HasRoom (script_of draft.old) declaration }
-    ensures ok { OnOk result (script_of draft.new ≡ with_declaration (script_of draft.old) declaration) }
+    ensures ok { OnOk result (script_of draft.new ≡ with_declaration
+        (script_of draft.old) declaration) }
     ensures err { IfErr result (λ fault. fault ≡ LineFault.NoMemory) }
 {
     match declaration {
@@ -85,7 +86,8 @@ fn declare(
     requires { (rest : List (List ℕ)) × (words_of line.now ≡ first.now ∷ rest) }
     ensures ok { OnOk result (IsTrue (not long)
         × AddsDeclaration (script_of draft.old) first.now (words_of line.now) (script_of draft.new)) }
-    ensures wrong { IfErr result (IsFaultBy (PolicyCause (script_of draft.old) long first.now (words_of line.now))) }
+    ensures wrong { IfErr result (IsFaultBy (PolicyCause (script_of draft.old) long first.now
+        (words_of line.now))) }
 {
     if has_lines(draft) {
         return Err(LineFault::Wrong(Why::Late));
@@ -123,8 +125,10 @@ fn perform(
     by: ConnId,
     mut words: Words,
 ) -> Result<(), LineFault>
-    ensures ok { OnOk result (IsTrue (not long) × AddsOfCaller (script_of draft.old) at by words.entry (script_of draft.new)) }
-    ensures wrong { IfErr result (IsFaultBy (CallerCause (script_of draft.old) long by words.entry)) }
+    ensures ok { OnOk result (IsTrue (not long) × AddsOfCaller
+        (script_of draft.old) at by words.entry (script_of draft.new)) }
+    ensures wrong { IfErr result (IsFaultBy (CallerCause
+        (script_of draft.old) long by words.entry)) }
 {
     let Some(second) = words.next() else {
         return Err(LineFault::Wrong(Why::Syntax));

@@ -15,7 +15,8 @@ fn cache_form(
     name: Name16,
     words: &mut Words,
 ) -> Result<Declaration, Miss>
-    ensures { Gives result words.new (values_at judge.now.rigour (seen judge.now) cache_places (cache_from name) words.old) }
+    ensures { Gives result words.new (values_at judge.now.rigour (seen judge.now) cache_places
+        (cache_from name) words.old) }
 {
     let rigour = judge.rigour;
     let entries = fields::bounded(rigour, words, 1, 4096)?;
@@ -41,7 +42,8 @@ fn list_form(
     name: Name16,
     words: &mut Words,
 ) -> Result<Declaration, Miss>
-    ensures { Gives result words.new (values_at judge.now.rigour (seen judge.now) list_places (list_from name) words.old) }
+    ensures { Gives result words.new (values_at judge.now.rigour (seen judge.now) list_places
+        (list_from name) words.old) }
 {
     let rigour = judge.rigour;
     let entries = fields::bounded(rigour, words, 1, 4096)?;
@@ -74,7 +76,8 @@ fn lock_form(
     name: Name16,
     words: &mut Words,
 ) -> Result<Declaration, Miss>
-    ensures { Gives result words.new (values_at judge.now.rigour (seen judge.now) lock_places (lock_from name) words.old) }
+    ensures { Gives result words.new (values_at judge.now.rigour (seen judge.now) lock_places
+        (lock_from name) words.old) }
 {
     let rigour = judge.rigour;
     let entries = fields::bounded(rigour, words, 1, 4096)?;

@@ -132,7 +132,7 @@ common_may kind.Lock by command may built = (may, built)
 pub can_ask : (form : StrForm) (line : Option AnyAsk) (by : ConnId) (now : Step) → AllMayAsk form line by → CanAsk form line by now
 can_ask form None by (step.Call asks) all asked asks' = absurd cc
 can_ask form (Some call) by (step.Call asks) all asked same =
-    let here : call ≡ asked = cc in subst (λ ask. IsAskOf form.kind ask × MayAskAny by ask) here all.line
+    let here : call ≡ asked = cc in subst (λ ask. IsAskOf form.kind ask × MayAskAny by ask) here all.call
 can_ask form line by (step.Next left behind) all asked same =
     let here : common form.kind cmd.Next ≡ asked = cc in
     subst (λ ask. IsAskOf form.kind ask × MayAskAny by ask) here (common_asked form.kind cmd.Next, common_may form.kind by cmd.Next all.caller tt)

@@ -56,4 +56,4 @@ CanAsk form line by now =
 -- its caller may ask what the line asks of such a structure, and the common commands of an event round
 pub record AllMayAsk (form : StrForm) (line : Option AnyAsk) (by : ConnId) : Type 0 where
   pub caller : IsCaller by
-  pub line : IfSome line (λ asked. IsAskOf form.kind asked × MayAskAny by asked)
+  pub call : IfSome line (λ asked. IsAskOf form.kind asked × MayAskAny by asked)

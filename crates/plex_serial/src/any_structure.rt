@@ -67,14 +67,13 @@ impl AnyStructure {
     fn word(&self, form: &StrForm, conn: ConnId, word: u32) -> u32
         requires caller { IsCaller conn }
         requires form { form_of self.now ≡ form.now }
-        requires within { 32 * word < form.now.vector }
         ensures { result ≡ any_word form.now (history_of self.now) conn word }
     {
         let mut bits = 0u64;
         let mut unit = 1u64;
         for k in 0..32u32 {
-            let index = 32 * word + k;
-            if index < form.vector && self.stands(conn, index) {
+            let index = 32 * u64::from(word) + u64::from(k);
+            if index < u64::from(form.vector) && self.stands(conn, index as u32) {
                 bits += unit;
             }
             unit *= 2;

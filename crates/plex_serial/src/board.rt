@@ -157,8 +157,10 @@ impl Board {
             (option_copied line.entry) by on first self.old.run) }
     {
         let mut now = first;
-        for _ in 0..first.most_asks() {
+        let mut left = first.most_asks();
+        while left > 0 {
             now = self.step(alloc, form, line, by, on, now)?;
+            left -= 1;
         }
         Ok(())
     }
@@ -216,7 +218,7 @@ impl Board {
     // Whether a connector is active at a structure.
     fn linked(&self, conn: ConnId, on: StrNo) -> bool
         requires caller { IsCaller conn }
-        requires { on.0 < length self.now.run.histories }
+        requires there { on.0 < length self.now.run.histories }
         ensures { IfSome (slice_get self.now.run.histories on.0)
             (λ entries. result ≡ is_linked (own_calls (any_calls entries) conn)) }
     {

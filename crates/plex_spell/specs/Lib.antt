@@ -11,3 +11,4 @@ pub mod CacheReading
 pub mod ListReading
 pub mod LockReading
 pub mod ShellReading
+pub mod PlainWords

@@ -12,7 +12,8 @@ use cf_types::CacheCmd;
 use std::alloc::Global;
 
 fn read(judge: &Judge, words: &mut Words) -> Result<CacheCmd, Miss>
-    ensures { Gives result words.new (values_at judge.now.rigour (seen judge.now) read_places read_of words.old) }
+    ensures { Gives result words.new (values_at judge.now.rigour
+        (seen judge.now) read_places read_of words.old) }
 {
     let name = name(judge.rigour, words)?;
     let index = number(judge.rigour, words)?;
@@ -27,7 +28,8 @@ fn read(judge: &Judge, words: &mut Words) -> Result<CacheCmd, Miss>
 }
 
 fn write(alloc: Global, judge: &Judge, words: &mut Words) -> Result<CacheCmd, Miss>
-    ensures { Gives result words.new (values_at judge.now.rigour (seen judge.now) write_places write_of words.old) }
+    ensures { Gives result words.new (values_at judge.now.rigour
+        (seen judge.now) write_places write_of words.old) }
 {
     let name = name(judge.rigour, words)?;
     let index = number(judge.rigour, words)?;

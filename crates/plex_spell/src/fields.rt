@@ -89,7 +89,8 @@ pub fn new_facility(words: &mut Words) -> Result<CfId, Miss>
 
 /// Takes a facility.
 pub fn facility(judge: &Judge, words: &mut Words) -> Result<CfId, Miss>
-    ensures { Gives result words.new (on_first (facility_in judge.now.rigour (seen judge.now)) words.old) }
+    ensures { Gives result words.new (on_first (facility_in judge.now.rigour
+        (seen judge.now)) words.old) }
 {
     let word = words.next().ok_or(Miss::NoForm)?;
     singles::facility(judge, word).ok_or(Miss::NoForm)
@@ -97,7 +98,8 @@ pub fn facility(judge: &Judge, words: &mut Words) -> Result<CfId, Miss>
 
 /// Takes a connector.
 pub(crate) fn connector(judge: &Judge, words: &mut Words) -> Result<ConnId, Miss>
-    ensures { Gives result words.new (on_first (connector_in judge.now.rigour (seen judge.now)) words.old) }
+    ensures { Gives result words.new (on_first (connector_in judge.now.rigour
+        (seen judge.now)) words.old) }
 {
     let word = words.next().ok_or(Miss::NoForm)?;
     singles::connector(judge, word).ok_or(Miss::NoForm)
@@ -105,7 +107,8 @@ pub(crate) fn connector(judge: &Judge, words: &mut Words) -> Result<ConnId, Miss
 
 /// Takes a structure.
 pub fn structure(judge: &Judge, words: &mut Words) -> Result<StrNo, Miss>
-    ensures { Gives result words.new (on_first (structure_in judge.now.rigour (seen judge.now)) words.old) }
+    ensures { Gives result words.new (on_first (structure_in judge.now.rigour
+        (seen judge.now)) words.old) }
 {
     let word = words.next().ok_or(Miss::NoForm)?;
     singles::structure(judge, word).ok_or(Miss::NoForm)
@@ -228,7 +231,8 @@ fn keyed(rigour: Rigour, words: &mut Words) -> Result<At, Miss>
 
 // A record's id.
 fn by_id(rigour: Rigour, words: &mut Words) -> Result<At, Miss>
-    ensures { Gives result words.new (option_map (λ read. (at.Id read.0, read.1)) (on_first (record_of rigour) words.old)) }
+    ensures { Gives result words.new (option_map (λ read. (at.Id read.0, read.1)) (on_first
+        (record_of rigour) words.old)) }
 {
     let word = words.next().ok_or(Miss::NoForm)?;
     let id = singles::record_id(rigour, word).ok_or(Miss::NoForm)?;
@@ -256,7 +260,8 @@ pub(crate) fn record(rigour: Rigour, words: &mut Words) -> Result<At, Miss>
 
 /// Takes OLD and a name, where they are there.
 pub(crate) fn old(rigour: Rigour, words: &mut Words) -> Result<Option<Name16>, Miss>
-    ensures { Gives result words.new (option_at (codes "OLD") (on_first (name_of rigour)) words.old) }
+    ensures { Gives result words.new (option_at (codes "OLD") (on_first
+        (name_of rigour)) words.old) }
 {
     if words.skip(b"OLD") {
         Ok(Some(name(rigour, words)?))
@@ -267,7 +272,8 @@ pub(crate) fn old(rigour: Rigour, words: &mut Words) -> Result<Option<Name16>, M
 
 /// Takes STG and a storage class, where they are there.
 pub(crate) fn storage(rigour: Rigour, words: &mut Words) -> Result<Option<u32>, Miss>
-    ensures { Gives result words.new (option_at (codes "STG") (on_first (number_of rigour 0 4294967295)) words.old) }
+    ensures { Gives result words.new (option_at (codes "STG") (on_first
+        (number_of rigour 0 4294967295)) words.old) }
 {
     if words.skip(b"STG") {
         Ok(Some(number(rigour, words)?))
@@ -297,7 +303,8 @@ pub(crate) fn data_option(
     rigour: Rigour,
     words: &mut Words,
 ) -> Result<Option<Body>, Miss>
-    ensures { Gives result words.new (option_at (codes "DATA") (on_first (data_of rigour)) words.old) }
+    ensures { Gives result words.new (option_at (codes "DATA") (on_first
+        (data_of rigour)) words.old) }
 {
     if words.skip(b"DATA") {
         Ok(Some(data(alloc, rigour, words)?))
@@ -308,7 +315,8 @@ pub(crate) fn data_option(
 
 /// Takes KEY and a list key, where they are there.
 pub(crate) fn key_option(rigour: Rigour, words: &mut Words) -> Result<Option<Key16>, Miss>
-    ensures { Gives result words.new (option_at (codes "KEY") (on_first (key_of rigour)) words.old) }
+    ensures { Gives result words.new (option_at (codes "KEY") (on_first
+        (key_of rigour)) words.old) }
 {
     if words.skip(b"KEY") {
         Ok(Some(key(rigour, words)?))
@@ -319,7 +327,8 @@ pub(crate) fn key_option(rigour: Rigour, words: &mut Words) -> Result<Option<Key
 
 /// Takes RETRY and a number from 1 to 1,000, where they are there.
 pub fn retry(rigour: Rigour, words: &mut Words) -> Result<Option<u32>, Miss>
-    ensures { Gives result words.new (option_at (codes "RETRY") (on_first (number_of rigour 1 1000)) words.old) }
+    ensures { Gives result words.new (option_at (codes "RETRY") (on_first
+        (number_of rigour 1 1000)) words.old) }
 {
     if words.skip(b"RETRY") {
         Ok(Some(bounded(rigour, words, 1, 1000)?))

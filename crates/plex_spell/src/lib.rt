@@ -13,6 +13,7 @@ mod numerals;
 mod rigour;
 mod shell_reader;
 mod singles;
+pub mod spelling;
 mod texts;
 mod words;
 

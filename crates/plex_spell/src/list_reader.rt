@@ -33,7 +33,8 @@ fn keyed(label: Option<Label>) -> Option<Key16>
 
 // What stands behind WRITE.
 fn make(alloc: Global, judge: &Judge, words: &mut Words) -> Result<ListCmd, Miss>
-    ensures { Gives result words.new (values_at judge.now.rigour (seen judge.now) make_places make_of words.old) }
+    ensures { Gives result words.new (values_at judge.now.rigour
+        (seen judge.now) make_places make_of words.old) }
 {
     let rigour = judge.rigour;
     let header = number(rigour, words)?;
@@ -55,7 +56,8 @@ fn make(alloc: Global, judge: &Judge, words: &mut Words) -> Result<ListCmd, Miss
 
 // What stands behind UPDATE.
 fn update(alloc: Global, judge: &Judge, words: &mut Words) -> Result<ListCmd, Miss>
-    ensures { Gives result words.new (values_at judge.now.rigour (seen judge.now) update_places update_of words.old) }
+    ensures { Gives result words.new (values_at judge.now.rigour
+        (seen judge.now) update_places update_of words.old) }
 {
     let rigour = judge.rigour;
     let at = record(rigour, words)?;
@@ -72,7 +74,8 @@ fn update(alloc: Global, judge: &Judge, words: &mut Words) -> Result<ListCmd, Mi
 
 // What stands behind MOVE.
 fn shift(judge: &Judge, words: &mut Words) -> Result<ListCmd, Miss>
-    ensures { Gives result words.new (values_at judge.now.rigour (seen judge.now) move_places move_of words.old) }
+    ensures { Gives result words.new (values_at judge.now.rigour
+        (seen judge.now) move_places move_of words.old) }
 {
     let rigour = judge.rigour;
     let at = record(rigour, words)?;

@@ -28,7 +28,8 @@ pub fn is_numeral(word: &[u8]) -> bool
 // The value of a number, where it has 32 bits.
 fn value(word: &[u8]) -> Option<u32>
     requires { is_numeral word.now ≡ true }
-    ensures { result ≡ (if nat_lt (digits_value 10 word.now) (2 ^ 32) then Some (digits_value 10 word.now) else None) }
+    ensures { result ≡ (if nat_lt (digits_value 10 word.now) (2 ^ 32) then Some
+        (digits_value 10 word.now) else None) }
 {
     let Ok(text) = std::str::from_utf8(word) else {
         return None;

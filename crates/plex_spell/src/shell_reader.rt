@@ -46,7 +46,8 @@ fn duplex(words: &mut Words) -> Result<ShellCmd, Miss>
 
 // A command that only the operator gives, behind its first word.
 fn operator_command(judge: &Judge, verb: &[u8], words: &mut Words) -> Result<ShellCmd, Miss>
-    ensures { Gives result words.new (operator_at judge.now.rigour (seen judge.now) verb.now words.old) }
+    ensures { Gives result words.new (operator_at judge.now.rigour
+        (seen judge.now) verb.now words.old) }
 {
     if is(verb, b"FORCECONN") {
         let conn = connector(judge, words)?;

@@ -34,7 +34,8 @@ pub fn is_term(word: &[u8]) -> bool
 
 // Whether a text is made of capital letters, digits and `_`.
 fn are_capital(text: &[u8]) -> bool
-    ensures { result ≡ list_all (λ c. is_ascii_uppercase c || is_ascii_digit c || c == 95) text.now }
+    ensures { result ≡ list_all
+        (λ c. is_ascii_uppercase c || is_ascii_digit c || c == 95) text.now }
 {
     text.iter().all(|byte| byte.is_ascii_uppercase() || byte.is_ascii_digit() || *byte == b'_')
 }

@@ -8,4 +8,5 @@ returns c =
     let form = c.args.form.now in
     let len : length c.items-prefs.result.now ≡ length form.prefs = ap length c.items-prefs.ensures in
     ap Some (rw c.items-prefs.ensures at c.in_ok-pref_line.ensures)
-    ∙ sym (get_item (pref_line form) (form_line c.args.script.now form) form.prefs c.args.k (c.args.k - 1) _ (omega arith) (omega arith))
+    ∙ sym (get_item (pref_line form) (form_line c.args.script.now form) form.prefs c.args.k (c.args.k - 1) _
+    (omega arith) (omega arith))

@@ -9,4 +9,5 @@ returns g c =
     let entries = c.args.entries.now in
     let head = heading (codes "HISTORY") (structure_name c.args.script.now c.args.number) (length entries) in
     ap Some c.in_ok-entry_line.ensures
-    ∙ sym (get_read (entry_line g.C.Spelled.words g.R.Spelled.words c.args.script.now) head entries c.args.k (c.args.k - 1) c.index-entries-k.result (omega arith) (omega arith) c.index-entries-k.is)
+    ∙ sym (get_read (entry_line g.C.Spelled.words g.R.Spelled.words c.args.script.now) head entries c.args.k
+    (c.args.k - 1) c.index-entries-k.result (omega arith) (omega arith) c.index-entries-k.is)
