@@ -7,3 +7,6 @@ pub mod CauseLaws
 pub mod ReadLaws
 pub mod LineLaws
 pub mod DecidedLaws
+pub mod TokenFacts
+pub mod FormLaws
+pub mod FormedLines

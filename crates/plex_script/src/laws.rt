@@ -1,4 +1,8 @@
 ghost use Rattle.plex_script.specs.Laws.{SaysOne, IsDecided, IsExclusive};
+ghost use Rattle.plex_script.specs.Scripts.{IsScript};
+ghost use Rattle.plex_script.specs.WellFormed.{IsWellFormed};
+
+use crate::scripts::Script;
 
 /// A text says one script.
 pub fn one_script()
@@ -13,4 +17,10 @@ pub fn script_or_fault()
 /// No script has a line that is wrong.
 pub fn never_both()
     ensures { IsExclusive }
+{}
+
+/// Each script is well formed.
+pub fn well_formed(text: &[u8], script: &Script)
+    requires { IsScript text.now script.now }
+    ensures { IsWellFormed script.now }
 {}

@@ -23,7 +23,7 @@ pub use asks::AnyHistory;
 pub use copies::copy_ask;
 pub use declarations::Declaration;
 pub use faults::{ReadFault, Why};
-pub use laws::{never_both, one_script, script_or_fault};
+pub use laws::{never_both, one_script, script_or_fault, well_formed};
 pub use reader::read;
 pub use scripts::{Act, AnyAsk, Line, Script};
 pub use transcripts::{AgentEnd, Shown, Transcript};

@@ -1,15 +1,19 @@
 -- The tables of a board: a structure's form stays, and its history goes on, where the structure is called.
-use Rattle.std.proofs.Common.{◌≡◌, ℕ, ◌<◌, ◌+◌, nat_le, true, false, List, [], ◌∷◌, map, set, length, get_or, slice_get, Some, None, Option, refl, sym, ap, subst, arith, ◌∙◌, Result, Ok, Err}
-use Rattle.std.proofs.lemmas.List.{map-set}
+use Rattle.std.proofs.Common.{◌≡◌, ℕ, zero, suc, drop, fold, ◌-◌, ◌++◌, take, ◌<◌, ◌+◌, nat_le, true, false, List, [], ◌∷◌, map, set, length, get_or, slice_get, Some, None, Option, refl, sym, ap, subst, arith, ◌∙◌, Result, Ok, Err}
+use Rattle.std.proofs.lemmas.List.{map-set, map-append}
 use Rattle.std.proofs.lemmas.List.{length-map}
-use Rattle.std.proofs.lemmas.Option.{slice_get-map, slice_get-get_or, slice_get_within}
+use Rattle.std.proofs.lemmas.Option.{slice_get-map, slice_get-get_or, slice_get_within, get_or_from_slice_get}
 use Rattle.std.specs.Prelude.{IfOk, OnOk, IfSome}
-use Rattle.std.specs.Prelude.{IsTrue}
+use Rattle.std.specs.Prelude.{IsTrue, All}
+use Rattle.std.specs.List.{enumerate_from}
+use Rattle.std.proofs.lemmas.List.Elements.{All-get_or, All-push}
+use Rattle.std.proofs.Math.Seq.{take-suc, drop-cons}
 use Rattle.cf_types.specs.declared.forms.Kind.{Kind}
 use Rattle.cf_types.specs.declared.forms.Kind.TheVariants as kind
 use Rattle.cf_types.specs.declared.forms.StrForm.{StrForm}
 use Rattle.cf_types.specs.declared.shell_commands.ShellCmd.{ShellCmd}
 use Rattle.cf_types.specs.declared.shell_commands.ShellCmd.TheVariants as cmd
+use Rattle.cf_types.specs.Forms.{IsCaller}
 use Rattle.engine_api.specs.Asking.{MayCommand}
 use Rattle.engine_api.specs.Shell.{is_built}
 use Rattle.cf_types.specs.declared.memory.NoMemory.{NoMemory}
@@ -22,13 +26,16 @@ use Rattle.plex_script.specs.declared.asks.AnyHistory.{AnyHistory}
 use Rattle.plex_script.specs.declared.scripts.AnyAsk.{AnyAsk}
 use Rattle.plex_script.specs.declared.transcripts.Shown.TheVariants as shown
 use Rattle.plex_script.specs.declared.transcripts.Shown.{Shown}
-use Rattle.plex_script.specs.Agent.{asked_by, step_after, common}
+use Rattle.plex_script.specs.declared.scripts.Act.TheVariants as act
+use Rattle.plex_script.specs.declared.scripts.Line.{Line}
+use Rattle.plex_script.specs.declared.scripts.Script.{Script}
+use Rattle.plex_script.specs.Agent.{asked_by, step_after, common, first_step}
 use Rattle.plex_script.specs.Heard.{any_length}
-use Rattle.plex_serial.specs.Kinds.{IsAskOf, any_next, any_told}
-use Rattle.plex_serial.specs.Runnable.{MayAskAny}
+use Rattle.plex_serial.specs.Kinds.{IsAskOf, IsBuiltKind, no_calls, any_next, any_told, numbers_from}
+use Rattle.plex_serial.specs.Runnable.{MayAskAny, IsRunnable, IsRunnableLine, IsRunnableAct}
 use Rattle.plex_serial.specs.declared.any_structure.AnyStructure.{AnyStructure}
-use Rattle.plex_serial.specs.Boards.{Board, form_of, history_of, IsPlace, IsSameBoard, CanAsk, AllMayAsk}
-use Rattle.plex_serial.specs.Serial.{Run, shown_to, stopped_at, step_made, with_shown}
+use Rattle.plex_serial.specs.Boards.{Board, form_of, history_of, IsPlace, IsSameBoard, CanAsk, AllMayAsk, IsWithin}
+use Rattle.plex_serial.specs.Serial.{Run, shown_to, stopped_at, is_done, step_made, all_steps_made, with_shown, line_made, after_line, after_departure, after_closing}
 use Rattle.plex_serial.proofs.Tables.{set_same}
 
 -- what stands within a list is there
@@ -135,11 +142,11 @@ can_ask form (Some call) by (step.Call asks) all asked same =
     let here : call ≡ asked = cc in subst (λ ask. IsAskOf form.kind ask × MayAskAny by ask) here all.call
 can_ask form line by (step.Next left behind) all asked same =
     let here : common form.kind cmd.Next ≡ asked = cc in
-    subst (λ ask. IsAskOf form.kind ask × MayAskAny by ask) here (common_asked form.kind cmd.Next, common_may form.kind by cmd.Next all.caller tt)
+    subst (λ ask. IsAskOf form.kind ask × MayAskAny by ask) here (common_asked form.kind cmd.Next, common_may form.kind by cmd.Next all.caller refl)
 can_ask form line by (step.Respond left behind) all asked same =
     let here : common form.kind cmd.Respond ≡ asked = cc in
     subst (λ ask. IsAskOf form.kind ask × MayAskAny by ask) here
-    (common_asked form.kind cmd.Respond, common_may form.kind by cmd.Respond all.caller tt)
+    (common_asked form.kind cmd.Respond, common_may form.kind by cmd.Respond all.caller refl)
 can_ask form line by step.Rest all asked same = absurd cc
 
 -- ---- boards that are the same but for calls
@@ -169,3 +176,147 @@ pub test_there : (structures : List AnyStructure) (n : ℕ) (one : AnyStructure)
     → slice_get structures n ≡ Some one
     → with_shown by (slice_get (map history_of structures) n) item run ≡ shown_to by (item (history_of one)) run
 test_there structures n one by item run there = rw (history_there structures n one there) refl
+
+-- the structures of a board, one after another
+pub place_of : (board : Board) (forms : List StrForm) (conn : ConnId) (i : ℕ) (form d : StrForm) → board.forms ≡ forms
+    → length board.run.histories ≡ length forms → All (λ form. IsBuiltKind form.kind) forms → IsCaller conn
+    → conn.0 < length board.run.transcripts → i < length forms → form ≡ get_or forms i d → IsPlace board form conn (record { 0 = i })
+place_of board forms conn i form d same counted built caller shown within value =
+    record {
+      known = rw (same, value) (slice_get-get_or forms i d within);
+      there = rw counted within;
+      kind = rw value (All-get_or (λ (form : StrForm). IsBuiltKind form.kind) forms i d within built);
+      caller = caller;
+      shown = shown;
+    }
+
+-- a structure without calls
+pub none_yet : (kind : Kind) → any_length (no_calls kind) ≡ 0
+none_yet kind.Cache = refl
+none_yet (kind.List headers locks refs) = refl
+none_yet kind.Lock = refl
+
+pub within_limit : (limit : ℕ) (structures : List AnyStructure) → All (λ one. any_length (history_of one) ≡ 0) structures → IsWithin limit structures
+within_limit limit structures empty x one there =
+    let within : x < length structures = slice_get_within structures x one there in
+    let none : any_length (history_of (get_or structures x one)) ≡ 0 =
+    All-get_or (λ (one : AnyStructure). any_length (history_of one) ≡ 0) structures x one within empty in
+    let same : get_or structures x one ≡ one = get_or_from_slice_get structures x one one there in
+    let none' : any_length (history_of one) ≡ 0 = subst (λ (each : AnyStructure). any_length (history_of each) ≡ 0) same none in
+    omega (arith, none')
+
+-- an event round
+pub events_made : (limit : ℕ) (form : StrForm) (line : Line) (run : Run) (first : Step) → is_done run line.by ≡ true → line.act ≡ act.Events
+    → first ≡ first_step line.act line.retry
+    → line_made limit (Some form) line run ≡ all_steps_made limit form None line.by line.on first run
+events_made limit form line run first done is begins = rw (begins, done, is) refl
+
+-- one more structure is started
+pub started_next : (structures items : List AnyStructure) (forms : List StrForm) (i : ℕ) (one : AnyStructure) (form : StrForm)
+    → items ≡ structures ++ one ∷ [] → take (i + 1) forms ≡ take i forms ++ form ∷ [] → form_of one ≡ form
+    → history_of one ≡ no_calls form.kind → map form_of structures ≡ take i forms
+    → map history_of structures ≡ map (λ form. no_calls form.kind) (take i forms)
+    → All (λ one. any_length (history_of one) ≡ 0) structures
+    → (map form_of items ≡ take (i + 1) forms) × (map history_of items ≡ map (λ form. no_calls form.kind) (take (i + 1) forms))
+      × All (λ one. any_length (history_of one) ≡ 0) items
+started_next structures items forms i one form pushed taken of_form empty forms_so histories_so empty_so =
+    (
+      rw (pushed, taken) (map-append form_of structures (one ∷ []) ∙ rw (forms_so, of_form) refl),
+      rw (pushed, taken) (map-append history_of structures (one ∷ []) ∙ rw (histories_so, empty)
+      (sym (map-append (λ (form : StrForm). no_calls form.kind) (take i forms) (form ∷ [])))),
+      subst (λ (all : List AnyStructure). All (λ one. any_length (history_of one) ≡ 0) all) (sym pushed)
+      (All-push (λ (one : AnyStructure). any_length (history_of one) ≡ 0) structures one empty_so (rw empty (none_yet form.kind))),
+    )
+
+-- the front of a list with the element behind it
+pub take_next : {X : Type 0} (xs : List X) (i : ℕ) (x d : X) → i < length xs → x ≡ get_or xs i d → take (i + 1) xs ≡ take i xs ++ x ∷ []
+take_next xs i x d within value =
+    let next : i + 1 ≡ suc i = omega arith in
+    rw (next, value) (take-suc xs i d within)
+
+drop_next : {X : Type 0} (xs : List X) (i : ℕ) (d : X) → i < length xs → drop i xs ≡ get_or xs i d ∷ drop (i + 1) xs
+drop_next xs i d within = let next : i + 1 ≡ suc i = omega arith in rw next (drop-cons xs i d within)
+
+-- ---- the lines and closings of a script
+
+-- the board of a script, somewhere in its run
+pub record IsBoardOf (script : Script) (most : ℕ) (board : Board) : Type 0 where
+  pub forms : board.forms ≡ script.structures
+  pub limit : board.limit ≡ most
+  pub structures : length board.run.histories ≡ length script.structures
+  pub callers : length board.run.transcripts ≡ length script.connectors + 1
+
+pub board_kept : (script : Script) (limit : ℕ) (old new : Board) → IsBoardOf script limit old → IsSameBoard old new → IsBoardOf script limit new
+board_kept script limit old new kept same =
+    record {
+      forms = same.forms ∙ kept.forms;
+      limit = same.limit ∙ kept.limit;
+      structures = same.structures ∙ kept.structures;
+      callers = same.callers ∙ kept.callers;
+    }
+
+-- the place of a line
+pub line_place : (script : Script) (limit : ℕ) (board : Board) (line : Line) (form d : StrForm) → IsRunnable script → IsRunnableLine script line
+    → IsBoardOf script limit board → form ≡ get_or script.structures line.on.0 d → IsPlace board form line.by line.on
+line_place script limit board line form d runs line_runs kept value =
+    let within : line.on.0 < length script.structures = slice_get_within script.structures line.on.0 line_runs.form line_runs.known in
+    let there : slice_get script.structures line.on.0 ≡ Some form =
+    slice_get-get_or script.structures line.on.0 d within ∙ ap Some (sym value) in
+    record {
+      known = rw kept.forms there;
+      there = rw kept.structures within;
+      kind = rw value (All-get_or (λ (form : StrForm). IsBuiltKind form.kind) script.structures line.on.0 d within runs.kinds);
+      caller = omega (arith, line_runs.caller, runs.connectors);
+      shown = omega (arith, kept.callers, line_runs.caller);
+    }
+
+pub line_act : (script : Script) (line : Line) (form d : StrForm) → IsRunnableLine script line
+    → form ≡ get_or script.structures line.on.0 d → IsRunnableAct form line.by line.act
+line_act script line form d line_runs value =
+    let within : line.on.0 < length script.structures = slice_get_within script.structures line.on.0 line_runs.form line_runs.known in
+    let there : slice_get script.structures line.on.0 ≡ Some form =
+    slice_get-get_or script.structures line.on.0 d within ∙ ap Some (sym value) in
+    let same : Some line_runs.form ≡ Some form = sym line_runs.known ∙ there in
+    let same' : line_runs.form ≡ form = cc in
+    subst (λ (form : StrForm). IsRunnableAct form line.by line.act) same' line_runs.act
+
+-- a line is made at its structure
+pub line_here : (limit : ℕ) (script : Script) (line : Line) (form d : StrForm) (run : Run) → IsRunnableLine script line
+    → form ≡ get_or script.structures line.on.0 d → after_line limit script run line ≡ line_made limit (Some form) line run
+line_here limit script line form d run line_runs value =
+    let within : line.on.0 < length script.structures = slice_get_within script.structures line.on.0 line_runs.form line_runs.known in
+    let there : slice_get script.structures line.on.0 ≡ Some form =
+    slice_get-get_or script.structures line.on.0 d within ∙ ap Some (sym value) in
+    rw there refl
+
+abbrev pub callers_from : ℕ → ℕ → List ConnId
+callers_from first n = map (λ (number : ℕ). (let conn : ConnId = record { 0 = number } in conn)) (numbers_from first n)
+
+pub callers_next : (place end : ℕ) → place < end
+    → callers_from (place + 1) (end - place) ≡ (record { 0 = place + 1 }) ∷ callers_from (place + 1 + 1) (end - (place + 1))
+callers_next place end below =
+    let more : end - place ≡ suc (end - (place + 1)) = omega arith in
+    rw more refl
+
+-- a line is done, and those behind it are left
+pub line_next : (limit : ℕ) (script : Script) (old new : Run) (i : ℕ) (line d : Line) (form e : StrForm) → i < length script.lines
+    → line ≡ get_or script.lines i d → form ≡ get_or script.structures line.on.0 e → IsRunnable script
+    → new ≡ line_made limit (Some form) line old
+    → fold (after_line limit script) new (drop (i + 1) script.lines) ≡ fold (after_line limit script) old (drop i script.lines)
+line_next limit script old new i line d form e within value at runs made =
+    let runs_line : IsRunnableLine script line =
+    subst (IsRunnableLine script) (sym value) (All-get_or (IsRunnableLine script) script.lines i d within runs.lines) in
+    let here : new ≡ after_line limit script old line = made ∙ sym (line_here limit script line form e old runs_line at) in
+    let left : drop i script.lines ≡ line ∷ drop (i + 1) script.lines =
+    drop_next script.lines i d within ∙ ap (λ x. x ∷ drop (i + 1) script.lines) (sym value) in
+    rw (here, left) refl
+
+-- a connector departs, and those behind it are left
+pub closing_next : (limit : ℕ) (script : Script) (forms : List StrForm) (old new : Run) (place end : ℕ) (conn : ConnId) → place < end
+    → conn.0 ≡ place + 1 → forms ≡ script.structures → new ≡ fold (after_departure limit conn) old (enumerate_from 0 forms)
+    → fold (after_closing limit script) new (callers_from (place + 1 + 1) (end - (place + 1)))
+      ≡ fold (after_closing limit script) old (callers_from (place + 1) (end - place))
+closing_next limit script forms old new place end conn below number same made =
+    let who : conn ≡ (record { 0 = place + 1 }) = ap (λ (n : ℕ). (let one : ConnId = record { 0 = n } in one)) number in
+    let here : new ≡ after_closing limit script old (record { 0 = place + 1 }) = made ∙ rw (who, same) refl in
+    rw (here, callers_next place end below) refl

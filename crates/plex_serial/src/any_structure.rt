@@ -1,5 +1,5 @@
 //! A structure of whatever kind.
-ghost use Rattle.std.specs.Prelude.{◌≡◌, ◌+◌, ◌*◌, ◌<◌, ◌^◌, IfOk, OnOk, OnErr, IsOk};
+ghost use Rattle.std.specs.Prelude.{◌≡◌, ◌+◌, ◌*◌, ◌<◌, ◌^◌, IfOk, OnOk, OnErr, IsOk, nat_lt, ◌&&◌, if◌then◌else◌};
 ghost use Rattle.cf_types.specs.Forms.{IsForm, IsCaller};
 ghost use Rattle.plex_script.specs.Heard.{any_length, any_calls, own_calls, is_linked};
 ghost use Rattle.plex_serial.specs.Kinds.{IsAskOf, IsBuiltKind, no_calls, any_next, any_told, any_stands, any_word};
@@ -63,19 +63,30 @@ impl AnyStructure {
         }
     }
 
-    // The 32 bits of a word of a connector's vector; those past its end are 0.
-    fn word(&self, form: &StrForm, conn: ConnId, word: u32) -> u32
+    // A bit of a connector's vector of this length; those past its end are 0.
+    fn bit(&self, vector: u32, conn: ConnId, index: u64) -> bool
+        requires { IsCaller conn }
+        ensures { result ≡ (nat_lt index vector
+            && any_stands (form_of self.now) (history_of self.now) conn index) }
+    {
+        if index < u64::from(vector) {
+            self.stands(conn, index as u32)
+        } else {
+            false
+        }
+    }
+
+    // The 32 bits of a word of a connector's vector, which has this length.
+    fn word(&self, vector: u32, conn: ConnId, word: u32) -> u32
         requires caller { IsCaller conn }
-        requires form { form_of self.now ≡ form.now }
-        ensures { result ≡ any_word form.now (history_of self.now) conn word }
+        requires vector { vector ≡ (form_of self.now).vector }
+        ensures { result ≡ any_word (form_of self.now) (history_of self.now) conn word }
     {
         let mut bits = 0u64;
         let mut unit = 1u64;
         for k in 0..32u32 {
             let index = 32 * u64::from(word) + u64::from(k);
-            if index < u64::from(form.vector) && self.stands(conn, index as u32) {
-                bits += unit;
-            }
+            bits += worth(self.bit(vector, conn, index), unit);
             unit *= 2;
         }
         bits as u32
@@ -108,7 +119,7 @@ impl AnyStructure {
         ensures { result ≡ word_shown form.now on word by (history_of self.now) }
     {
         if 32 * u64::from(word) < u64::from(form.vector) {
-            let bits = self.word(form, by, word);
+            let bits = self.word(form.vector, by, word);
             let at = self.len();
             Shown::Word { on, word, bits, at }
         } else {
@@ -151,4 +162,11 @@ impl AnyStructure {
             AnyStructure::Cache(structure) => AnyHistory::Cache(structure.into_history()),
         }
     }
+}
+
+// What a bit adds to a word, at the place that has this worth.
+fn worth(set: bool, unit: u64) -> u64
+    ensures { result ≡ (if set then unit else 0) }
+{
+    if set { unit } else { 0 }
 }

@@ -249,7 +249,7 @@ impl Board {
     /// A connector departs from each structure at which it is active.
     pub fn close(&mut self, alloc: Global, forms: &[StrForm], conn: ConnId) -> Result<(), NoMemory>
         requires forms { self.old.forms ≡ forms.now }
-        requires few { length forms.now ≤ 256 }
+        requires few { length forms.now ≤ 16 }
         requires built { All (λ form. IsBuiltKind form.kind) forms.now }
         requires structures { length self.old.run.histories ≡ length forms.now }
         requires connector { IsConnector conn }
@@ -258,8 +258,10 @@ impl Board {
         ensures run { OnOk result (self.new.run
             ≡ fold (after_departure self.old.limit conn) self.old.run (enumerate_from 0 forms.now)) }
     {
-        for (place, form) in forms.iter().enumerate() {
-            self.depart(alloc, form, conn, StrNo(place as u8))?;
+        let mut place = 0u8;
+        for form in forms {
+            self.depart(alloc, form, conn, StrNo(place))?;
+            place += 1;
         }
         Ok(())
     }
