@@ -14,3 +14,5 @@ mod report;
 mod shell_text;
 mod spelled;
 mod spots;
+
+pub use report::{line, render};

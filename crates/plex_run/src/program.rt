@@ -1,21 +1,27 @@
-ghost use Rattle.std.specs.Prelude.{◌≡◌, ◌≢◌, ◌⊎◌, ◌↔◌, ℕ, ◌≤◌, ◌<◌, ◌++◌, length, take, IfSome, IfOk, OnOk, OnErr, IsErrOf, IsTrue, codes, string_bytes};
+ghost use Rattle.std.specs.Prelude.{◌≡◌, ◌≢◌, ◌⊎◌, ◌↔◌, ℕ, ◌≤◌, ◌<◌, ◌++◌, length, IfSome, IfOk, OnOk, OnErr, IsTrue, codes, string_bytes};
 ghost use Rattle.std.specs.Io.KnownBytes.{Appends};
 ghost use Rattle.cf_io.specs.Count.{Rises};
-ghost use Rattle.plex_run.specs.Plan.{Plan};
-ghost use Rattle.plex_run.specs.Form.{IsScript, InForm};
-ghost use Rattle.plex_run.specs.Report.{report};
+ghost use Rattle.plex_script.specs.declared.scripts.Script.{Script};
+ghost use Rattle.plex_serial.specs.Runnable.{IsRunnable};
+ghost use Rattle.plex_run.specs.StatusLines.{script_line};
 ghost use Rattle.plex_run.specs.Written.{Gains, GainsPrefix};
-ghost use Rattle.plex_run.specs.Outcome.{serial_report, memory_line, IsSerial, IsStatus, status_line, script_limit, WritesReport, WritesOneHistory, WritesFront, WritesMemoryLine, IsNoScript, IsExact, IsComplete};
+ghost use Rattle.plex_run.specs.Outcome.{IsSerial, IsStatus, status_line, script_limit, served_text, served_status, WritesReport, WritesFull, WritesHistories, WritesFront, WritesRefusal, IsServed, IsUnserved, IsExact, IsComplete};
 
-use crate::reader::read;
-use crate::report_writing::{ReportEnd, write_report};
-use crate::scripts::{ReadFault, Script};
-use crate::serial::serial;
-use cf_io::{ReadEnd, Sink, Source, read_all, write_all};
+use crate::full::full_structure;
+use crate::not_yet::not_yet;
+use crate::status_lines::{full_line, script_line, why_text};
+use cf_io::{ReadEnd, Sink, Source, WriteFault, read_all, write_all};
+use cf_types::NoMemory;
+use plex_report::render;
+use plex_script::{ReadFault, Script, never_both, one_script, read, well_formed};
+use plex_serial::{one_run, serial};
 use std::alloc::Global;
 
 /// The greatest length of a script, in bytes.
 const SCRIPT_LIMIT: usize = 1_048_576;
+
+/// How many calls a journal takes.
+const JOURNAL_LIMIT: u32 = 65_536;
 
 // Whether a word is `serial`.
 fn is_serial_word(word: &String) -> bool
@@ -36,58 +42,154 @@ fn is_serial(words: &[String]) -> bool
 
 // Writes a line that tells how the run ended. A failing write changes nothing else.
 fn say<K: Sink>(sink: &mut K, line: &[u8])
-    ensures gains { Gains (K.held sink.old) (K.held sink.new) (K.faults sink.old) (K.faults sink.new) line.now }
+    ensures gains { Gains (K.held sink.old) (K.held sink.new) (K.faults sink.old)
+        (K.faults sink.new) line.now }
     ensures faults { K.faults sink.old ≤ K.faults sink.new }
 {
     let _ = write_all(sink, line);
 }
 
-// Runs a script on one thread and writes its report.
-fn reported<K: Sink>(alloc: Global, script: &Script, sink: &mut K) -> u8
-    requires { InForm script.now }
-    ensures whole { result ≡ 0 → Appends (K.held sink.old) (K.held sink.new) (serial_report script.now) }
-    ensures sink_fault { result ≡ 5 → Rises (K.faults sink.old) (K.faults sink.new)
-        × GainsPrefix (K.held sink.old) (K.held sink.new) (serial_report script.now) }
-    ensures no_memory { result ≡ 6 → (n : ℕ) × Gains (K.held sink.old) (K.held sink.new) (K.faults sink.old) (K.faults sink.new)
-        (take n (serial_report script.now) ++ memory_line) }
-    ensures statuses { (result ≡ 0) ⊎ ((result ≡ 5) ⊎ (result ≡ 6)) }
+// Writes one text, and then another.
+fn write_both<K: Sink>(sink: &mut K, first: &[u8], second: &[u8]) -> Result<(), WriteFault>
+    ensures whole { OnOk result (Appends (K.held sink.old) (K.held sink.new)
+        (first.now ++ second.now)) }
+    ensures front { OnErr result (GainsPrefix (K.held sink.old) (K.held sink.new)
+        (first.now ++ second.now)) }
+    ensures cause { OnErr result (Rises (K.faults sink.old) (K.faults sink.new)) }
     ensures faults { K.faults sink.old ≤ K.faults sink.new }
 {
-    let Ok(finished) = serial(alloc, script) else {
+    write_all(sink, first)?;
+    write_all(sink, second)
+}
+
+// What a script's run answers: the status, the line of the structure whose journal got full, and
+// the report.
+#[derive(Drop)]
+struct Answer {
+    status: u8,
+    heading: Vec<u8>,
+    report: Vec<u8>,
+}
+
+// Runs a script on one thread, and makes its report.
+fn run_script(alloc: Global, script: &Script) -> Result<Answer, NoMemory>
+    requires { IsRunnable script.now }
+    ensures status { IfOk result (λ it. it.status ≡ served_status script.now) }
+    ensures text { IfOk result (λ it. it.heading.items ++ it.report.items
+        ≡ served_text script.now) }
+{
+    let finished = serial(alloc, JOURNAL_LIMIT, script)?;
+    let transcripts = finished.transcripts.items();
+    let full = full_structure(script.structures.items(), transcripts);
+    Ok(Answer {
+        status: if full.is_some() { 8 } else { 0 },
+        heading: full_line(alloc, full)?,
+        report: render(alloc, script, finished.histories.items(), transcripts)?,
+    })
+}
+
+// Runs a script on one thread and writes its report.
+fn reported<K: Sink>(alloc: Global, script: &Script, sink: &mut K) -> u8
+    requires { IsRunnable script.now }
+    ensures whole { (result ≡ 0) ⊎ (result ≡ 8) → (result ≡ served_status script.now)
+        × Appends (K.held sink.old) (K.held sink.new) (served_text script.now) }
+    ensures sink_fault { result ≡ 5 → Rises (K.faults sink.old) (K.faults sink.new)
+        × GainsPrefix (K.held sink.old) (K.held sink.new) (served_text script.now) }
+    ensures line { IfSome (status_line result)
+        (Gains (K.held sink.old) (K.held sink.new) (K.faults sink.old) (K.faults sink.new)) }
+    ensures statuses { (result ≡ 0) ⊎ ((result ≡ 8) ⊎ ((result ≡ 5) ⊎ (result ≡ 6))) }
+    ensures faults { K.faults sink.old ≤ K.faults sink.new }
+{
+    let Ok(answer) = run_script(alloc, script) else {
         say(sink, b"NOMEMORY\n");
         return 6;
     };
-    let connectors = script.connectors();
-    match write_report(
-        alloc,
-        connectors,
-        &finished.history,
-        &finished.transcripts,
-        sink,
-    ) {
-        Ok(()) => 0,
-        Err(ReportEnd::SinkFault) => 5,
-        Err(ReportEnd::NoMemory) => {
+    match write_both(sink, &answer.heading, &answer.report) {
+        Ok(()) => answer.status,
+        Err(_) => 5,
+    }
+}
+
+// Tells the line of a text that isn't served, and why.
+fn refused<K: Sink>(alloc: Global, line: u32, why: &[u8], sink: &mut K) -> u8
+    ensures refused { result ≡ 3 → Gains (K.held sink.old) (K.held sink.new) (K.faults sink.old)
+        (K.faults sink.new) (script_line line why.now) }
+    ensures line { IfSome (status_line result)
+        (Gains (K.held sink.old) (K.held sink.new) (K.faults sink.old) (K.faults sink.new)) }
+    ensures statuses { (result ≡ 3) ⊎ (result ≡ 6) }
+    ensures faults { K.faults sink.old ≤ K.faults sink.new }
+{
+    match script_line(alloc, line, why) {
+        Ok(text) => {
+            say(sink, &text);
+            3
+        }
+        Err(NoMemory) => {
             say(sink, b"NOMEMORY\n");
             6
         }
     }
 }
 
+// Reads a script out of a text, runs it, and writes the report.
+fn judged<K: Sink>(alloc: Global, text: &[u8], sink: &mut K) -> u8
+    ensures served { result ≡ 0 → WritesReport (K.held sink.old) (K.held sink.new) text.now }
+    ensures full { result ≡ 8 → WritesFull (K.held sink.old) (K.held sink.new) text.now }
+    ensures headline { (result ≡ 0) ⊎ (result ≡ 8)
+        → WritesHistories (K.held sink.old) (K.held sink.new) text.now }
+    ensures refused { result ≡ 3 → WritesRefusal (K.held sink.old) (K.held sink.new)
+        (K.faults sink.old) (K.faults sink.new) text.now }
+    ensures sink_fault { result ≡ 5 → Rises (K.faults sink.old) (K.faults sink.new)
+        × WritesFront (K.held sink.old) (K.held sink.new) text.now }
+    ensures line { IfSome (status_line result)
+        (Gains (K.held sink.old) (K.held sink.new) (K.faults sink.old) (K.faults sink.new)) }
+    ensures exact { result ≢ 6 → (result ≡ 3) ↔ IsUnserved text.now }
+    ensures complete { ¬ Rises (K.faults sink.old) (K.faults sink.new) → result ≢ 6
+        → (script : Script) → IsServed text.now script → result ≡ served_status script }
+    ensures statuses { (result ≡ 0) ⊎ ((result ≡ 8) ⊎ ((result ≡ 5)
+        ⊎ ((result ≡ 6) ⊎ (result ≡ 3)))) }
+    ensures faults { K.faults sink.old ≤ K.faults sink.new }
+{
+    one_script();
+    never_both();
+    let script = match read(alloc, text) {
+        Ok(script) => script,
+        Err(ReadFault::Script { line, why }) => return refused(alloc, line, why_text(why), sink),
+        Err(ReadFault::NoMemory) => {
+            say(sink, b"NOMEMORY\n");
+            return 6;
+        }
+    };
+    if let Some(line) = not_yet(text, &script) {
+        return refused(alloc, line, b"NOTYET", sink);
+    }
+    well_formed(text, &script);
+    one_run(JOURNAL_LIMIT, &script);
+    reported(alloc, &script, sink)
+}
+
 // Reads the script, runs it, and writes the report: the run of `serial`.
 fn served<S: Source, K: Sink>(alloc: Global, source: &mut S, sink: &mut K) -> u8
-    ensures served { result ≡ 0 → IfSome (S.left source.old) (WritesReport (K.held sink.old) (K.held sink.new)) }
+    ensures served { result ≡ 0 → IfSome (S.left source.old)
+        (WritesReport (K.held sink.old) (K.held sink.new)) }
+    ensures full { result ≡ 8 → IfSome (S.left source.old)
+        (WritesFull (K.held sink.old) (K.held sink.new)) }
+    ensures headline { (result ≡ 0) ⊎ (result ≡ 8) → IfSome (S.left source.old)
+        (WritesHistories (K.held sink.old) (K.held sink.new)) }
     ensures read_fault { result ≡ 4 → Rises (S.faults source.old) (S.faults source.new) }
-    ensures too_long { result ≡ 7 → IfSome (S.left source.old) (λ text. script_limit < length text) }
-    ensures not_yet { result ≡ 3 → IfSome (S.left source.old) IsNoScript }
+    ensures too_long { result ≡ 7 → IfSome (S.left source.old)
+        (λ text. script_limit < length text) }
+    ensures refused { result ≡ 3 → IfSome (S.left source.old)
+        (WritesRefusal (K.held sink.old) (K.held sink.new) (K.faults sink.old)
+        (K.faults sink.new)) }
     ensures sink_fault { result ≡ 5 → Rises (K.faults sink.old) (K.faults sink.new)
         × IfSome (S.left source.old) (WritesFront (K.held sink.old) (K.held sink.new)) }
-    ensures no_memory { result ≡ 6 →
-        WritesMemoryLine (K.held sink.old) (K.held sink.new) (K.faults sink.old) (K.faults sink.new) (S.left source.old) }
-    ensures line { IfSome (status_line result) (Gains (K.held sink.old) (K.held sink.new) (K.faults sink.old) (K.faults sink.new)) }
+    ensures line { IfSome (status_line result)
+        (Gains (K.held sink.old) (K.held sink.new) (K.faults sink.old) (K.faults sink.new)) }
     ensures exact { ¬ Rises (S.faults source.old) (S.faults source.new) → result ≢ 6 →
         IfSome (S.left source.old) (λ text. IsExact text result) }
-    ensures complete { ¬ Rises (S.faults source.old) (S.faults source.new) → ¬ Rises (K.faults sink.old) (K.faults sink.new) → result ≢ 6 →
+    ensures complete { ¬ Rises (S.faults source.old) (S.faults source.new)
+        → ¬ Rises (K.faults sink.old) (K.faults sink.new) → result ≢ 6 →
         IfSome (S.left source.old) (λ text. IsComplete text result) }
     ensures statuses { IsStatus result × (result ≢ 2) }
     ensures source_faults { S.faults source.old ≤ S.faults source.new }
@@ -108,60 +210,63 @@ fn served<S: Source, K: Sink>(alloc: Global, source: &mut S, sink: &mut K) -> u8
             return 6;
         }
     };
-    let script = match read(alloc, &text) {
-        Ok(script) => script,
-        Err(ReadFault::NotYet) => {
-            say(sink, b"SCRIPT NOTYET\n");
-            return 3;
-        }
-        Err(ReadFault::NoMemory) => {
-            say(sink, b"NOMEMORY\n");
-            return 6;
-        }
-    };
-    reported(alloc, &script, sink)
+    judged(alloc, &text, sink)
 }
 
-/// Runs the program: `words` are its words, the script comes from `source`, and what it says goes to `sink`.
-/// The answer is the exit status.
+/// Runs the program: `words` are its words, the script comes from `source`, and what it says goes to
+/// `sink`. The answer is the exit status.
 ///
 /// | Status | Comes | Written to the sink |
 /// |---|---|---|
-/// | 0 | the script was read whole, and the report written whole | the report |
+/// | 0 | the script was read and run whole, and the report written whole | the report |
 /// | 2 | the words are not the one word `serial` | `USAGE plexrun serial or threads or load N` |
-/// | 3 | the text is no script in the form that is built | `SCRIPT NOTYET` |
+/// | 3 | the text is no script, or not all of it is built yet | `SCRIPT line why` |
 /// | 4 | a read failed | `FAULT READ` |
-/// | 5 | a write failed while the report was written | a front of the report |
-/// | 6 | there was no memory | `NOMEMORY`, maybe behind a front of the report |
+/// | 5 | a write failed while the report was written | a front of what belongs to 0 or 8 |
+/// | 6 | there was no memory | `NOMEMORY` |
 /// | 7 | more than 1,048,576 bytes came | `TOOLONG 1048576` |
+/// | 8 | a journal of 65,536 calls got full | `JOURNALFULL structure 65536`, and the report |
 ///
-/// The causes are tried in the order 2, 4, 7, 3, 5; want of memory may stand in place of any but 2.
+/// With 3 the line is the first faulty one, and why is LATE, SYNTAX, LIMIT, UNKNOWN, TWICE or SPACE;
+/// or else the first line that isn't built, and NOTYET. With 8 the structure is the first in the
+/// policy whose journal got full. Lines are counted from 1. The causes are tried in the order 2, 4,
+/// 7, 3, 5, 8; want of memory may stand in place of any but 2.
 pub fn run<S: Source, K: Sink>(alloc: Global, words: &[String], source: &mut S, sink: &mut K) -> u8
-    // The bytes that the source had left are a script, and what is written is the report of its run on one thread, whole and nothing else.
-    ensures served { result ≡ 0 → IfSome (S.left source.old) (WritesReport (K.held sink.old) (K.held sink.new)) }
-    // That report shows one legal history, each caller's calls in it once and in their order, and tests that tell what stood at a numbered point of it.
-    // No other history and transcripts of the script have that report.
-    ensures headline { result ≡ 0 → IfSome (S.left source.old) (WritesOneHistory (K.held sink.old) (K.held sink.new)) }
+    // The bytes that the source had left are a script that is built, and what is written is the
+    // report of its run on one thread, whole and nothing else; a full journal is told before it.
+    ensures served { result ≡ 0 → IfSome (S.left source.old)
+        (WritesReport (K.held sink.old) (K.held sink.new)) }
+    ensures full { result ≡ 8 → IfSome (S.left source.old)
+        (WritesFull (K.held sink.old) (K.held sink.new)) }
+    // That report shows a legal history of each structure, each caller's calls in them once and in
+    // their order, and tests that tell what stood at a numbered point.
+    ensures headline { (result ≡ 0) ⊎ (result ≡ 8) → IfSome (S.left source.old)
+        (WritesHistories (K.held sink.old) (K.held sink.new)) }
 
     // Each other status has its cause.
     ensures usage { (result ≡ 2) ↔ (IsSerial words.now → ⊥) }
     ensures read_fault { result ≡ 4 → Rises (S.faults source.old) (S.faults source.new) }
-    ensures too_long { result ≡ 7 → IfSome (S.left source.old) (λ text. script_limit < length text) }
-    ensures not_yet { result ≡ 3 → IfSome (S.left source.old) IsNoScript }
+    ensures too_long { result ≡ 7 → IfSome (S.left source.old)
+        (λ text. script_limit < length text) }
+    ensures refused { result ≡ 3 → IfSome (S.left source.old)
+        (WritesRefusal (K.held sink.old) (K.held sink.new) (K.faults sink.old)
+        (K.faults sink.new)) }
     ensures sink_fault { result ≡ 5 → Rises (K.faults sink.old) (K.faults sink.new)
         × IfSome (S.left source.old) (WritesFront (K.held sink.old) (K.held sink.new)) }
-    ensures no_memory { result ≡ 6 →
-        WritesMemoryLine (K.held sink.old) (K.held sink.new) (K.faults sink.old) (K.faults sink.new) (S.left source.old) }
     ensures statuses { IsStatus result }
 
-    // Where no read failed and memory was found, the text decides; where no write failed either, a script is served.
-    ensures exact { IsSerial words.now → ¬ Rises (S.faults source.old) (S.faults source.new) → result ≢ 6 →
-        IfSome (S.left source.old) (λ text. IsExact text result) }
-    ensures complete { IsSerial words.now → ¬ Rises (S.faults source.old) (S.faults source.new) → ¬ Rises (K.faults sink.old) (K.faults sink.new) → result ≢ 6 →
+    // Where no read failed and memory was found, the text decides; where no write failed either, a
+    // script that is built is served.
+    ensures exact { IsSerial words.now → ¬ Rises (S.faults source.old) (S.faults source.new)
+        → result ≢ 6 → IfSome (S.left source.old) (λ text. IsExact text result) }
+    ensures complete { IsSerial words.now → ¬ Rises (S.faults source.old) (S.faults source.new)
+        → ¬ Rises (K.faults sink.old) (K.faults sink.new) → result ≢ 6 →
         IfSome (S.left source.old) (λ text. IsComplete text result) }
 
-    // What is written with the statuses that have no report, whole unless a write failed. With faulty words nothing is read.
-    ensures line { IfSome (status_line result) (Gains (K.held sink.old) (K.held sink.new) (K.faults sink.old) (K.faults sink.new)) }
+    // What is written with the statuses that have no report, whole unless a write failed. With
+    // faulty words nothing is read.
+    ensures line { IfSome (status_line result)
+        (Gains (K.held sink.old) (K.held sink.new) (K.faults sink.old) (K.faults sink.new)) }
     ensures unread { result ≡ 2 → source.new ≡ source.old }
 
     // The counts never fall.

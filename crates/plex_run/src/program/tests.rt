@@ -53,20 +53,6 @@ fn ran(alloc: Global, lines: &str) -> Result<(u8, Vec<u8>), Fail> {
 }
 
 #[test]
-fn policy_alone(rt: HostRuntime) -> Result<(), Fail> {
-    let (status, text) = ran(rt.alloc(), "")?;
-    assert_eq!(rt; status, 0);
-    assert_eq!(rt;
-        text.as_slice(),
-        b"FACILITY CF1 100\nFACILITY CF2 100\nSTRUCTURE GBP CACHE 8 8 4 64 DELETE\nPREF GBP CF1 40\n\
-          PREF GBP CF2 40\nCONNECTOR A\nCONNECTOR B\nHISTORY GBP 0\nTRANSCRIPT OP 0\nTRANSCRIPT A 0\n\
-          TRANSCRIPT B 0\nEND\n"
-            .as_slice()
-    );
-    Ok(())
-}
-
-#[test]
 fn read_and_test(rt: HostRuntime) -> Result<(), Fail> {
     let (status, text) = ran(
         rt.alloc(),
@@ -83,65 +69,26 @@ fn read_and_test(rt: HostRuntime) -> Result<(), Fail> {
 }
 
 #[test]
-fn comments_say_nothing(rt: HostRuntime) -> Result<(), Fail> {
-    let (status, text) = ran(
-        rt.alloc(),
-        "* A connects.\nA GBP CONNECT DELETE\n*\n* A comment may hold any byte: \u{e4}\n",
-    )?;
-    assert_eq!(rt; status, 0);
-    assert!(rt;
-        text.as_slice().ends_with(
-            b"HISTORY GBP 2\n1 A CONNECT DELETE -> OK NEW CF1\n2 A DISCONNECT -> OK\n\
-          TRANSCRIPT OP 0\nTRANSCRIPT A 2\nGBP 1\nGBP 2\nTRANSCRIPT B 0\nEND\n"
-        )
-    );
-    Ok(())
-}
-
-#[test]
-fn write_invalidates_the_others(rt: HostRuntime) -> Result<(), Fail> {
-    let (status, text) = ran(
-        rt.alloc(),
-        "A GBP CONNECT DELETE\nB GBP CONNECT DELETE\nA GBP READ P1 0\nB GBP READ P1 5\n\
-         B GBP WRITE P1 5 abc CHANGED 3\nA GBP TEST 0\nB GBP TEST 5\n",
-    )?;
-    assert_eq!(rt; status, 0);
-    assert!(rt;
-        text.as_slice().ends_with(
-            b"HISTORY GBP 7\n1 A CONNECT DELETE -> OK NEW CF1\n2 B CONNECT DELETE -> OK NEW CF1\n\
-          3 A READ P1 0 -> NODATA\n4 B READ P1 5 -> NODATA\n5 B WRITE P1 5 abc CHANGED 3 -> OK\n\
-          6 A DISCONNECT -> OK\n7 B DISCONNECT -> OK\nTRANSCRIPT OP 0\nTRANSCRIPT A 4\nGBP 1\nGBP 3\n\
-          GBP TEST 0 INVALID 5\nGBP 6\nTRANSCRIPT B 5\nGBP 2\nGBP 4\nGBP 5\nGBP TEST 5 VALID 5\nGBP 7\nEND\n"
-        )
-    );
-    Ok(())
-}
-
-#[test]
-fn first_refusals(rt: HostRuntime) -> Result<(), Fail> {
-    let (status, text) = ran(
-        rt.alloc(),
-        "A GBP READ P1 0\nA GBP CONNECT DELETE\nA GBP CONNECT DELETE\nA GBP READ P1 0\nA GBP READ P2 0\n",
-    )?;
-    assert_eq!(rt; status, 0);
-    assert!(rt;
-        text.as_slice().ends_with(
-            b"HISTORY GBP 6\n1 A READ P1 0 -> REFUSED 60 NOTCONNECTED\n2 A CONNECT DELETE -> OK NEW CF1\n\
-          3 A CONNECT DELETE -> REFUSED 61 NAMEACTIVE ACTIVE\n4 A READ P1 0 -> NODATA\n\
-          5 A READ P2 0 -> REFUSED 2 INDEXINUSE P1\n6 A DISCONNECT -> OK\nTRANSCRIPT OP 0\nTRANSCRIPT A 6\n\
-          GBP 1\nGBP 2\nGBP 3\nGBP 4\nGBP 5\nGBP 6\nTRANSCRIPT B 0\nEND\n"
-        )
-    );
-    Ok(())
-}
-
-#[test]
 fn misspelt_policy(rt: HostRuntime) -> Result<(), Fail> {
-    let mut source = source_of(rt.alloc(), "FACILITY CF1 100\n", "FACILTY CF2 100\n", &[])?;
-    let mut sink = sink_of(rt.alloc(), 64, &[])?;
-    let words = serial(rt.alloc())?;
-    assert_eq!(rt; run(rt.alloc(), &words, &mut source, &mut sink), 3);
-    assert_eq!(rt; sink.bytes.as_slice(), b"SCRIPT NOTYET\n".as_slice());
+    let (status, text) = ran(rt.alloc(), "* A line that says nothing.\nFACILTY CF3 100\n")?;
+    assert_eq!(rt; status, 3);
+    assert_eq!(rt; text.as_slice(), b"SCRIPT 9 SYNTAX\n".as_slice());
+    Ok(())
+}
+
+#[test]
+fn unbuilt_line(rt: HostRuntime) -> Result<(), Fail> {
+    let (status, text) = ran(rt.alloc(), "A GBP CONNECT DELETE\nA GBP POST\n")?;
+    assert_eq!(rt; status, 3);
+    assert_eq!(rt; text.as_slice(), b"SCRIPT 9 NOTYET\n".as_slice());
+    Ok(())
+}
+
+#[test]
+fn unbuilt_structure(rt: HostRuntime) -> Result<(), Fail> {
+    let (status, text) = ran(rt.alloc(), "STRUCTURE L LOCK 8 8 4 KEEP\nA GBP POST\n")?;
+    assert_eq!(rt; status, 3);
+    assert_eq!(rt; text.as_slice(), b"SCRIPT 8 NOTYET\n".as_slice());
     Ok(())
 }
 
@@ -163,16 +110,6 @@ fn failing_source(rt: HostRuntime) -> Result<(), Fail> {
     let words = serial(rt.alloc())?;
     assert_eq!(rt; run(rt.alloc(), &words, &mut source, &mut sink), 4);
     assert_eq!(rt; sink.bytes.as_slice(), b"FAULT READ\n".as_slice());
-    Ok(())
-}
-
-#[test]
-fn failing_sink(rt: HostRuntime) -> Result<(), Fail> {
-    let mut source = source_of(rt.alloc(), POLICY, "", &[])?;
-    let mut sink = sink_of(rt.alloc(), 10, &[2])?;
-    let words = serial(rt.alloc())?;
-    assert_eq!(rt; run(rt.alloc(), &words, &mut source, &mut sink), 5);
-    assert_eq!(rt; sink.bytes.as_slice(), b"FACILITY C".as_slice());
     Ok(())
 }
 

@@ -1,3 +1,0 @@
-pub mod ListsCounted
-pub mod ListsAscending
-pub mod TableLaws

@@ -1,4 +1,0 @@
-pub mod ListsFound
-pub mod ListsOnce
-pub mod RecordLaws
-pub mod KeptLists

@@ -1,4 +1,0 @@
-pub mod ListsCounted
-pub mod Told
-pub mod Turning
-pub mod Setting

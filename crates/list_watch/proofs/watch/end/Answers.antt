@@ -1,6 +1,0 @@
-use Rattle.std.proofs.Common.{rules}
-use Rattle.std.proofs.lemmas.Fn.{filter_same}
-use Rattle.list_watch.proofs.watch.end.Goals as goal
-
-pub returns-clause-watches : goal.returns-clause-watches
-returns-clause-watches c = filter_same _ _ _ (λ x b f h. search rules) _ _ c.retain.ensures.filtered

@@ -1,4 +1,0 @@
-pub mod Monitors
-pub mod Parts
-pub mod Changes
-pub mod WatchTable

@@ -1,2 +1,0 @@
-pub mod Waiters
-pub mod Queue

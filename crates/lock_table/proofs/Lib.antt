@@ -1,2 +1,0 @@
-pub mod ListsChanged
-pub mod OwnerLaws

@@ -1,0 +1,105 @@
+-- Which texts are served, and what their status tells.
+use Rattle.std.proofs.Common.{◌≡◌, ◌≢◌, ℕ, ◌≤◌, ◌<◌, ◌⊎◌, inl, inr, ◌↔◌, List, ◌++◌, length, Option, Some, None, IfSome, refl, sym, ◌∙◌, subst, arith}
+use Rattle.std.specs.Io.KnownBytes.{Appends}
+use Rattle.cf_types.specs.declared.names.Name16.{Name16}
+use Rattle.plex_script.specs.declared.faults.Why.{Why}
+use Rattle.plex_script.specs.declared.faults.ReadFault.{ReadFault}
+use Rattle.plex_script.specs.declared.faults.ReadFault.TheVariants as read
+use Rattle.plex_script.specs.Reading.{TellsFault}
+use Rattle.plex_script.specs.declared.scripts.Script.{Script}
+use Rattle.plex_script.specs.Scripts.{IsScript, IsFault}
+use Rattle.plex_script.specs.Laws.{SaysOne, IsExclusive}
+use Rattle.plex_run.specs.NotYet.{not_yet}
+use Rattle.plex_run.specs.StatusLines.{why_word, full_line}
+use Rattle.plex_run.specs.Outcome.{IsServed, IsRefused, IsUnserved, IsExact, WritesFull, script_limit, serial_report, full_in_run, served_text, served_status}
+
+-- ---- texts that aren't served
+
+refused_exactly : (text : List ℕ) (line : ℕ) (told : List ℕ) (status : ℕ) → IsRefused text line told
+    → (status ≡ 3) ⊎ (status ≡ 6) → status ≢ 6
+    → (status ≡ 3) ↔ IsUnserved text
+refused_exactly text line told status refused (inl e) other = (λ is. (line, told, refused), λ unserved. e)
+refused_exactly text line told status refused (inr e) other = absurd (other e)
+
+-- a faulty text is refused
+pub fault_exactly : (text : List ℕ) (line : ℕ) (why : Why) (status : ℕ) → IsFault text line why
+    → (status ≡ 3) ⊎ (status ≡ 6) → status ≢ 6
+    → (status ≡ 3) ↔ IsUnserved text
+fault_exactly text line why status fault = refused_exactly text line (why_word why) status (inl (why, fault, refl))
+
+-- what is told of a fault
+pub told_fault : (text : List ℕ) (line : ℕ) (why : Why) (fault : ReadFault) → fault ≡ read.Script line why
+    → TellsFault text fault → IsFault text line why
+told_fault text line why fault e tells = subst (TellsFault text) e tells
+
+-- and a script that isn't built
+pub not_yet_exactly : (text : List ℕ) (line : ℕ) (script : Script) (status : ℕ) → IsScript text script
+    → not_yet text script ≡ Some line
+    → (status ≡ 3) ⊎ (status ≡ 6) → status ≢ 6 → (status ≡ 3) ↔ IsUnserved text
+not_yet_exactly text line script status says e = refused_exactly text line _ status (inr (script, says, e, refl))
+
+served_unrefused : (text : List ℕ) (script : Script) (line : ℕ) (told : List ℕ) → SaysOne → IsExclusive
+    → IsServed text script → IsRefused text line told → ⊥
+served_unrefused text script line told one never served (inl fault) = never text script line fault.0 served.says fault.1
+served_unrefused text script line told one never served (inr other) =
+    let same : script ≡ other.0 = one text script other.0 served.says other.1 in
+    let none : not_yet text other.0 ≡ None = subst (λ s. not_yet text s ≡ None) same served.built in
+    let some : not_yet text other.0 ≡ Some line = other.2 in
+    absurd (cc)
+
+-- a served text has another status
+pub served_exactly : (text : List ℕ) (script : Script) (status : ℕ) → SaysOne → IsExclusive → IsServed text script
+    → (status ≡ 0) ⊎ ((status ≡ 8) ⊎ ((status ≡ 5) ⊎ (status ≡ 6))) → (status ≡ 3) ↔ IsUnserved text
+served_exactly text script status one never served statuses = (
+  λ is. absurd (other statuses is),
+  λ unserved. absurd (served_unrefused text script unserved.0 unserved.1 one never
+      served unserved.2),
+)
+  where
+    other : (status ≡ 0) ⊎ ((status ≡ 8) ⊎ ((status ≡ 5) ⊎ (status ≡ 6))) → status ≡ 3 → ⊥
+    other (inl e) is = omega arith
+    other (inr (inl e)) is = omega arith
+    other (inr (inr (inl e))) is = omega arith
+    other (inr (inr (inr e))) is = omega arith
+
+-- ---- full journals
+
+-- the status 8 tells that a journal got full
+pub full_written : (held held_now : Option (List ℕ)) (text : List ℕ) (script : Script) (status : ℕ)
+    → IsServed text script → status ≡ 8
+    → status ≡ served_status script → Appends held held_now (served_text script) → WritesFull held held_now text
+full_written held held_now text script status served eight is gains = at_full (full_in_run script) refl
+  where
+    at_full : (full : Option Name16) → full_in_run script ≡ full → WritesFull held held_now text
+    at_full None e = absurd (let none : served_status script ≡ 0 = rw e refl in omega arith)
+    at_full (Some name) e = (
+      script,
+      name,
+      served,
+      e,
+      subst (λ full. Appends held held_now (full_line full ++ serial_report script)) e
+          gains,
+    )
+
+-- ---- the text that a source had left
+
+-- what holds of the text that was read
+pub of_left : (left : Option (List ℕ)) (text seen : List ℕ) (P : List ℕ → Type 0) → seen ≡ text
+    → IfSome left (λ bytes. text ≡ bytes) → P seen → IfSome left P
+of_left None text seen P e whole p = tt
+of_left (Some bytes) text seen P e whole p = subst P (e ∙ whole) p
+
+pub exactly_short : (text : List ℕ) (status : ℕ) → length text ≤ script_limit
+    → (status ≡ 0) ⊎ ((status ≡ 8) ⊎ ((status ≡ 5) ⊎ ((status ≡ 6) ⊎ (status ≡ 3))))
+    → (status ≡ 3) ↔ IsUnserved text → IsExact text status
+exactly_short text status short statuses iff = (
+  (λ is. absurd (other statuses is), λ long. absurd (omega arith)),
+  (λ is. (short, iff.0 is), λ unserved. iff.1 unserved.1),
+)
+  where
+    other : (status ≡ 0) ⊎ ((status ≡ 8) ⊎ ((status ≡ 5) ⊎ ((status ≡ 6) ⊎ (status ≡ 3)))) → status ≡ 7 → ⊥
+    other (inl e) is = omega arith
+    other (inr (inl e)) is = omega arith
+    other (inr (inr (inl e))) is = omega arith
+    other (inr (inr (inr (inl e)))) is = omega arith
+    other (inr (inr (inr (inr e)))) is = omega arith

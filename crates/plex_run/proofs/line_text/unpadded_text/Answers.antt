@@ -1,8 +1,0 @@
-use Rattle.std.proofs.Common.{◌==◌, ap, take}
-use Rattle.plex_run.proofs.Names.{place_or_length}
-use Rattle.plex_run.proofs.line_text.unpadded_text.Goals as goal
-
-pub returns : goal.returns
-returns c =
-    let bytes = c.args.bytes.now in
-    rw (c.unwrap_or-len.ensures, c.blank_place.ensures) (ap (λ n. take n bytes) (place_or_length (λ b. b == 32) bytes))

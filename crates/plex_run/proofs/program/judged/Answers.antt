@@ -1,0 +1,39 @@
+use Rattle.std.proofs.Common.{◌≡◌, None, inr, sym, ◌∙◌}
+use Rattle.plex_run.specs.NotYet.{not_yet}
+use Rattle.plex_run.specs.Outcome.{IsServed}
+use Rattle.plex_run.proofs.RunnableLaws.{runnable}
+use Rattle.plex_run.proofs.OutcomeLaws.{fault_exactly, told_fault, not_yet_exactly, served_exactly, full_written}
+use Rattle.plex_run.proofs.program.judged.Goals as goal
+
+pub returns-in-Err-Script-clause-exact : goal.returns-in-Err-Script-clause-exact
+returns-in-Err-Script-clause-exact g c =
+    fault_exactly c.args.text.now c.in-Err-Script.line c.in-Err-Script.why c.refused.result
+    (told_fault _ _ _ _ c.in-Err-Script.field-0-is c.in-Err-Script.ensures.fault) c.refused.ensures.statuses
+
+pub returns-in-Some-clause-exact : goal.returns-in-Some-clause-exact
+returns-in-Some-clause-exact g c =
+    not_yet_exactly c.args.text.now c.in-Some.line c.in-Ok.script c.refused-in-Some.result c.in-Ok.ensures.script
+    (sym c.in-Some.ensures)
+    c.refused-in-Some.ensures.statuses
+
+pub one_run-requires : goal.one_run-requires
+one_run-requires g c =
+    runnable c.args.text.now c.in-Ok.script c.well_formed-2.ensures (sym c.not_yet.ensures ∙ c.in_default.is)
+
+pub reported-requires : goal.reported-requires
+reported-requires g c =
+    runnable c.args.text.now c.in-Ok.script c.well_formed-2.ensures (sym c.not_yet.ensures ∙ c.in_default.is)
+
+pub returns-clause-full : goal.returns-clause-full
+returns-clause-full g c = λ eight.
+    let served : IsServed c.args.text.now c.in-Ok.script =
+    record { says = c.in-Ok.ensures.script; built = sym c.not_yet.ensures ∙ c.in_default.is } in
+    let whole = c.reported.ensures.whole (inr eight) in
+    full_written _ _ c.args.text.now c.in-Ok.script c.reported.result served eight whole.0 whole.1
+
+pub returns-clause-exact : goal.returns-clause-exact
+returns-clause-exact g c = λ other.
+    let served : IsServed c.args.text.now c.in-Ok.script =
+    record { says = c.in-Ok.ensures.script; built = sym c.not_yet.ensures ∙ c.in_default.is } in
+    served_exactly c.args.text.now c.in-Ok.script c.reported.result c.one_script.ensures c.never_both.ensures served
+    c.reported.ensures.statuses
