@@ -1,6 +1,6 @@
 -- Searches that go on.
-use Rattle.std.proofs.Common.{◌≡◌, ℕ, zero, suc, ◌+◌, ◌<◌, ◌≤◌, Bool, true, false, cond, List, [], ◌∷◌, length, drop, refl, ap, ◌∙◌, sym, add-one, arith}
-use Rattle.std.specs.Prelude.{find, not}
+use Rattle.std.proofs.Common.{◌≡◌, ℕ, zero, suc, ◌+◌, ◌<◌, ◌≤◌, Bool, true, false, List, [], ◌∷◌, length, drop, refl, ap, ◌∙◌, sym, add-one, arith}
+use Rattle.std.specs.Prelude.{find}
 use Rattle.std.specs.List.{enumerate_from, position_or_len}
 use Rattle.plex_spell.specs.Words.{lines_of}
 use Rattle.plex_script.specs.Scripts.{line_number}

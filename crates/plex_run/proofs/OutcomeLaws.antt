@@ -1,5 +1,5 @@
 -- Which texts are served, and what their status tells.
-use Rattle.std.proofs.Common.{◌≡◌, ◌≢◌, ℕ, ◌≤◌, ◌<◌, ◌⊎◌, inl, inr, ◌↔◌, List, ◌++◌, length, Option, Some, None, IfSome, refl, sym, ◌∙◌, subst, arith}
+use Rattle.std.proofs.Common.{◌≡◌, ◌≢◌, ℕ, ◌≤◌, ◌⊎◌, inl, inr, ◌↔◌, List, ◌++◌, length, Option, Some, None, IfSome, refl, ◌∙◌, subst, arith}
 use Rattle.std.specs.Io.KnownBytes.{Appends}
 use Rattle.cf_types.specs.declared.names.Name16.{Name16}
 use Rattle.plex_script.specs.declared.faults.Why.{Why}

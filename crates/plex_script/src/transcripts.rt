@@ -4,7 +4,10 @@ use cf_types::{Listing, StrNo};
 #[derive(Clone, Copy, Debug, PartialEq, Eq)]
 pub enum Shown {
     /// The number of its call.
-    Call { on: StrNo, no: u32 },
+    Call {
+        on: StrNo,
+        no: u32,
+    },
     /// The bit at an index of its vector, and the number of the call at which it stood so.
     Test {
         on: StrNo,
@@ -28,9 +31,15 @@ pub enum Shown {
         len: u32,
     },
     /// The number that it posted.
-    Posted { on: StrNo, sure: u32 },
+    Posted {
+        on: StrNo,
+        sure: u32,
+    },
     /// The number that it knows after it took what was posted.
-    Took { on: StrNo, sure: u32 },
+    Took {
+        on: StrNo,
+        sure: u32,
+    },
 }
 
 /// How a caller's work ended.

@@ -1,5 +1,5 @@
 -- The tables of a board: a structure's form stays, and its history goes on, where the structure is called.
-use Rattle.std.proofs.Common.{◌≡◌, ℕ, zero, suc, drop, fold, ◌-◌, ◌++◌, take, ◌<◌, ◌+◌, nat_le, true, false, List, [], ◌∷◌, map, set, length, get_or, slice_get, Some, None, Option, refl, sym, ap, subst, arith, ◌∙◌, Result, Ok, Err}
+use Rattle.std.proofs.Common.{◌≡◌, ℕ, suc, drop, fold, ◌-◌, ◌++◌, take, ◌<◌, ◌+◌, nat_le, true, false, List, [], ◌∷◌, map, set, length, get_or, slice_get, Some, None, Option, refl, sym, ap, subst, arith, ◌∙◌, Result, Ok, Err}
 use Rattle.std.proofs.lemmas.List.{map-set, map-append}
 use Rattle.std.proofs.lemmas.List.{length-map}
 use Rattle.std.proofs.lemmas.Option.{slice_get-map, slice_get-get_or, slice_get_within, get_or_from_slice_get}
@@ -218,15 +218,14 @@ pub started_next : (structures items : List AnyStructure) (forms : List StrForm)
     → map history_of structures ≡ map (λ form. no_calls form.kind) (take i forms)
     → All (λ one. any_length (history_of one) ≡ 0) structures
     → (map form_of items ≡ take (i + 1) forms) × (map history_of items ≡ map (λ form. no_calls form.kind) (take (i + 1) forms))
-      × All (λ one. any_length (history_of one) ≡ 0) items
-started_next structures items forms i one form pushed taken of_form empty forms_so histories_so empty_so =
-    (
-      rw (pushed, taken) (map-append form_of structures (one ∷ []) ∙ rw (forms_so, of_form) refl),
-      rw (pushed, taken) (map-append history_of structures (one ∷ []) ∙ rw (histories_so, empty)
+    × All (λ one. any_length (history_of one) ≡ 0) items
+started_next structures items forms i one form pushed taken of_form empty forms_so histories_so empty_so = (
+  rw (pushed, taken) (map-append form_of structures (one ∷ []) ∙ rw (forms_so, of_form) refl),
+  rw (pushed, taken) (map-append history_of structures (one ∷ []) ∙ rw (histories_so, empty)
       (sym (map-append (λ (form : StrForm). no_calls form.kind) (take i forms) (form ∷ [])))),
-      subst (λ (all : List AnyStructure). All (λ one. any_length (history_of one) ≡ 0) all) (sym pushed)
+  subst (λ (all : List AnyStructure). All (λ one. any_length (history_of one) ≡ 0) all) (sym pushed)
       (All-push (λ (one : AnyStructure). any_length (history_of one) ≡ 0) structures one empty_so (rw empty (none_yet form.kind))),
-    )
+)
 
 -- the front of a list with the element behind it
 pub take_next : {X : Type 0} (xs : List X) (i : ℕ) (x d : X) → i < length xs → x ≡ get_or xs i d → take (i + 1) xs ≡ take i xs ++ x ∷ []
@@ -315,7 +314,7 @@ line_next limit script old new i line d form e within value at runs made =
 pub closing_next : (limit : ℕ) (script : Script) (forms : List StrForm) (old new : Run) (place end : ℕ) (conn : ConnId) → place < end
     → conn.0 ≡ place + 1 → forms ≡ script.structures → new ≡ fold (after_departure limit conn) old (enumerate_from 0 forms)
     → fold (after_closing limit script) new (callers_from (place + 1 + 1) (end - (place + 1)))
-      ≡ fold (after_closing limit script) old (callers_from (place + 1) (end - place))
+    ≡ fold (after_closing limit script) old (callers_from (place + 1) (end - place))
 closing_next limit script forms old new place end conn below number same made =
     let who : conn ≡ (record { 0 = place + 1 }) = ap (λ (n : ℕ). (let one : ConnId = record { 0 = n } in one)) number in
     let here : new ≡ after_closing limit script old (record { 0 = place + 1 }) = made ∙ rw (who, same) refl in

@@ -1,7 +1,6 @@
 -- The callers of a run: what holds of each after a change by one of them.
-use Rattle.std.proofs.Common.{All, ◌≡◌, ◌≢◌, ℕ, zero, suc, ◌+◌, ◌*◌, ◌≤◌, ◌<◌, ◌==◌, nat_lt, Bool, true, false, List, [], ◌∷◌, ◌++◌, length, map, filter, set, Some, None, Option, refl, sym, ap, subst, ◌∙◌, arith, append-nil, append_assoc, slice_get, cond}
-use Rattle.std.specs.List.{filter_map}
-use Rattle.std.proofs.lemmas.List.{length-set, map-append}
+use Rattle.std.proofs.Common.{All, ◌≡◌, ℕ, zero, suc, ◌+◌, ◌*◌, ◌≤◌, ◌==◌, nat_lt, Bool, true, false, List, [], ◌∷◌, ◌++◌, length, map, filter, Some, None, Option, refl, sym, ap, subst, ◌∙◌, arith, append-nil, slice_get}
+use Rattle.std.proofs.lemmas.List.{length-set}
 use Rattle.std.proofs.lemmas.List.Elements.{All-append}
 use Rattle.std.proofs.lemmas.Bool.Decides.{nat_tests}
 use Rattle.std.proofs.lemmas.Option.{slice_get_within}
@@ -21,11 +20,10 @@ use Rattle.plex_script.specs.Heard.{AnyCall, any_calls, any_length, own_calls, c
 use Rattle.plex_script.specs.Follows.{number_on, numbers_on}
 use Rattle.plex_serial.specs.Kinds.{numbers_from, any_stands}
 use Rattle.plex_serial.specs.Serial.{Run, shown_to, transcript_of, transcript_at, test_shown, word_shown}
-use Rattle.plex_serial.proofs.KindLaws.{IsCounted, Stood, stood_now}
+use Rattle.plex_serial.proofs.KindLaws.{stood_now}
 use Rattle.plex_serial.proofs.Steps.{IsHistory, IsAt, AreSteps, any_numbers}
-use Rattle.plex_serial.proofs.Fronts.{IsFront, AreFronts}
-use Rattle.plex_serial.proofs.Items.{AreItems, IsItem, StoodBit, StoodTest, StoodWord, AreLater, items_later, seen_within, surest_within}
-use Rattle.plex_serial.proofs.Changes.{IsChange, change_fronts, change_later, change_history, change_numbers_by, change_numbers_other, change_items_by, same_number, other_number, there_later, elsewhere_same}
+use Rattle.plex_serial.proofs.Items.{AreItems, IsItem, StoodBit, items_later, seen_within, surest_within}
+use Rattle.plex_serial.proofs.Changes.{IsChange, change_later, change_history, change_numbers_by, change_numbers_other, change_items_by, same_number, other_number, there_later, elsewhere_same}
 use Rattle.plex_serial.proofs.Tables.{get-set_same, get-set_other, set_same}
 
 -- ---- the calls of a line are a change

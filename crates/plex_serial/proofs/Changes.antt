@@ -1,26 +1,22 @@
 -- A change of a run by one caller at one structure, and what holds of the run then.
-use Rattle.std.proofs.Common.{All, ◌≡◌, ◌≢◌, ℕ, zero, suc, ◌+◌, ◌≤◌, ◌<◌, ◌==◌, Bool, true, false, List, [], ◌∷◌, ◌++◌, length, map, filter, set, Some, None, Option, refl, sym, ap, subst, ◌∙◌, arith, append-nil, append_assoc, slice_get}
-use Rattle.std.specs.List.{filter_map}
-use Rattle.std.proofs.lemmas.List.{length-set, map-append}
-use Rattle.std.proofs.lemmas.List.Elements.{All-append, filter-append, filter_map-append}
+use Rattle.std.proofs.Common.{All, ◌≡◌, ◌≢◌, ℕ, ◌≤◌, ◌==◌, Bool, true, false, List, [], ◌++◌, map, set, Some, refl, sym, ap, subst, ◌∙◌, arith, append-nil, slice_get}
+use Rattle.std.proofs.lemmas.List.{map-append}
+use Rattle.std.proofs.lemmas.List.Elements.{filter-append, filter_map-append}
 use Rattle.std.proofs.lemmas.Bool.Decides.{nat_tests}
 use Rattle.cf_types.specs.declared.forms.StrForm.{StrForm}
 use Rattle.cf_types.specs.declared.numbers.ConnId.{ConnId}
 use Rattle.cf_types.specs.declared.numbers.StrNo.{StrNo}
 use Rattle.plex_script.specs.declared.asks.AnyHistory.{AnyHistory}
 use Rattle.plex_script.specs.declared.transcripts.AgentEnd.{AgentEnd}
-use Rattle.plex_script.specs.declared.transcripts.AgentEnd.TheVariants as ended
 use Rattle.plex_script.specs.declared.transcripts.Shown.{Shown}
-use Rattle.plex_script.specs.declared.transcripts.Shown.TheVariants as shown
-use Rattle.plex_script.specs.declared.transcripts.Transcript.{Transcript}
-use Rattle.plex_script.specs.Heard.{AnyCall, any_calls, any_length, own_calls, calls_on, calls_of, length_on, length_of}
+use Rattle.plex_script.specs.Heard.{AnyCall, any_calls, any_length, own_calls, calls_on, length_on}
 use Rattle.plex_script.specs.Follows.{number_on, numbers_on}
 use Rattle.plex_serial.specs.Serial.{Run}
 use Rattle.plex_serial.proofs.KindLaws.{Stood}
 use Rattle.plex_serial.proofs.Steps.{IsHistory, IsAt}
 use Rattle.plex_serial.proofs.Fronts.{IsFront, AreFronts, front_same}
 use Rattle.plex_serial.proofs.Items.{AreItems, AreLater, items-append, items_later}
-use Rattle.plex_serial.proofs.Tables.{get-set_same, get-set_other, set_same}
+use Rattle.plex_serial.proofs.Tables.{get-set_same, get-set_other}
 
 pub record IsChange (forms : List StrForm) (form : StrForm) (by : ConnId) (on : StrNo) (entries : AnyHistory) (items : List Shown)
     (run run' : Run) : Type 0 where

@@ -1,7 +1,6 @@
 -- The closings of the connectors, one structure after another.
-use Rattle.std.proofs.Common.{All, ◌≡◌, ◌≢◌, ℕ, zero, suc, ◌+◌, ◌*◌, ◌≤◌, ◌<◌, ◌==◌, Bool, true, false, List, [], ◌∷◌, ◌++◌, length, map, filter, take, fold, set, Some, None, Option, refl, sym, ap, subst, ◌∙◌, inl, inr, ◌⊎◌, arith, append-nil, append_assoc, slice_get, cond, MatchBool}
-use Rattle.std.specs.List.{filter_map, enumerate_from}
-use Rattle.std.proofs.lemmas.List.{length-append, length-map, take-append-le}
+use Rattle.std.proofs.Common.{◌≡◌, ℕ, ◌+◌, ◌≤◌, ◌==◌, Bool, true, false, List, [], ◌∷◌, ◌++◌, length, filter, take, Some, None, Option, refl, sym, ap, subst, ◌∙◌, arith, append-nil, append_assoc, MatchBool}
+use Rattle.std.proofs.lemmas.List.{take-append-le}
 use Rattle.std.proofs.lemmas.List.Elements.{filter-append, filter_map-append}
 use Rattle.std.proofs.lemmas.Bool.Decides.{nat_tests}
 use Rattle.cf_types.specs.declared.forms.StrForm.{StrForm}
@@ -13,18 +12,12 @@ use Rattle.plex_script.specs.declared.agents.Step.{Step}
 use Rattle.plex_script.specs.declared.agents.Step.TheVariants as step
 use Rattle.plex_script.specs.declared.scripts.AnyAsk.{AnyAsk}
 use Rattle.plex_script.specs.declared.asks.AnyHistory.{AnyHistory}
-use Rattle.plex_script.specs.declared.scripts.Script.{Script}
-use Rattle.plex_script.specs.declared.transcripts.AgentEnd.{AgentEnd}
-use Rattle.plex_script.specs.declared.transcripts.AgentEnd.TheVariants as ended
 use Rattle.plex_script.specs.declared.transcripts.Shown.{Shown}
 use Rattle.plex_script.specs.declared.transcripts.Shown.TheVariants as shown
-use Rattle.plex_script.specs.declared.transcripts.Transcript.{Transcript}
-use Rattle.plex_script.specs.Agent.{asked_by, step_after, common}
-use Rattle.plex_script.specs.Heard.{AnyCall, any_calls, any_length, own_calls, is_linked, calls_on, length_on}
-use Rattle.plex_script.specs.Follows.{Runs, RunsUpTo, ShowsLines, lines_of, number_on, numbers_on, is_linked_by, ShowsClosing, ShowsClosings}
-use Rattle.plex_serial.proofs.Fronts.{IsFront, AreFronts, runs_front, shows_lines_front}
-use Rattle.plex_serial.proofs.Items.{AreLater}
-use Rattle.plex_serial.proofs.Lines.{StoppedIn, stopped_later}
+use Rattle.plex_script.specs.Agent.{step_after, common}
+use Rattle.plex_script.specs.Heard.{AnyCall, own_calls, is_linked, calls_on}
+use Rattle.plex_script.specs.Follows.{Runs, RunsUpTo, number_on, numbers_on, is_linked_by, ShowsClosing, ShowsClosings}
+use Rattle.plex_serial.proofs.Fronts.{IsFront, AreFronts, runs_front}
 
 -- ---- items of one structure
 

@@ -1,22 +1,21 @@
 -- What a command's deeds name, and what they do.
-use Rattle.std.proofs.Common.{◌≡◌, ℕ, ◌≤◌, Bool, true, false, Option, None, Some, IfSome, refl, arith, is_some, cond, List, [], ◌∷◌}
+use Rattle.std.proofs.Common.{◌≡◌, ◌≤◌, Bool, true, false, Option, None, Some, IfSome, refl, arith, is_some, cond}
 use Rattle.cf_types.specs.declared.forms.StrForm.{StrForm}
 use Rattle.cf_types.specs.declared.numbers.CfId.{CfId}
 use Rattle.cf_types.specs.declared.numbers.ConnId.{ConnId}
-use Rattle.cf_types.specs.declared.connections.ConnState.{ConnState}
 use Rattle.cf_types.specs.declared.events.Event.{Event}
 use Rattle.cf_types.specs.declared.shell_commands.ShellCmd.{ShellCmd}
 use Rattle.cf_types.specs.declared.shell_commands.ShellCmd.TheVariants as cmd
 use Rattle.cf_types.specs.Connections.{state_of}
 use Rattle.cf_types.specs.Mailboxes.{next_event, owed_event}
-use Rattle.cf_types.specs.Forms.{IsCaller, IsConnector}
+use Rattle.cf_types.specs.Forms.{IsCaller}
 use Rattle.engine_api.specs.declared.deeds.Deeds.{Deeds}
 use Rattle.engine_api.specs.declared.asks.Ask.{Ask}
 use Rattle.engine_api.specs.declared.asks.Ask.TheVariants as ask
 use Rattle.engine_api.specs.Asking.{MayCommand, MayAsk}
 use Rattle.engine_api.specs.Shapes.{shape_of}
 use Rattle.engine_api.specs.Meaning.{Meaning}
-use Rattle.engine_api.specs.Machine.{with_deeds, with_made, with_back_of}
+use Rattle.engine_api.specs.Machine.{with_deeds, with_back_of}
 use Rattle.engine_api.specs.Shell.{Shell, Leaver, Acted, shell_done, leaver, take_event, respond}
 use Rattle.plex_serial.specs.Structures.{state_with_deeds, taken_back}
 

@@ -1,7 +1,7 @@
 -- Each connector departs, from one structure after another.
-use Rattle.std.proofs.Common.{All, ◌≡◌, ◌≢◌, ℕ, zero, suc, ◌+◌, ◌*◌, ◌≤◌, ◌<◌, ◌==◌, Bool, true, false, List, [], ◌∷◌, ◌++◌, length, map, filter, take, fold, set, Some, None, Option, refl, sym, ap, subst, ◌∙◌, inl, inr, ◌⊎◌, arith, append-nil, append_assoc, slice_get, cond, MatchBool, take_at}
-use Rattle.std.specs.List.{filter_map, enumerate_from}
-use Rattle.std.proofs.lemmas.List.{length-append, length-map, take-append-le}
+use Rattle.std.proofs.Common.{◌≡◌, ◌≢◌, ℕ, ◌+◌, ◌≤◌, ◌<◌, ◌==◌, Bool, true, false, List, [], ◌∷◌, ◌++◌, length, map, take, fold, Some, Option, refl, sym, ap, subst, ◌∙◌, inl, inr, ◌⊎◌, arith, append-nil, append_assoc, slice_get, cond, take_at}
+use Rattle.std.specs.List.{enumerate_from}
+use Rattle.std.proofs.lemmas.List.{length-append, length-map}
 use Rattle.std.proofs.lemmas.List.Elements.{filter_map-append}
 use Rattle.std.proofs.lemmas.Bool.Decides.{nat_tests}
 use Rattle.std.proofs.lemmas.Option.{slice_get_within}
@@ -11,7 +11,6 @@ use Rattle.cf_types.specs.declared.numbers.ConnId.{ConnId}
 use Rattle.cf_types.specs.declared.numbers.StrNo.{StrNo}
 use Rattle.cf_types.specs.declared.shell_commands.ShellCmd.TheVariants as cmd
 use Rattle.plex_script.specs.declared.agents.Step.TheVariants as step
-use Rattle.plex_script.specs.declared.scripts.AnyAsk.{AnyAsk}
 use Rattle.plex_script.specs.declared.asks.AnyHistory.{AnyHistory}
 use Rattle.plex_script.specs.declared.scripts.Script.{Script}
 use Rattle.plex_script.specs.declared.transcripts.AgentEnd.{AgentEnd}
@@ -20,13 +19,13 @@ use Rattle.plex_script.specs.declared.transcripts.Shown.{Shown}
 use Rattle.plex_script.specs.declared.transcripts.Transcript.{Transcript}
 use Rattle.plex_script.specs.Agent.{most_asks, common}
 use Rattle.plex_script.specs.Heard.{AnyCall, any_calls, own_calls, is_linked, calls_on, length_on}
-use Rattle.plex_script.specs.Follows.{Runs, ShowsLines, lines_of, number_on, numbers_on, is_linked_by, ShowsClosing, ShowsClosings}
+use Rattle.plex_script.specs.Follows.{ShowsLines, lines_of, number_on, numbers_on, is_linked_by, ShowsClosing, ShowsClosings}
 use Rattle.plex_serial.specs.Kinds.{IsBuiltKind}
-use Rattle.plex_serial.specs.Serial.{Run, transcript_of, transcript_at, is_done, is_done_as, all_steps_made, departed, after_departure}
-use Rattle.plex_serial.proofs.Steps.{IsHistory, IsAt, AreSteps, EndsAs, steps_are, common_ask_of}
-use Rattle.plex_serial.proofs.Fronts.{IsFront, AreFronts, front_same, shows_lines_front}
+use Rattle.plex_serial.specs.Serial.{Run, transcript_at, is_done, is_done_as, all_steps_made, departed, after_departure}
+use Rattle.plex_serial.proofs.Steps.{IsAt, AreSteps, EndsAs, steps_are, common_ask_of}
+use Rattle.plex_serial.proofs.Fronts.{AreFronts, front_same, shows_lines_front}
 use Rattle.plex_serial.proofs.Items.{AreLater}
-use Rattle.plex_serial.proofs.Changes.{IsChange, change_fronts, change_later, same_number, other_number}
+use Rattle.plex_serial.proofs.Changes.{IsChange, change_fronts, change_later, same_number}
 use Rattle.plex_serial.proofs.Callers.{IsRunOf, steps_change, run_changed}
 use Rattle.plex_serial.proofs.Lines.{StoppedIn, stopped_later, run_same, get_within}
 use Rattle.plex_serial.proofs.Closings.{ShowsWithin, link_front, closings_front, closings_more, closings_elsewhere, one_call_stops}

@@ -1,12 +1,11 @@
 -- What the items of a transcript say of the histories, and goes on saying when these grow.
-use Rattle.std.proofs.Common.{◌≡◌, ◌≢◌, ℕ, zero, suc, ◌+◌, ◌*◌, ◌≤◌, ◌<◌, ◌==◌, ◌&&◌, nat_lt, Bool, true, false, List, [], ◌∷◌, ◌++◌, length, take, map, max, fold, Some, None, Option, refl, sym, ap, subst, subst₂, ◌∙◌, arith, append-nil, append_assoc, slice_get, cond}
+use Rattle.std.proofs.Common.{◌≡◌, ℕ, zero, suc, ◌+◌, ◌*◌, ◌≤◌, ◌<◌, ◌==◌, Bool, true, false, List, [], ◌∷◌, ◌++◌, take, max, fold, Some, None, Option, refl, sym, ap, subst, subst₂, arith, append-nil, append_assoc, slice_get, cond}
 use Rattle.std.specs.List.{filter_map}
 use Rattle.std.proofs.lemmas.Bool.Decides.{nat_tests}
 use Rattle.cf_types.specs.declared.forms.StrForm.{StrForm}
 use Rattle.cf_types.specs.declared.numbers.ConnId.{ConnId}
 use Rattle.cf_types.specs.declared.numbers.StrNo.{StrNo}
 use Rattle.plex_script.specs.declared.asks.AnyHistory.{AnyHistory}
-use Rattle.plex_script.specs.declared.asks.AnyHistory.TheVariants as history
 use Rattle.plex_script.specs.declared.transcripts.Shown.{Shown}
 use Rattle.plex_script.specs.declared.transcripts.Shown.TheVariants as shown
 use Rattle.plex_script.specs.Heard.{length_on}

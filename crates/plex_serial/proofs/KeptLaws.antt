@@ -1,5 +1,5 @@
 -- What a structure keeps, and keeps after a call.
-use Rattle.std.proofs.Common.{◌≡◌, ◌≢◌, ℕ, zero, suc, ◌+◌, ◌≤◌, ◌<◌, ◌==◌, Bool, true, false, List, [], ◌∷◌, ◌++◌, length, filter, fold, replicate, set, slice_get, Option, Some, None, unwrap_or, refl, sym, ap, subst, ◌∙◌, arith}
+use Rattle.std.proofs.Common.{◌≡◌, ◌≢◌, ℕ, zero, suc, ◌+◌, ◌≤◌, ◌<◌, ◌==◌, Bool, true, false, List, [], ◌∷◌, ◌++◌, length, fold, replicate, slice_get, Option, Some, None, unwrap_or, refl, sym, ap, subst, ◌∙◌, arith}
 use Rattle.std.proofs.lemmas.List.Sums.{fold_push}
 use Rattle.std.proofs.lemmas.Bool.Decides.{nat_tests}
 use Rattle.cf_types.specs.declared.forms.StrForm.{StrForm}
@@ -12,9 +12,9 @@ use Rattle.engine_api.specs.declared.asks.Reply.{Reply}
 use Rattle.engine_api.specs.declared.asks.What.TheVariants as what
 use Rattle.engine_api.specs.declared.histories.Entry.{Entry}
 use Rattle.engine_api.specs.Meaning.{Meaning, Held}
-use Rattle.engine_api.specs.Shell.{Shell, shell_cause, content_cause}
+use Rattle.engine_api.specs.Shell.{shell_cause, content_cause}
 use Rattle.engine_api.specs.Machine.{Machine, Answered, refusing, step}
-use Rattle.engine_api.specs.History.{Call, own, next, next_entry, replay, after}
+use Rattle.engine_api.specs.History.{Call, own, next, next_entry, replay}
 use Rattle.engine_api.specs.Told.{told}
 use Rattle.engine_api.proofs.HistoryLaws.{replay-push, own-next_same, own-next_other, next_call}
 use Rattle.plex_shell.specs.Shelled.{Shelled}

@@ -1,5 +1,5 @@
 -- What a caller's next call does to a history of whatever kind.
-use Rattle.std.proofs.Common.{◌≡◌, ℕ, zero, suc, ◌+◌, ◌≤◌, ◌<◌, Bool, List, [], ◌∷◌, ◌++◌, length, take, map, Some, refl, sym, ap, subst, ◌∙◌, inl, inr, ◌⊎◌, arith, append-nil, append_assoc, ◌==◌, lit<, get_or, add-zero, add-one}
+use Rattle.std.proofs.Common.{◌≡◌, ℕ, zero, suc, ◌+◌, ◌≤◌, Bool, List, [], ◌∷◌, ◌++◌, length, take, map, refl, sym, ap, subst, ◌∙◌, inl, inr, ◌⊎◌, arith, lit<, add-zero, add-one}
 use Rattle.std.proofs.lemmas.List.{take-append-le, length-append, map-append, take_all}
 use Rattle.std.proofs.lemmas.List.Elements.{Contains-append_right}
 use Rattle.std.specs.Prelude.{Contains}
@@ -7,18 +7,16 @@ use Rattle.cf_types.specs.declared.forms.StrForm.{StrForm}
 use Rattle.cf_types.specs.declared.forms.Kind.{Kind}
 use Rattle.cf_types.specs.declared.forms.Kind.TheVariants as kind
 use Rattle.cf_types.specs.declared.numbers.ConnId.{ConnId}
-use Rattle.engine_api.specs.declared.asks.Ask.{Ask}
 use Rattle.engine_api.specs.declared.histories.Entry.{Entry}
-use Rattle.engine_api.specs.Meaning.{Meaning}
-use Rattle.engine_api.specs.History.{Call, calls, numbers, next, next_entry, IsLegal, IsPoint, Tells, stands_after}
-use Rattle.engine_api.proofs.HistoryLaws.{calls-append, legal_none, legal_next, point-append, point-next}
+use Rattle.engine_api.specs.History.{Call, calls, numbers, next_entry, IsPoint, stands_after}
+use Rattle.engine_api.proofs.HistoryLaws.{calls-append, legal_next, point-append}
 use Rattle.cache_model.specs.Meaning.{cache_meaning}
 use Rattle.plex_script.specs.declared.scripts.AnyAsk.{AnyAsk}
 use Rattle.plex_script.specs.declared.scripts.AnyAsk.TheVariants as ask
 use Rattle.plex_script.specs.declared.asks.AnyHistory.{AnyHistory}
 use Rattle.plex_script.specs.declared.asks.AnyHistory.TheVariants as history
 use Rattle.plex_script.specs.Heard.{AnyCall, any_call, any_calls, any_length}
-use Rattle.plex_serial.specs.Kinds.{no_calls, IsOfKind, IsAskOf, IsBuiltKind, any_next, any_told, any_stands, IsAnyLegal, AnyTells, numbers_from}
+use Rattle.plex_serial.specs.Kinds.{IsOfKind, IsAskOf, IsBuiltKind, any_next, any_told, any_stands, IsAnyLegal, AnyTells, numbers_from}
 
 -- the history takes the ask: both are of one kind, which is built
 abbrev pub Takes : AnyHistory → AnyAsk → Type 0

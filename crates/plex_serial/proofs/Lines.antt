@@ -1,15 +1,11 @@
 -- The lines of a script, one after another.
-use Rattle.std.proofs.Common.{All, ◌≡◌, ◌≢◌, ℕ, zero, suc, ◌+◌, ◌*◌, ◌≤◌, ◌<◌, ◌==◌, nat_lt, Bool, true, false, List, [], ◌∷◌, ◌++◌, length, map, filter, set, Some, None, Option, refl, sym, ap, subst, ◌∙◌, arith, append-nil, append_assoc, slice_get, cond, fold}
+use Rattle.std.proofs.Common.{All, ◌≡◌, ℕ, zero, suc, ◌*◌, ◌≤◌, ◌<◌, ◌==◌, nat_lt, Bool, true, false, List, [], ◌∷◌, ◌++◌, length, map, filter, Some, Option, refl, sym, ap, subst, ◌∙◌, arith, append-nil, append_assoc, slice_get, cond, fold}
 use Rattle.std.proofs.lemmas.List.Elements.{filter-append, All-head, All-tail}
 use Rattle.std.proofs.lemmas.Option.{slice_get_within}
 use Rattle.std.proofs.lemmas.Bool.Decides.{nat_tests}
 use Rattle.cf_types.specs.declared.forms.StrForm.{StrForm}
-use Rattle.cf_types.specs.declared.forms.Kind.{Kind}
 use Rattle.cf_types.specs.declared.numbers.ConnId.{ConnId}
 use Rattle.cf_types.specs.declared.numbers.StrNo.{StrNo}
-use Rattle.plex_script.specs.declared.agents.Step.{Step}
-use Rattle.plex_script.specs.declared.agents.Step.TheVariants as step
-use Rattle.plex_script.specs.declared.scripts.AnyAsk.{AnyAsk}
 use Rattle.plex_script.specs.declared.asks.AnyHistory.{AnyHistory}
 use Rattle.plex_script.specs.declared.scripts.Act.{Act}
 use Rattle.plex_script.specs.declared.scripts.Act.TheVariants as act
@@ -20,15 +16,15 @@ use Rattle.plex_script.specs.declared.transcripts.AgentEnd.TheVariants as ended
 use Rattle.plex_script.specs.declared.transcripts.Shown.{Shown}
 use Rattle.plex_script.specs.declared.transcripts.Transcript.{Transcript}
 use Rattle.plex_script.specs.Agent.{first_step, most_asks, call_of}
-use Rattle.plex_script.specs.Heard.{AnyCall, any_calls, any_length, own_calls, calls_on, length_on}
+use Rattle.plex_script.specs.Heard.{AnyCall, any_calls, own_calls, calls_on, length_on}
 use Rattle.plex_script.specs.Follows.{RunsUpTo, ShowsAct, ShowsTest, ShowsWord, ShowsLines, numbers_on}
-use Rattle.plex_serial.specs.Kinds.{IsBuiltKind, IsAskOf}
-use Rattle.plex_serial.specs.Serial.{Run, transcript_of, transcript_at, is_done, is_done_as, shown_to, steps_made, all_steps_made, act_made, line_made, after_line, test_shown, word_shown}
-use Rattle.plex_serial.specs.Runnable.{IsRunnableAct, IsRunnableLine, MayAskAny}
+use Rattle.plex_serial.specs.Kinds.{IsBuiltKind}
+use Rattle.plex_serial.specs.Serial.{Run, transcript_at, is_done, is_done_as, shown_to, all_steps_made, act_made, after_line, test_shown, word_shown}
+use Rattle.plex_serial.specs.Runnable.{IsRunnableAct, IsRunnableLine}
 use Rattle.plex_serial.proofs.Steps.{IsHistory, IsAt, AreSteps, EndsAs, IsReady, IsLineOf, steps_are}
-use Rattle.plex_serial.proofs.Fronts.{IsFront, AreFronts, runs_up_to_front, shows_lines_front, shows_lines_more}
-use Rattle.plex_serial.proofs.Items.{AreItems, AreLater}
-use Rattle.plex_serial.proofs.Changes.{IsChange, change_fronts, change_later, there_later, same_number, other_number}
+use Rattle.plex_serial.proofs.Fronts.{AreFronts, runs_up_to_front, shows_lines_front, shows_lines_more}
+use Rattle.plex_serial.proofs.Items.{AreLater}
+use Rattle.plex_serial.proofs.Changes.{IsChange, change_fronts, change_later, same_number}
 use Rattle.plex_serial.proofs.Callers.{IsRunOf, steps_change, test_change, word_change, run_changed, ShowsOne}
 use Rattle.plex_serial.proofs.Tables.{get-set_same}
 

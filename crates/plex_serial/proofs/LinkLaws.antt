@@ -1,11 +1,10 @@
 -- Who is active, by the calls of a history of whatever kind.
-use Rattle.std.proofs.Common.{◌≡◌, ℕ, ◌==◌, Bool, true, false, List, [], ◌∷◌, map, filter, fold, refl, unwrap_or}
+use Rattle.std.proofs.Common.{◌≡◌, ◌==◌, Bool, true, false, List, [], ◌∷◌, map, filter, fold, refl}
 use Rattle.cf_types.specs.declared.numbers.ConnId.{ConnId}
 use Rattle.engine_api.specs.declared.asks.Ask.{Ask}
 use Rattle.engine_api.specs.History.{Call, calls}
-use Rattle.engine_api.specs.Told.{told}
 use Rattle.plex_script.specs.declared.scripts.AnyAsk.{AnyAsk}
-use Rattle.plex_script.specs.Heard.{AnyCall, any_call, link_after, own_calls}
+use Rattle.plex_script.specs.Heard.{any_call, link_after, own_calls}
 use Rattle.plex_script.specs.declared.scripts.AnyAsk.TheVariants as ask
 use Rattle.plex_script.specs.Heard.{any_calls, is_linked}
 use Rattle.plex_serial.specs.declared.any_structure.AnyStructure.{AnyStructure}

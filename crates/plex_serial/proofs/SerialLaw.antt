@@ -1,6 +1,5 @@
 -- The run of a script on one thread shows a legal history of each structure, with each caller's calls once and in their order.
-use Rattle.std.proofs.Common.{All, ◌≡◌, ◌≢◌, ℕ, zero, suc, ◌+◌, ◌≤◌, ◌<◌, ◌==◌, ◌&&◌, nat_lt, nat_le, Bool, true, false, List, [], ◌∷◌, ◌++◌, length, map, take, fold, replicate, Some, None, Option, option_map, refl, sym, ap, subst, ◌∙◌, inl, inr, ◌⊎◌, arith, append-nil, slice_get, cond, MatchBool}
-use Rattle.std.specs.List.{enumerate_from}
+use Rattle.std.proofs.Common.{All, ◌≡◌, ℕ, zero, suc, ◌+◌, ◌≤◌, ◌<◌, ◌==◌, ◌&&◌, nat_lt, nat_le, Bool, true, false, List, [], ◌∷◌, length, map, take, fold, replicate, Some, option_map, refl, sym, ap, subst, ◌∙◌, inl, inr, arith, append-nil, slice_get, cond, MatchBool}
 use Rattle.std.proofs.lemmas.List.{length-map, length-replicate, take_all}
 use Rattle.std.proofs.lemmas.List.Elements.{All-nil, All-get_or}
 use Rattle.std.proofs.lemmas.Option.{slice_get-map, slice_get_within, get_or_from_slice_get}
@@ -12,19 +11,17 @@ use Rattle.cf_types.specs.declared.numbers.ConnId.{ConnId}
 use Rattle.cf_types.specs.declared.numbers.StrNo.{StrNo}
 use Rattle.engine_api.proofs.HistoryLaws.{legal_none}
 use Rattle.cache_model.specs.Meaning.{cache_meaning}
-use Rattle.plex_script.specs.declared.asks.AnyHistory.{AnyHistory}
-use Rattle.plex_script.specs.declared.scripts.Line.{Line}
 use Rattle.plex_script.specs.declared.scripts.Script.{Script}
 use Rattle.plex_script.specs.declared.transcripts.AgentEnd.{AgentEnd}
 use Rattle.plex_script.specs.declared.transcripts.AgentEnd.TheVariants as ended
 use Rattle.plex_script.specs.declared.transcripts.Shown.{Shown}
 use Rattle.plex_script.specs.declared.transcripts.Transcript.{Transcript}
 use Rattle.plex_script.specs.Heard.{AnyCall, any_calls, own_calls, calls_on, calls_of}
-use Rattle.plex_script.specs.Follows.{ShowsClosings, AgreesWith, Follows, Stops, StopsInLine, StopsInClosing, lines_of, numbers_on}
+use Rattle.plex_script.specs.Follows.{ShowsClosings, AgreesWith, Follows, Stops, lines_of, numbers_on}
 use Rattle.plex_serial.specs.Kinds.{IsBuiltKind, no_calls, numbers_from}
-use Rattle.plex_serial.specs.Serial.{Run, start, no_items, after_line, after_departure, after_closing, connectors, serial_run}
-use Rattle.plex_serial.specs.Runnable.{IsRunnable, IsRunnableLine}
-use Rattle.plex_serial.specs.Headline.{EndsRight, IsHistoryOf, ShowsHistories}
+use Rattle.plex_serial.specs.Serial.{Run, start, no_items, after_line, after_closing, serial_run}
+use Rattle.plex_serial.specs.Runnable.{IsRunnable}
+use Rattle.plex_serial.specs.Headline.{EndsRight, ShowsHistories}
 use Rattle.plex_serial.proofs.Steps.{IsHistory}
 use Rattle.plex_serial.proofs.Items.{AreItems, notes_are, tests_tell}
 use Rattle.plex_serial.proofs.Callers.{IsRunOf}

@@ -1,11 +1,10 @@
 -- What the calls of one line do to a run.
-use Rattle.std.proofs.Common.{All, ◌≡◌, ◌≢◌, ℕ, zero, suc, ◌+◌, ◌*◌, ◌≤◌, ◌<◌, ◌==◌, nat_le, Bool, true, false, List, [], ◌∷◌, ◌++◌, length, map, filter, find, set, Some, None, Option, refl, sym, ap, subst, ◌∙◌, inl, inr, ◌⊎◌, arith, append-nil, append_assoc, slice_get, cond}
-use Rattle.std.proofs.lemmas.List.{set-set, map-append}
+use Rattle.std.proofs.Common.{All, ◌≡◌, ◌≢◌, ℕ, zero, suc, ◌+◌, ◌*◌, ◌≤◌, ◌<◌, ◌==◌, nat_le, Bool, true, false, List, [], ◌∷◌, ◌++◌, map, set, Some, None, Option, refl, sym, ap, subst, ◌∙◌, arith, append-nil, append_assoc, slice_get, cond}
+use Rattle.std.proofs.lemmas.List.{set-set}
 use Rattle.std.proofs.lemmas.List.Folds.{find-append}
 use Rattle.std.proofs.lemmas.List.Elements.{All-nil, All-cons}
 use Rattle.std.proofs.lemmas.Simd.{map-map}
 use Rattle.std.proofs.lemmas.Bool.Decides.{nat_tests}
-use Rattle.std.specs.Option.{option_or}
 use Rattle.cf_types.specs.declared.forms.StrForm.{StrForm}
 use Rattle.cf_types.specs.declared.forms.Kind.{Kind}
 use Rattle.cf_types.specs.declared.numbers.ConnId.{ConnId}
@@ -25,15 +24,15 @@ use Rattle.cf_types.specs.declared.forms.Kind.TheVariants as kind
 use Rattle.cf_types.specs.declared.shell_commands.ShellCmd.{ShellCmd}
 use Rattle.cf_types.specs.declared.shell_commands.ShellCmd.TheVariants as cmd
 use Rattle.plex_script.specs.Agent.{step_after, most_asks, asks_behind, asked_by, taking, after_round, common}
-use Rattle.engine_api.specs.History.{Call, calls}
+use Rattle.engine_api.specs.History.{calls}
 use Rattle.plex_script.specs.declared.scripts.AnyAsk.TheVariants as ask
 use Rattle.plex_script.specs.Heard.{AnyCall, any_call, any_calls, any_length, heard, own_calls}
-use Rattle.plex_script.specs.Follows.{IsHeard, Runs, RunsUpTo, numbers_on}
+use Rattle.plex_script.specs.Follows.{Runs, RunsUpTo}
 use Rattle.plex_serial.specs.Kinds.{IsOfKind, IsAskOf, IsBuiltKind, IsAnyLegal, any_next, any_told, numbers_from}
-use Rattle.plex_serial.specs.Serial.{Run, Made, shown_to, stopped_at, transcript_of, transcript_at, call_made, ask_made, step_made, steps_made}
+use Rattle.plex_serial.specs.Serial.{Run, Made, shown_to, stopped_at, transcript_of, transcript_at, call_made, step_made, steps_made}
 use Rattle.plex_serial.proofs.KindLaws.{Takes, takes_of_kind, call_added, calls-next, length-next, kind-next, legal-next, counted-next, IsCounted, Stood, stood-next}
-use Rattle.plex_serial.proofs.Fronts.{IsFront, heard_front}
-use Rattle.plex_serial.proofs.Tables.{get-set_same, get-set_other, set_same}
+use Rattle.plex_serial.proofs.Fronts.{heard_front}
+use Rattle.plex_serial.proofs.Tables.{get-set_same, set_same}
 
 -- ---- steps
 

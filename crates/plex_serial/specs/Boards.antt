@@ -1,9 +1,9 @@
 -- The structures of a script and its callers' transcripts, as the run on one thread keeps them.
-use Rattle.std.specs.Prelude.{◌≡◌, ℕ, ◌≤◌, ◌<◌, List, map, length, slice_get, Option, Some, IfSome}
+use Rattle.std.specs.Prelude.{◌≡◌, ℕ, ◌≤◌, ◌<◌, List, length, slice_get, Option, Some, IfSome}
 use Rattle.cf_types.specs.declared.forms.StrForm.{StrForm}
 use Rattle.cf_types.specs.declared.numbers.ConnId.{ConnId}
 use Rattle.cf_types.specs.declared.numbers.StrNo.{StrNo}
-use Rattle.cf_types.specs.Forms.{IsForm, IsCaller}
+use Rattle.cf_types.specs.Forms.{IsCaller}
 use Rattle.plex_script.specs.declared.agents.Step.{Step}
 use Rattle.plex_script.specs.declared.scripts.AnyAsk.{AnyAsk}
 use Rattle.plex_script.specs.declared.asks.AnyHistory.{AnyHistory}

@@ -1,18 +1,17 @@
 -- Histories of whatever kind: what a caller's next call makes of one, and what one leads to.
-use Rattle.std.specs.Prelude.{◌≡◌, ℕ, ◌+◌, ◌*◌, ◌^◌, ◌&&◌, nat_lt, Bool, true, false, if◌then◌else◌, List, [], ◌∷◌, length, take, sum_by}
+use Rattle.std.specs.Prelude.{◌≡◌, ℕ, ◌+◌, ◌*◌, ◌^◌, ◌&&◌, nat_lt, Bool, false, if◌then◌else◌, List, [], ◌∷◌, length, sum_by}
 use Rattle.cf_types.specs.declared.forms.StrForm.{StrForm}
 use Rattle.cf_types.specs.declared.forms.Kind.{Kind}
 use Rattle.cf_types.specs.declared.forms.Kind.TheVariants as kind
 use Rattle.cf_types.specs.declared.numbers.ConnId.{ConnId}
 use Rattle.engine_api.specs.declared.told.Told.{Told}
-use Rattle.engine_api.specs.History.{next, next_reply, stands_after, IsLegal, Tells, last_call_below}
+use Rattle.engine_api.specs.History.{next, next_reply, stands_after, IsLegal, Tells}
 use Rattle.engine_api.specs.Told.{told, told_plainly}
 use Rattle.cache_model.specs.Meaning.{cache_meaning}
 use Rattle.plex_script.specs.declared.scripts.AnyAsk.{AnyAsk}
 use Rattle.plex_script.specs.declared.scripts.AnyAsk.TheVariants as ask
 use Rattle.plex_script.specs.declared.asks.AnyHistory.{AnyHistory}
 use Rattle.plex_script.specs.declared.asks.AnyHistory.TheVariants as history
-use Rattle.plex_script.specs.Heard.{any_length}
 
 -- the history of a structure with no calls yet. List and lock structures aren't built yet
 abbrev pub no_calls : Kind → AnyHistory

@@ -1,5 +1,5 @@
 -- The run of a script on one thread: its lines in their order, then the closings of the connectors in number order.
-use Rattle.std.specs.Prelude.{ℕ, zero, suc, ◌+◌, ◌*◌, ◌==◌, nat_le, nat_lt, Bool, true, false, if◌then◌else◌, List, [], ◌∷◌, ◌++◌, length, fold, map, replicate, slice_get, slice_set, Option, None, Some}
+use Rattle.std.specs.Prelude.{ℕ, zero, suc, ◌+◌, ◌*◌, nat_le, nat_lt, Bool, true, false, if◌then◌else◌, List, [], ◌∷◌, ◌++◌, length, fold, map, replicate, slice_get, slice_set, Option, None, Some}
 use Rattle.std.specs.List.{enumerate_from}
 use Rattle.cf_types.specs.declared.forms.StrForm.{StrForm}
 use Rattle.cf_types.specs.declared.numbers.ConnId.{ConnId}
@@ -18,7 +18,7 @@ use Rattle.plex_script.specs.declared.transcripts.AgentEnd.TheVariants as ended
 use Rattle.plex_script.specs.declared.transcripts.Shown.{Shown}
 use Rattle.plex_script.specs.declared.transcripts.Shown.TheVariants as shown
 use Rattle.plex_script.specs.declared.transcripts.Transcript.{Transcript}
-use Rattle.plex_script.specs.Agent.{first_step, step_after, most_asks, asked_by, common, call_of}
+use Rattle.plex_script.specs.Agent.{first_step, step_after, most_asks, asked_by, common}
 use Rattle.plex_script.specs.Heard.{any_calls, any_length, own_calls, is_linked}
 use Rattle.plex_serial.specs.Kinds.{no_calls, any_next, any_told, any_stands, any_word, numbers_from}
 

@@ -1,6 +1,5 @@
 -- A structure as the run on one thread keeps it: its form, and the history of its calls.
-use Rattle.std.specs.Prelude.{◌≡◌, ℕ, ◌+◌, ◌≤◌, Bool, false, IsTrue, List, [], ◌∷◌, ◌++◌, length, fold, slice_get, slice_set, Option, None, Some, unwrap_or, is_some, ◌||◌, if◌then◌else◌}
-use Rattle.cf_types.specs.declared.forms.Kind.{Kind}
+use Rattle.std.specs.Prelude.{◌≡◌, ◌≤◌, Bool, false, List, fold, slice_get, slice_set, Option, None, Some, unwrap_or, is_some, ◌||◌, if◌then◌else◌}
 use Rattle.cf_types.specs.declared.forms.StrForm.{StrForm}
 use Rattle.cf_types.specs.declared.numbers.ConnId.{ConnId}
 use Rattle.cf_types.specs.Forms.{IsForm}
@@ -11,7 +10,7 @@ use Rattle.engine_api.specs.Shapes.{shape_of}
 use Rattle.engine_api.specs.Machine.{Machine}
 use Rattle.engine_api.specs.declared.deeds.Deeds.{Deeds}
 use Rattle.engine_api.specs.declared.shapes.Shape.{Shape}
-use Rattle.engine_api.specs.History.{Call, own, next, next_reply, replay}
+use Rattle.engine_api.specs.History.{Call, own, next, replay}
 use Rattle.engine_api.specs.Told.{told}
 use Rattle.plex_shell.specs.Shelled.{Shelled}
 

@@ -1,5 +1,4 @@
-use Rattle.std.proofs.Common.{◌≡◌, None, inr, sym, ◌∙◌}
-use Rattle.plex_run.specs.NotYet.{not_yet}
+use Rattle.std.proofs.Common.{inr, sym, ◌∙◌}
 use Rattle.plex_run.specs.Outcome.{IsServed}
 use Rattle.plex_run.proofs.RunnableLaws.{runnable}
 use Rattle.plex_run.proofs.OutcomeLaws.{fault_exactly, told_fault, not_yet_exactly, served_exactly, full_written}

@@ -1,4 +1,4 @@
-use Rattle.std.proofs.Common.{rules, refl, sym, ◌≡◌, ◌+◌, ◌∙◌, arith, length}
+use Rattle.std.proofs.Common.{rules, refl, ◌+◌, ◌∙◌, length}
 use Rattle.cf_types.specs.declared.numbers.ConnId.{ConnId}
 use Rattle.plex_serial.proofs.BoardLaws.{board_kept, line_next, closing_next}
 use Rattle.plex_serial.proofs.runs.serial.Goals as goal

@@ -1,5 +1,4 @@
-use Rattle.std.proofs.Common.{sym, ap}
-use Rattle.plex_shell.specs.Verdicts.{verdict}
+use Rattle.std.proofs.Common.{sym}
 use Rattle.plex_serial.specs.Structures.{machine_of}
 use Rattle.plex_serial.proofs.KeptLaws.{refused_step}
 use Rattle.plex_serial.proofs.structure.answer.Goals as goal

@@ -1,4 +1,4 @@
-use Rattle.std.proofs.Common.{rules, ◌≡◌, ◌+◌, ◌*◌, ◌^◌, suc, ℕ, subst, sym, arith}
+use Rattle.std.proofs.Common.{rules, ◌≡◌, ◌+◌, suc, subst, sym, arith}
 use Rattle.std.proofs.Math.Nat.{pow-suc}
 use Rattle.std.specs.List.{sum_by}
 use Rattle.plex_serial.specs.Kinds.{numbers_from}

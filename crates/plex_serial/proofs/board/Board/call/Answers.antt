@@ -1,4 +1,4 @@
-use Rattle.std.proofs.Common.{◌≡◌, rules, sym, ap, length, ◌∙◌}
+use Rattle.std.proofs.Common.{rules, sym, ap, length, ◌∙◌}
 use Rattle.plex_serial.proofs.BoardLaws.{forms_kept, histories_set, structure_there, form_known, call_there}
 use Rattle.plex_serial.proofs.board.Board.call.Goals as goal
 
