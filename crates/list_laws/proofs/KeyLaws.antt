@@ -174,7 +174,7 @@ module _ {X K : Type 0} (key : X → K) (same : K → K → Bool)
       let it : same (key x) (key v) ≡ false = subst (λ n. same n (key v) ≡ false) (sym (same-eq (key x) (key w) h)) apart' in
       ap not it
 
-  found_without : (v : X) (vs xs : List X) → list_all (apart v) vs ≡ true → AllFound vs xs
+  pub found_without : (v : X) (vs xs : List X) → list_all (apart v) vs ≡ true → AllFound vs xs
       → AllFound vs (filter (λ x. not (is_keyed (key v) x)) xs)
   found_without v [] xs e h = tt
   found_without v (w ∷ ws) xs e h =

@@ -1,0 +1,78 @@
+-- What the engine keeps of its content.
+use Rattle.std.proofs.Common.{◌≡◌, ℕ, ◌+◌, ◌-◌, ◌≤◌, ◌<◌, [], ◌∷◌, List, Option, Some, None, false, Result, Ok, Err, OnOk, OnErr, ◌++◌, length, length-append, sym, ap, subst, ◌∙◌, arith}
+use Rattle.std.proofs.lemmas.List.{length-map, length-take}
+use Rattle.cf_types.specs.declared.forms.Caps.{Caps}
+use Rattle.cf_types.specs.declared.numbers.ConnId.{ConnId}
+use Rattle.cf_types.specs.declared.lock_commands.LockCmd.{LockCmd}
+use Rattle.lock_queue.specs.declared.waiters.Waiter.{Waiter}
+use Rattle.lock_model.specs.Interests.{Interest}
+use Rattle.lock_model.specs.Contents.{Content, IsContent, records_in, items, need_of, content_with, content_without_last}
+use Rattle.lock_model.specs.Departures.{returned, with_retained}
+use Rattle.lock_model.specs.Step.{cause}
+use Rattle.lock_model.proofs.ContentLaws.{items_in}
+use Rattle.lock_model.proofs.EngineLaws.{elements-items, entries-items}
+use Rattle.lock_core.specs.declared.plans.Plan.{Plan}
+use Rattle.lock_core.specs.Plans.{plan_for}
+use Rattle.lock_model.specs.declared.items.LockItem.{LockItem}
+use Rattle.lock_model.specs.declared.items.LockItem.TheVariants.{Owner, Waits}
+use Rattle.lock_model.proofs.ItemLaws.{owner-next, waiter-next}
+use Rattle.lock_core.specs.Stock.{content_placed}
+use Rattle.lock_core.specs.Seen.{IsCounted}
+
+-- the need of a content is the number of its items, and of its record data
+pub need-content : (content : Content)
+    → record { entries = length content.interests + length content.waiters; elements = records_in content } ≡ need_of (items content)
+need-content content =
+    let caps : ℕ → ℕ → Caps = λ (entries elements : ℕ). record { entries = entries; elements = elements } in
+    ap (λ (n : ℕ). caps n (records_in content)) (sym (entries-items content))
+    ∙ ap (λ (n : ℕ). caps (need_of (items content)).entries n) (sym (elements-items content))
+
+last_counted : (interests : List Interest) (waiters : List Waiter) → IsCounted (record { interests = interests; waiters = waiters })
+    → IsCounted (content_without_last (record { interests = interests; waiters = waiters }))
+last_counted interests [] h = omega (arith, h, length-take (length interests - 1) interests)
+last_counted interests (w ∷ ws) h = omega (arith, h, length-take (length (w ∷ ws) - 1) (w ∷ ws))
+
+pub counted-last : (content : Content) → IsCounted content → IsCounted (content_without_last content)
+counted-last content h = last_counted content.interests content.waiters h
+
+pub counted-returned : (conn : ConnId) (content : Content) → IsCounted content → IsCounted (returned conn content)
+counted-returned conn content h = omega (arith, h, length-map content.interests (with_retained conn false))
+
+-- what was taken is what was there
+pub taken_is : {X : Type 0} (taken before : Option X) (x y : X) → taken ≡ before → taken ≡ Some x → before ≡ Some y → x ≡ y
+taken_is taken before x y e f g = let same : Some x ≡ Some y = sym f ∙ e ∙ g in cc
+
+-- it isn't refused where the plan has no refusal
+pub plan_accepted : (caps : Caps) (content : Content) (by : ConnId) (cmd : LockCmd) (plan : Plan) → plan ≡ plan_for caps content by cmd
+    → plan.refusal ≡ None → cause caps content by cmd ≡ None
+plan_accepted caps content by cmd plan e h = sym (ap (λ (p : Plan). p.refusal) e) ∙ h
+
+-- ---- an item more
+
+-- the next item of a content goes behind the others
+pub placed-next : (caps : Caps) (content whole : Content) (item : LockItem) (others : List LockItem) → IsContent caps whole
+    → items whole ≡ items content ++ item ∷ others → content_placed content item ≡ content_with content item
+placed-next caps content whole (Owner held rec) others is e =
+    sym (owner-next caps content whole (record { held = held; rec = rec }) others is e)
+placed-next caps content whole (Waits w) others is e = sym (waiter-next caps content whole w others is e)
+
+placed_items : (content : Content) (item : LockItem) → items_in (content_with content item) ≤ items_in content + 1
+placed_items content (Owner held rec) = omega (arith, length-append content.interests (record { held = held; rec = rec } ∷ []))
+placed_items content (Waits w) = omega (arith, length-append content.waiters (w ∷ []))
+
+-- what is kept where the item is placed, and where it is handed back
+pub kept_either : (caps : Caps) (result : Result (Unit {0}) LockItem) (content now : Content) (item : LockItem)
+    → OnOk result (now ≡ content_with content item) → OnErr result (now ≡ content) → OnOk result (items_in content < 4294967295)
+    → IsContent caps (content_with content item) → IsContent caps content → IsCounted content → IsContent caps now × IsCounted now
+kept_either caps (Ok u) content now item placed same few next is counted = (
+  subst (λ (k : Content). IsContent caps k) (sym placed) next,
+  subst (λ (k : Content). IsCounted k) (sym placed) (omega (arith, few, placed_items content item)),
+)
+kept_either caps (Err back) content now item placed same few next is counted = (
+  subst (λ (k : Content). IsContent caps k) (sym same) is,
+  subst (λ (k : Content). IsCounted k) (sym same) counted,
+)
+
+pub ok_weaker : (result : Result (Unit {0}) LockItem) {P Q : Type 0} → (P → Q) → OnOk result P → OnOk result Q
+ok_weaker (Ok u) h p = h p
+ok_weaker (Err back) h p = p

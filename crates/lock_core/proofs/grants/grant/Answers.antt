@@ -1,0 +1,52 @@
+use Rattle.std.proofs.Common.{◌≡◌, ◌++◌, ◌∷◌, [], List, length, append_assoc, append-nil, sym, ap, ◌∙◌, arith}
+use Rattle.cf_types.specs.declared.events.Letter.{Letter}
+use Rattle.lock_model.specs.Grants.{Left, grant, sent_before, left_so, granted_letter}
+use Rattle.lock_core.proofs.GrantLaws.{next-waits, grant-next, grant-none}
+use Rattle.lock_core.proofs.grants.grant.Goals as goal
+
+pub grant_one-requires-clause-waits : goal.grant_one-requires-clause-waits
+grant_one-requires-clause-waits c =
+    next-waits c.loop-w.locks.content c.args.r.now c.in-Some.w c.next.ensures.queue (sym c.in-Some.ensures.next)
+
+pub loop-w-preserved : goal.loop-w-preserved
+loop-w-preserved c =
+    let r = c.args.r.now in
+    let w = c.in-Some.w in
+    let old = c.loop-w.locks.content in
+    let new = c.grant_one.new.self.content in
+    let step : grant r old ≡ sent_before (granted_letter w ∷ []) (grant r new) =
+    rw c.grant_one.ensures.content (grant-next old r w c.next.ensures.queue (sym c.in-Some.ensures.next)) in
+    let letters : (grant r old).letters ≡ granted_letter w ∷ (grant r new).letters = ap (λ (l : Left). l.letters) step in
+    let many : length (grant r old).letters ≡ length (granted_letter w ∷ (grant r new).letters) = ap (λ (l : List Letter). length l) letters in (
+      ap (λ (l : Left). l.content) (sym step) ∙ c.loop-w.invariant.0,
+      ap (λ (l : List Letter). l ++ (grant r new).letters) c.grant_one.ensures.mail
+          ∙ append_assoc c.loop-w.out.mail.items (granted_letter w ∷ []) (grant r new).letters
+          ∙ ap (λ (l : List Letter). c.loop-w.out.mail.items ++ l) (sym letters)
+          ∙ c.loop-w.invariant.1,
+      omega (arith, many, c.grant_one.ensures.letters, c.loop-w.invariant.2),
+      c.grant_one.ensures.bits ∙ c.loop-w.invariant.3,
+      c.grant_one.ensures.room,
+      c.grant_one.ensures.limit ∙ c.loop-w.invariant.5,
+    )
+
+pub returns-clause-content : goal.returns-clause-content
+returns-clause-content c =
+    let r = c.args.r.now in
+    let none : grant r c.loop-w.locks.content ≡ left_so c.loop-w.locks.content =
+    grant-none c.loop-w.locks.content r (sym c.next.ensures.next ∙ c.in_default.is) in
+    ap (λ (l : Left). l.content) (sym none) ∙ c.loop-w.invariant.0
+
+pub returns-clause-mail : goal.returns-clause-mail
+returns-clause-mail c =
+    let r = c.args.r.now in
+    let none : grant r c.loop-w.locks.content ≡ left_so c.loop-w.locks.content =
+    grant-none c.loop-w.locks.content r (sym c.next.ensures.next ∙ c.in_default.is) in
+    sym (append-nil c.loop-w.out.mail.items) ∙ ap (λ (l : Left). c.loop-w.out.mail.items ++ l.letters) (sym none) ∙ c.loop-w.invariant.1
+
+pub returns-clause-letters : goal.returns-clause-letters
+returns-clause-letters c =
+    let r = c.args.r.now in
+    let none : grant r c.loop-w.locks.content ≡ left_so c.loop-w.locks.content =
+    grant-none c.loop-w.locks.content r (sym c.next.ensures.next ∙ c.in_default.is) in
+    let many : length (grant r c.loop-w.locks.content).letters ≡ 0 = ap (λ (l : Left). length l.letters) none in
+    omega (arith, many, c.loop-w.invariant.2)

@@ -1,0 +1,18 @@
+use Rattle.std.proofs.Common.{◌≤◌, length, sym, subst, arith}
+use Rattle.lock_core.specs.Stock.{Stock, HasRoom}
+use Rattle.lock_model.specs.Contents.{records_waiting}
+use Rattle.lock_core.proofs.GrantLaws.{fewer-without}
+use Rattle.lock_core.proofs.locks.Locks.deny.Goals as goal
+
+pub returns-clause-room : goal.returns-clause-room
+returns-clause-room c =
+    let room = subst (λ (s : Stock). HasRoom 1 s c.args.out.now) (sym c.self.view_is) c.requires in
+    let few = fewer-without c.args.r.now c.args.conn c.self.inside.queue.waiters in
+    let left : (length c.remove.new.self.waiters ≤ length c.self.inside.queue.waiters)
+    × (records_waiting c.remove.new.self.waiters ≤ records_waiting c.self.inside.queue.waiters) =
+    rw c.remove.ensures.waiters few in
+    record {
+      owners = omega (arith, room.owners, left.0);
+      records = omega (arith, room.records, left.1);
+      letters = omega (arith, room.letters, left.0, c.push.ensures.room);
+    }

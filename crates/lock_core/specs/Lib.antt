@@ -1,0 +1,4 @@
+pub mod Owned
+pub mod Stock
+pub mod Plans
+pub mod Seen

@@ -1,0 +1,66 @@
+-- The engine as contracts see it.
+use Rattle.std.specs.Prelude.{◌≡◌, ◌+◌, ◌≤◌, ◌<◌, Bool, true, false, IsTrue, List, length, Option, Some}
+use Rattle.cf_types.specs.declared.effects.Effects.{Effects}
+use Rattle.cf_types.specs.declared.forms.Kind.{Kind}
+use Rattle.cf_types.specs.declared.forms.Kind.TheVariants as kind
+use Rattle.cf_types.specs.declared.resources.Resource.{Resource}
+use Rattle.cf_types.specs.declared.lock_commands.LockCmd.{LockCmd}
+use Rattle.cf_types.specs.Forms.{IsCapacity}
+use Rattle.engine_api.specs.Meaning.{Held, Wish}
+use Rattle.engine_api.specs.Meaning.Wish.{ForCmd, ForLeave, ForForget}
+use Rattle.lock_model.specs.Contents.{Content, IsContent}
+use Rattle.lock_model.specs.Departures.{resources_of}
+use Rattle.lock_core.specs.declared.plans.Plan.{Plan}
+use Rattle.lock_core.specs.declared.engine.LockEngine.TheInside.{Inside}
+use Rattle.lock_core.specs.Plans.{plan_for}
+use Rattle.lock_core.specs.Stock.{Stock, HasRoom}
+
+-- what it holds, what it is ready for, and its locks with their room
+pub record Seen : Type 0 where
+  pub held : Held Content
+  pub plan : Option Plan
+  pub leaving : Option (List Resource)
+  pub stock : Stock
+
+abbrev pub seen : Inside → Seen
+seen e =
+    record {
+      held = record { shape = e.shape; caps = e.caps; state = e.locks.content };
+      plan = e.plan;
+      leaving = e.leaving;
+      stock = e.locks;
+    }
+
+abbrev pub is_lock : Kind → Bool
+is_lock kind.Cache = false
+is_lock (kind.List headers locks refs) = false
+is_lock kind.Lock = true
+
+-- so many items that their number is one of 32 bits
+abbrev pub IsCounted : Content → Type 0
+IsCounted content = length content.interests + length content.waiters < 4294967296
+
+pub record IsKept (e : Inside) : Type 0 where
+  pub lock : IsTrue (is_lock e.shape.kind)
+  pub caps : IsCapacity e.caps
+  pub limit : e.locks.limit ≡ e.caps.elements
+  pub content : IsContent e.caps e.locks.content
+  pub counted : IsCounted e.locks.content
+
+-- the plan is that for the command, and there is room for all that it can do, with one item more
+pub record IsReadyFor (e : Seen) (plan : Plan) (out : Effects) : Type 0 where
+  pub planned : e.plan ≡ Some plan
+  pub room : HasRoom 1 e.stock out
+  pub waiter : 1 ≤ e.stock.waiter_room
+  pub told : length e.stock.content.interests ≤ out.mail.room
+  pub counted : length e.stock.content.interests + length e.stock.content.waiters < 4294967295
+
+-- the resources of the connector are there, and there is room for all that wait
+pub record IsReadyToLeave (e : Seen) (resources : List Resource) (out : Effects) : Type 0 where
+  pub planned : e.leaving ≡ Some resources
+  pub room : HasRoom 0 e.stock out
+
+abbrev pub IsReady : Seen → Wish LockCmd → Effects → Type 0
+IsReady e (ForCmd by cmd) out = IsReadyFor e (plan_for e.held.caps e.stock.content by cmd) out
+IsReady e (ForLeave conn) out = IsReadyToLeave e (resources_of conn e.stock.content) out
+IsReady e ForForget out = Unit {0}

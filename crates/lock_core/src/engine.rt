@@ -1,0 +1,203 @@
+use crate::departures::resources_of;
+use crate::grants::grant_each;
+use crate::locks::Locks;
+use crate::plans::{Plan, act, make_plan};
+use cf_types::{
+    Caps, ConnId, Effects, Listing, LockCmd, LockReply, NoMemory, Refusal, Resource, StrForm,
+};
+use engine_api::{Engine, Shape};
+use lock_model::LockItem;
+use std::alloc::Global;
+use std::marker::Model;
+
+/// The content of a lock structure as contracts see it.
+#[derive(Drop)]
+pub struct LockContent {}
+
+impl Model for LockContent {
+    ghost use Rattle.lock_model.specs.Contents.{Content, nothing};
+
+    ghost Value = { Content };
+
+    ghost view = { λ _. nothing };
+}
+
+/// A lock structure (IXLLOCK, IXLRT): its interests with their record data, and its waiters.
+#[derive(Drop)]
+pub struct LockEngine {
+    alloc: Global,
+    shape: Shape,
+    caps: Caps,
+    locks: Locks,
+    plan: Option<Plan>,
+    leaving: Option<Listing<Resource>>,
+}
+
+impl Model for LockEngine {
+    ghost use Rattle.lock_core.specs.Seen.{Seen, seen, IsKept};
+
+    ghost Value = { Seen };
+
+    ghost view = { seen };
+
+    ghost invariant = { IsKept };
+}
+
+impl Engine for LockEngine {
+    ghost use Rattle.std.specs.Prelude.{refl};
+    ghost use Rattle.lock_core.specs.Seen.{IsReady, is_lock};
+    ghost use Rattle.lock_model.specs.Contents.{IsContent};
+    ghost use Rattle.lock_model.specs.Meaning.{lock_meaning};
+    ghost use Rattle.lock_model.proofs.EngineLaws.{content-nothing, step-content, leave-content, back-content, made-items, items-place, unplace-place, need-front, need-leave, need-same};
+
+    type Cmd = LockCmd;
+
+    type Reply = LockReply;
+
+    type Item = LockItem;
+
+    type State = LockContent;
+
+    ghost meaning = { lock_meaning };
+
+    ghost is_kind = { is_lock };
+
+    ghost is_content = { λ shape caps content. IsContent caps content };
+
+    ghost held = { λ e. e.held };
+
+    ghost is_ready = { IsReady };
+
+    fn empty(alloc: Global, form: &StrForm, caps: Caps) -> Result<Self, NoMemory> {
+        let locks = Locks::new(alloc, caps.entries, caps.elements)?;
+        Ok(LockEngine {
+            alloc,
+            shape: Shape::of(form),
+            caps,
+            locks,
+            plan: None,
+            leaving: None,
+        })
+    }
+
+    fn copy(&self, alloc: Global) -> Result<Self, NoMemory> {
+        let locks = self.locks.copy(alloc)?;
+        Ok(LockEngine {
+            alloc,
+            shape: self.shape,
+            caps: self.caps,
+            locks,
+            plan: None,
+            leaving: None,
+        })
+    }
+
+    fn ready(&mut self, by: ConnId, cmd: &LockCmd, out: &mut Effects) -> Result<(), NoMemory> {
+        let plan = make_plan(self.alloc, self.caps, &self.locks, by, cmd)?;
+        self.locks.reserve(out)?;
+        self.plan = Some(plan);
+        Ok(())
+    }
+
+    fn apply(
+        &mut self,
+        by: ConnId,
+        cmd: &LockCmd,
+        out: &mut Effects,
+    ) -> Result<LockReply, Refusal> {
+        match self.plan.take() {
+            Some(plan) => {
+                let Plan { refusal, records } = plan;
+                match refusal {
+                    Some(refusal) => Err(refusal),
+                    None => Ok(act(&mut self.locks, records, by, cmd, out)),
+                }
+            }
+            None => unreachable!(),
+        }
+    }
+
+    fn leave_ready(&mut self, conn: ConnId, out: &mut Effects) -> Result<(), NoMemory> {
+        let resources = resources_of(self.alloc, &self.locks, conn)?;
+        self.locks.reserve(out)?;
+        self.leaving = Some(Listing::from_vec(resources));
+        Ok(())
+    }
+
+    fn leave(&mut self, conn: ConnId, keep: bool, out: &mut Effects) {
+        match self.leaving.take() {
+            Some(resources) => {
+                self.locks.leave(conn, keep);
+                grant_each(&mut self.locks, resources.items(), out);
+            }
+            None => unreachable!(),
+        }
+    }
+
+    fn back(&mut self, conn: ConnId) {
+        self.locks.back(conn);
+    }
+
+    fn forget_ready(&mut self, _out: &mut Effects) -> Result<(), NoMemory> {
+        Ok(())
+    }
+
+    fn forget(&mut self, _out: &mut Effects) {}
+
+    fn count(&self) -> u32 {
+        self.locks.need().entries
+    }
+
+    fn item(&self, _alloc: Global, k: u32) -> Result<LockItem, NoMemory> {
+        match self.locks.item(k) {
+            Some(item) => Ok(item),
+            None => unreachable!(),
+        }
+    }
+
+    fn place(&mut self, item: LockItem) -> Result<(), LockItem> {
+        self.locks.place(item)
+    }
+
+    fn unplace(&mut self) {
+        self.locks.unplace();
+    }
+
+    fn need(&self) -> Caps {
+        self.locks.need()
+    }
+
+    fn capacity(&self) -> Caps {
+        self.caps
+    }
+
+    fn stands(&self, _conn: ConnId, _index: u32) -> bool {
+        false
+    }
+
+    ghost content_empty = { λ shape caps. content-nothing caps };
+
+    ghost clear_empty = { λ shape conn index. refl };
+
+    ghost items_empty = { λ shape. refl };
+
+    ghost content_step = { λ shape caps content by cmd. step-content shape caps content by cmd };
+
+    ghost content_leave = { λ shape caps content conn keep. leave-content shape caps content conn keep };
+
+    ghost content_back = { λ shape caps content conn. back-content caps content conn };
+
+    ghost content_forget = { λ shape caps content is. is };
+
+    ghost made_again = { λ shape caps content is. made-items content };
+
+    ghost items_place = { λ shape caps content item next. items-place shape caps content item next };
+
+    ghost unplace_place = { λ shape caps content item next. unplace-place shape caps content item next };
+
+    ghost need_first = { need-front };
+
+    ghost need_leave = { λ shape caps content conn keep is. need-leave shape caps content conn keep is };
+
+    ghost need_forget = { λ shape caps content is. need-same shape.kind content };
+}

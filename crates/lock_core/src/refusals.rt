@@ -1,0 +1,143 @@
+//! Causes of refusals that commands share.
+ghost use Rattle.std.specs.Prelude.{◌≡◌, ◌<◌, Option, Some, None, IsTrue, if◌then◌else◌, option_map, is_some};
+ghost use Rattle.engine_api.specs.Meaning.{first_refusal};
+ghost use Rattle.cf_types.specs.declared.refusals.Refusal.{Refusal};
+ghost use Rattle.cf_types.specs.declared.refusals.Refusal.TheVariants.{AlreadyInterested, NotInterested, NoRecord};
+ghost use Rattle.lock_table.specs.declared.holdings.Held.{Held};
+ghost use Rattle.lock_queue.specs.Waiters.{waits};
+ghost use Rattle.lock_model.specs.Interests.{interest_of, manager_of};
+ghost use Rattle.lock_model.specs.Contents.{records_in};
+ghost use Rattle.lock_model.specs.Refusals.{pending_refusal, interested_refusal, interest_refusal, records_refusal, is_manager, manager_refusal, waiter_refusal};
+ghost use Rattle.lock_model.specs.Requests as requests;
+
+use crate::interests::Interests;
+use crate::locks::Locks;
+use cf_types::{Caps, ConnId, Refusal, Resource};
+use lock_queue::{Queue, Waiter};
+use lock_table::Held;
+
+/// The first cause that holds.
+pub(crate) fn first_refusal(causes: &[Option<Refusal>]) -> Option<Refusal>
+    ensures { result ≡ first_refusal causes.now }
+{
+    for cause in causes {
+        if let Some(refusal) = cause {
+            return Some(*refusal);
+        }
+    }
+    None
+}
+
+// Whether a connector waits for a resource.
+fn waits(queue: &Queue, r: &Resource, conn: ConnId) -> bool
+    ensures { result ≡ waits r.now conn queue.now.waiters }
+{
+    queue.find(r, conn).is_some()
+}
+
+/// The connector waits for the resource.
+pub(crate) fn pending_refusal(queue: &Queue, r: &Resource, conn: ConnId) -> Option<Refusal>
+    ensures { result ≡ pending_refusal r.now conn queue.now.waiters }
+{
+    if waits(queue, r, conn) {
+        Some(Refusal::StillPending)
+    } else {
+        None
+    }
+}
+
+/// The connector doesn't wait for the resource.
+pub(crate) fn waiter_refusal(queue: &Queue, r: &Resource, conn: ConnId) -> Option<Refusal>
+    ensures { result ≡ waiter_refusal r.now conn queue.now.waiters }
+{
+    if waits(queue, r, conn) {
+        None
+    } else {
+        Some(Refusal::NoWaiter)
+    }
+}
+
+// There is an interest.
+fn held_refusal(held: Option<&Held>) -> Option<Refusal>
+    ensures { result ≡ option_map (λ (held : Held). AlreadyInterested held.excl) (option_map (λ held. held.now) held.entry) }
+{
+    match held {
+        Some(held) => Some(Refusal::AlreadyInterested { excl: held.excl }),
+        None => None,
+    }
+}
+
+/// The connector has an interest in the resource.
+pub(crate) fn interested_refusal(
+    interests: &Interests,
+    r: &Resource,
+    conn: ConnId,
+) -> Option<Refusal>
+    ensures { result ≡ interested_refusal (interest_of r.now conn interests.now.interests) }
+{
+    held_refusal(interests.held_of(r, conn))
+}
+
+// There is no interest.
+fn no_held_refusal(held: Option<&Held>) -> Option<Refusal>
+    ensures { result ≡ (if is_some (option_map (λ held. held.now) held.entry) then None else Some NotInterested) }
+{
+    match held {
+        Some(_) => None,
+        None => Some(Refusal::NotInterested),
+    }
+}
+
+/// The connector has no interest in the resource.
+pub(crate) fn interest_refusal(interests: &Interests, r: &Resource, conn: ConnId) -> Option<Refusal>
+    ensures { result ≡ interest_refusal (interest_of r.now conn interests.now.interests) }
+{
+    no_held_refusal(interests.held_of(r, conn))
+}
+
+// Whether the caller is the manager.
+fn is_manager(by: ConnId, manager: Option<ConnId>) -> bool
+    ensures { result ≡ is_manager by manager }
+{
+    match manager {
+        Some(conn) => conn == by,
+        None => false,
+    }
+}
+
+/// The caller isn't the manager of the resource.
+pub(crate) fn manager_refusal(interests: &Interests, by: ConnId, r: &Resource) -> Option<Refusal>
+    ensures { result ≡ manager_refusal by (manager_of r.now interests.now.interests) }
+{
+    let manager = interests.manager_of(r);
+    if is_manager(by, manager) {
+        None
+    } else {
+        Some(Refusal::NotManager { manager })
+    }
+}
+
+/// There would be more record data than the structure may have, where a request is granted at once or waits.
+pub(crate) fn records_refusal(
+    caps: Caps,
+    locks: &Locks,
+    w: &Waiter,
+    at_once: bool,
+) -> Option<Refusal>
+    ensures { result ≡ records_refusal caps (requests.content_asked at_once w.now locks.now.content) }
+{
+    if locks.records_after(w, at_once) <= caps.elements as usize {
+        None
+    } else {
+        Some(Refusal::RecordsFull {
+            limit: caps.elements,
+        })
+    }
+}
+
+/// There is none with such record data.
+pub(crate) fn record_refusal(found: bool) -> Option<Refusal>
+    ensures { result ≡ (if found then None else Some NoRecord) }
+{
+    if found { None } else { Some(Refusal::NoRecord) }
+}

@@ -1,0 +1,380 @@
+-- Every command leads from content to content.
+use Rattle.std.proofs.Common.{◌≡◌, ℕ, ◌+◌, ◌≤◌, Bool, true, false, not, cond, List, [], ◌∷◌, Option, Some, None, is_some, length, map, nat_le, refl, ap, ◌∙◌, arith}
+use Rattle.std.specs.List.{list_all}
+use Rattle.std.proofs.lemmas.Bool.{and_parts, and_from, not-true, leb-true}
+use Rattle.std.proofs.lemmas.List.{length-map}
+use Rattle.cf_types.specs.declared.forms.Caps.{Caps}
+use Rattle.cf_types.specs.declared.numbers.ConnId.{ConnId}
+use Rattle.cf_types.specs.declared.refusals.Refusal.{Refusal}
+use Rattle.cf_types.specs.declared.refusals.Refusal.TheVariants.{StillPending, RecordsFull}
+use Rattle.cf_types.specs.declared.resources.Resource.{Resource}
+use Rattle.cf_types.specs.declared.lock_commands.Decision.{Decision}
+use Rattle.cf_types.specs.declared.lock_commands.Decision.TheVariants.{Keep, Deny, Notify}
+use Rattle.cf_types.specs.declared.lock_commands.LockCmd.{LockCmd}
+use Rattle.cf_types.specs.declared.lock_commands.LockCmd.TheVariants.{Obtain, Alter, Release, Decide, RtRead, RtDelete}
+use Rattle.cf_types.specs.declared.lock_commands.LockReply.{LockReply}
+use Rattle.cf_types.specs.Resources.{same_part}
+use Rattle.engine_api.specs.Meaning.{Outcome, first_refusal, unless_refused}
+use Rattle.list_laws.proofs.FilterLaws.{list_all-filter, list_all-filter_same, list_all_always, all_from_none, any_is_found, length-filter-le, sum_by-filter-le}
+use Rattle.list_laws.proofs.InsertionLaws.{list_all-insertion, length-insertion}
+use Rattle.lock_queue.specs.declared.waiters.Waiter.{Waiter}
+use Rattle.lock_queue.specs.Waiters.{is_waiter, waits, waiters_without, stands_before}
+use Rattle.lock_model.specs.Interests.{Interest, is_of, interest_of, has_interest, interests_with, interests_without, interests_changed, may_own}
+use Rattle.lock_model.specs.Contents.{Content, IsContent, is_due, records_of, records_in}
+use Rattle.lock_model.specs.Grants as grants
+use Rattle.lock_model.specs.Grants.{left_so, held_by, interests_granted, grant}
+use Rattle.lock_model.specs.Refusals.{interested_refusal, interest_refusal, records_refusal}
+use Rattle.lock_model.specs.Requests.{content_asked, waiting}
+use Rattle.lock_model.specs.Commands.Obtain as obtain
+use Rattle.lock_model.specs.Commands.Alter as alter
+use Rattle.lock_model.specs.Commands.Release as release
+use Rattle.lock_model.specs.Commands.Decide as decide
+use Rattle.lock_model.specs.Commands.RtDelete as rt_delete
+use Rattle.lock_model.specs.Step.{cause, done}
+use Rattle.lock_model.proofs.InterestLaws.{KeepsState, has-without, has-map, length-with, interests-filter, interests-same, records-map}
+use Rattle.lock_queue.proofs.WaiterLaws.{queue-filter, queue-with}
+use Rattle.lock_model.proofs.GrantLaws.{waiter_part}
+use Rattle.lock_model.proofs.ContentLaws.{items_in, led_grant, due_all, owners-granted, has-granted}
+
+-- ---- causes
+
+-- none of them holds
+abbrev pub NoneHolds : List (Option Refusal) → Type 0
+NoneHolds [] = Unit {0}
+NoneHolds (cause ∷ causes) = (cause ≡ None) × NoneHolds causes
+
+pub none_hold : (causes : List (Option Refusal)) → first_refusal causes ≡ None → NoneHolds causes
+none_hold [] h = tt
+none_hold (None ∷ causes) h = (refl, none_hold causes h)
+none_hold (Some refusal ∷ causes) h = absurd (cc)
+
+unrefused : (b : Bool) (refusal : Refusal) → cond b (Some refusal) None ≡ None → b ≡ false
+unrefused true refusal h = absurd (cc)
+unrefused false refusal h = refl
+
+passed : (b : Bool) (refusal : Refusal) → cond b None (Some refusal) ≡ None → b ≡ true
+passed true refusal h = refl
+passed false refusal h = absurd (cc)
+
+uninterested : (o : Option Interest) → interested_refusal o ≡ None → is_some o ≡ false
+uninterested None h = refl
+uninterested (Some interest) h = absurd (cc)
+
+interested : (o : Option Interest) → interest_refusal o ≡ None → is_some o ≡ true
+interested None h = absurd (cc)
+interested (Some interest) h = refl
+
+within : (caps : Caps) (content : Content) → records_refusal caps content ≡ None → records_in content ≤ caps.elements
+within caps content h =
+    leb-true (records_in content) caps.elements
+    (passed (nat_le (records_in content) caps.elements) (RecordsFull caps.elements) h)
+
+-- ---- requests
+
+content-at_once : (caps : Caps) (w : Waiter) (content : Content) → IsContent caps content
+    → waits w.r w.conn content.waiters ≡ false
+    → may_own (held_by w) content.interests ≡ true → records_refusal caps (content_asked true w content) ≡ None
+    → IsContent caps (content_asked true w content)
+content-at_once caps w content is out may few =
+    record {
+      owners = owners-granted w.alter w content.interests is.owners may;
+      queue = is.queue;
+      due = due_all content.interests (interests_granted w content.interests) (λ v. not (is_waiter w.r w.conn v))
+          content.waiters
+          (λ v h. has-granted w.alter w v content.interests h) is.due
+          (all_from_none (is_waiter w.r w.conn) content.waiters out);
+      records = within caps (content_asked true w content) few;
+    }
+
+content-waiting : (caps : Caps) (w : Waiter) (content : Content) → IsContent caps content
+    → is_due content.interests w ≡ true
+    → records_refusal caps (content_asked false w content) ≡ None → IsContent caps (content_asked false w content)
+content-waiting caps w content is due few =
+    let rest = waiters_without w.r w.conn content.waiters in
+    record {
+      owners = is.owners;
+      queue = queue-with w content.waiters is.queue;
+      due = list_all-insertion (is_due content.interests) (λ other. stands_before other w) w rest
+          ∙ and_from (is_due content.interests w) (list_all (is_due content.interests) rest) due
+          (list_all-filter (is_due content.interests) (λ v. not (is_waiter w.r w.conn v)) content.waiters is.due);
+      records = within caps (content_asked false w content) few;
+    }
+
+obtained : (caps : Caps) (w : Waiter) (content : Content) → IsContent caps content
+    → waits w.r w.conn content.waiters ≡ false
+    → is_due content.interests w ≡ true → (b : Bool) → obtain.at_once w content ≡ b
+    → records_refusal caps (content_asked b w content) ≡ None
+    → IsContent caps (cond b (left_so (content_asked true w content)) (waiting w content)).content
+obtained caps w content is out due true e few =
+    content-at_once caps w content is out
+    (and_parts (not (obtain.is_awaited w.r content.waiters)) (may_own (held_by w) content.interests) e).1 few
+obtained caps w content is out due false e few = content-waiting caps w content is due few
+
+pub content-obtain : (caps : Caps) (content : Content) (by : ConnId) (r : Resource) (excl : Bool)
+    (rec : Option (List ℕ)) → IsContent caps content
+    → cause caps content by (Obtain r excl rec) ≡ None
+    → IsContent caps (obtain.after (obtain.request by r excl rec) content).content
+content-obtain caps content by r excl rec is h =
+    let w = obtain.request by r excl rec in
+    let causes = none_hold (obtain.causes caps w content) h in
+    let out : waits r by content.waiters ≡ false = unrefused (waits r by content.waiters) StillPending causes.0 in
+    let none : has_interest r by content.interests ≡ false =
+    any_is_found (is_of r by) content.interests ∙ uninterested (interest_of r by content.interests) causes.1.0 in
+    obtained caps w content is out (ap not none) (obtain.at_once w content) refl causes.1.1.0
+
+altered : (caps : Caps) (w : Waiter) (content : Content) → IsContent caps content
+    → waits w.r w.conn content.waiters ≡ false
+    → is_due content.interests w ≡ true → (b : Bool) → alter.at_once w content ≡ b
+    → records_refusal caps (content_asked b w content) ≡ None
+    → IsContent caps (cond b (grant w.r (content_asked true w content)) (waiting w content)).content
+altered caps w content is out due true e few =
+    (led_grant caps w.r (content_asked true w content) (content-at_once caps w content is out e few)).content
+altered caps w content is out due false e few = content-waiting caps w content is due few
+
+pub content-alter : (caps : Caps) (content : Content) (by : ConnId) (r : Resource) (excl : Bool)
+    (rec : Option (List ℕ)) → IsContent caps content
+    → cause caps content by (Alter r excl rec) ≡ None
+    → IsContent caps (alter.after (alter.request by r excl rec) content).content
+content-alter caps content by r excl rec is h =
+    let w = alter.request by r excl rec in
+    let causes = none_hold (alter.causes caps w content) h in
+    let out : waits r by content.waiters ≡ false = unrefused (waits r by content.waiters) StillPending causes.0 in
+    let there : has_interest r by content.interests ≡ true =
+    any_is_found (is_of r by) content.interests ∙ interested (interest_of r by content.interests) causes.1.0 in
+    altered caps w content is out there (alter.at_once w content) refl causes.1.1.0
+
+-- ---- interests and waiters go
+
+-- a waiter of another part
+other_part : (r : Resource) (conn : ConnId) (v : Waiter) (interests : List Interest) → not (is_waiter r conn v) ≡ true
+    → has_interest v.r v.conn (interests_without r conn interests) ≡ has_interest v.r v.conn interests
+other_part r conn v interests h =
+    has-without v.r v.conn r conn interests (not-true (same_part (waiter_part v) (r, conn)) h)
+
+content-released : (caps : Caps) (r : Resource) (conn : ConnId) (content : Content) → IsContent caps content
+    → waits r conn content.waiters ≡ false
+    → IsContent caps (record content { interests = interests_without r conn content.interests })
+content-released caps r conn content is out =
+    record {
+      owners = interests-filter (λ x. not (is_of r conn x)) content.interests is.owners;
+      queue = is.queue;
+      due = due_all content.interests (interests_without r conn content.interests) (λ v. not (is_waiter r conn v))
+          content.waiters
+          (λ v h. other_part r conn v content.interests h) is.due
+          (all_from_none (is_waiter r conn) content.waiters out);
+      records = omega (
+        arith,
+        is.records,
+        sum_by-filter-le (λ (x : Interest). records_of x.rec)
+            (λ x. not (is_of r conn x)) content.interests,
+      );
+    }
+
+pub content-release : (caps : Caps) (content : Content) (by : ConnId) (r : Resource) → IsContent caps content
+    → cause caps content by (Release r) ≡ None → IsContent caps (release.after by r content).content
+content-release caps content by r is h =
+    let causes = none_hold (release.causes by r content) h in
+    let gone : Content = record content { interests = interests_without r by content.interests } in
+    (led_grant caps r gone (content-released caps r by content is
+    (unrefused (waits r by content.waiters) StillPending causes.0))).content
+
+content-denied : (caps : Caps) (r : Resource) (conn : ConnId) (content : Content) → IsContent caps content
+    → IsContent caps (decide.content_denied r conn content)
+content-denied caps r conn content is =
+    record {
+      owners = is.owners;
+      queue = queue-filter (λ v. not (is_waiter r conn v)) content.waiters is.queue;
+      due = list_all-filter (is_due content.interests) (λ v. not (is_waiter r conn v)) content.waiters is.due;
+      records = omega (
+        arith,
+        is.records,
+        sum_by-filter-le (λ (v : Waiter). records_of v.rec)
+            (λ v. not (is_waiter r conn v)) content.waiters,
+      );
+    }
+
+pub content-decide : (caps : Caps) (content : Content) (r : Resource) (conn : ConnId) (how : Decision)
+    → IsContent caps content
+    → IsContent caps (decide.after how r conn content).content
+content-decide caps content r conn Keep is = is
+content-decide caps content r conn Deny is =
+    (led_grant caps r (decide.content_denied r conn content) (content-denied caps r conn content is)).content
+content-decide caps content r conn Notify is = is
+
+-- ---- record data go
+
+unrecorded_step : (b : Bool) (x : Interest)
+    → records_of (cond b (rt_delete.without_record x) x).rec ≤ records_of x.rec
+unrecorded_step true x = omega arith
+unrecorded_step false x = omega arith
+
+unrecorded_r : (b : Bool) (x : Interest) → (cond b (rt_delete.without_record x) x).held ≡ x.held
+unrecorded_r true x = refl
+unrecorded_r false x = refl
+
+abbrev pub unrecorded : Resource → ConnId → Interest → Interest
+unrecorded r conn x = cond (is_of r conn x) (rt_delete.without_record x) x
+
+unrecorded-keeps : (r : Resource) (conn : ConnId) → KeepsState (unrecorded r conn)
+unrecorded-keeps r conn =
+    record {
+      part = record {
+        r = λ x. ap (λ held. held.r) (unrecorded_r (is_of r conn x) x);
+        conn = λ x. ap (λ held. held.conn) (unrecorded_r (is_of r conn x) x);
+      };
+      excl = λ x. ap (λ held. held.excl) (unrecorded_r (is_of r conn x) x);
+    }
+
+content-unrecorded : (caps : Caps) (r : Resource) (conn : ConnId) (content : Content) → IsContent caps content
+    → IsContent caps (rt_delete.content_unrecorded r conn content)
+content-unrecorded caps r conn content is =
+    let keeps = unrecorded-keeps r conn in
+    record {
+      owners = interests-same (unrecorded r conn) keeps content.interests is.owners;
+      queue = is.queue;
+      due = due_all content.interests (map (unrecorded r conn) content.interests) (λ v. true) content.waiters
+          (λ v h. has-map (unrecorded r conn) keeps.part v.r v.conn content.interests) is.due
+          (list_all_always (λ v. true) (λ v. refl) content.waiters);
+      records = omega (
+        arith,
+        is.records,
+        records-map (unrecorded r conn) (λ x. unrecorded_step (is_of r conn x) x)
+            content.interests,
+      );
+    }
+
+content-unowned : (caps : Caps) (r : Resource) (conn : ConnId) (content : Content) → IsContent caps content
+    → IsContent caps (rt_delete.content_unowned r conn content)
+content-unowned caps r conn content is =
+    record {
+      owners = interests-filter (λ x. not (is_of r conn x)) content.interests is.owners;
+      queue = queue-filter (λ v. not (is_waiter r conn v)) content.waiters is.queue;
+      due = due_all content.interests (interests_without r conn content.interests) (λ v. not (is_waiter r conn v))
+          (waiters_without r conn content.waiters)
+          (λ v h. other_part r conn v content.interests h)
+          (list_all-filter (is_due content.interests) (λ v. not (is_waiter r conn v)) content.waiters is.due)
+          (list_all-filter_same (λ v. not (is_waiter r conn v)) content.waiters);
+      records = omega (
+        arith,
+        is.records,
+        sum_by-filter-le (λ (x : Interest). records_of x.rec) (λ x. not (is_of r conn x)) content.interests,
+        sum_by-filter-le (λ (v : Waiter). records_of v.rec) (λ v. not (is_waiter r conn v)) content.waiters,
+      );
+    }
+
+deleted : (caps : Caps) (r : Resource) (conn : ConnId) (content : Content) → IsContent caps content → (b : Bool)
+    → IsContent caps (cond b (grant r (rt_delete.content_unowned r conn content))
+    (left_so (rt_delete.content_unrecorded r conn content))).content
+deleted caps r conn content is true =
+    (led_grant caps r (rt_delete.content_unowned r conn content) (content-unowned caps r conn content is)).content
+deleted caps r conn content is false = content-unrecorded caps r conn content is
+
+pub content-rt_delete : (caps : Caps) (content : Content) (r : Resource) (conn : ConnId) → IsContent caps content
+    → IsContent caps (rt_delete.after r conn content).content
+content-rt_delete caps content r conn is = deleted caps r conn content is
+    (rt_delete.is_retained r conn content.interests)
+
+-- ---- every command
+
+pub content-done : (caps : Caps) (content : Content) (by : ConnId) (cmd : LockCmd) → IsContent caps content
+    → cause caps content by cmd ≡ None → IsContent caps (done content by cmd).state
+content-done caps content by (Obtain r excl rec) is h = content-obtain caps content by r excl rec is h
+content-done caps content by (Alter r excl rec) is h = content-alter caps content by r excl rec is h
+content-done caps content by (Release r) is h = content-release caps content by r is h
+content-done caps content by (Decide r conn how) is h = content-decide caps content r conn how is
+content-done caps content by (RtRead conn) is h = is
+content-done caps content by (RtDelete conn r) is h = content-rt_delete caps content r conn is
+
+unless_step : (caps : Caps) (refusal : Option Refusal) (content : Content) (outcome : Outcome LockReply Content)
+    → IsContent caps content
+    → (refusal ≡ None → IsContent caps outcome.state) → IsContent caps (unless_refused refusal content outcome).state
+unless_step caps None content outcome is h = h refl
+unless_step caps (Some refusal) content outcome is h = is
+
+pub content-step : (caps : Caps) (content : Content) (by : ConnId) (cmd : LockCmd) → IsContent caps content
+    → IsContent caps (unless_refused (cause caps content by cmd) content (done content by cmd)).state
+content-step caps content by cmd is =
+    unless_step caps (cause caps content by cmd) content (done content by cmd) is
+    (content-done caps content by cmd is)
+
+-- ---- a command makes one item more at most
+
+granted_items : (b : Bool) (w : Waiter) (interests : List Interest)
+    → length (cond b (interests_changed w.r w.conn (grants.altered w) interests)
+    (interests_with (record { held = held_by w; rec = w.rec }) interests)) ≤ length interests + 1
+granted_items true w interests =
+    omega (arith, length-map interests (λ x. cond (is_of w.r w.conn x) (grants.altered w x) x))
+granted_items false w interests = length-with (record { held = held_by w; rec = w.rec }) interests
+
+asked_items : (b : Bool) (w : Waiter) (content : Content) → items_in (content_asked b w content) ≤ items_in content + 1
+asked_items true w content = omega (arith, granted_items w.alter w content.interests)
+asked_items false w content =
+    let rest = waiters_without w.r w.conn content.waiters in
+    omega (
+      arith,
+      length-insertion (λ other. stands_before other w) w rest,
+      length-filter-le (λ v. not (is_waiter w.r w.conn v)) content.waiters,
+    )
+
+obtained_items : (w : Waiter) (content : Content) (b : Bool)
+    → items_in (cond b (left_so (content_asked true w content)) (waiting w content)).content ≤ items_in content + 1
+obtained_items w content true = asked_items true w content
+obtained_items w content false = asked_items false w content
+
+altered_items : (caps : Caps) (w : Waiter) (content : Content) → IsContent caps content
+    → waits w.r w.conn content.waiters ≡ false → (b : Bool) → alter.at_once w content ≡ b
+    → records_refusal caps (content_asked b w content) ≡ None
+    → items_in (cond b (grant w.r (content_asked true w content)) (waiting w content)).content ≤ items_in content + 1
+altered_items caps w content is out true e few =
+    omega (
+      arith,
+      asked_items true w content,
+      (led_grant caps w.r (content_asked true w content) (content-at_once caps w content is out e few)).items,
+    )
+altered_items caps w content is out false e few = asked_items false w content
+
+deleted_items : (caps : Caps) (r : Resource) (conn : ConnId) (content : Content) → IsContent caps content → (b : Bool)
+    → items_in (cond b (grant r (rt_delete.content_unowned r conn content))
+    (left_so (rt_delete.content_unrecorded r conn content))).content ≤ items_in content + 1
+deleted_items caps r conn content is true =
+    omega (
+      arith,
+      length-filter-le (λ x. not (is_of r conn x)) content.interests,
+      length-filter-le (λ v. not (is_waiter r conn v)) content.waiters,
+      (led_grant caps r (rt_delete.content_unowned r conn content) (content-unowned caps r conn content is)).items,
+    )
+deleted_items caps r conn content is false = omega (arith, length-map content.interests (unrecorded r conn))
+
+decided_items : (caps : Caps) (r : Resource) (conn : ConnId) (content : Content) → IsContent caps content → (how : Decision)
+    → items_in (decide.after how r conn content).content ≤ items_in content + 1
+decided_items caps r conn content is Keep = omega arith
+decided_items caps r conn content is Deny =
+    omega (
+      arith,
+      length-filter-le (λ v. not (is_waiter r conn v)) content.waiters,
+      (led_grant caps r (decide.content_denied r conn content) (content-denied caps r conn content is)).items,
+    )
+decided_items caps r conn content is Notify = omega arith
+
+pub items-done : (caps : Caps) (content : Content) (by : ConnId) (cmd : LockCmd) → IsContent caps content
+    → cause caps content by cmd ≡ None → items_in (done content by cmd).state ≤ items_in content + 1
+items-done caps content by (Obtain r excl rec) is h =
+    let w = obtain.request by r excl rec in obtained_items w content (obtain.at_once w content)
+items-done caps content by (Alter r excl rec) is h =
+    let w = alter.request by r excl rec in
+    let causes = none_hold (alter.causes caps w content) h in
+    let out : waits r by content.waiters ≡ false = unrefused (waits r by content.waiters) StillPending causes.0 in
+    altered_items caps w content is out (alter.at_once w content) refl causes.1.1.0
+items-done caps content by (Release r) is h =
+    let causes = none_hold (release.causes by r content) h in
+    let gone : Content = record content { interests = interests_without r by content.interests } in
+    omega (
+      arith,
+      length-filter-le (λ x. not (is_of r by x)) content.interests,
+      (led_grant caps r gone (content-released caps r by content is
+          (unrefused (waits r by content.waiters) StillPending causes.0))).items,
+    )
+items-done caps content by (Decide r conn how) is h = decided_items caps r conn content is how
+items-done caps content by (RtRead conn) is h = omega arith
+items-done caps content by (RtDelete conn r) is h =
+    deleted_items caps r conn content is (rt_delete.is_retained r conn content.interests)

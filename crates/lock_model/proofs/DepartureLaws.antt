@@ -1,0 +1,104 @@
+-- A departure leads from content to content, with no more record data and no more items; so does the return of a
+-- connection.
+use Rattle.std.proofs.Common.{◌≡◌, ℕ, ◌≤◌, Bool, true, false, not, ◌&&◌, ◌==◌, List, is_some, filter, sum_by, map, refl, sym, ◌∙◌, subst, arith}
+use Rattle.std.proofs.lemmas.Bool.{and_parts, or_left, eqb-true}
+use Rattle.std.proofs.lemmas.List.{length-map}
+use Rattle.cf_types.specs.declared.forms.Caps.{Caps}
+use Rattle.cf_types.specs.declared.numbers.ConnId.{ConnId}
+use Rattle.cf_types.specs.Resources.{same_resource}
+use Rattle.list_laws.proofs.FilterLaws.{list_all-filter, list_all-filter_same, list_all_always, sum_by-filter-le, length-filter-le}
+use Rattle.lock_queue.specs.declared.waiters.Waiter.{Waiter}
+use Rattle.lock_model.specs.Interests.{Interest, is_of, is_by}
+use Rattle.lock_model.specs.Contents.{Content, IsContent, is_due, records_of, records_in}
+use Rattle.lock_model.specs.Grants.{grant_each}
+use Rattle.lock_model.specs.Departures.{stays, with_retained, interests_left, resources_of, departed, returned}
+use Rattle.lock_model.proofs.InterestLaws.{KeepsState, has-filter, has-map, interests-filter, interests-same, records-map}
+use Rattle.lock_queue.proofs.WaiterLaws.{queue-filter}
+use Rattle.lock_queue.specs.Waiters.{is_by as is_by_waiter, waiters_without_conn}
+use Rattle.lock_model.proofs.ContentLaws.{Led, led_on, led_grant_each, due_all}
+
+-- ---- retained, or not any more
+
+pub retained-keeps : (conn : ConnId) (retained : Bool) → KeepsState (with_retained conn retained)
+retained-keeps conn retained =
+    record { part = record { r = λ x. refl; conn = λ x. refl }; excl = λ x. refl }
+
+records-retained : (conn : ConnId) (retained : Bool) (interests : List Interest)
+    → sum_by (λ (x : Interest). records_of x.rec) (map (with_retained conn retained) interests) ≤ sum_by
+    (λ (x : Interest). records_of x.rec) interests
+records-retained conn retained interests = records-map (with_retained conn retained) (λ x. omega arith) interests
+
+pub content-returned : (caps : Caps) (conn : ConnId) (content : Content) → IsContent caps content
+    → IsContent caps (returned conn content)
+content-returned caps conn content is =
+    let keeps = retained-keeps conn false in
+    record {
+      owners = interests-same (with_retained conn false) keeps content.interests is.owners;
+      queue = is.queue;
+      due = due_all content.interests (map (with_retained conn false) content.interests) (λ v. true) content.waiters
+          (λ v h. has-map (with_retained conn false) keeps.part v.r v.conn content.interests) is.due
+          (list_all_always (λ v. true) (λ v. refl) content.waiters);
+      records = omega (arith, is.records, records-retained conn false content.interests);
+    }
+
+-- ---- a departure
+
+-- an interest of another connector stays
+other_stays : (conn : ConnId) (keep : Bool) (v : Waiter) (x : Interest) → not (is_by_waiter conn v) ≡ true
+    → is_of v.r v.conn x ≡ true
+    → stays conn keep x ≡ true
+other_stays conn keep v x out is =
+    let same : x.held.conn.0 ≡ v.conn.0 =
+    eqb-true x.held.conn.0 v.conn.0 (and_parts (same_resource x.held.r v.r) (x.held.conn.0 == v.conn.0) is).1 in
+    or_left (not (is_by conn x)) (keep && is_some x.rec)
+    (subst (λ (n : ℕ). not (n == conn.0) ≡ true) (sym same) out)
+
+abbrev pub content_left : ConnId → Bool → Content → Content
+content_left conn keep content =
+    record {
+      interests = interests_left conn keep content.interests;
+      waiters = waiters_without_conn conn
+          content.waiters;
+    }
+
+led_left : (caps : Caps) (conn : ConnId) (keep : Bool) (content : Content) → IsContent caps content
+    → Led caps content (content_left conn keep content)
+led_left caps conn keep content is =
+    let keeps = retained-keeps conn true in
+    let few = filter (stays conn keep) content.interests in
+    let fewer : records_in (content_left conn keep content) ≤ records_in content =
+    omega (
+      arith,
+      records-retained conn true few,
+      sum_by-filter-le (λ (x : Interest). records_of x.rec) (stays conn keep) content.interests,
+      sum_by-filter-le (λ (v : Waiter). records_of v.rec) (λ v. not (is_by_waiter conn v)) content.waiters,
+    ) in
+    record {
+      content = record {
+        owners = interests-same (with_retained conn true) keeps few
+            (interests-filter (stays conn keep) content.interests is.owners);
+        queue = queue-filter (λ v. not (is_by_waiter conn v)) content.waiters is.queue;
+        due = due_all content.interests (interests_left conn keep content.interests) (λ v. not (is_by_waiter conn v))
+            (waiters_without_conn conn content.waiters)
+            (λ v h. has-map (with_retained conn true) keeps.part v.r v.conn few
+            ∙ has-filter v.r v.conn (stays conn keep) (λ x e. other_stays conn keep v x h e) content.interests)
+            (list_all-filter (is_due content.interests) (λ v. not (is_by_waiter conn v)) content.waiters is.due)
+            (list_all-filter_same (λ v. not (is_by_waiter conn v)) content.waiters);
+        records = omega (arith, fewer, is.records);
+      };
+      records = fewer;
+      items = omega (
+        arith,
+        length-map few (with_retained conn true),
+        length-filter-le (stays conn keep) content.interests,
+        length-filter-le (λ v. not (is_by_waiter conn v)) content.waiters,
+      );
+    }
+
+pub led_departed : (caps : Caps) (conn : ConnId) (keep : Bool) (content : Content) → IsContent caps content
+    → Led caps content (departed conn keep content).content
+led_departed caps conn keep content is =
+    let rs = resources_of conn content in
+    let one = led_left caps conn keep content is in
+    led_on caps content (content_left conn keep content) (grant_each rs (content_left conn keep content)).content one
+    (led_grant_each caps rs (content_left conn keep content) one.content)

@@ -1,0 +1,247 @@
+-- The laws of the engine's meaning.
+use Rattle.std.proofs.Common.{◌≡◌, ◌-◌, Bool, true, false, List, [], ◌∷◌, ◌++◌, append-nil, append_assoc, length, length-append, fold, map, sum_by, refl, sym, ap, ◌∙◌, arith}
+use Rattle.std.specs.List.{list_any}
+use Rattle.std.proofs.lemmas.Bool.{or_right, false≢true}
+use Rattle.std.proofs.lemmas.List.{length-map, map-append, take_at}
+use Rattle.std.proofs.lemmas.List.Folds.{list_any-append}
+use Rattle.std.proofs.lemmas.List.Sums.{sum_by-append, sum_by-cons}
+use Rattle.cf_types.specs.declared.forms.Caps.{Caps}
+use Rattle.cf_types.specs.declared.forms.Kind.{Kind}
+use Rattle.cf_types.specs.declared.forms.Kind.TheVariants as kind
+use Rattle.cf_types.specs.declared.numbers.ConnId.{ConnId}
+use Rattle.cf_types.specs.declared.lock_commands.LockCmd.{LockCmd}
+use Rattle.engine_api.specs.declared.shapes.Shape.{Shape}
+use Rattle.engine_api.specs.Meaning.{stepped}
+use Rattle.engine_api.specs.Items.{IsNoMore, IsNoMoreOf, IsNextItem}
+use Rattle.lock_queue.specs.declared.waiters.Waiter.{Waiter}
+use Rattle.lock_model.specs.declared.items.LockItem.{LockItem}
+use Rattle.lock_model.specs.declared.items.LockItem.TheVariants.{Owner, Waits}
+use Rattle.lock_model.specs.Interests.{Interest}
+use Rattle.lock_model.specs.Contents.{Content, IsContent, nothing, records_of, records_in, owner, items, content_with, content_without_last, without_last, records_of_item, need_of}
+use Rattle.lock_model.specs.Departures.{returned}
+use Rattle.lock_model.specs.Meaning.{lock_meaning}
+use Rattle.lock_model.proofs.ContentLaws.{items_in}
+use Rattle.lock_model.proofs.CommandLaws as commands
+use Rattle.lock_model.proofs.DepartureLaws as departures
+
+pub content-nothing : (caps : Caps) → IsContent caps nothing
+content-nothing caps =
+    record {
+      owners = record { ordered = refl; one_each = refl; compatible = refl };
+      queue = record { ordered = refl; one_each = refl };
+      due = refl;
+      records = omega arith;
+    }
+
+pub step-content : (shape : Shape) (caps : Caps) (content : Content) (by : ConnId) (cmd : LockCmd)
+    → IsContent caps content
+    → IsContent caps (stepped lock_meaning (record { shape = shape; caps = caps; state = content }) by cmd).state
+step-content shape caps content by cmd is = commands.content-step caps content by cmd is
+
+pub leave-content : (shape : Shape) (caps : Caps) (content : Content) (conn : ConnId) (keep : Bool)
+    → IsContent caps content
+    → IsContent caps (lock_meaning.leave shape content conn keep).state
+leave-content shape caps content conn keep is = (departures.led_departed caps conn keep content is).content
+
+pub back-content : (caps : Caps) (content : Content) (conn : ConnId) → IsContent caps content
+    → IsContent caps (returned conn content)
+back-content caps content conn is = departures.content-returned caps conn content is
+
+-- ---- items
+
+made-interests : (content : Content) (interests : List Interest)
+    → fold content_with content (map owner interests) ≡ record content { interests = content.interests ++ interests }
+made-interests content [] = ap (λ (l : List Interest). record content { interests = l })
+    (sym (append-nil content.interests))
+made-interests content (x ∷ xs) =
+    made-interests (content_with content (owner x)) xs
+    ∙ ap (λ (l : List Interest). record content { interests = l }) (append_assoc content.interests (x ∷ []) xs)
+
+made-waiters : (content : Content) (waiters : List Waiter)
+    → fold content_with content (map Waits waiters) ≡ record content { waiters = content.waiters ++ waiters }
+made-waiters content [] = ap (λ (l : List Waiter). record content { waiters = l }) (sym (append-nil content.waiters))
+made-waiters content (w ∷ ws) =
+    made-waiters (content_with content (Waits w)) ws
+    ∙ ap (λ (l : List Waiter). record content { waiters = l }) (append_assoc content.waiters (w ∷ []) ws)
+
+made-append : (content : Content) (xs ys : List LockItem)
+    → fold content_with content (xs ++ ys) ≡ fold content_with (fold content_with content xs) ys
+made-append content [] ys = refl
+made-append content (x ∷ xs) ys = made-append (content_with content x) xs ys
+
+pub made-items : (content : Content) → fold content_with nothing (items content) ≡ content
+made-items content =
+    made-append nothing (map owner content.interests) (map Waits content.waiters)
+    ∙ ap (λ (c : Content). fold content_with c (map Waits content.waiters)) (made-interests nothing content.interests)
+    ∙ made-waiters (record { interests = content.interests; waiters = [] }) content.waiters
+
+-- ---- an owner doesn't come behind a waiter
+
+abbrev pub is_owner : LockItem → Bool
+is_owner (Owner held rec) = true
+is_owner (Waits w) = false
+
+-- without the owners that come first
+abbrev pub behind_owners : List LockItem → List LockItem
+behind_owners [] = []
+behind_owners (Owner held rec ∷ xs) = behind_owners xs
+behind_owners (Waits w ∷ xs) = Waits w ∷ xs
+
+pub behind_items : (interests : List Interest) (waiters : List Waiter)
+    → behind_owners (map owner interests ++ map Waits waiters) ≡ map Waits waiters
+behind_items [] [] = refl
+behind_items [] (w ∷ ws) = refl
+behind_items (x ∷ xs) ws = behind_items xs ws
+
+behind_more : (interests : List Interest) (w : Waiter) (ys zs : List LockItem)
+    → behind_owners ((map owner interests ++ Waits w ∷ ys) ++ zs) ≡ (Waits w ∷ ys) ++ zs
+behind_more [] w ys zs = refl
+behind_more (x ∷ xs) w ys zs = behind_more xs w ys zs
+
+no_owner : (waiters : List Waiter) → list_any is_owner (map Waits waiters) ≡ false
+no_owner [] = refl
+no_owner (w ∷ ws) = no_owner ws
+
+some_owner : (x : Interest) (ys zs : List LockItem) → list_any is_owner (ys ++ owner x ∷ zs) ≡ true
+some_owner x ys zs = list_any-append is_owner ys (owner x ∷ zs)
+    ∙ or_right (list_any is_owner ys) (list_any is_owner (owner x ∷ zs)) refl
+
+-- so nobody waits yet where the next item is an owner
+pub nobody : (whole : Content) (interests : List Interest) (waiters : List Waiter) (x : Interest)
+    (others : List LockItem)
+    → items whole ≡ (map owner interests ++ map Waits waiters) ++ owner x ∷ others → waiters ≡ []
+nobody whole interests [] x others e = refl
+nobody whole interests (w ∷ ws) x others e =
+    absurd (false≢true (sym (no_owner whole.waiters)
+    ∙ ap (λ (l : List LockItem). list_any is_owner l)
+    (sym (behind_items whole.interests whole.waiters) ∙ ap behind_owners e
+    ∙ behind_more interests w (map Waits ws) (owner x ∷ others))
+    ∙ some_owner x (Waits w ∷ map Waits ws) others))
+
+owner_placed : (interests : List Interest) (waiters : List Waiter) (x : Interest) → waiters ≡ []
+    → map owner (interests ++ x ∷ []) ++ map Waits waiters ≡ (map owner interests ++ map Waits waiters) ++ owner x
+    ∷ []
+owner_placed interests waiters x e =
+    ap (λ (l : List Waiter). map owner (interests ++ x ∷ []) ++ map Waits l) e
+    ∙ append-nil (map owner (interests ++ x ∷ []))
+    ∙ map-append owner interests (x ∷ [])
+    ∙ ap (λ (l : List LockItem). l ++ owner x ∷ [])
+    (sym (append-nil (map owner interests)) ∙ ap (λ (l : List Waiter). map owner interests ++ map Waits l) (sym e))
+
+waiter_placed : (interests : List Interest) (waiters : List Waiter) (w : Waiter)
+    → map owner interests ++ map Waits (waiters ++ w ∷ []) ≡ (map owner interests ++ map Waits waiters) ++ Waits w
+    ∷ []
+waiter_placed interests waiters w =
+    ap (λ (l : List LockItem). map owner interests ++ l) (map-append Waits waiters (w ∷ []))
+    ∙ sym (append_assoc (map owner interests) (map Waits waiters) (Waits w ∷ []))
+
+pub items-place : (shape : Shape) (caps : Caps) (content : Content) (item : LockItem)
+    → IsNextItem lock_meaning (IsContent caps) shape content item
+    → items (content_with content item) ≡ items content ++ item ∷ []
+items-place shape caps content (Owner held rec) next =
+    let x : Interest = record { held = held; rec = rec } in
+    owner_placed content.interests content.waiters x
+    (nobody next.whole content.interests content.waiters x next.others next.first)
+items-place shape caps content (Waits w) next = waiter_placed content.interests content.waiters w
+
+-- ---- without the last item
+
+last-away : {X : Type 0} (xs : List X) (x : X) → without_last (xs ++ x ∷ []) ≡ xs
+last-away xs x = take_at xs (x ∷ []) (length (xs ++ x ∷ []) - 1) (omega (arith, length-append xs (x ∷ [])))
+
+waiter_away : (interests : List Interest) (waiters : List Waiter) (w : Waiter)
+    → content_without_last (record { interests = interests; waiters = waiters ++ w ∷ [] }) ≡ record
+    { interests = interests; waiters = waiters }
+waiter_away interests [] w = refl
+waiter_away interests (v ∷ vs) w = ap (λ (l : List Waiter). record { interests = interests; waiters = l })
+    (last-away (v ∷ vs) w)
+
+owner_away : (interests : List Interest) (waiters : List Waiter) (x : Interest) → waiters ≡ []
+    → content_without_last (record { interests = interests ++ x ∷ []; waiters = waiters }) ≡ record
+    { interests = interests; waiters = waiters }
+owner_away interests [] x e = ap (λ (l : List Interest). record { interests = l; waiters = [] })
+    (last-away interests x)
+owner_away interests (w ∷ ws) x e = absurd (cc)
+
+pub unplace-place : (shape : Shape) (caps : Caps) (content : Content) (item : LockItem)
+    → IsNextItem lock_meaning (IsContent caps) shape content item
+    → content_without_last (content_with content item) ≡ content
+unplace-place shape caps content (Owner held rec) next =
+    let x : Interest = record { held = held; rec = rec } in
+    owner_away content.interests content.waiters x
+    (nobody next.whole content.interests content.waiters x next.others next.first)
+unplace-place shape caps content (Waits w) next = waiter_away content.interests content.waiters w
+
+-- ---- what items need
+
+pub need-front : (xs others : List LockItem) → IsNoMore (need_of xs) (need_of (xs ++ others))
+need-front xs others = (
+  omega (arith, length-append xs others),
+  omega
+      (arith, sum_by-append records_of_item xs others),
+)
+
+records_owners : (interests : List Interest)
+    → sum_by records_of_item (map owner interests) ≡ sum_by (λ (x : Interest). records_of x.rec) interests
+records_owners [] = refl
+records_owners (x ∷ xs) =
+    omega (
+      arith,
+      records_owners xs,
+      sum_by-cons records_of_item (owner x) (map owner xs),
+      sum_by-cons
+          (λ (y : Interest). records_of y.rec) x xs,
+    )
+
+records_waiters : (waiters : List Waiter)
+    → sum_by records_of_item (map Waits waiters) ≡ sum_by (λ (w : Waiter). records_of w.rec) waiters
+records_waiters [] = refl
+records_waiters (w ∷ ws) =
+    omega (
+      arith,
+      records_waiters ws,
+      sum_by-cons records_of_item (Waits w) (map Waits ws),
+      sum_by-cons
+          (λ (v : Waiter). records_of v.rec) w ws,
+    )
+
+-- the record data and the number of the items are those of the content
+pub elements-items : (content : Content) → (need_of (items content)).elements ≡ records_in content
+elements-items content =
+    omega (
+      arith,
+      sum_by-append records_of_item (map owner content.interests) (map Waits content.waiters),
+      records_owners content.interests,
+      records_waiters content.waiters,
+    )
+
+pub entries-items : (content : Content) → (need_of (items content)).entries ≡ items_in content
+entries-items content =
+    omega (
+      arith,
+      length-append (map owner content.interests) (map Waits content.waiters),
+      length-map content.interests owner,
+      length-map content.waiters Waits,
+    )
+
+no_more_of : (kind : Kind) (need other : Caps) → IsNoMore need other → IsNoMoreOf kind need other
+no_more_of kind.Cache need other h = h
+no_more_of (kind.List headers locks refs) need other h = h
+no_more_of kind.Lock need other h = h.1
+
+pub need-leave : (shape : Shape) (caps : Caps) (content : Content) (conn : ConnId) (keep : Bool)
+    → IsContent caps content
+    → IsNoMoreOf shape.kind (need_of (items (lock_meaning.leave shape content conn keep).state))
+    (need_of (items content))
+need-leave shape caps content conn keep is =
+    let left = (lock_meaning.leave shape content conn keep).state in
+    let led = departures.led_departed caps conn keep content is in
+    no_more_of shape.kind (need_of (items left)) (need_of (items content)) (
+      omega (arith, led.items, entries-items left, entries-items content),
+      omega (arith, led.records, elements-items left, elements-items content),
+    )
+
+pub need-same : (kind : Kind) (content : Content)
+    → IsNoMoreOf kind (need_of (items content)) (need_of (items content))
+need-same kind content = no_more_of kind (need_of (items content)) (need_of (items content))
+    (omega arith, omega arith)

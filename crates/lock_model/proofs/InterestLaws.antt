@@ -1,0 +1,236 @@
+-- Interests that are added, changed or taken away stay in their order, one for a connector and resource, and
+-- compatible.
+use Rattle.std.proofs.Common.{◌≡◌, ℕ, ◌+◌, ◌≤◌, Bool, true, false, not, ◌&&◌, ◌||◌, ◌==◌, List, [], ◌∷◌, length, filter, map, refl, sym, ap, ◌∙◌, subst, arith}
+use Rattle.std.specs.List.{list_all}
+use Rattle.std.proofs.lemmas.Bool.{and_parts, and_from}
+use Rattle.std.proofs.lemmas.Bool.Decides.{nat_tests}
+use Rattle.std.proofs.lemmas.List.Folds.{list_all-map}
+use Rattle.std.proofs.lemmas.List.Sums.{sum_by-cons}
+use Rattle.std.proofs.lemmas.Map.Views.{any-filter_same}
+use Rattle.cf_types.specs.declared.numbers.ConnId.{ConnId}
+use Rattle.cf_types.specs.declared.resources.Resource.{Resource}
+use Rattle.cf_types.specs.Resources.{same_resource, resource_up_to, Part, same_part}
+use Rattle.cf_types.proofs.ResourceLaws.{same_part-eq, same_part_comm, same_resource_comm, resource_up_to-either, resource_up_to-trans}
+use Rattle.list_laws.specs.Pairwise.{pairwise}
+use Rattle.list_laws.proofs.FilterLaws.{list_all-filter, list_all-filter_same, list_all_weaker, list_all_both, list_all_always, sum_by-filter-le, length-filter-le}
+use Rattle.list_laws.proofs.InsertionLaws.{list_any-insertion, sum_by-insertion, length-insertion}
+use Rattle.list_laws.proofs.PairwiseLaws.{FindsPlace, pairwise-filter, pairwise-insertion, pairwise-insertion_any, pairwise-map}
+use Rattle.lock_table.specs.declared.holdings.Held.{Held}
+use Rattle.lock_model.specs.Interests.{Interest, AreInterests, is_of, has_interest, interests_without, interests_with, agree, may_own, stands_up_to, parts_apart, owners_agree}
+use Rattle.lock_model.specs.Contents.{records_of, records_owned}
+
+-- ---- two interests
+
+abbrev pub part_of : Interest → Part
+part_of interest = (interest.held.r, interest.held.conn)
+
+pub turned : (a b : ℕ) → (a == b) ≡ (b == a)
+turned a b = grind (arith, nat_tests)
+
+swapped : (a b : Bool) → a && b ≡ b && a
+swapped true true = refl
+swapped true false = refl
+swapped false true = refl
+swapped false false = refl
+
+agree_parts : (p q x y m n : Bool) → p ≡ q → x ≡ y → m ≡ n → not p || (x || m) ≡ not q || (y || n)
+agree_parts p q x y m n e f g = rw (e, f, g) refl
+
+pub agree_sym : (a b : Held) → agree a b ≡ agree b a
+agree_sym a b =
+    agree_parts (same_resource a.r b.r) (same_resource b.r a.r) (not a.excl && not b.excl) (not b.excl && not a.excl)
+    (a.conn.0 == b.conn.0) (b.conn.0 == a.conn.0)
+    (same_resource_comm a.r b.r) (swapped (not a.excl) (not b.excl)) (turned a.conn.0 b.conn.0)
+
+apart_sym : (x y : Interest) → parts_apart x y ≡ parts_apart y x
+apart_sym x y = ap not (same_part_comm (part_of x) (part_of y))
+
+both : (b c : Bool) → b ≡ true → c ≡ b → b && c ≡ true
+both b c h e = and_from b c h (e ∙ h)
+
+-- ---- some of the interests
+
+pub interests-filter : (q : Interest → Bool) (interests : List Interest) → AreInterests interests
+    → AreInterests (filter q interests)
+interests-filter q interests are =
+    record {
+      ordered = pairwise-filter stands_up_to q interests are.ordered;
+      one_each = pairwise-filter parts_apart q interests are.one_each;
+      compatible = pairwise-filter owners_agree q interests are.compatible;
+    }
+
+-- ---- one more interest
+
+finds : (x : Interest) → FindsPlace stands_up_to (λ other. stands_up_to other x) (λ y. true) x
+finds x =
+    record {
+      front = λ y h. h;
+      stop = λ y t h. resource_up_to-either y.held.r x.held.r h;
+      follows = λ y z a b. resource_up_to-trans x.held.r y.held.r z.held.r a b;
+    }
+
+pub interests-with : (x : Interest) (interests : List Interest) → AreInterests interests
+    → may_own x.held interests ≡ true
+    → AreInterests (interests_with x interests)
+interests-with x interests are may =
+    let rest = interests_without x.held.r x.held.conn interests in
+    let before : Interest → Bool = λ other. stands_up_to other x in
+    let few = interests-filter (λ other. not (is_of x.held.r x.held.conn other)) interests are in
+    record {
+      ordered = pairwise-insertion stands_up_to before (λ y. true) x rest (finds x)
+          (list_all_always (λ y. true) (λ y. refl) rest) few.ordered;
+      one_each = pairwise-insertion_any parts_apart before x rest few.one_each
+          (list_all_weaker (λ y. not (is_of x.held.r x.held.conn y)) (λ y. parts_apart x y && parts_apart y x)
+          (λ y h. and_from (parts_apart x y) (parts_apart y x) (apart_sym x y ∙ h) h) rest
+          (list_all-filter_same (λ other. not (is_of x.held.r x.held.conn other)) interests));
+      compatible = pairwise-insertion_any owners_agree before x rest few.compatible
+          (list_all_weaker (λ y. agree x.held y.held) (λ y. owners_agree x y && owners_agree y x)
+          (λ y h. both (owners_agree x y) (owners_agree y x) h (agree_sym y.held x.held)) rest
+          (list_all-filter (λ y. agree x.held y.held) (λ other. not (is_of x.held.r x.held.conn other)) interests
+          may));
+    }
+
+pub has-filter : (r : Resource) (conn : ConnId) (q : Interest → Bool)
+    → ((x : Interest) → is_of r conn x ≡ true → q x ≡ true) → (interests : List Interest)
+    → has_interest r conn (filter q interests) ≡ has_interest r conn interests
+has-filter r conn q h interests = any-filter_same (is_of r conn) q true h interests
+
+-- what is of one part isn't of another
+other_part : (x y : Interest) (r : Resource) (conn : ConnId) → is_of r conn x ≡ false → is_of r conn y ≡ true
+    → not (is_of x.held.r x.held.conn y) ≡ true
+other_part x y r conn out is =
+    let named : Part = (r, conn) in
+    let it : part_of y ≡ named = same_part-eq (part_of y) named is in
+    ap not (subst (λ (p : Part). same_part p (part_of x) ≡ false) (sym it) (same_part_comm named (part_of x) ∙ out))
+
+-- the others are there as before
+pub has-with : (r : Resource) (conn : ConnId) (x : Interest) (interests : List Interest) → is_of r conn x ≡ false
+    → has_interest r conn (interests_with x interests) ≡ has_interest r conn interests
+has-with r conn x interests out =
+    let rest = interests_without x.held.r x.held.conn interests in
+    list_any-insertion (is_of r conn) (λ other. stands_up_to other x) x rest
+    ∙ ap (λ b. b || has_interest r conn rest) out
+    ∙ has-filter r conn (λ other. not (is_of x.held.r x.held.conn other)) (λ y h. other_part x y r conn out h)
+    interests
+
+pub has-without : (r : Resource) (conn : ConnId) (s : Resource) (other : ConnId) (interests : List Interest)
+    → same_part (r, conn) (s, other) ≡ false
+    → has_interest r conn (interests_without s other interests) ≡ has_interest r conn interests
+has-without r conn s other interests out =
+    let named : Part = (r, conn) in
+    let gone : Part = (s, other) in
+    has-filter r conn (λ x. not (is_of s other x))
+    (λ x h. ap not (subst (λ (p : Part). same_part p gone ≡ false) (sym (same_part-eq (part_of x) named h)) out))
+    interests
+
+pub records-with : (x : Interest) (interests : List Interest)
+    → records_owned (interests_with x interests) ≤ records_owned interests + records_of x.rec
+records-with x interests =
+    let rest = interests_without x.held.r x.held.conn interests in
+    omega (
+      arith,
+      sum_by-insertion (λ i. records_of i.rec) (λ other. stands_up_to other x) x rest,
+      sum_by-filter-le (λ i. records_of i.rec) (λ other. not (is_of x.held.r x.held.conn other)) interests,
+    )
+
+pub length-with : (x : Interest) (interests : List Interest)
+    → length (interests_with x interests) ≤ length interests + 1
+length-with x interests =
+    let rest = interests_without x.held.r x.held.conn interests in
+    omega (
+      arith,
+      length-insertion (λ other. stands_up_to other x) x rest,
+      length-filter-le (λ other. not (is_of x.held.r x.held.conn other)) interests,
+    )
+
+-- ---- changes that leave each interest with its resource and its connector
+
+pub record KeepsPart (f : Interest → Interest) : Type 0 where
+  pub r : (x : Interest) → (f x).held.r ≡ x.held.r
+  pub conn : (x : Interest) → (f x).held.conn ≡ x.held.conn
+
+part_same : (f : Interest → Interest) → KeepsPart f → (x : Interest) → part_of (f x) ≡ part_of x
+part_same f keeps x =
+    ap (λ (r : Resource). (let it : Part = (r, (f x).held.conn) in it)) (keeps.r x)
+    ∙ ap (λ (conn : ConnId). (let it : Part = (x.held.r, conn) in it)) (keeps.conn x)
+
+or_same : (a b c d : Bool) → a ≡ b → c ≡ d → a || c ≡ b || d
+or_same a b c d e f = rw (e, f) refl
+
+pub has-map : (f : Interest → Interest) → KeepsPart f → (r : Resource) (conn : ConnId) (interests : List Interest)
+    → has_interest r conn (map f interests) ≡ has_interest r conn interests
+has-map f keeps r conn [] = refl
+has-map f keeps r conn (x ∷ xs) =
+    or_same (is_of r conn (f x)) (is_of r conn x) (has_interest r conn (map f xs)) (has_interest r conn xs)
+    (ap (λ (p : Part). same_part p (r, conn)) (part_same f keeps x)) (has-map f keeps r conn xs)
+
+-- a relation that a map keeps between elements that pass a test
+map_keeps : {X : Type 0} (relation : X → X → Bool) (f : X → X) (good : X → Bool)
+    → ((x y : X) → good x ≡ true → good y ≡ true → relation x y ≡ true → relation (f x) (f y) ≡ true)
+    → (xs : List X) → list_all good xs ≡ true → pairwise relation xs ≡ true → pairwise relation (map f xs) ≡ true
+map_keeps relation f good h [] g p = refl
+map_keeps relation f good h (x ∷ xs) g p =
+    let goods = and_parts (good x) (list_all good xs) g in
+    let parts = and_parts (list_all (relation x) xs) (pairwise relation xs) p in
+    and_from (list_all (relation (f x)) (map f xs)) (pairwise relation (map f xs))
+    (list_all-map (relation (f x)) f xs
+    ∙ list_all_weaker (λ y. good y && relation x y) (λ y. relation (f x) (f y))
+    (λ y k. let both = and_parts (good y) (relation x y) k in h x y goods.0 both.0 both.1) xs
+    (list_all_both good (relation x) xs goods.1 parts.0))
+    (map_keeps relation f good h xs goods.1 parts.1)
+
+up_to_same : (a b c d : Resource) → a ≡ c → b ≡ d → resource_up_to a b ≡ resource_up_to c d
+up_to_same a b c d e f = ap (λ (x : Resource). resource_up_to x b) e ∙ ap (λ (y : Resource). resource_up_to c y) f
+
+pub interests-map : (f : Interest → Interest) → KeepsPart f → (good : Interest → Bool)
+    → ((x y : Interest) → good x ≡ true → good y ≡ true → owners_agree x y ≡ true → owners_agree (f x) (f y) ≡ true)
+    → (interests : List Interest) → list_all good interests ≡ true → AreInterests interests
+    → AreInterests (map f interests)
+interests-map f keeps good h interests g are =
+    record {
+      ordered = pairwise-map stands_up_to f
+          (λ x y. up_to_same (f x).held.r (f y).held.r x.held.r y.held.r (keeps.r x) (keeps.r y)) interests
+          ∙ are.ordered;
+      one_each = pairwise-map parts_apart f
+          (λ x y. ap (λ (p : Part). not (same_part p (part_of (f y)))) (part_same f keeps x)
+          ∙ ap (λ (p : Part). not (same_part (part_of x) p)) (part_same f keeps y)) interests ∙ are.one_each;
+      compatible = map_keeps owners_agree f good h interests g are.compatible;
+    }
+
+-- who agrees goes by the resource, the connector and the state alone
+pub agree_same : (a b c : Held) → a.r ≡ b.r → a.conn ≡ b.conn → a.excl ≡ b.excl → agree a c ≡ agree b c
+agree_same a b c e f g =
+    agree_parts (same_resource a.r c.r) (same_resource b.r c.r) (not a.excl && not c.excl) (not b.excl && not c.excl)
+    (a.conn.0 == c.conn.0) (b.conn.0 == c.conn.0)
+    (ap (λ (r : Resource). same_resource r c.r) e) (ap (λ x. not x && not c.excl) g)
+    (ap (λ (conn : ConnId). conn.0 == c.conn.0) f)
+
+pub record KeepsState (f : Interest → Interest) : Type 0 where
+  pub part : KeepsPart f
+  pub excl : (x : Interest) → (f x).held.excl ≡ x.held.excl
+
+state_same : (f : Interest → Interest) → KeepsState f → (x y : Interest) → owners_agree (f x) (f y) ≡ owners_agree x y
+state_same f keeps x y =
+    agree_same (f x).held x.held (f y).held (keeps.part.r x) (keeps.part.conn x) (keeps.excl x)
+    ∙ agree_sym x.held (f y).held
+    ∙ agree_same (f y).held y.held x.held (keeps.part.r y) (keeps.part.conn y) (keeps.excl y)
+    ∙ agree_sym y.held x.held
+
+pub interests-same : (f : Interest → Interest) → KeepsState f → (interests : List Interest) → AreInterests interests
+    → AreInterests (map f interests)
+interests-same f keeps interests are =
+    interests-map f keeps.part (λ x. true) (λ x y g h e. state_same f keeps x y ∙ e) interests
+    (list_all_always (λ x. true) (λ x. refl) interests) are
+
+pub records-map : (f : Interest → Interest) → ((x : Interest) → records_of (f x).rec ≤ records_of x.rec)
+    → (interests : List Interest)
+    → records_owned (map f interests) ≤ records_owned interests
+records-map f h [] = omega arith
+records-map f h (x ∷ xs) =
+    omega (
+      arith,
+      h x,
+      records-map f h xs,
+      sum_by-cons (λ (i : Interest). records_of i.rec) (f x) (map f xs),
+      sum_by-cons (λ (i : Interest). records_of i.rec) x xs,
+    )

@@ -1,0 +1,324 @@
+-- Items that come and go one after another: what a content is meanwhile, and where the one that is added or taken
+-- away stands.
+use Rattle.std.proofs.Common.{◌≡◌, ◌+◌, ◌-◌, Bool, true, false, not, cond, List, [], ◌∷◌, ◌++◌, append-nil, append_assoc, Some, length, filter, map, take, drop, sum_by, refl, sym, ap, ◌∙◌, subst, arith}
+use Rattle.std.specs.List.{list_all, slice_get}
+use Rattle.std.proofs.lemmas.Bool.{and_parts, and_from, false≢true}
+use Rattle.std.proofs.lemmas.List.{take-append-drop, take_all, take_more}
+use Rattle.std.proofs.lemmas.List.Elements.{filter-append}
+use Rattle.std.proofs.lemmas.List.Folds.{list_all-append}
+use Rattle.std.proofs.lemmas.List.Sums.{sum_by-append}
+use Rattle.std.proofs.lemmas.Option.{get_or_from_slice_get}
+use Rattle.cf_types.specs.declared.forms.Caps.{Caps}
+use Rattle.cf_types.specs.declared.resources.Resource.{Resource}
+use Rattle.cf_types.specs.Resources.{same_part}
+use Rattle.cf_types.proofs.ResourceLaws.{same_part-eq, same_part-refl}
+use Rattle.list_laws.specs.Pairwise.{pairwise}
+use Rattle.list_laws.specs.Insertions.{insertion}
+use Rattle.list_laws.proofs.FilterLaws.{filter_all, filter_swap, all_from_none}
+use Rattle.list_laws.proofs.PairwiseLaws.{pairwise-filter, pairwise_front}
+use Rattle.list_laws.proofs.KeyLaws as keys
+use Rattle.lock_queue.specs.declared.waiters.Waiter.{Waiter}
+use Rattle.lock_queue.specs.Waiters.{is_on, is_waiter, waiters_of, waiters_without, waiters_with, stands_before, apart, IsQueue}
+use Rattle.lock_model.specs.declared.items.LockItem.{LockItem}
+use Rattle.lock_model.specs.declared.items.LockItem.TheVariants.{Owner, Waits}
+use Rattle.lock_model.specs.Interests.{Interest, AreInterests, is_of, interests_with, interests_without, stands_up_to, parts_apart, owners_agree}
+use Rattle.lock_model.specs.Contents.{Content, IsContent, is_due, records_of, owner, items, content_with, content_without_last, without_last}
+use Rattle.lock_model.proofs.InterestLaws.{part_of}
+use Rattle.lock_model.proofs.GrantLaws.{waiter_part}
+use Rattle.lock_model.proofs.EngineLaws.{behind_owners, behind_items, nobody}
+
+-- ---- the first items of a content
+
+pub front-interests : (caps : Caps) (whole : Content) (interests more : List Interest) → IsContent caps whole
+    → whole.interests ≡ interests ++ more → IsContent caps (record { interests = interests; waiters = [] })
+front-interests caps whole interests more is e =
+    let ordered : pairwise stands_up_to (interests ++ more) ≡ true = rw e at is.owners.ordered in
+    let apart : pairwise parts_apart (interests ++ more) ≡ true = rw e at is.owners.one_each in
+    let agree : pairwise owners_agree (interests ++ more) ≡ true = rw e at is.owners.compatible in
+    let all : sum_by (λ (x : Interest). records_of x.rec) whole.interests ≡ sum_by
+    (λ (x : Interest). records_of x.rec) (interests ++ more) =
+    ap (λ (l : List Interest). sum_by (λ (x : Interest). records_of x.rec) l) e in
+    record {
+      owners = record {
+        ordered = pairwise_front stands_up_to interests more ordered;
+        one_each = pairwise_front parts_apart interests more apart;
+        compatible = pairwise_front owners_agree interests more agree;
+      };
+      queue = record { ordered = refl; one_each = refl };
+      due = refl;
+      records = omega (arith, is.records, all, sum_by-append (λ (x : Interest). records_of x.rec) interests more);
+    }
+
+pub front-waiters : (caps : Caps) (whole : Content) (waiters more : List Waiter) → IsContent caps whole
+    → whole.waiters ≡ waiters ++ more → IsContent caps (record { interests = whole.interests; waiters = waiters })
+front-waiters caps whole waiters more is e =
+    let ordered : pairwise stands_before (waiters ++ more) ≡ true = rw e at is.queue.ordered in
+    let apart' : pairwise apart (waiters ++ more) ≡ true = rw e at is.queue.one_each in
+    let due : list_all (is_due whole.interests) (waiters ++ more) ≡ true = rw e at is.due in
+    let all : sum_by (λ (w : Waiter). records_of w.rec) whole.waiters ≡ sum_by (λ (w : Waiter). records_of w.rec)
+    (waiters ++ more) =
+    ap (λ (l : List Waiter). sum_by (λ (w : Waiter). records_of w.rec) l) e in
+    record {
+      owners = is.owners;
+      queue = record {
+        ordered = pairwise_front stands_before waiters more ordered;
+        one_each = pairwise_front apart waiters more apart';
+      };
+      due = (and_parts (list_all (is_due whole.interests) waiters) (list_all (is_due whole.interests) more)
+          (sym (list_all-append (is_due whole.interests) waiters more) ∙ due)).0;
+      records = omega (arith, is.records, all, sum_by-append (λ (w : Waiter). records_of w.rec) waiters more);
+    }
+
+without_last_of : (caps : Caps) (interests : List Interest) (waiters : List Waiter)
+    → IsContent caps (record { interests = interests; waiters = waiters })
+    → IsContent caps (content_without_last (record { interests = interests; waiters = waiters }))
+without_last_of caps interests [] is =
+    let n = length interests - 1 in
+    front-interests caps (record { interests = interests; waiters = [] }) (take n interests) (drop n interests) is
+    (sym (take-append-drop n interests))
+without_last_of caps interests (w ∷ ws) is =
+    let n = length (w ∷ ws) - 1 in
+    front-waiters caps (record { interests = interests; waiters = w ∷ ws }) (take n (w ∷ ws)) (drop n (w ∷ ws)) is
+    (sym (take-append-drop n (w ∷ ws)))
+
+-- without its last item
+pub content-without_last : (caps : Caps) (content : Content) → IsContent caps content
+    → IsContent caps (content_without_last content)
+content-without_last caps content is = without_last_of caps content.interests content.waiters is
+
+-- ---- the interests and the waiters among items
+
+abbrev pub owners_among : List LockItem → List Interest
+owners_among [] = []
+owners_among (Owner held rec ∷ xs) = record { held = held; rec = rec } ∷ owners_among xs
+owners_among (Waits w ∷ xs) = owners_among xs
+
+abbrev pub waiters_among : List LockItem → List Waiter
+waiters_among [] = []
+waiters_among (Owner held rec ∷ xs) = waiters_among xs
+waiters_among (Waits w ∷ xs) = w ∷ waiters_among xs
+
+owners_among-append : (xs ys : List LockItem) → owners_among (xs ++ ys) ≡ owners_among xs ++ owners_among ys
+owners_among-append [] ys = refl
+owners_among-append (Owner held rec ∷ xs) ys =
+    ap (λ (l : List Interest). record { held = held; rec = rec } ∷ l) (owners_among-append xs ys)
+owners_among-append (Waits w ∷ xs) ys = owners_among-append xs ys
+
+waiters_among-append : (xs ys : List LockItem) → waiters_among (xs ++ ys) ≡ waiters_among xs ++ waiters_among ys
+waiters_among-append [] ys = refl
+waiters_among-append (Owner held rec ∷ xs) ys = waiters_among-append xs ys
+waiters_among-append (Waits w ∷ xs) ys = ap (λ (l : List Waiter). w ∷ l) (waiters_among-append xs ys)
+
+no_owners : (waiters : List Waiter) → owners_among (map Waits waiters) ≡ []
+no_owners [] = refl
+no_owners (w ∷ ws) = no_owners ws
+
+all_waiters : (waiters : List Waiter) → waiters_among (map Waits waiters) ≡ waiters
+all_waiters [] = refl
+all_waiters (w ∷ ws) = ap (λ (l : List Waiter). w ∷ l) (all_waiters ws)
+
+owners_of_items : (interests : List Interest) (waiters : List Waiter)
+    → owners_among (map owner interests ++ map Waits waiters) ≡ interests
+owners_of_items [] ws = no_owners ws
+owners_of_items (x ∷ xs) ws = ap (λ (l : List Interest). x ∷ l) (owners_of_items xs ws)
+
+waiters_of_items : (interests : List Interest) (waiters : List Waiter)
+    → waiters_among (map owner interests ++ map Waits waiters) ≡ waiters
+waiters_of_items [] ws = all_waiters ws
+waiters_of_items (x ∷ xs) ws = waiters_of_items xs ws
+
+-- what comes first among them comes first in the content
+front_owners : (whole : Content) (interests : List Interest) (waiters : List Waiter) (others : List LockItem)
+    → items whole ≡ (map owner interests ++ map Waits waiters) ++ others
+    → whole.interests ≡ interests ++ owners_among others
+front_owners whole interests waiters others e =
+    sym (owners_of_items whole.interests whole.waiters) ∙ ap owners_among e
+    ∙ owners_among-append (map owner interests ++ map Waits waiters) others
+    ∙ ap (λ (l : List Interest). l ++ owners_among others) (owners_of_items interests waiters)
+
+front_waiters : (whole : Content) (interests : List Interest) (waiters : List Waiter) (others : List LockItem)
+    → items whole ≡ (map owner interests ++ map Waits waiters) ++ others
+    → whole.waiters ≡ waiters ++ waiters_among others
+front_waiters whole interests waiters others e =
+    sym (waiters_of_items whole.interests whole.waiters) ∙ ap waiters_among e
+    ∙ waiters_among-append (map owner interests ++ map Waits waiters) others
+    ∙ ap (λ (l : List Waiter). l ++ waiters_among others) (waiters_of_items interests waiters)
+
+behind_at : (interests : List Interest) (waiters : List Waiter) (w : Waiter) (others : List LockItem)
+    → behind_owners ((map owner interests ++ map Waits waiters) ++ Waits w ∷ others) ≡ map Waits waiters ++ Waits w
+    ∷ others
+behind_at [] [] w others = refl
+behind_at [] (v ∷ vs) w others = refl
+behind_at (x ∷ xs) ws w others = behind_at xs ws w others
+
+no_more_owners : (whole : Content) (interests : List Interest) (waiters : List Waiter) (w : Waiter)
+    (others : List LockItem)
+    → items whole ≡ (map owner interests ++ map Waits waiters) ++ Waits w ∷ others → owners_among others ≡ []
+no_more_owners whole interests waiters w others e =
+    ap (λ (l : List Interest). l ++ owners_among others) (sym (no_owners waiters))
+    ∙ sym (owners_among-append (map Waits waiters) (Waits w ∷ others))
+    ∙ ap owners_among (sym (behind_at interests waiters w others) ∙ sym (ap behind_owners e)
+    ∙ behind_items whole.interests whole.waiters)
+    ∙ no_owners whole.waiters
+
+-- ---- one item more
+
+next_owner : (caps : Caps) (whole : Content) (interests : List Interest) (waiters : List Waiter) (x : Interest)
+    (more : List Interest)
+    → IsContent caps whole → waiters ≡ [] → whole.interests ≡ interests ++ x ∷ more
+    → IsContent caps (record { interests = interests ++ x ∷ []; waiters = waiters })
+next_owner caps whole interests [] x more is none e =
+    front-interests caps whole (interests ++ x ∷ []) more is (e ∙ sym (append_assoc interests (x ∷ []) more))
+next_owner caps whole interests (w ∷ ws) x more is none e = absurd (cc)
+
+next_waiter : (caps : Caps) (whole : Content) (interests : List Interest) (waiters : List Waiter) (w : Waiter)
+    (more : List Waiter)
+    → IsContent caps whole → whole.interests ≡ interests → whole.waiters ≡ waiters ++ w ∷ more
+    → IsContent caps (record { interests = interests; waiters = waiters ++ w ∷ [] })
+next_waiter caps whole interests waiters w more is same e =
+    subst (λ (l : List Interest). IsContent caps (record { interests = l; waiters = waiters ++ w ∷ [] })) same
+    (front-waiters caps whole (waiters ++ w ∷ []) more is (e ∙ sym (append_assoc waiters (w ∷ []) more)))
+
+-- one more of the items of a content
+pub content-next : (caps : Caps) (content whole : Content) (item : LockItem) (others : List LockItem)
+    → IsContent caps whole
+    → items whole ≡ items content ++ item ∷ others → IsContent caps (content_with content item)
+content-next caps content whole (Owner held rec) others is e =
+    let x : Interest = record { held = held; rec = rec } in
+    next_owner caps whole content.interests content.waiters x (owners_among others) is
+    (nobody whole content.interests content.waiters x others e)
+    (front_owners whole content.interests content.waiters (owner x ∷ others) e)
+content-next caps content whole (Waits w) others is e =
+    next_waiter caps whole content.interests content.waiters w (waiters_among others) is
+    (front_owners whole content.interests content.waiters (Waits w ∷ others) e
+    ∙ ap (λ (l : List Interest). content.interests ++ l)
+    (no_more_owners whole content.interests content.waiters w others e)
+    ∙ append-nil content.interests)
+    (front_waiters whole content.interests content.waiters (Waits w ∷ others) e)
+
+-- ---- where items stand
+
+-- an element that all others stand before
+insertion_last : {X : Type 0} (before : X → Bool) (x : X) (xs : List X) → list_all before xs ≡ true
+    → insertion before x xs ≡ xs ++ x ∷ []
+insertion_last before x [] h = refl
+insertion_last {X} before x (y ∷ ys) h =
+    let parts = and_parts (before y) (list_all before ys) h in
+    first (before y) parts.0 (insertion_last before x ys parts.1)
+  where
+    first : (b : Bool) → b ≡ true → {zs : List X} → zs ≡ ys ++ x ∷ []
+        → cond b (y ∷ zs) (x ∷ y ∷ ys) ≡ y ∷ ys ++ x ∷ []
+    first true e ih = ap (λ (l : List X). y ∷ l) ih
+    first false e ih = absurd (false≢true e)
+
+-- each of the first ones is related to the next one
+before_next : {X : Type 0} (relation : X → X → Bool) (xs more : List X) (x : X)
+    → pairwise relation (xs ++ x ∷ more) ≡ true
+    → list_all (λ y. relation y x) xs ≡ true
+before_next relation [] more x h = refl
+before_next relation (y ∷ ys) more x h =
+    let parts = and_parts (list_all (relation y) (ys ++ x ∷ more)) (pairwise relation (ys ++ x ∷ more)) h in
+    let split = and_parts (list_all (relation y) ys) (list_all (relation y) (x ∷ more))
+    (sym (list_all-append (relation y) ys (x ∷ more)) ∙ parts.0) in
+    and_from (relation y x) (list_all (λ z. relation z x) ys)
+    (and_parts (relation y x) (list_all (relation y) more) split.1).0
+    (before_next relation ys more x parts.1)
+
+-- the next interest of a content is the last of its resource, and the next waiter too
+pub interests_with-next : (interests more : List Interest) (x : Interest) → AreInterests (interests ++ x ∷ more)
+    → interests_with x interests ≡ interests ++ x ∷ []
+interests_with-next interests more x are =
+    let same : interests_without x.held.r x.held.conn interests ≡ interests =
+    filter_all (λ y. not (is_of x.held.r x.held.conn y)) interests
+    (before_next parts_apart interests more x are.one_each) in
+    ap (λ (l : List Interest). insertion (λ other. stands_up_to other x) x l) same
+    ∙ insertion_last (λ other. stands_up_to other x) x interests
+    (before_next stands_up_to interests more x are.ordered)
+
+pub waiters_with-next : (waiters more : List Waiter) (w : Waiter) → IsQueue (waiters ++ w ∷ more)
+    → waiters_with w waiters ≡ waiters ++ w ∷ []
+waiters_with-next waiters more w is =
+    let same : waiters_without w.r w.conn waiters ≡ waiters =
+    filter_all (λ v. not (is_waiter w.r w.conn v)) waiters (before_next apart waiters more w is.one_each) in
+    ap (λ (l : List Waiter). insertion (λ other. stands_before other w) w l) same
+    ∙ insertion_last (λ other. stands_before other w) w waiters (before_next stands_before waiters more w is.ordered)
+
+-- what a content with the next item is, by the commands' own words
+pub owner-next : (caps : Caps) (content whole : Content) (x : Interest) (others : List LockItem)
+    → IsContent caps whole
+    → items whole ≡ items content ++ owner x ∷ others
+    → content_with content (owner x) ≡ record content { interests = interests_with x content.interests }
+owner-next caps content whole x others is e =
+    let first = front_owners whole content.interests content.waiters (owner x ∷ others) e in
+    let are : AreInterests (content.interests ++ x ∷ owners_among others) = subst
+    (λ (l : List Interest). AreInterests l) first is.owners in
+    ap (λ (l : List Interest). record content { interests = l })
+    (sym (interests_with-next content.interests (owners_among others) x are))
+
+pub waiter-next : (caps : Caps) (content whole : Content) (w : Waiter) (others : List LockItem) → IsContent caps whole
+    → items whole ≡ items content ++ Waits w ∷ others
+    → content_with content (Waits w) ≡ record content { waiters = waiters_with w content.waiters }
+waiter-next caps content whole w others is e =
+    let first = front_waiters whole content.interests content.waiters (Waits w ∷ others) e in
+    let queue : IsQueue (content.waiters ++ w ∷ waiters_among others) = subst (λ (l : List Waiter). IsQueue l) first
+    is.queue in
+    ap (λ (l : List Waiter). record content { waiters = l })
+    (sym (waiters_with-next content.waiters (waiters_among others) w queue))
+
+-- ---- the last one goes
+
+-- the last element, behind the others
+last_behind : {X : Type 0} (xs : List X) (x : X) → slice_get xs (length xs - 1) ≡ Some x
+    → xs ≡ without_last xs ++ x ∷ []
+last_behind [] x h = absurd (cc)
+last_behind {X} (y ∷ ys) x h =
+    let i = length (y ∷ ys) - 1 in
+    sym (take_all (i + 1) (y ∷ ys) (omega arith)) ∙ take_more (y ∷ ys) i x (omega arith)
+    ∙ ap (λ (z : X). take i (y ∷ ys) ++ z ∷ []) (get_or_from_slice_get (y ∷ ys) i x x h)
+
+-- those of other keys are all but the last
+without_keyed_last : {X K : Type 0} (key : X → K) (same : K → K → Bool) → ((k : K) → same k k ≡ true)
+    → (xs : List X) (x : X)
+    → pairwise (λ y z. not (same (key y) (key z))) (xs ++ x ∷ []) ≡ true
+    → filter (λ y. not (same (key y) (key x))) (xs ++ x ∷ []) ≡ xs
+without_keyed_last {X} key same same-refl xs x u =
+    let others = filter_all (λ y. not (same (key y) (key x))) xs
+    (before_next (λ y z. not (same (key y) (key z))) xs [] x u) in
+    filter-append (λ y. not (same (key y) (key x))) xs (x ∷ [])
+    ∙ ap (λ (l : List X). l ++ filter (λ y. not (same (key y) (key x))) (x ∷ [])) others
+    ∙ ap (λ (b : Bool). xs ++ cond (not b) (x ∷ []) []) (same-refl (key x))
+    ∙ append-nil xs
+
+pub waiters_without-last : (waiters : List Waiter) (w : Waiter) → IsQueue waiters
+    → slice_get waiters (length waiters - 1) ≡ Some w
+    → waiters_without w.r w.conn waiters ≡ without_last waiters
+waiters_without-last waiters w is h =
+    let e = last_behind waiters w h in
+    let u : pairwise apart (without_last waiters ++ w ∷ []) ≡ true = subst
+    (λ (l : List Waiter). pairwise apart l ≡ true) e is.one_each in
+    ap (λ (l : List Waiter). waiters_without w.r w.conn l) e
+    ∙ without_keyed_last waiter_part same_part same_part-refl (without_last waiters) w u
+
+pub interests_without-last : (interests : List Interest) (x : Interest) → AreInterests interests
+    → slice_get interests (length interests - 1) ≡ Some x
+    → interests_without x.held.r x.held.conn interests ≡ without_last interests
+interests_without-last interests x are h =
+    let e = last_behind interests x h in
+    let u : pairwise parts_apart (without_last interests ++ x ∷ []) ≡ true =
+    subst (λ (l : List Interest). pairwise parts_apart l ≡ true) e are.one_each in
+    ap (λ (l : List Interest). interests_without x.held.r x.held.conn l) e
+    ∙ without_keyed_last part_of same_part same_part-refl (without_last interests) x u
+
+-- ---- the first waiter of a resource goes
+
+pub waiters_of-first : (r : Resource) (w : Waiter) (waiters rest : List Waiter) → IsQueue waiters
+    → waiters_of r waiters ≡ w ∷ rest
+    → waiters_of r (waiters_without w.r w.conn waiters) ≡ rest
+waiters_of-first r w waiters rest is e =
+    let q : Waiter → Bool = λ v. not (is_waiter w.r w.conn v) in
+    let u : pairwise apart (w ∷ rest) ≡ true =
+    subst (λ (l : List Waiter). pairwise apart l ≡ true) e (pairwise-filter apart (is_on r) waiters is.one_each) in
+    let none = keys.none_later waiter_part same_part same_part-eq same_part-refl w rest u in
+    filter_swap (is_on r) q waiters ∙ ap (λ (l : List Waiter). filter q l) e
+    ∙ ap (λ (b : Bool). cond (not b) (w ∷ filter q rest) (filter q rest)) (same_part-refl (waiter_part w))
+    ∙ filter_all q rest (all_from_none (is_waiter w.r w.conn) rest none)

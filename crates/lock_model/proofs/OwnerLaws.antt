@@ -1,0 +1,47 @@
+-- Any two owners of one resource are compatible.
+use Rattle.std.proofs.Common.{◌≡◌, Bool, true, false, not, ◌&&◌, ◌||◌, ◌==◌, List, [], ◌∷◌, Contains, refl, ◌∙◌}
+use Rattle.std.specs.List.{list_all}
+use Rattle.std.proofs.lemmas.Bool.{and_parts, and_from, or_right, eq-eqb, false≢true}
+use Rattle.std.proofs.lemmas.List.Elements.{All-contains}
+use Rattle.std.proofs.lemmas.List.Sums.{AllPass-from_list_all}
+use Rattle.cf_types.specs.declared.forms.Caps.{Caps}
+use Rattle.cf_types.specs.Resources.{same_resource}
+use Rattle.list_laws.specs.Pairwise.{pairwise}
+use Rattle.list_laws.proofs.FilterLaws.{list_all_weaker, list_all_both}
+use Rattle.lock_model.specs.Interests.{Interest, compatible, owners_agree}
+use Rattle.lock_model.specs.Contents.{Content, IsContent, OwnersAreCompatible}
+use Rattle.lock_model.proofs.InterestLaws.{agree_sym}
+
+-- a relation with no direction, between each element and itself too
+each_with_each : {X : Type 0} (relation : X → X → Bool) → ((x y : X) → relation x y ≡ true → relation y x ≡ true)
+    → ((x : X) → relation x x ≡ true) → (xs : List X) → pairwise relation xs ≡ true
+    → list_all (λ x. list_all (relation x) xs) xs ≡ true
+each_with_each relation turn own [] h = refl
+each_with_each relation turn own (x ∷ xs) h =
+    let parts = and_parts (list_all (relation x) xs) (pairwise relation xs) h in
+    and_from (relation x x && list_all (relation x) xs) (list_all (λ y. relation y x && list_all (relation y) xs) xs)
+    (and_from (relation x x) (list_all (relation x) xs) (own x) parts.0)
+    (list_all_both (λ y. relation y x) (λ y. list_all (relation y) xs) xs
+    (list_all_weaker (relation x) (λ y. relation y x) (turn x) xs parts.0)
+    (each_with_each relation turn own xs parts.1))
+
+agrees_itself : (x : Interest) → owners_agree x x ≡ true
+agrees_itself x =
+    or_right (not (same_resource x.held.r x.held.r)) (compatible x.held x.held)
+    (or_right (not x.held.excl && not x.held.excl) (x.held.conn.0 == x.held.conn.0)
+    (eq-eqb x.held.conn.0 x.held.conn.0 refl))
+
+all_contained : {X : Type 0} (p : X → Bool) (xs : List X) (x : X) → list_all p xs ≡ true → Contains xs x → p x ≡ true
+all_contained p xs x h there = All-contains (λ y. p y ≡ true) xs x (AllPass-from_list_all p xs h) there
+
+same_then : (a b : Bool) → not a || b ≡ true → a ≡ true → b ≡ true
+same_then true b h e = h
+same_then false b h e = absurd (false≢true e)
+
+pub compatible-interests : (caps : Caps) (content : Content) → IsContent caps content → OwnersAreCompatible content
+compatible-interests caps content is x y left right same =
+    let each = each_with_each owners_agree (λ a b h. agree_sym b.held a.held ∙ h) agrees_itself content.interests
+    is.owners.compatible in
+    let all = all_contained (λ a. list_all (owners_agree a) content.interests) content.interests x each left in
+    same_then (same_resource x.held.r y.held.r) (compatible x.held y.held)
+    (all_contained (owners_agree x) content.interests y all right) same

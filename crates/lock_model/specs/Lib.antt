@@ -1,0 +1,9 @@
+pub mod Interests
+pub mod Contents
+pub mod Grants
+pub mod Departures
+pub mod Requests
+pub mod Refusals
+pub mod Commands
+pub mod Step
+pub mod Meaning

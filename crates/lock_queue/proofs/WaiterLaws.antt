@@ -1,0 +1,114 @@
+-- Waiters stay in order, with one of a connector for a resource.
+use Rattle.std.proofs.Common.{◌≡◌, ◌+◌, ◌≤◌, Bool, true, false, not, ◌&&◌, ◌||◌, List, filter, length, refl, sym, ap, ◌∙◌, arith}
+use Rattle.std.specs.declared.cmp.Ordering.{Ordering}
+use Rattle.std.specs.declared.cmp.Ordering.TheVariants.{Less, Equal, Greater}
+use Rattle.std.specs.Ordering.{is_lt, ordering_reverse}
+use Rattle.std.proofs.lemmas.Bool.{and_from, false≢true}
+use Rattle.cf_types.specs.declared.resources.Resource.{Resource}
+use Rattle.cf_types.specs.Resources.{resource_cmp}
+use Rattle.cf_types.proofs.ResourceLaws.{resource_cmp_total, same_part_comm}
+use Rattle.list_laws.proofs.FilterLaws.{list_all_weaker, list_all-filter_same, list_all_always, length-filter-le}
+use Rattle.list_laws.proofs.PairwiseLaws.{FindsPlace, pairwise-filter, pairwise-insertion, pairwise-insertion_any}
+use Rattle.lock_queue.specs.declared.waiters.Waiter.{Waiter}
+use Rattle.lock_queue.specs.Waiters.{is_on, is_waiter, waiters_with, waiters_without, stands_before, place_of, apart, IsQueue}
+
+pub queue-filter : (q : Waiter → Bool) (waiters : List Waiter) → IsQueue waiters → IsQueue (filter q waiters)
+queue-filter q waiters is =
+    record {
+      ordered = pairwise-filter stands_before q waiters is.ordered;
+      one_each = pairwise-filter apart q waiters is.one_each;
+    }
+
+-- ---- the order
+
+-- one stands before another where its resource is before the other's, or it is the same and the first alters or the second doesn't
+abbrev ranked : Ordering → Bool → Bool → Bool
+ranked Less a b = true
+ranked Equal a b = a || not b
+ranked Greater a b = false
+
+ranked_step : (o : Ordering) (a b : Bool) → not (is_lt (ordering_reverse o)) && (is_lt o || a || not b) ≡ ranked o a b
+ranked_step Less a b = refl
+ranked_step Equal a b = refl
+ranked_step Greater a b = refl
+
+before_ranked : (x y : Waiter) → stands_before x y ≡ ranked (resource_cmp x.r y.r) x.alter y.alter
+before_ranked x y =
+    ap (λ o. not (is_lt o) && (is_lt (resource_cmp x.r y.r) || x.alter || not y.alter)) (resource_cmp_total.antisymm y.r x.r)
+    ∙ ranked_step (resource_cmp x.r y.r) x.alter y.alter
+
+turned : (o : Ordering) (a b : Bool) → ranked o a b ≡ false → ranked (ordering_reverse o) b a ≡ true
+turned Less a b h = absurd (false≢true (sym h))
+turned Equal true b h = absurd (false≢true (sym h))
+turned Equal false true h = refl
+turned Equal false false h = absurd (false≢true (sym h))
+turned Greater a b h = refl
+
+stops : (waiter other : Waiter) → stands_before other waiter ≡ false → stands_before waiter other ≡ true
+stops waiter other h =
+    before_ranked waiter other
+    ∙ ap (λ o. ranked o waiter.alter other.alter) (resource_cmp_total.antisymm waiter.r other.r)
+    ∙ turned (resource_cmp other.r waiter.r) other.alter waiter.alter (sym (before_ranked other waiter) ∙ h)
+
+either_way : (a b c : Bool) → a || not b ≡ true → b || not c ≡ true → a || not c ≡ true
+either_way true b c h e = refl
+either_way false true c h e = absurd (false≢true h)
+either_way false false c h e = e
+
+chained : (x y z : Resource) (o p : Ordering) (a b c : Bool) → resource_cmp x y ≡ o → resource_cmp y z ≡ p
+    → ranked o a b ≡ true → ranked p b c ≡ true → ranked (resource_cmp x z) a c ≡ true
+chained x y z Less Less a b c e f h k = rw (resource_cmp_total.trans x y z e f) refl
+chained x y z Less Equal a b c e f h k =
+    let back : resource_cmp z y ≡ Equal = resource_cmp_total.antisymm z y ∙ ap ordering_reverse f in
+    let same : resource_cmp x z ≡ Less =
+    resource_cmp_total.antisymm x z ∙ ap ordering_reverse (resource_cmp_total.congr z y x back) ∙ sym (resource_cmp_total.antisymm x y) ∙ e in
+    rw same refl
+chained x y z Less Greater a b c e f h k = absurd (false≢true k)
+chained x y z Equal Less a b c e f h k = rw (resource_cmp_total.congr x y z e, f) refl
+chained x y z Equal Equal a b c e f h k = rw (resource_cmp_total.congr x y z e, f) (either_way a b c h k)
+chained x y z Equal Greater a b c e f h k = absurd (false≢true k)
+chained x y z Greater p a b c e f h k = absurd (false≢true h)
+
+follows : (x y z : Waiter) → stands_before x y ≡ true → stands_before y z ≡ true → stands_before x z ≡ true
+follows x y z h k =
+    before_ranked x z
+    ∙ chained x.r y.r z.r (resource_cmp x.r y.r) (resource_cmp y.r z.r) x.alter y.alter z.alter refl refl
+    (sym (before_ranked x y) ∙ h) (sym (before_ranked y z) ∙ k)
+
+finds_place : (waiter : Waiter) → FindsPlace stands_before (λ other. stands_before other waiter) (λ other. true) waiter
+finds_place waiter =
+    record {
+      front = λ other h. h;
+      stop = λ other h e. stops waiter other e;
+      follows = λ y z h e. follows waiter y z h e;
+    }
+
+apart_both : (waiter other : Waiter) → not (is_waiter waiter.r waiter.conn other) ≡ true
+    → apart waiter other && apart other waiter ≡ true
+apart_both waiter other h =
+    and_from (apart waiter other) (apart other waiter)
+    (ap not (same_part_comm (waiter.r, waiter.conn) (other.r, other.conn)) ∙ h) h
+
+pub queue-with : (waiter : Waiter) (waiters : List Waiter) → IsQueue waiters → IsQueue (waiters_with waiter waiters)
+queue-with waiter waiters is =
+    let others = waiters_without waiter.r waiter.conn waiters in
+    let kept = queue-filter (λ other. not (is_waiter waiter.r waiter.conn other)) waiters is in
+    record {
+      ordered =
+          pairwise-insertion stands_before (λ other. stands_before other waiter) (λ other. true) waiter others (finds_place waiter)
+          (list_all_always (λ (other : Waiter). true) (λ other. refl) others) kept.ordered;
+      one_each =
+          pairwise-insertion_any apart (λ other. stands_before other waiter) waiter others kept.one_each
+          (list_all_weaker (λ other. not (is_waiter waiter.r waiter.conn other)) (λ other. apart waiter other && apart other waiter)
+          (apart_both waiter) others (list_all-filter_same (λ other. not (is_waiter waiter.r waiter.conn other)) waiters));
+    }
+
+-- a place is at most one past all
+pub place_within : (waiter : Waiter) (waiters : List Waiter) → place_of waiter waiters ≤ length waiters + 1
+place_within waiter waiters =
+    let others = waiters_without waiter.r waiter.conn waiters in
+    omega (
+      arith,
+      length-filter-le (λ other. is_on waiter.r other && (other.alter || not waiter.alter)) others,
+      length-filter-le (λ other. not (is_waiter waiter.r waiter.conn other)) waiters,
+    )

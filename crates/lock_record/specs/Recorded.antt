@@ -1,0 +1,55 @@
+-- Record data: what a connector left with its interest in a resource. They stand in the order of
+-- resources.
+use Rattle.std.specs.Prelude.{ℕ, Bool, IsTrue, not, ◌&&◌, ◌==◌, List, Option, filter, find, option_map}
+use Rattle.std.specs.List.{list_any}
+use Rattle.cf_types.specs.declared.numbers.ConnId.{ConnId}
+use Rattle.cf_types.specs.declared.resources.Resource.{Resource}
+use Rattle.cf_types.specs.Resources.{same_resource, resource_up_to}
+use Rattle.list_laws.specs.Pairwise.{pairwise}
+use Rattle.list_laws.specs.Insertions.{insertion}
+use Rattle.lock_record.specs.declared.recorded.Record.{Record}
+
+-- a connector's record data for a resource
+abbrev pub is_record : Resource → ConnId → Record → Bool
+is_record r conn recorded = same_resource recorded.r r && (recorded.conn.0 == conn.0)
+
+abbrev pub is_of : ConnId → Record → Bool
+is_of conn recorded = recorded.conn.0 == conn.0
+
+-- the data are a list of bytes
+abbrev pub record_of : Resource → ConnId → List Record → Option (List ℕ)
+record_of r conn records = option_map (λ recorded. recorded.rec) (find (is_record r conn) records)
+
+abbrev pub has_record : Resource → ConnId → List Record → Bool
+has_record r conn records = list_any (is_record r conn) records
+
+abbrev pub records_without : Resource → ConnId → List Record → List Record
+records_without r conn records = filter (λ recorded. not (is_record r conn recorded)) records
+
+-- record data in their place; they take the place of the connector's own for the resource, if
+-- there are any
+abbrev pub records_with : Record → List Record → List Record
+records_with recorded records =
+    insertion (λ other. resource_up_to other.r recorded.r) recorded
+    (records_without recorded.r recorded.conn records)
+
+-- those of a connector
+abbrev pub records_of : ConnId → List Record → List Record
+records_of conn records = filter (is_of conn) records
+
+-- a connector's record data for whatever resource go
+abbrev pub records_without_conn : ConnId → List Record → List Record
+records_without_conn conn records = filter (λ recorded. not (is_of conn recorded)) records
+
+-- the first isn't of a later resource
+abbrev pub in_order : Record → Record → Bool
+in_order recorded other = resource_up_to recorded.r other.r
+
+-- they aren't of one connector for one resource
+abbrev pub apart : Record → Record → Bool
+apart recorded other = not (is_record other.r other.conn recorded)
+
+-- by resource, and of one connector one at most for a resource
+pub record AreRecords (records : List Record) : Type 0 where
+  pub ordered : IsTrue (pairwise in_order records)
+  pub one_each : IsTrue (pairwise apart records)

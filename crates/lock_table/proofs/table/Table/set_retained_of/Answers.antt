@@ -1,0 +1,12 @@
+use Rattle.std.proofs.Common.{arith}
+use Rattle.lock_table.proofs.HoldingLaws.{owners-in_retention_of}
+use Rattle.lock_table.proofs.table.Table.set_retained_of.Goals as goal
+
+pub invariant_of-self : goal.invariant_of-self
+invariant_of-self c =
+    record {
+      owners =
+          rw c.put_retentions_of.ensures.items
+          (owners-in_retention_of c.args.conn c.args.retained c.self.inside.owners.items c.self.invariant.owners);
+      few = omega (arith, c.put_retentions_of.ensures.len, c.self.invariant.few);
+    }

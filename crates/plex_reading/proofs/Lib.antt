@@ -1,0 +1,9 @@
+pub mod Cuts
+pub mod Callers
+pub mod Works
+pub mod Heard
+pub mod Played
+pub mod Entries
+pub mod Items
+pub mod Histories
+pub mod Readings
