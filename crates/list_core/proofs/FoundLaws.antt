@@ -1,0 +1,31 @@
+-- What is known of a record that a command names.
+use Rattle.std.proofs.Common.{◌≡◌, ℕ, Bool, true, Option, Some, None, is_some, unwrap_or, refl, ap, ◌∙◌}
+use Rattle.std.specs.List.{list_any}
+use Rattle.std.proofs.lemmas.Bool.{false≢true}
+use Rattle.list_laws.proofs.FilterLaws.{any_is_found}
+use Rattle.cf_types.specs.declared.list_commands.At.{At}
+use Rattle.cf_types.specs.declared.names.Key16.{Key16}
+use Rattle.list_store.specs.declared.records.Rec.{Rec}
+use Rattle.list_store.specs.Lists.{Lists, all_records, is_id, record_of, lists_without}
+use Rattle.list_model.specs.Lists.{record_at, the_record, no_record, with_record}
+use Rattle.list_model.specs.Commands.Move.{moved}
+use Rattle.list_core.specs.Keeping.{put_back}
+use Rattle.list_core.specs.Found.{IsFound}
+
+pub found-any : (lists : Lists) (at : At) → IsFound lists at → list_any (is_id (the_record lists at).id) (all_records lists) ≡ true
+found-any lists at is =
+    any_is_found (is_id (the_record lists at).id) (all_records lists)
+    ∙ ap (λ (o : Option Rec). is_some o) is.by_id ∙ is.there
+
+-- it is the record that is taken out and put back
+pub found-put_back : (head : Bool) (header : ℕ) (key : Option Key16) (lists : Lists) (at : At) → IsFound lists at
+    → put_back head header key (record_of (the_record lists at).id lists) (lists_without (the_record lists at).id lists)
+    ≡ with_record head header (moved key (the_record lists at)) (lists_without (the_record lists at).id lists)
+found-put_back head header key lists at is =
+    ap (λ (o : Option Rec). put_back head header key o (lists_without (the_record lists at).id lists)) is.by_id
+    ∙ go (record_at lists at) is.there (lists_without (the_record lists at).id lists)
+  where
+    go : (o : Option Rec) → is_some o ≡ true → (rest : Lists)
+        → put_back head header key o rest ≡ with_record head header (moved key (unwrap_or o no_record)) rest
+    go None e rest = absurd (false≢true e)
+    go (Some rec) e rest = refl

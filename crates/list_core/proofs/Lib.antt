@@ -1,0 +1,6 @@
+pub mod ToldLaws
+pub mod ReadLaws
+pub mod FoundLaws
+pub mod LastLaws
+pub mod PlanLaws
+pub mod RowLaws

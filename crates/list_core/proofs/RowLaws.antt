@@ -1,0 +1,41 @@
+-- Monitors as triples, and back.
+use Rattle.std.proofs.Common.{◌≡◌, ℕ, ◌+◌, Bool, true, false, not, cond, List, [], ◌∷◌, map, refl, sym, ap, arith}
+use Rattle.std.specs.List.{list_all}
+use Rattle.std.proofs.lemmas.Bool.{and_from, false≢true}
+use Rattle.list_store.specs.Lists.{Lists}
+use Rattle.list_watch.specs.declared.monitors.Monitor.{Monitor}
+use Rattle.list_watch.specs.declared.monitors.Watched.{Watched}
+use Rattle.list_watch.specs.Rows.{monitors_of}
+use Rattle.list_watch.specs.Ends.{differs}
+use Rattle.list_model.specs.Contents.{has_records}
+use Rattle.list_model.specs.Items.{Triple, triple_of, monitor_of}
+use Rattle.list_core.specs.Told.{is_told}
+use Rattle.list_core.specs.Rows.{told_row}
+
+pub map-triples : (rows : List Watched) → map (λ (row : Watched). triple_of row.monitor) rows ≡ map triple_of (monitors_of rows)
+map-triples [] = refl
+map-triples (row ∷ rows) = ap (λ (l : List Triple). triple_of row.monitor ∷ l) (map-triples rows)
+
+pub monitors-told_rows : (lists : Lists) (watches : List Triple) → monitors_of (map (told_row lists) watches) ≡ map monitor_of watches
+monitors-told_rows lists [] = refl
+monitors-told_rows lists (watch ∷ watches) = ap (λ (l : List Monitor). monitor_of watch ∷ l) (monitors-told_rows lists watches)
+
+same : (a : Bool) → not (differs a a) ≡ true
+same true = refl
+same false = refl
+
+pub told-told_rows : (lists : Lists) (watches : List Triple) → list_all (is_told lists) (map (told_row lists) watches) ≡ true
+told-told_rows lists [] = refl
+told-told_rows lists (watch ∷ watches) =
+    and_from (is_told lists (told_row lists watch)) (list_all (is_told lists) (map (told_row lists) watches))
+    (same (has_records lists (monitor_of watch).header)) (told-told_rows lists watches)
+
+-- ---- one item more where there are controls
+
+pub one_more : (b : Bool) (n m : ℕ) → n ≡ cond b 1 0 + m → b ≡ true → n ≡ 1 + m
+one_more true n m e h = e
+one_more false n m e h = absurd (false≢true h)
+
+pub no_more : (b : Bool) (n m : ℕ) → n ≡ cond b 1 0 + m → b ≡ false → n ≡ m
+no_more true n m e h = absurd (false≢true (sym h))
+no_more false n m e h = omega (arith, e)

@@ -1,0 +1,15 @@
+use Rattle.std.proofs.Common.{sym, ap, ◌∙◌, subst}
+use Rattle.engine_api.specs.declared.shapes.Shape.{Shape}
+use Rattle.list_model.specs.Contents.{Content, IsContent}
+use Rattle.list_model.proofs.EngineLaws.{content-nothing}
+use Rattle.list_core.specs.Seen.{is_list}
+use Rattle.list_core.proofs.engine.ListEngineEngine.empty.Goals as goal
+
+pub invariant_of-result : goal.invariant_of-result
+invariant_of-result c =
+    record {
+      list = ap (λ (s : Shape). is_list s.kind) c.of-shape.ensures ∙ c.requires.kind;
+      caps = c.requires.caps;
+      content = subst (λ (k : Content). IsContent c.of-shape.result c.args.caps k) (sym c.in_ok-kept.ensures)
+          (content-nothing c.of-shape.result c.args.caps);
+    }

@@ -1,0 +1,42 @@
+use Rattle.std.proofs.Common.{◌≡◌, ℕ, ◌+◌, ◌-◌, ◌<◌, Some, Option, length, drop, slice_get, option_map, sym, ap, ◌∙◌, arith}
+use Rattle.std.proofs.lemmas.Result.{IfOk-weaker}
+use Rattle.std.proofs.lemmas.Option.{slice_get-get_or}
+use Rattle.list_store.specs.declared.records.Rec.{Rec}
+use Rattle.list_store.specs.Lists.{Lists, records_of}
+use Rattle.list_model.specs.declared.items.ListItem.{ListItem}
+use Rattle.list_model.specs.Items.{row_of, rows_from}
+use Rattle.list_model.proofs.ItemLaws.{row-here, row-later}
+use Rattle.list_core.proofs.ReadLaws.{drop_lists, count_more}
+use Rattle.list_core.proofs.items.copy_row.Goals as goal
+
+pub returns-then-left-len : goal.returns-then-left-len
+returns-then-left-len c =
+    let lists = c.args.kept.now.content.lists in
+    let header = c.loop-header.header in
+    let left = c.loop-header.left in
+    let recs = records_of lists header in
+    let rec = c.index-records-left.result in
+    let within : left < length recs = omega (arith, c.if-left-len.true, c.len-len.ensures) in
+    let read = rw c.records.ensures.records at c.index-records-left.is in
+    let here : slice_get recs left ≡ Some rec = slice_get-get_or recs left rec within ∙ ap (λ (r : Rec). Some r) (sym read) in
+    let there : slice_get (rows_from 0 lists) c.args.k ≡ Some (row_of header rec) =
+    sym c.loop-header.invariant.0
+    ∙ ap (λ (l : Lists). slice_get (rows_from header l) left) (drop_lists lists header (omega arith))
+    ∙ row-here header left recs (drop (header + 1) lists) within
+    ∙ ap (λ (o : Option Rec). option_map (row_of header) o) here in
+    IfOk-weaker c.row.result (λ item. item ≡ row_of header rec) (λ item. slice_get (rows_from 0 lists) c.args.k ≡ Some item)
+    (λ item h. there ∙ ap (λ (i : ListItem). Some i) (sym h)) c.row.ensures
+
+pub loop-header-preserved : goal.loop-header-preserved
+loop-header-preserved c =
+    let lists = c.args.kept.now.content.lists in
+    let header = c.loop-header.header in
+    let left = c.loop-header.left in
+    let recs = records_of lists header in
+    let len : c.len-len.result ≡ length recs = c.len-len.ensures in (
+      ap (λ (n : ℕ). slice_get (rows_from (header + 1) (drop (header + 1) lists)) (left - n)) len
+          ∙ sym (row-later header left recs (drop (header + 1) lists) (omega (arith, c.if-left-len.false, len)))
+          ∙ ap (λ (l : Lists). slice_get (rows_from header l) left) (sym (drop_lists lists header (omega arith)))
+          ∙ c.loop-header.invariant.0,
+      omega (arith, count_more lists header (omega arith), c.loop-header.invariant.1, len, c.if-left-len.false),
+    )

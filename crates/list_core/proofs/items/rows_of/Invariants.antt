@@ -1,0 +1,7 @@
+use Rattle.std.proofs.Common.{◌≡◌, ◌++◌, drop, map}
+use Rattle.list_core.specs.Rows.{told_row}
+use Rattle.list_core.proofs.items.rows_of.Given as goal
+
+abbrev pub invariant-loop-watch : goal.invariant-loop-watch
+invariant-loop-watch l =
+    l.rows.items ++ map (told_row l.kept.content.lists) (drop l.watch-index l.watches) ≡ map (told_row l.kept.content.lists) l.watches

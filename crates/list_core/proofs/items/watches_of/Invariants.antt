@@ -1,0 +1,8 @@
+use Rattle.std.proofs.Common.{◌≡◌, ◌++◌, drop, map}
+use Rattle.list_watch.specs.declared.monitors.Watched.{Watched}
+use Rattle.list_model.specs.Items.{triple_of}
+use Rattle.list_core.proofs.items.watches_of.Given as goal
+
+abbrev pub invariant-loop-row : goal.invariant-loop-row
+invariant-loop-row l =
+    l.list.items ++ map (λ (row : Watched). triple_of row.monitor) (drop l.row-index l.rows) ≡ map (λ (row : Watched). triple_of row.monitor) l.rows

@@ -1,0 +1,6 @@
+pub mod Told
+pub mod Keeping
+pub mod Found
+pub mod Plans
+pub mod Seen
+pub mod Rows

@@ -1,0 +1,22 @@
+-- Items that are put in, one after another.
+use Rattle.std.specs.Prelude.{◌≡◌, ◌<◌, false, length, map}
+use Rattle.std.specs.List.{list_any}
+use Rattle.list_store.specs.Lists.{Lists, all_records, is_id}
+use Rattle.list_watch.specs.declared.monitors.Watched.{Watched}
+use Rattle.list_watch.specs.Monitors.{AreMonitors}
+use Rattle.list_model.specs.declared.items.ListItem.{ListItem}
+use Rattle.list_model.specs.declared.items.ListItem.TheVariants.{Controls, Row}
+use Rattle.list_model.specs.Contents.{Content, has_records}
+use Rattle.list_model.specs.Items.{Triple, monitor_of}
+
+-- a monitor whose connector was told whether its header has records
+abbrev pub told_row : Lists → Triple → Watched
+told_row lists watch =
+    record { monitor = monitor_of watch; full = has_records lists (monitor_of watch).header }
+
+-- a record has a header and an id of its own; monitors are apart
+abbrev pub IsPlaceable : Content → ListItem → Type 0
+IsPlaceable content (Controls next limits locks watches) =
+    AreMonitors (map monitor_of watches)
+IsPlaceable content (Row header id name key body adj) =
+    (header < length content.lists) × (list_any (is_id id) (all_records content.lists) ≡ false)

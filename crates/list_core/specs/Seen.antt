@@ -1,0 +1,53 @@
+-- The engine as contracts see it.
+use Rattle.std.specs.Prelude.{◌≡◌, ◌≤◌, Bool, true, false, IsTrue, [], length, Option, Some}
+use Rattle.cf_types.specs.declared.effects.Effects.{Effects}
+use Rattle.cf_types.specs.declared.forms.Kind.{Kind}
+use Rattle.cf_types.specs.declared.forms.Kind.TheVariants as kind
+use Rattle.cf_types.specs.declared.list_commands.ListCmd.{ListCmd}
+use Rattle.cf_types.specs.Forms.{IsCapacity}
+use Rattle.engine_api.specs.Meaning.{Held, Wish}
+use Rattle.engine_api.specs.Meaning.Wish.{ForCmd, ForLeave, ForForget}
+use Rattle.list_core.specs.declared.plans.Plan.{Plan}
+use Rattle.list_core.specs.declared.engine.ListEngine.TheInside.{Inside}
+use Rattle.list_model.specs.Contents.{Content, IsContent}
+use Rattle.list_core.specs.Keeping.{Keeping, IsRoomy}
+use Rattle.list_core.specs.Plans.{plan_for}
+
+-- what it holds, what it is ready for, and its content as it is kept, with room for more
+pub record Seen : Type 0 where
+  pub held : Held Content
+  pub plan : Option Plan
+  pub kept : Keeping
+
+abbrev pub seen : Inside → Seen
+seen e =
+    record {
+      held = record { shape = e.shape; caps = e.caps; state = e.kept.content };
+      plan = e.plan;
+      kept = e.kept;
+    }
+
+abbrev pub is_list : Kind → Bool
+is_list kind.Cache = false
+is_list (kind.List headers locks refs) = true
+is_list kind.Lock = false
+
+pub record IsKept (e : Inside) : Type 0 where
+  pub list : IsTrue (is_list e.shape.kind)
+  pub caps : IsCapacity e.caps
+  pub content : IsContent e.shape e.caps e.kept.content
+
+-- the plan is that for the command, and there is room for what it brings
+pub record IsReadyFor (e : Seen) (plan : Plan) (out : Effects) : Type 0 where
+  pub planned : e.plan ≡ Some plan
+  pub room : IsRoomy e.kept out.bits.room
+
+abbrev pub IsReady : Seen → Wish ListCmd → Effects → Type 0
+IsReady e (ForCmd by cmd) out =
+    IsReadyFor e (plan_for e.held.shape e.held.caps e.held.state by cmd) out
+IsReady e (ForLeave conn) out = length e.held.state.monitors ≤ out.bits.room
+IsReady e ForForget out = Unit {0}
+
+-- nothing, in no headers
+abbrev pub no_content : Content
+no_content = record { lists = []; limits = []; locks = []; monitors = []; next = 1 }

@@ -1,0 +1,26 @@
+//! LOCK of IXLLIST, test: who holds a list lock.
+ghost use Rattle.std.specs.Prelude.{◌≡◌};
+ghost use Rattle.engine_api.specs.Meaning.{first_refusal};
+ghost use Rattle.list_model.specs.Commands.LockTest as lock_test;
+
+use crate::keeping::{Kept, locks_of};
+use crate::refusals::{first_refusal, lock_refusal};
+use cf_types::{ListReply, Refusal};
+use engine_api::Shape;
+
+/// Why the command is refused.
+pub(crate) fn refusal(shape: Shape, lock: u32) -> Option<Refusal>
+    ensures { result ≡ first_refusal (lock_test.causes shape lock) }
+{
+    let lock_cause = lock_refusal(locks_of(shape.kind), lock);
+    first_refusal(&[lock_cause])
+}
+
+/// The reply where the command isn't refused.
+pub(crate) fn reply(kept: &Kept, lock: u32) -> ListReply
+    ensures { result ≡ lock_test.reply kept.now.content lock }
+{
+    ListReply::Holder {
+        holder: kept.holder(lock),
+    }
+}

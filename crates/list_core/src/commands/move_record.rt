@@ -1,0 +1,80 @@
+//! MOVE of IXLLIST: a record is taken out and comes to its place in a header, with a new key if one is given.
+ghost use Rattle.std.specs.Prelude.{◌≡◌, ◌<◌, length};
+ghost use Rattle.cf_types.specs.Gains.{Gains};
+ghost use Rattle.engine_api.specs.Meaning.{first_refusal};
+ghost use Rattle.list_model.specs.Contents.{stands};
+ghost use Rattle.list_model.specs.Commands.Move as moving;
+ghost use Rattle.list_core.specs.Found.{IsFound};
+ghost use Rattle.list_core.specs.Keeping.{IsRoomy};
+
+use crate::keeping::{Kept, headers_of, locks_of};
+use crate::reading::id_at;
+use crate::refusals::{
+    cond_lock_refusal, cond_refusal, first_refusal, full_refusal, header_refusal, new_key_refusal,
+    record_refusal, ref_form_refusal, ref_header_refusal, refs_of,
+};
+use cf_types::{At, Cond, ConnId, Effects, Key16, Refusal};
+use engine_api::Shape;
+
+// The header has no place for a record of another header.
+fn place_refusal(kept: &Kept, at: At, header: u32) -> Option<Refusal>
+    ensures { result ≡ moving.place_refusal kept.now.content at header }
+{
+    if kept.header_of(id_at(kept, at)) == header {
+        None
+    } else {
+        full_refusal(kept, header)
+    }
+}
+
+/// Why the command is refused.
+pub(crate) fn refusal(
+    shape: Shape,
+    kept: &Kept,
+    by: ConnId,
+    at: At,
+    header: u32,
+    key: Option<Key16>,
+    cond: Option<Cond>,
+) -> Option<Refusal>
+    ensures { result ≡ first_refusal (moving.causes shape kept.now.content by at header key cond) }
+{
+    let lock_cause = cond_lock_refusal(locks_of(shape.kind), cond);
+    let cond_cause = cond_refusal(kept, by, cond);
+    let ref_cause = ref_header_refusal(headers_of(shape.kind), at);
+    let form_cause = ref_form_refusal(refs_of(shape.kind), at);
+    let record_cause = record_refusal(kept, at);
+    let header_cause = header_refusal(headers_of(shape.kind), header);
+    let key_cause = new_key_refusal(refs_of(shape.kind), key);
+    let place_cause = place_refusal(kept, at, header);
+    first_refusal(&[
+        lock_cause,
+        cond_cause,
+        ref_cause,
+        form_cause,
+        record_cause,
+        header_cause,
+        key_cause,
+        place_cause,
+    ])
+}
+
+/// Does the command.
+pub(crate) fn act(
+    kept: &mut Kept,
+    at: At,
+    header: u32,
+    head: bool,
+    key: Option<Key16>,
+    out: &mut Effects,
+)
+    requires room { IsRoomy kept.old out.old.bits.room }
+    requires header { header < length kept.old.content.lists }
+    requires found { IsFound kept.old.content.lists at }
+    ensures content { kept.new.content ≡ moving.after kept.old.content at header head key }
+    ensures bits { Gains (stands kept.old.content) (stands kept.new.content) out.old.bits.items out.new.bits.items }
+    ensures mail { out.new.mail ≡ out.old.mail }
+{
+    let id = id_at(kept, at);
+    kept.shift(id, header, head, key, out);
+}

@@ -1,0 +1,51 @@
+//! READ_LIST of IXLLIST: the ids of a header's records, in order.
+ghost use Rattle.std.specs.Prelude.{◌≡◌, ◌++◌, ◌∷◌, [], OnOk, IfOk, map};
+ghost use Rattle.engine_api.specs.Meaning.{first_refusal};
+ghost use Rattle.list_store.specs.declared.records.Rec.{Rec};
+ghost use Rattle.list_model.specs.Commands.ReadList as read_list;
+
+use crate::keeping::{Kept, headers_of};
+use crate::refusals::{first_refusal, header_refusal};
+use cf_types::{EntryId, ListReply, Listing, NoMemory, Refusal};
+use engine_api::Shape;
+use list_store::Rec;
+use std::alloc::Global;
+
+/// Why the command is refused.
+pub(crate) fn refusal(shape: Shape, header: u32) -> Option<Refusal>
+    ensures { result ≡ first_refusal (read_list.causes shape header) }
+{
+    let header_cause = header_refusal(headers_of(shape.kind), header);
+    first_refusal(&[header_cause])
+}
+
+// One id more.
+fn push(ids: &mut Vec<EntryId>, id: EntryId) -> Result<(), NoMemory>
+    ensures { OnOk result (ids.new.items ≡ ids.old.items ++ id ∷ []) }
+{
+    ids.push(id)?;
+    Ok(())
+}
+
+// The ids of records.
+fn ids_of(alloc: Global, recs: &[Rec]) -> Result<Vec<EntryId>, NoMemory>
+    ensures { IfOk result (λ ids. ids.items ≡ map (λ (rec : Rec). rec.id) recs.now) }
+{
+    let mut ids = Vec::new(alloc);
+    for rec in recs {
+        push(&mut ids, rec.id)?;
+    }
+    Ok(ids)
+}
+
+/// The reply where the command isn't refused.
+pub(crate) fn reply(alloc: Global, kept: &Kept, header: u32) -> Result<ListReply, NoMemory>
+    ensures { IfOk result (λ reply. reply ≡ read_list.reply kept.now.content header) }
+{
+    if header < kept.headers() {
+        let ids = ids_of(alloc, kept.records(header))?;
+        Ok(ListReply::Ids(Listing::from_vec(ids)))
+    } else {
+        Ok(ListReply::Ids(Listing::new(alloc)))
+    }
+}

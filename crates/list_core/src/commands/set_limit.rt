@@ -1,0 +1,13 @@
+//! WRITE_LCONTROLS of IXLLIST: a header's limit, also below its count.
+ghost use Rattle.std.specs.Prelude.{◌≡◌, ◌<◌, length};
+ghost use Rattle.list_model.specs.Commands.SetLimit as set_limit;
+
+use crate::keeping::Kept;
+
+/// Does the command.
+pub(crate) fn act(kept: &mut Kept, header: u32, n: u32)
+    requires { header < length kept.old.content.limits }
+    ensures { kept.new.content ≡ set_limit.after kept.old.content header n }
+{
+    kept.set_limit(header, n);
+}

@@ -1,0 +1,192 @@
+use crate::items::{copy_item, count_items, place_item};
+use crate::keeping::Kept;
+use crate::plans::{Plan, act, make_plan};
+use crate::reading::{count, elements_of_others};
+use cf_types::{Caps, ConnId, Effects, EntryId, ListCmd, ListReply, NoMemory, Refusal, StrForm};
+use engine_api::{Engine, Shape};
+use list_model::ListItem;
+use std::alloc::Global;
+use std::marker::Model;
+
+/// The content of a list structure as contracts see it.
+#[derive(Drop)]
+pub struct ListContent {}
+
+impl Model for ListContent {
+    ghost use Rattle.list_core.specs.Seen.{no_content};
+    ghost use Rattle.list_model.specs.Contents.{Content};
+
+    ghost Value = { Content };
+
+    ghost view = { λ _. no_content };
+}
+
+/// A list structure (IXLLIST): its records, limits, list locks and monitors.
+#[derive(Drop)]
+pub struct ListEngine {
+    alloc: Global,
+    shape: Shape,
+    caps: Caps,
+    kept: Kept,
+    plan: Option<Plan>,
+}
+
+impl Model for ListEngine {
+    ghost use Rattle.list_core.specs.Seen.{Seen, seen, IsKept};
+
+    ghost Value = { Seen };
+
+    ghost view = { seen };
+
+    ghost invariant = { IsKept };
+}
+
+impl Engine for ListEngine {
+    ghost use Rattle.std.specs.Prelude.{refl};
+    ghost use Rattle.list_core.specs.Seen.{IsReady, is_list};
+    ghost use Rattle.list_model.specs.Contents.{IsContent};
+    ghost use Rattle.list_model.specs.Meaning.{list_meaning};
+    ghost use Rattle.list_model.proofs.EngineLaws.{content-nothing, items-nothing, step-content, leave-content, made-items, items-place, unplace-place, need-front, need-leave, need-same};
+
+    type Cmd = ListCmd;
+
+    type Reply = ListReply;
+
+    type Item = ListItem;
+
+    type State = ListContent;
+
+    ghost meaning = { list_meaning };
+
+    ghost is_kind = { is_list };
+
+    ghost is_content = { IsContent };
+
+    ghost held = { λ e. e.held };
+
+    ghost is_ready = { IsReady };
+
+    fn empty(alloc: Global, form: &StrForm, caps: Caps) -> Result<Self, NoMemory> {
+        let shape = Shape::of(form);
+        let kept = Kept::new(alloc, shape)?;
+        Ok(ListEngine {
+            alloc,
+            shape,
+            caps,
+            kept,
+            plan: None,
+        })
+    }
+
+    fn copy(&self, alloc: Global) -> Result<Self, NoMemory> {
+        let kept = self.kept.copy(alloc)?;
+        Ok(ListEngine {
+            alloc,
+            shape: self.shape,
+            caps: self.caps,
+            kept,
+            plan: None,
+        })
+    }
+
+    fn ready(&mut self, by: ConnId, cmd: &ListCmd, out: &mut Effects) -> Result<(), NoMemory> {
+        let plan = make_plan(self.alloc, self.shape, self.caps, &self.kept, by, cmd)?;
+        self.kept.reserve(out)?;
+        self.plan = Some(plan);
+        Ok(())
+    }
+
+    fn apply(
+        &mut self,
+        by: ConnId,
+        cmd: &ListCmd,
+        out: &mut Effects,
+    ) -> Result<ListReply, Refusal> {
+        match self.plan.take() {
+            Some(plan) => {
+                let Plan { reply, body } = plan;
+                match reply {
+                    Ok(reply) => {
+                        act(&mut self.kept, body, by, cmd, out);
+                        Ok(reply)
+                    }
+                    Err(refusal) => Err(refusal),
+                }
+            }
+            None => unreachable!(),
+        }
+    }
+
+    fn leave_ready(&mut self, _conn: ConnId, out: &mut Effects) -> Result<(), NoMemory> {
+        out.bits.reserve(self.kept.monitors())
+    }
+
+    fn leave(&mut self, conn: ConnId, keep: bool, out: &mut Effects) {
+        self.kept.leave(conn, keep, out);
+    }
+
+    fn back(&mut self, _conn: ConnId) {}
+
+    fn forget_ready(&mut self, _out: &mut Effects) -> Result<(), NoMemory> {
+        Ok(())
+    }
+
+    fn forget(&mut self, _out: &mut Effects) {}
+
+    fn count(&self) -> u32 {
+        count_items(self.shape, &self.kept)
+    }
+
+    fn item(&self, alloc: Global, k: u32) -> Result<ListItem, NoMemory> {
+        copy_item(alloc, self.shape, &self.kept, k)
+    }
+
+    fn place(&mut self, item: ListItem) -> Result<(), ListItem> {
+        place_item(self.alloc, &mut self.kept, item)
+    }
+
+    fn unplace(&mut self) {
+        self.kept.pop(self.shape);
+    }
+
+    fn need(&self) -> Caps {
+        Caps {
+            entries: count(&self.kept),
+            elements: elements_of_others(&self.kept, EntryId(self.kept.next())),
+        }
+    }
+
+    fn capacity(&self) -> Caps {
+        self.caps
+    }
+
+    fn stands(&self, conn: ConnId, index: u32) -> bool {
+        self.kept.stands(conn, index)
+    }
+
+    ghost content_empty = { λ shape caps. content-nothing shape caps };
+
+    ghost clear_empty = { λ shape conn index. refl };
+
+    ghost items_empty = { items-nothing };
+
+    ghost content_step = { step-content };
+
+    ghost content_leave = { leave-content };
+
+    ghost content_back = { λ shape caps content conn is. is };
+
+    ghost content_forget = { λ shape caps content is. is };
+
+    ghost made_again = { made-items };
+
+    ghost items_place = { items-place };
+
+    ghost unplace_place = { unplace-place };
+
+    ghost need_first = { need-front };
+
+    ghost need_leave = { λ shape caps content conn keep is. need-leave shape content conn keep };
+
+    ghost need_forget = { λ shape caps content is. need-same shape content };
+}

@@ -1,0 +1,19 @@
+//! The list structure of a coupling facility: lists of records with names or keys, list locks, and monitors that tell
+//! connectors which lists have records.
+#![tactic(auto)]
+
+mod commands;
+mod engine;
+mod items;
+mod keeping;
+mod plans;
+mod reading;
+mod refusals;
+
+pub use engine::{ListContent, ListEngine};
+pub use list_model::ListItem;
+pub use list_store::Rec;
+pub use list_watch::Monitor;
+
+#[cfg(test)]
+mod tests;

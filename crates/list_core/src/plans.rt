@@ -1,0 +1,178 @@
+//! What is got ready for a command, and what is done then.
+ghost use Rattle.std.specs.Prelude.{◌≡◌, ◌+◌, ◌^◌, ◌<◌, ◌≤◌, IfOk, None, false, length};
+ghost use Rattle.std.specs.List.{list_any};
+ghost use Rattle.cf_types.specs.Gains.{Gains};
+ghost use Rattle.list_store.specs.Lists.{all_records, count_of, is_id};
+ghost use Rattle.list_model.specs.Records.{elements_in};
+ghost use Rattle.list_model.specs.Contents.{stands};
+ghost use Rattle.list_model.specs.Commands.Write as write;
+ghost use Rattle.list_model.specs.Step.{cause, reply, after};
+ghost use Rattle.list_core.specs.Keeping.{IsRoomy};
+ghost use Rattle.list_core.specs.Plans.{body_of, plan_unless, plan_for, IsPossible};
+
+use crate::commands::{
+    delete, l_controls, lock_reset, lock_set, lock_test, monitor, move_record, read, read_list,
+    set_limit, unmonitor, update, write,
+};
+use crate::keeping::Kept;
+use crate::reading::copy_data;
+use cf_types::{Body, Caps, ConnId, Effects, ListCmd, ListReply, NoMemory, Refusal};
+use engine_api::Shape;
+use std::alloc::Global;
+
+/// What is got ready for a command: its reply, and a copy of the data that a record will have.
+#[derive(Debug, Drop)]
+pub(crate) struct Plan {
+    pub reply: Result<ListReply, Refusal>,
+    pub body: Option<Body>,
+}
+
+// Why a command is refused.
+fn refusal(shape: Shape, caps: Caps, kept: &Kept, by: ConnId, cmd: &ListCmd) -> Option<Refusal>
+    requires few { count_of kept.now.content.lists < 2 ^ 32 }
+    requires elements { elements_in (all_records kept.now.content.lists) < 2 ^ 32 }
+    requires alone { list_any (is_id (write.new_id kept.now.content)) (all_records kept.now.content.lists) ≡ false }
+    ensures { result ≡ cause shape caps kept.now.content by cmd.now }
+{
+    match cmd {
+        ListCmd::Write {
+            header,
+            head: _,
+            name,
+            key,
+            body,
+            adj: _,
+            cond,
+        } => write::refusal(shape, caps, kept, by, *header, *name, *key, body, *cond),
+        ListCmd::Update {
+            at,
+            body,
+            adj: _,
+            cond,
+        } => update::refusal(shape, caps, kept, by, *at, body, *cond),
+        ListCmd::Read { at, cond } => read::refusal(shape, kept, by, *at, *cond),
+        ListCmd::Move {
+            at,
+            header,
+            head: _,
+            key,
+            cond,
+        } => move_record::refusal(shape, kept, by, *at, *header, *key, *cond),
+        ListCmd::Delete { at, cond } => read::refusal(shape, kept, by, *at, *cond),
+        ListCmd::ReadList { header } => read_list::refusal(shape, *header),
+        ListCmd::LockSet { lock } => lock_set::refusal(shape, kept, *lock),
+        ListCmd::LockReset { lock } => lock_reset::refusal(shape, kept, by, *lock),
+        ListCmd::LockTest { lock } => lock_test::refusal(shape, *lock),
+        ListCmd::LControls { header } => read_list::refusal(shape, *header),
+        ListCmd::SetLimit { header, n: _ } => read_list::refusal(shape, *header),
+        ListCmd::Monitor { header, index } => monitor::refusal(shape, kept, by, *header, *index),
+        ListCmd::Unmonitor { header } => read_list::refusal(shape, *header),
+    }
+}
+
+// The reply to a command that isn't refused.
+fn reply(alloc: Global, kept: &Kept, by: ConnId, cmd: &ListCmd) -> Result<ListReply, NoMemory>
+    ensures { IfOk result (λ told. told ≡ reply kept.now.content by cmd.now) }
+{
+    match cmd {
+        ListCmd::Write { .. } => Ok(write::reply(kept)),
+        ListCmd::Update { at, .. } => Ok(update::reply(kept, *at)),
+        ListCmd::Read { at, .. } => read::reply(alloc, kept, *at),
+        ListCmd::Move { .. } => Ok(ListReply::Ok),
+        ListCmd::Delete { at, .. } => Ok(delete::reply(kept, *at)),
+        ListCmd::ReadList { header } => read_list::reply(alloc, kept, *header),
+        ListCmd::LockSet { .. } => Ok(ListReply::Ok),
+        ListCmd::LockReset { .. } => Ok(ListReply::Ok),
+        ListCmd::LockTest { lock } => Ok(lock_test::reply(kept, *lock)),
+        ListCmd::LControls { header } => Ok(l_controls::reply(kept, *header)),
+        ListCmd::SetLimit { .. } => Ok(ListReply::Ok),
+        ListCmd::Monitor { header, .. } => Ok(monitor::reply(kept, *header)),
+        ListCmd::Unmonitor { header } => Ok(unmonitor::reply(kept, by, *header)),
+    }
+}
+
+// A copy of the data that a command's record will have.
+fn copied(alloc: Global, kept: &Kept, cmd: &ListCmd) -> Result<Option<Body>, NoMemory>
+    ensures { IfOk result (λ body. body ≡ body_of kept.now.content cmd.now) }
+{
+    match cmd {
+        ListCmd::Write { body, .. } => copy_data(alloc, body),
+        ListCmd::Update { at, body, .. } => update::data(alloc, kept, *at, body),
+        _ => Ok(None),
+    }
+}
+
+// What is got ready for a command that isn't refused.
+fn plan_done(alloc: Global, kept: &Kept, by: ConnId, cmd: &ListCmd) -> Result<Plan, NoMemory>
+    ensures { IfOk result (λ plan. plan ≡ plan_unless None kept.now.content by cmd.now) }
+{
+    let told = reply(alloc, kept, by, cmd)?;
+    let body = copied(alloc, kept, cmd)?;
+    Ok(Plan {
+        reply: Ok(told),
+        body,
+    })
+}
+
+/// What is got ready for a command.
+pub(crate) fn make_plan(
+    alloc: Global,
+    shape: Shape,
+    caps: Caps,
+    kept: &Kept,
+    by: ConnId,
+    cmd: &ListCmd,
+) -> Result<Plan, NoMemory>
+    requires few { count_of kept.now.content.lists < 2 ^ 32 }
+    requires elements { elements_in (all_records kept.now.content.lists) < 2 ^ 32 }
+    requires alone { list_any (is_id (write.new_id kept.now.content)) (all_records kept.now.content.lists) ≡ false }
+    ensures { IfOk result (λ plan. plan ≡ plan_for shape caps kept.now.content by cmd.now) }
+{
+    match refusal(shape, caps, kept, by, cmd) {
+        Some(refusal) => Ok(Plan {
+            reply: Err(refusal),
+            body: None,
+        }),
+        None => plan_done(alloc, kept, by, cmd),
+    }
+}
+
+/// Does a command that isn't refused, with a copy of the data that its record will have.
+pub(crate) fn act(kept: &mut Kept, body: Option<Body>, by: ConnId, cmd: &ListCmd, out: &mut Effects)
+    requires room { IsRoomy kept.old out.old.bits.room }
+    requires possible { IsPossible kept.old.content cmd.now }
+    requires copied { body ≡ body_of kept.old.content cmd.now }
+    ensures content { kept.new.content ≡ after kept.old.content by cmd.now }
+    ensures bits { Gains (stands kept.old.content) (stands kept.new.content) out.old.bits.items out.new.bits.items }
+    ensures mail { out.new.mail ≡ out.old.mail }
+{
+    match cmd {
+        ListCmd::Write {
+            header,
+            head,
+            name,
+            key,
+            body: _,
+            adj,
+            cond: _,
+        } => write::act(kept, *header, *head, *name, *key, body, *adj, out),
+        ListCmd::Update { at, adj, .. } => update::act(kept, *at, body, *adj),
+        ListCmd::Read { .. } => {}
+        ListCmd::Move {
+            at,
+            header,
+            head,
+            key,
+            cond: _,
+        } => move_record::act(kept, *at, *header, *head, *key, out),
+        ListCmd::Delete { at, cond: _ } => delete::act(kept, *at, out),
+        ListCmd::ReadList { .. } => {}
+        ListCmd::LockSet { lock } => lock_set::act(kept, by, *lock),
+        ListCmd::LockReset { lock } => lock_reset::act(kept, *lock),
+        ListCmd::LockTest { .. } => {}
+        ListCmd::LControls { .. } => {}
+        ListCmd::SetLimit { header, n } => set_limit::act(kept, *header, *n),
+        ListCmd::Monitor { header, index } => monitor::act(kept, by, *header, *index, out),
+        ListCmd::Unmonitor { header } => unmonitor::act(kept, by, *header, out),
+    }
+}

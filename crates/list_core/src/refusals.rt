@@ -1,0 +1,315 @@
+//! Causes of refusals that commands share.
+ghost use Rattle.std.specs.Prelude.{◌≡◌, ◌<◌, ◌^◌, option_map, get_or};
+ghost use Rattle.engine_api.specs.Meaning.{first_refusal};
+ghost use Rattle.list_store.specs.Lists.{all_records, records_without};
+ghost use Rattle.list_model.specs.Records.{elements_in, is_reference};
+ghost use Rattle.list_model.specs.Lists.{record_at};
+ghost use Rattle.list_model.specs.Contents.{refs_of, locks_of, is_held_by};
+ghost use Rattle.list_model.specs.Refusals.{lock_refusal, held_refusal, not_held_refusal, cond_lock_refusal, cond_refusal, header_refusal, reference_refusal, has_names, has_keys, new_key_refusal, ref_header_refusal, ref_form_refusal, record_refusal, taken_refusal, name_refusal, full_refusal, entries_refusal, elements_refusal, index_refusal, other_refusal, in_use_refusal};
+
+use crate::keeping::Kept;
+use crate::reading::{count, elements_of_others, named, record_at};
+use cf_types::{At, Caps, Cond, ConnId, EntryId, Key16, Kind, Name16, Refs, Refusal};
+use list_store::Rec;
+
+/// The first cause that holds.
+pub(crate) fn first_refusal(causes: &[Option<Refusal>]) -> Option<Refusal>
+    ensures { result ≡ first_refusal causes.now }
+{
+    for cause in causes {
+        if let Some(refusal) = cause {
+            return Some(*refusal);
+        }
+    }
+    None
+}
+
+/// What the records of a structure are known by.
+pub(crate) fn refs_of(kind: Kind) -> Refs
+    ensures { result ≡ refs_of kind }
+{
+    match kind {
+        Kind::List { refs, .. } => refs,
+        Kind::Cache => Refs::Nothing,
+        Kind::Lock => Refs::Nothing,
+    }
+}
+
+/// The lock isn't below the number of list locks.
+pub(crate) fn lock_refusal(locks: u32, lock: u32) -> Option<Refusal>
+    ensures { result ≡ lock_refusal locks lock }
+{
+    if locks <= lock {
+        Some(Refusal::BadLock { lock, locks })
+    } else {
+        None
+    }
+}
+
+/// The lock is held by anyone.
+pub(crate) fn held_refusal(holder: Option<ConnId>) -> Option<Refusal>
+    ensures { result ≡ held_refusal holder }
+{
+    match holder {
+        Some(by) => Some(Refusal::LockHeld { by }),
+        None => None,
+    }
+}
+
+// Whether a connector holds a list lock.
+fn is_held_by(conn: ConnId, holder: Option<ConnId>) -> bool
+    ensures { result ≡ is_held_by conn holder }
+{
+    match holder {
+        Some(holder) => holder == conn,
+        None => false,
+    }
+}
+
+/// The lock isn't held by the caller.
+pub(crate) fn not_held_refusal(by: ConnId, holder: Option<ConnId>) -> Option<Refusal>
+    ensures { result ≡ not_held_refusal by holder }
+{
+    if is_held_by(by, holder) {
+        None
+    } else {
+        Some(Refusal::LockNotHeldBy { holder })
+    }
+}
+
+/// The condition's lock isn't there.
+pub(crate) fn cond_lock_refusal(locks: u32, cond: Option<Cond>) -> Option<Refusal>
+    ensures { result ≡ cond_lock_refusal locks cond }
+{
+    match cond {
+        None => None,
+        Some(Cond::NotHeld(lock)) => lock_refusal(locks, lock),
+        Some(Cond::HeldBy(lock)) => lock_refusal(locks, lock),
+    }
+}
+
+/// The condition doesn't hold.
+pub(crate) fn cond_refusal(kept: &Kept, by: ConnId, cond: Option<Cond>) -> Option<Refusal>
+    ensures { result ≡ cond_refusal kept.now.content.locks by cond }
+{
+    match cond {
+        None => None,
+        Some(Cond::NotHeld(lock)) => held_refusal(kept.holder(lock)),
+        Some(Cond::HeldBy(lock)) => not_held_refusal(by, kept.holder(lock)),
+    }
+}
+
+/// The header isn't below the number of headers.
+pub(crate) fn header_refusal(headers: u32, header: u32) -> Option<Refusal>
+    ensures { result ≡ header_refusal headers header }
+{
+    if headers <= header {
+        Some(Refusal::BadHeader { header, headers })
+    } else {
+        None
+    }
+}
+
+// Whether records that are known so have this name and this key.
+fn is_reference(refs: Refs, name: Option<Name16>, key: Option<Key16>) -> bool
+    ensures { result ≡ is_reference refs name key }
+{
+    match refs {
+        Refs::Names => name.is_some() && key.is_none(),
+        Refs::Keys => name.is_none() && key.is_some(),
+        Refs::Nothing => name.is_none() && key.is_none(),
+    }
+}
+
+/// A new record has another name or key than the structure's records.
+pub(crate) fn reference_refusal(
+    refs: Refs,
+    name: Option<Name16>,
+    key: Option<Key16>,
+) -> Option<Refusal>
+    ensures { result ≡ reference_refusal refs name key }
+{
+    if is_reference(refs, name, key) {
+        None
+    } else {
+        Some(Refusal::WrongReference { refs })
+    }
+}
+
+// Whether records are known by names.
+fn has_names(refs: Refs) -> bool
+    ensures { result ≡ has_names refs }
+{
+    match refs {
+        Refs::Names => true,
+        Refs::Keys => false,
+        Refs::Nothing => false,
+    }
+}
+
+// Whether records are known by keys.
+fn has_keys(refs: Refs) -> bool
+    ensures { result ≡ has_keys refs }
+{
+    match refs {
+        Refs::Names => false,
+        Refs::Keys => true,
+        Refs::Nothing => false,
+    }
+}
+
+/// A new key is given where records have none.
+pub(crate) fn new_key_refusal(refs: Refs, key: Option<Key16>) -> Option<Refusal>
+    ensures { result ≡ new_key_refusal refs key }
+{
+    if key.is_none() || has_keys(refs) {
+        None
+    } else {
+        Some(Refusal::WrongReference { refs })
+    }
+}
+
+/// The header of a reference isn't there.
+pub(crate) fn ref_header_refusal(headers: u32, at: At) -> Option<Refusal>
+    ensures { result ≡ ref_header_refusal headers at }
+{
+    match at {
+        At::Id(_) => None,
+        At::Name(_) => None,
+        At::Head(header) => header_refusal(headers, header),
+        At::Tail(header) => header_refusal(headers, header),
+        At::Key(header, _) => header_refusal(headers, header),
+    }
+}
+
+// Records aren't known in a way.
+fn form_refusal(known: bool, refs: Refs) -> Option<Refusal>
+    ensures { result ≡ (if known then None else Some (WrongReference refs)) }
+{
+    if known {
+        None
+    } else {
+        Some(Refusal::WrongReference { refs })
+    }
+}
+
+ghost use Rattle.std.specs.Prelude.{if◌then◌else◌, Some, None};
+ghost use Rattle.cf_types.specs.declared.refusals.Refusal.TheVariants.{WrongReference};
+
+/// Records aren't known in the way of a reference.
+pub(crate) fn ref_form_refusal(refs: Refs, at: At) -> Option<Refusal>
+    ensures { result ≡ ref_form_refusal refs at }
+{
+    match at {
+        At::Id(_) => None,
+        At::Name(_) => form_refusal(has_names(refs), refs),
+        At::Head(_) => None,
+        At::Tail(_) => None,
+        At::Key(_, _) => form_refusal(has_keys(refs), refs),
+    }
+}
+
+/// No record is named so.
+pub(crate) fn record_refusal(kept: &Kept, at: At) -> Option<Refusal>
+    ensures { result ≡ record_refusal (record_at kept.now.content.lists at) }
+{
+    match record_at(kept, at) {
+        Some(_) => None,
+        None => Some(Refusal::NoRecordThere),
+    }
+}
+
+// A record is there.
+fn taken_refusal(rec: Option<&Rec>) -> Option<Refusal>
+    ensures { result ≡ taken_refusal (option_map (λ r. r.now) rec.entry) }
+{
+    match rec {
+        Some(rec) => Some(Refusal::NameTaken { id: rec.id }),
+        None => None,
+    }
+}
+
+/// A record has the name.
+pub(crate) fn name_refusal(kept: &Kept, name: Option<Name16>) -> Option<Refusal>
+    ensures { result ≡ name_refusal (all_records kept.now.content.lists) name }
+{
+    match name {
+        Some(name) => taken_refusal(named(kept, &name)),
+        None => None,
+    }
+}
+
+/// The header has as many records as its limit, or more.
+pub(crate) fn full_refusal(kept: &Kept, header: u32) -> Option<Refusal>
+    ensures { result ≡ full_refusal kept.now.content header }
+{
+    let limit = kept.limit(header);
+    if limit <= kept.len(header) {
+        Some(Refusal::ListFull { limit })
+    } else {
+        None
+    }
+}
+
+/// The structure has as many records as entries.
+pub(crate) fn entries_refusal(caps: Caps, kept: &Kept) -> Option<Refusal>
+    requires { count_of kept.now.content.lists < 2 ^ 32 }
+    ensures { result ≡ entries_refusal caps (all_records kept.now.content.lists) }
+{
+    if caps.entries <= count(kept) {
+        Some(Refusal::EntriesFull {
+            entries: caps.entries,
+        })
+    } else {
+        None
+    }
+}
+
+ghost use Rattle.list_store.specs.Lists.{count_of};
+
+/// The data need more elements than records leave free, but for the record with an id.
+pub(crate) fn elements_refusal(caps: Caps, need: u32, kept: &Kept, id: EntryId) -> Option<Refusal>
+    requires { elements_in (all_records kept.now.content.lists) < 2 ^ 32 }
+    ensures { result ≡ elements_refusal caps need (records_without id (all_records kept.now.content.lists)) }
+{
+    let free = caps.elements.saturating_sub(elements_of_others(kept, id));
+    if need <= free {
+        None
+    } else {
+        Some(Refusal::NoListElements { need, free })
+    }
+}
+
+/// The index isn't below the length of the vector.
+pub(crate) fn index_refusal(vector: u32, index: u32) -> Option<Refusal>
+    ensures { result ≡ index_refusal vector index }
+{
+    if vector <= index {
+        Some(Refusal::BadIndex { index, len: vector })
+    } else {
+        None
+    }
+}
+
+// Another header is monitored.
+fn other_refusal(monitored: Option<u32>, header: u32) -> Option<Refusal>
+    ensures { result ≡ other_refusal monitored header }
+{
+    match monitored {
+        Some(other) => {
+            if other == header {
+                None
+            } else {
+                Some(Refusal::HeaderInUse { header: other })
+            }
+        }
+        None => None,
+    }
+}
+
+/// The index monitors another header.
+pub(crate) fn in_use_refusal(kept: &Kept, by: ConnId, index: u32, header: u32) -> Option<Refusal>
+    ensures { result ≡ in_use_refusal kept.now.content.monitors by index header }
+{
+    other_refusal(kept.monitored(by, index), header)
+}

@@ -1,0 +1,82 @@
+ghost use Rattle.cf_types.specs.Forms.{IsCaller};
+
+use super::*;
+use cf_types::{
+    At, Caps, ConnId, Effects, EntryId, Kind, ListCmd, ListReply, Listing, Name16, NoMemory, Refs,
+    Refusal, StrForm, parse_body,
+};
+use engine_api::Engine;
+use std::alloc::Global;
+use std::test::*;
+
+// An empty list structure of two headers and two connectors.
+fn list_of(alloc: Global) -> Result<ListEngine, NoMemory> {
+    let caps = Caps {
+        entries: 2,
+        elements: 2,
+    };
+    let form = StrForm {
+        name: Name16([65; 16]),
+        kind: Kind::List {
+            headers: 2,
+            locks: 1,
+            refs: Refs::Nothing,
+        },
+        caps,
+        conns: 2,
+        vector: 8,
+        keep: false,
+        prefs: Listing::from_vec(Vec::new(alloc)),
+    };
+    ListEngine::empty(alloc, &form, caps)
+}
+
+// Gets ready for a command, and does it.
+fn call(
+    engine: &mut ListEngine,
+    by: ConnId,
+    cmd: &ListCmd,
+    out: &mut Effects,
+) -> Result<Result<ListReply, Refusal>, NoMemory>
+    requires { IsCaller by }
+{
+    engine.ready(by, cmd, out)?;
+    Ok(engine.apply(by, cmd, out))
+}
+
+// The command that writes a record to the first header.
+fn write_of(alloc: Global) -> Option<ListCmd> {
+    Some(ListCmd::Write {
+        header: 0,
+        head: true,
+        name: None,
+        key: None,
+        body: Some(parse_body(alloc, b"data").ok()?),
+        adj: None,
+        cond: None,
+    })
+}
+
+#[test]
+fn what_is_written_is_read(rt: HostRuntime) -> Result<(), Fail> {
+    let alloc = rt.alloc();
+    let mut engine = list_of(alloc)?;
+    let mut out = Effects::new(alloc);
+    let watch = ListCmd::Monitor {
+        header: 0,
+        index: 3,
+    };
+    let watched = call(&mut engine, ConnId(1), &watch, &mut out)?;
+    assert!(rt; matches!(watched, Ok(ListReply::Empty)));
+    let write = write_of(alloc).ok_or("no data")?;
+    let written = call(&mut engine, ConnId(2), &write, &mut out)?;
+    assert!(rt; matches!(written, Ok(ListReply::Id { .. })));
+    assert!(rt; out.bits.items().len() == 1);
+    let at = At::Id(EntryId(1));
+    let read = ListCmd::Read { at, cond: None };
+    let found = call(&mut engine, ConnId(1), &read, &mut out)?;
+    assert!(rt; matches!(found, Ok(ListReply::Entry { .. })));
+    let copy = engine.copy(alloc)?;
+    assert!(rt; copy.count() == 2);
+    Ok(())
+}

@@ -1,0 +1,595 @@
+-- Every command and departure leads from content to content.
+use Rattle.std.proofs.Common.{◌≡◌, ℕ, ◌+◌, ◌-◌, ◌<◌, ◌≤◌, ◌==◌, ◌&&◌, Bool, true, false, not, cond, List, [], ◌∷◌, ◌++◌, Option, Some, None, is_some, is_none, unwrap_or, length, filter, find, map, set, length-set, nat_lt, nat_le, sum_by, refl, sym, ap, ◌∙◌, subst, arith}
+use Rattle.std.specs.List.{list_all}
+use Rattle.std.specs.Option.{option_or}
+use Rattle.std.proofs.lemmas.Bool.{and_parts, and_from, not-true, false≢true}
+use Rattle.std.proofs.lemmas.Bool.Decides.{nat_tests}
+use Rattle.std.proofs.lemmas.List.{length-map}
+use Rattle.std.proofs.lemmas.List.Elements.{filter-append}
+use Rattle.std.proofs.lemmas.List.Folds.{list_all-map}
+use Rattle.std.proofs.lemmas.List.Sums.{sum_by-cons}
+use Rattle.cf_types.specs.declared.forms.Caps.{Caps}
+use Rattle.cf_types.specs.declared.forms.Refs.{Refs}
+use Rattle.cf_types.specs.declared.forms.Refs.TheVariants as refs
+use Rattle.cf_types.specs.declared.list_commands.At.{At}
+use Rattle.cf_types.specs.declared.list_commands.At.TheVariants as ref
+use Rattle.cf_types.specs.declared.list_commands.Cond.{Cond}
+use Rattle.cf_types.specs.declared.list_commands.ListCmd.{ListCmd}
+use Rattle.cf_types.specs.declared.list_commands.ListCmd.TheVariants.{Write, Update, Read, Move, Delete, ReadList, LockSet, LockReset, LockTest, LControls, SetLimit, Monitor, Unmonitor}
+use Rattle.cf_types.specs.declared.list_commands.ListReply.{ListReply}
+use Rattle.cf_types.specs.declared.names.Key16.{Key16}
+use Rattle.cf_types.specs.declared.names.Name16.{Name16}
+use Rattle.cf_types.specs.declared.numbers.ConnId.{ConnId}
+use Rattle.cf_types.specs.declared.numbers.EntryId.{EntryId}
+use Rattle.cf_types.specs.declared.refusals.Refusal.{Refusal}
+use Rattle.engine_api.specs.declared.shapes.Shape.{Shape}
+use Rattle.engine_api.specs.Meaning.{Outcome, first_refusal, unless_refused}
+use Rattle.list_laws.specs.Insertions.{insertion}
+use Rattle.list_laws.specs.Pairwise.{pairwise}
+use Rattle.list_laws.proofs.FilterLaws.{list_all-filter, list_all_weaker, list_all_always, list_all-filter_same, filter_all, length-filter-le, sum_by-filter-le, any_is_found, all_from_none}
+use Rattle.list_laws.proofs.PairwiseLaws.{pairwise-filter, pairwise-map}
+use Rattle.list_store.specs.declared.records.Rec.{Rec}
+use Rattle.list_store.specs.Lists.{Lists, records_of, all_records, is_id, records_without, lists_without, replaced_by, lists_replaced, ids_apart}
+use Rattle.list_watch.specs.declared.monitors.Monitor as watched
+use Rattle.list_watch.specs.Monitors.{is_of, is_for, monitors_with, AreMonitors}
+use Rattle.list_model.specs.Records.{has_name, elements_of, is_reference, is_known, names_apart, may_precede}
+use Rattle.list_model.specs.Lists.{record_at, the_record, no_record, stands_before, with_record}
+use Rattle.list_model.specs.Contents.{Content, IsContent, is_given, headers_of, locks_of, refs_of, is_within, content_without, released}
+use Rattle.list_model.specs.Refusals.{header_refusal, new_key_refusal, record_refusal, taken_refusal, name_refusal, entries_refusal, elements_refusal, index_refusal}
+use Rattle.list_model.specs.Commands.Write as write
+use Rattle.list_model.specs.Commands.Update as update
+use Rattle.list_model.specs.Commands.Move as move
+use Rattle.list_model.specs.Commands.Monitor as monitor
+use Rattle.list_model.specs.Commands.Unmonitor as unmonitor
+use Rattle.list_model.specs.Commands.SetLimit as set_limit
+use Rattle.list_model.specs.Step.{cause, done}
+use Rattle.list_model.proofs.RecordLaws.{ordered-with, ids_apart-sym, is_id-refl, names_apart-sym}
+use Rattle.list_model.proofs.ListLaws.{IsWith, with-insertion, with-map, all-with, length-with, sum-with, pairwise-with, with-all, with-pairwise, IsIn, in-found, in-place, in-header, with-records, each-records, one-records, all-without, all-map}
+use Rattle.list_model.proofs.MonitorLaws.{monitors-filter, monitors-with, all-monitors_with}
+
+abbrev pub size : Rec → ℕ
+size rec = elements_of rec.body
+
+-- ---- causes
+
+-- none of them holds
+abbrev pub NoneHolds : List (Option Refusal) → Type 0
+NoneHolds [] = Unit {0}
+NoneHolds (cause ∷ causes) = (cause ≡ None) × NoneHolds causes
+
+pub none_hold : (causes : List (Option Refusal)) → first_refusal causes ≡ None → NoneHolds causes
+none_hold [] h = tt
+none_hold (None ∷ causes) h = (refl, none_hold causes h)
+none_hold (Some refusal ∷ causes) h = absurd (cc)
+
+unless_true : (b : Bool) (refusal : Refusal) → cond b (Some refusal) None ≡ None → b ≡ false
+unless_true true refusal h = absurd (cc)
+unless_true false refusal h = refl
+
+unless_false : (b : Bool) (refusal : Refusal) → cond b None (Some refusal) ≡ None → b ≡ true
+unless_false true refusal h = refl
+unless_false false refusal h = absurd (cc)
+
+below : (a b : ℕ) → nat_le a b ≡ false → b < a
+below a b h = grind (arith, nat_tests)
+
+below_test : (a b : ℕ) → b < a → nat_lt b a ≡ true
+below_test a b h = grind (arith, nat_tests)
+
+at_most : (a b : ℕ) → nat_le a b ≡ true → a ≤ b
+at_most a b h = grind (arith, nat_tests)
+
+pub header_there : (headers header : ℕ) → header_refusal headers header ≡ None → header < headers
+header_there headers header h = below headers header (unless_true (nat_le headers header) _ h)
+
+pub index_there : (vector index : ℕ) → index_refusal vector index ≡ None → index < vector
+index_there vector index h = below vector index (unless_true (nat_le vector index) _ h)
+
+pub elements_fit : (caps : Caps) (need : ℕ) (records : List Rec) → elements_refusal caps need records ≡ None
+    → need ≤ caps.elements - sum_by size records
+elements_fit caps need records h =
+    at_most need (caps.elements - sum_by size records)
+    (unless_false (nat_le need (caps.elements - sum_by size records)) _ h)
+
+pub entry_fits : (caps : Caps) (records : List Rec) → entries_refusal caps records ≡ None
+    → length records < caps.entries
+entry_fits caps records h =
+    below caps.entries (length records) (unless_true (nat_le caps.entries (length records)) _ h)
+
+-- ---- the record that is named is there
+
+is_there : (o : Option Rec) → record_refusal o ≡ None → o ≡ Some (unwrap_or o no_record)
+is_there None h = absurd (cc)
+is_there (Some rec) h = refl
+
+pub record_at-in : (lists : Lists) (at : At) (rec : Rec) → record_at lists at ≡ Some rec
+    → IsIn rec (all_records lists)
+record_at-in lists (ref.Id id) rec h = in-found (is_id id) (all_records lists) rec h
+record_at-in lists (ref.Name name) rec h = in-found (has_name name) (all_records lists) rec h
+record_at-in lists (ref.Head header) rec h = in-header rec lists header (in-place (records_of lists header) 0 rec h)
+record_at-in lists (ref.Tail header) rec h =
+    in-header rec lists header (in-place (records_of lists header) (length (records_of lists header) - 1) rec h)
+record_at-in lists (ref.Key header key) rec h =
+    in-header rec lists header (in-found _ (records_of lists header) rec h)
+
+pub the_record-in : (lists : Lists) (at : At) → record_refusal (record_at lists at) ≡ None
+    → IsIn (the_record lists at) (all_records lists)
+the_record-in lists at h = record_at-in lists at (the_record lists at) (is_there (record_at lists at) h)
+
+-- what is left without it
+without_it : (rec : Rec) (others all : List Rec) → IsWith rec others all → pairwise ids_apart all ≡ true
+    → records_without rec.id all ≡ others
+without_it rec others all w h =
+    let kept = λ (other : Rec). not (is_id rec.id other) in
+    let apart : list_all kept others ≡ true =
+    list_all_weaker (λ other. ids_apart rec other && ids_apart other rec) kept
+    (λ other k. (and_parts (ids_apart rec other) (ids_apart other rec) k).0) others
+    (with-pairwise ids_apart ids_apart-sym rec others all w h) in
+    let out : filter kept (rec ∷ w.back) ≡ filter kept w.back = rw (is_id-refl rec) refl in
+    ap (λ (l : List Rec). filter kept l) w.is ∙ filter-append kept w.front (rec ∷ w.back)
+    ∙ ap (λ (l : List Rec). filter kept w.front ++ l) out ∙ sym (filter-append kept w.front w.back)
+    ∙ ap (λ (l : List Rec). filter kept l) (sym w.was) ∙ filter_all kept others apart
+
+pub with-without : (rec : Rec) (all : List Rec) → IsIn rec all → pairwise ids_apart all ≡ true
+    → IsWith rec (records_without rec.id all) all
+with-without rec all i h =
+    subst (λ (l : List Rec). IsWith rec l all) (sym (without_it rec i.others all i.with_it h)) i.with_it
+
+-- ---- WRITE
+
+fresh_ids : (a n : ℕ) → nat_lt a n ≡ true → not (a == n) && not (n == a) ≡ true
+fresh_ids a n h = and_from (not (a == n)) (not (n == a)) (one a n h) (other a n h)
+  where
+    one : (a n : ℕ) → nat_lt a n ≡ true → not (a == n) ≡ true
+    one a n h = grind (arith, nat_tests)
+
+    other : (a n : ℕ) → nat_lt a n ≡ true → not (n == a) ≡ true
+    other a n h = grind (arith, nat_tests)
+
+lt_next : (a n : ℕ) → nat_lt a n ≡ true → nat_lt a (n + 1) ≡ true
+lt_next a n h = grind (arith, nat_tests)
+
+is_next : (n : ℕ) → nat_lt n (n + 1) ≡ true
+is_next n = grind (arith, nat_tests)
+
+not_taken : (o : Option Rec) → taken_refusal o ≡ None → is_some o ≡ false
+not_taken None h = refl
+not_taken (Some rec) h = absurd (cc)
+
+both_ways : (rec : Rec) (records : List Rec) → list_all (names_apart rec) records ≡ true
+    → list_all (λ other. names_apart rec other && names_apart other rec) records ≡ true
+both_ways rec records h =
+    list_all_weaker (names_apart rec) (λ other. names_apart rec other && names_apart other rec)
+    (λ other k. and_from (names_apart rec other) (names_apart other rec) k (names_apart-sym other rec ∙ k)) records h
+
+new_name : (content : Content) (name : Option Name16) (key : Option Key16) (body adj : Option (List ℕ))
+    (records : List Rec)
+    → name_refusal records name ≡ None
+    → list_all (names_apart (write.new_record content name key body adj)) records ≡ true
+new_name content None key body adj records h =
+    list_all_always (names_apart (write.new_record content None key body adj)) (λ other. refl) records
+new_name content (Some name) key body adj records h =
+    all_from_none (has_name name) records
+    (any_is_found (has_name name) records ∙ not_taken (find (has_name name) records) h)
+
+pub content-write : (shape : Shape) (caps : Caps) (content : Content) (by : ConnId) (header : ℕ) (head : Bool)
+    (name : Option Name16)
+    (key : Option Key16) (body adj : Option (List ℕ)) (cond : Option Cond) → IsContent shape caps content
+    → first_refusal (write.causes shape caps content by header name key body cond) ≡ None
+    → IsContent shape caps (write.after content header head name key body adj)
+content-write shape caps content by header head name key body adj cond is h =
+    let none = none_hold (write.causes shape caps content by header name key body cond) h in
+    let rec = write.new_record content name key body adj in
+    let all = all_records content.lists in
+    let records = insertion (stands_before head rec) rec (records_of content.lists header) in
+    let lists = with_record head header rec content.lists in
+    let within : header < length content.lists =
+    omega (arith, header_there (headers_of shape.kind) header none.1.1.0, is.headers) in
+    let w : IsWith rec all (all_records lists) = with-records rec content.lists header records within
+    (with-insertion (stands_before head rec) rec (records_of content.lists header)) in
+    record {
+      headers = length-set content.lists header records ∙ is.headers;
+      limits = is.limits;
+      locks = is.locks;
+      one_for_id = pairwise-with ids_apart rec all (all_records lists) w is.one_for_id
+          (list_all_weaker (is_given content.next) (λ other. ids_apart rec other && ids_apart other rec)
+          (λ other k. fresh_ids other.id.0 content.next k) all is.given_ids);
+      given_ids = all-with (is_given (content.next + 1)) rec all (all_records lists) w
+          (is_next content.next)
+          (list_all_weaker (is_given content.next) (is_given (content.next + 1))
+          (λ other k. lt_next other.id.0 content.next k) all is.given_ids);
+      one_for_name = pairwise-with names_apart rec all (all_records lists) w is.one_for_name
+          (both_ways rec all (new_name content name key body adj all none.1.1.1.1.0));
+      known = all-with (is_known (refs_of shape.kind)) rec all (all_records lists) w
+          (unless_false (is_reference (refs_of shape.kind) name key) _ none.1.1.1.0) is.known;
+      ordered = each-records (pairwise may_precede) content.lists header records
+          (ordered-with head rec (records_of content.lists header) (one-records (pairwise may_precede) content.lists header refl is.ordered))
+          is.ordered;
+      entries = omega (arith, length-with rec all (all_records lists) w, entry_fits caps all none.1.1.1.1.1.1.0);
+      elements = omega (
+        arith,
+        sum-with size rec all (all_records lists) w,
+        elements_fit caps (elements_of body) all none.1.1.1.1.1.1.1.0,
+        is.elements,
+      );
+      watch = is.watch;
+      within = is.within;
+    }
+
+-- ---- UPDATE
+
+-- a record with what is given where it has the id
+abbrev pub patched : EntryId → Option (List ℕ) → Option (List ℕ) → Rec → Rec
+patched id body adj rec =
+    record rec {
+      body = cond (is_id id rec) (option_or body rec.body) rec.body;
+      adj = cond (is_id id rec) (option_or adj rec.adj) rec.adj;
+    }
+
+abbrev pub Each : (Rec → Type 0) → List Rec → Type 0
+Each P [] = Unit {0}
+Each P (rec ∷ records) = P rec × Each P records
+
+each_append : (P : Rec → Type 0) (front back : List Rec) → Each P front → Each P back → Each P (front ++ back)
+each_append P [] back f b = b
+each_append P (rec ∷ front) back f b = (f.0, each_append P front back f.1 b)
+
+each_parts : (P : Rec → Type 0) (front back : List Rec) → Each P (front ++ back) → Each P front × Each P back
+each_parts P [] back e = (tt, e)
+each_parts P (rec ∷ front) back e = let rest = each_parts P front back e.1 in ((e.0, rest.0), rest.1)
+
+-- a record with this id is this one
+abbrev pub IsOnly : Rec → Rec → Type 0
+IsOnly rec other = is_id rec.id other ≡ true → other ≡ rec
+
+only_others : (rec : Rec) (records : List Rec)
+    → list_all (λ other. ids_apart rec other && ids_apart other rec) records ≡ true
+    → Each (IsOnly rec) records
+only_others rec [] h = tt
+only_others rec (other ∷ records) h =
+    let parts = and_parts (ids_apart rec other && ids_apart other rec)
+    (list_all (λ (o : Rec). ids_apart rec o && ids_apart o rec) records) h in
+    let apart = not-true (is_id rec.id other) (and_parts (ids_apart rec other) (ids_apart other rec) parts.0).0 in
+    (λ e. absurd (false≢true (sym apart ∙ e)), only_others rec records parts.1)
+
+only_one : (rec : Rec) (others all : List Rec) → IsWith rec others all → pairwise ids_apart all ≡ true
+    → Each (IsOnly rec) all
+only_one rec others all w h =
+    let apart : list_all (λ other. ids_apart rec other && ids_apart other rec) (w.front ++ w.back) ≡ true =
+    subst (λ (l : List Rec). list_all (λ other. ids_apart rec other && ids_apart other rec) l ≡ true) w.was
+    (with-pairwise ids_apart ids_apart-sym rec others all w h) in
+    let sides = each_parts (IsOnly rec) w.front w.back (only_others rec (w.front ++ w.back) apart) in
+    subst (λ (l : List Rec). Each (IsOnly rec) l) (sym w.is)
+    (each_append (IsOnly rec) w.front (rec ∷ w.back) sides.0 (λ e. refl, sides.1))
+
+agree_one : (body adj : Option (List ℕ)) (rec other : Rec) (b : Bool) → is_id rec.id other ≡ b → IsOnly rec other
+    → replaced_by (update.updated body adj rec) other ≡ patched rec.id body adj other
+agree_one body adj rec other true e only =
+    rw e (ap (λ (r : Rec). update.updated body adj r) (sym (only e)))
+agree_one body adj rec other false e only = rw e refl
+
+agree_list : (body adj : Option (List ℕ)) (rec : Rec) (records : List Rec) → Each (IsOnly rec) records
+    → map (replaced_by (update.updated body adj rec)) records ≡ map (patched rec.id body adj) records
+agree_list body adj rec [] each = refl
+agree_list body adj rec (other ∷ records) each =
+    ap (λ (r : Rec). r ∷ map (replaced_by (update.updated body adj rec)) records)
+    (agree_one body adj rec other (is_id rec.id other) refl each.0)
+    ∙ ap (λ (l : List Rec). patched rec.id body adj other ∷ l) (agree_list body adj rec records each.1)
+
+agree_lists : (body adj : Option (List ℕ)) (rec : Rec) (lists : Lists) → Each (IsOnly rec) (all_records lists)
+    → lists_replaced (update.updated body adj rec) lists ≡ map
+    (λ records. map (patched rec.id body adj) records) lists
+agree_lists body adj rec [] each = refl
+agree_lists body adj rec (records ∷ lists) each =
+    let parts = each_parts (IsOnly rec) records (all_records lists) each in
+    ap (λ (l : List Rec). l ∷ lists_replaced (update.updated body adj rec) lists)
+    (agree_list body adj rec records parts.0)
+    ∙ ap (λ (l : Lists). map (patched rec.id body adj) records ∷ l) (agree_lists body adj rec lists parts.1)
+
+-- the sizes of what is patched
+same_size : (b : Bool) (body : Option (List ℕ)) → elements_of (cond b (option_or None body) body) ≡ elements_of body
+same_size true body = refl
+same_size false body = refl
+
+unsized : (id : EntryId) (adj : Option (List ℕ)) (records : List Rec)
+    → sum_by size (map (patched id None adj) records) ≡ sum_by size records
+unsized id adj [] = refl
+unsized id adj (rec ∷ records) =
+    omega (
+      arith,
+      sum_by-cons size (patched id None adj rec) (map (patched id None adj) records),
+      sum_by-cons size rec records,
+      same_size (is_id id rec) rec.body,
+      unsized id adj records,
+    )
+
+other_size : (id : EntryId) (body adj : Option (List ℕ)) (rec : Rec) → not (is_id id rec) ≡ true
+    → size (patched id body adj rec) ≡ size rec
+other_size id body adj rec h = rw (not-true (is_id id rec) h) refl
+
+others_size : (id : EntryId) (body adj : Option (List ℕ)) (records : List Rec)
+    → list_all (λ rec. not (is_id id rec)) records ≡ true
+    → sum_by size (map (patched id body adj) records) ≡ sum_by size records
+others_size id body adj [] h = refl
+others_size id body adj (rec ∷ records) h =
+    let parts = and_parts (not (is_id id rec)) (list_all (λ (r : Rec). not (is_id id r)) records) h in
+    omega (
+      arith,
+      sum_by-cons size (patched id body adj rec) (map (patched id body adj) records),
+      sum_by-cons size rec records,
+      other_size id body adj rec parts.0,
+      others_size id body adj records parts.1,
+    )
+
+own_size : (body : List ℕ) (adj : Option (List ℕ)) (rec : Rec)
+    → size (patched rec.id (Some body) adj rec) ≡ elements_of (Some body)
+own_size body adj rec = rw (is_id-refl rec) refl
+
+patched_fits : (caps : Caps) (body adj : Option (List ℕ)) (rec : Rec) (all : List Rec) → IsIn rec all
+    → pairwise ids_apart all ≡ true
+    → sum_by size all ≤ caps.elements → elements_of body ≤ caps.elements - sum_by size (records_without rec.id all)
+    → sum_by size (map (patched rec.id body adj) all) ≤ caps.elements
+patched_fits caps None adj rec all i h le fits = omega (arith, le, unsized rec.id adj all)
+patched_fits caps (Some body) adj rec all i h le fits =
+    let w = with-without rec all i h in
+    let others = records_without rec.id all in
+    let f = patched rec.id (Some body) adj in
+    let more = sum-with size (f rec) (map f others) (map f all) (with-map f rec others all w) in
+    let less = sum-with size rec others all w in
+    omega (
+      arith,
+      le,
+      fits,
+      more,
+      less,
+      own_size body adj rec,
+      others_size rec.id (Some body) adj others (list_all-filter_same (λ (r : Rec). not (is_id rec.id r)) all),
+    )
+
+content_patched : (shape : Shape) (caps : Caps) (content : Content) (id : EntryId) (body adj : Option (List ℕ))
+    → IsContent shape caps content
+    → sum_by size (map (patched id body adj) (all_records content.lists)) ≤ caps.elements
+    → IsContent shape caps
+    (record content { lists = map (λ records. map (patched id body adj) records) content.lists })
+content_patched shape caps content id body adj is fits =
+    let f = patched id body adj in
+    let all = all_records content.lists in
+    let e = all-map f content.lists in
+    record {
+      headers = length-map content.lists (λ (records : List Rec). map f records) ∙ is.headers;
+      limits = is.limits;
+      locks = is.locks;
+      one_for_id = rw e (pairwise-map ids_apart f (λ rec other. refl) all ∙ is.one_for_id);
+      given_ids = rw e (list_all-map (is_given content.next) f all ∙ is.given_ids);
+      one_for_name = rw e (pairwise-map names_apart f (λ rec other. refl) all ∙ is.one_for_name);
+      known = rw e (list_all-map (is_known (refs_of shape.kind)) f all ∙ is.known);
+      ordered = list_all-map (pairwise may_precede) (λ (records : List Rec). map f records) content.lists
+          ∙ list_all_weaker (pairwise may_precede) (λ records. pairwise may_precede (map f records))
+          (λ records h. pairwise-map may_precede f (λ rec other. refl) records ∙ h) content.lists is.ordered;
+      entries = rw e (omega (arith, length-map all f, is.entries));
+      elements = rw e fits;
+      watch = is.watch;
+      within = is.within;
+    }
+
+pub content-update : (shape : Shape) (caps : Caps) (content : Content) (by : ConnId) (at : At)
+    (body adj : Option (List ℕ))
+    (cond : Option Cond) → IsContent shape caps content
+    → first_refusal (update.causes shape caps content by at body cond) ≡ None
+    → IsContent shape caps (update.after content at body adj)
+content-update shape caps content by at body adj cond is h =
+    let none = none_hold (update.causes shape caps content by at body cond) h in
+    let rec = the_record content.lists at in
+    let all = all_records content.lists in
+    let i = the_record-in content.lists at none.1.1.1.1.0 in
+    let each = only_one rec i.others all i.with_it is.one_for_id in
+    subst (λ (l : Lists). IsContent shape caps (record content { lists = l }))
+    (sym (agree_lists body adj rec content.lists each))
+    (content_patched shape caps content rec.id body adj is
+    (patched_fits caps body adj rec all i is.one_for_id is.elements
+    (elements_fit caps (elements_of body) (records_without rec.id all) none.1.1.1.1.1.0)))
+
+-- ---- DELETE
+
+ordered_without : (id : EntryId) (lists : Lists) → list_all (pairwise may_precede) lists ≡ true
+    → list_all (pairwise may_precede) (lists_without id lists) ≡ true
+ordered_without id lists h =
+    list_all-map (pairwise may_precede) (records_without id) lists
+    ∙ list_all_weaker (pairwise may_precede) (λ records. pairwise may_precede (records_without id records))
+    (λ records k. pairwise-filter may_precede (λ rec. not (is_id id rec)) records k) lists h
+
+pub content-without : (shape : Shape) (caps : Caps) (content : Content) (id : EntryId)
+    → IsContent shape caps content
+    → IsContent shape caps (record content { lists = lists_without id content.lists })
+content-without shape caps content id is =
+    let kept = λ (rec : Rec). not (is_id id rec) in
+    let all = all_records content.lists in
+    let e = all-without id content.lists in
+    record {
+      headers = length-map content.lists (records_without id) ∙ is.headers;
+      limits = is.limits;
+      locks = is.locks;
+      one_for_id = rw e (pairwise-filter ids_apart kept all is.one_for_id);
+      given_ids = rw e (list_all-filter (is_given content.next) kept all is.given_ids);
+      one_for_name = rw e (pairwise-filter names_apart kept all is.one_for_name);
+      known = rw e (list_all-filter (is_known (refs_of shape.kind)) kept all is.known);
+      ordered = ordered_without id content.lists is.ordered;
+      entries = rw e (omega (arith, length-filter-le kept all, is.entries));
+      elements = rw e (omega (arith, sum_by-filter-le size kept all, is.elements));
+      watch = is.watch;
+      within = is.within;
+    }
+
+-- ---- MOVE
+
+moved_known : (refs : Refs) (key : Option Key16) (rec : Rec) → new_key_refusal refs key ≡ None
+    → is_known refs rec ≡ true
+    → is_known refs (move.moved key rec) ≡ true
+moved_known refs None rec h known = known
+moved_known refs.Names (Some key) rec h known = absurd (cc)
+moved_known refs.Keys (Some key) rec h known =
+    and_from (is_none rec.name) true (and_parts (is_none rec.name) (is_some rec.key) known).0 refl
+moved_known refs.Nothing (Some key) rec h known = absurd (cc)
+
+pub content-move : (shape : Shape) (caps : Caps) (content : Content) (by : ConnId) (at : At) (header : ℕ)
+    (head : Bool)
+    (key : Option Key16) (cond : Option Cond) → IsContent shape caps content
+    → first_refusal (move.causes shape content by at header key cond) ≡ None
+    → IsContent shape caps (move.after content at header head key)
+content-move shape caps content by at header head key cond is h =
+    let none = none_hold (move.causes shape content by at header key cond) h in
+    let old = the_record content.lists at in
+    let rec = move.moved key old in
+    let kept = λ (other : Rec). not (is_id old.id other) in
+    let all = all_records content.lists in
+    let rest = records_without old.id all in
+    let left = lists_without old.id content.lists in
+    let records = insertion (stands_before head rec) rec (records_of left header) in
+    let lists = with_record head header rec left in
+    let few : length left ≡ length content.lists = length-map content.lists (records_without old.id) in
+    let within : header < length left =
+    omega (arith, header_there (headers_of shape.kind) header none.1.1.1.1.1.0, is.headers, few) in
+    let w = with-without old all (the_record-in content.lists at none.1.1.1.1.0) is.one_for_id in
+    let v : IsWith rec rest (all_records lists) =
+    subst (λ (l : List Rec). IsWith rec l (all_records lists)) (all-without old.id content.lists)
+    (with-records rec left header records within (with-insertion (stands_before head rec) rec (records_of left header))) in
+    let ordered = ordered_without old.id content.lists is.ordered in
+    record {
+      headers = length-set left header records ∙ few ∙ is.headers;
+      limits = is.limits;
+      locks = is.locks;
+      one_for_id = pairwise-with ids_apart rec rest (all_records lists) v
+          (pairwise-filter ids_apart kept all is.one_for_id)
+          (with-pairwise ids_apart ids_apart-sym old rest all w is.one_for_id);
+      given_ids = all-with (is_given content.next) rec rest (all_records lists) v
+          (with-all (is_given content.next) old rest all w is.given_ids)
+          (list_all-filter (is_given content.next) kept all is.given_ids);
+      one_for_name = pairwise-with names_apart rec rest (all_records lists) v
+          (pairwise-filter names_apart kept all is.one_for_name)
+          (with-pairwise names_apart names_apart-sym old rest all w is.one_for_name);
+      known = all-with (is_known (refs_of shape.kind)) rec rest (all_records lists) v
+          (moved_known (refs_of shape.kind) key old none.1.1.1.1.1.1.0 (with-all (is_known (refs_of shape.kind)) old rest all w is.known))
+          (list_all-filter (is_known (refs_of shape.kind)) kept all is.known);
+      ordered = each-records (pairwise may_precede) left header records
+          (ordered-with head rec (records_of left header) (one-records (pairwise may_precede) left header refl ordered)) ordered;
+      entries = omega (arith, length-with rec rest (all_records lists) v, length-with old rest all w, is.entries);
+      elements = omega
+          (arith, sum-with size rec rest (all_records lists) v, sum-with size old rest all w, is.elements);
+      watch = is.watch;
+      within = is.within;
+    }
+
+-- ---- limits, list locks and monitors
+
+same_lists : (shape : Shape) (caps : Caps) (content : Content) (limits : List ℕ) (locks : List (Option ConnId))
+    (monitors : List watched.Monitor) → IsContent shape caps content
+    → length limits ≡ headers_of shape.kind → length locks ≡ locks_of shape.kind → AreMonitors monitors
+    → list_all (is_within shape) monitors ≡ true
+    → IsContent shape caps (record content { limits = limits; locks = locks; monitors = monitors })
+same_lists shape caps content limits locks monitors is n m are within =
+    record {
+      headers = is.headers;
+      limits = n;
+      locks = m;
+      one_for_id = is.one_for_id;
+      given_ids = is.given_ids;
+      one_for_name = is.one_for_name;
+      known = is.known;
+      ordered = is.ordered;
+      entries = is.entries;
+      elements = is.elements;
+      watch = are;
+      within = within;
+    }
+
+pub content-limits : (shape : Shape) (caps : Caps) (content : Content) (header n : ℕ) → IsContent shape caps content
+    → IsContent shape caps (set_limit.after content header n)
+content-limits shape caps content header n is =
+    same_lists shape caps content (set content.limits header n) content.locks content.monitors is
+    (length-set content.limits header n ∙ is.limits) is.locks is.watch is.within
+
+pub content-locks : (shape : Shape) (caps : Caps) (content : Content) (lock : ℕ) (holder : Option ConnId)
+    → IsContent shape caps content
+    → IsContent shape caps (record content { locks = set content.locks lock holder })
+content-locks shape caps content lock holder is =
+    same_lists shape caps content content.limits (set content.locks lock holder) content.monitors is is.limits
+    (length-set content.locks lock holder ∙ is.locks) is.watch is.within
+
+pub content-monitor : (shape : Shape) (caps : Caps) (content : Content) (by : ConnId) (header index : ℕ)
+    → IsContent shape caps content
+    → first_refusal (monitor.causes shape content by header index) ≡ None
+    → IsContent shape caps (monitor.after content by header index)
+content-monitor shape caps content by header index is h =
+    let none = none_hold (monitor.causes shape content by header index) h in
+    same_lists shape caps content content.limits content.locks
+    (monitors_with by index header content.monitors) is is.limits is.locks
+    (monitors-with by index header content.monitors is.watch)
+    (all-monitors_with (is_within shape) by index header content.monitors
+    (and_from (nat_lt header (headers_of shape.kind)) (nat_lt index shape.vector)
+    (below_test (headers_of shape.kind) header (header_there (headers_of shape.kind) header none.0))
+    (below_test shape.vector index (index_there shape.vector index none.1.0))) is.within)
+
+content_fewer : (shape : Shape) (caps : Caps) (content : Content) (q : watched.Monitor → Bool)
+    (locks : List (Option ConnId))
+    → IsContent shape caps content → length locks ≡ length content.locks
+    → IsContent shape caps (record content { locks = locks; monitors = filter q content.monitors })
+content_fewer shape caps content q locks is same =
+    same_lists shape caps content content.limits locks (filter q content.monitors) is is.limits (same ∙ is.locks)
+    (monitors-filter q content.monitors is.watch) (list_all-filter (is_within shape) q content.monitors is.within)
+
+pub content-unmonitor : (shape : Shape) (caps : Caps) (content : Content) (by : ConnId) (header : ℕ)
+    → IsContent shape caps content
+    → IsContent shape caps (unmonitor.after content by header)
+content-unmonitor shape caps content by header is =
+    content_fewer shape caps content (λ m. not (is_for by header m)) content.locks is refl
+
+as_many : (conn : ConnId) (keep : Bool) (locks : List (Option ConnId))
+    → length (cond keep locks (map (released conn) locks)) ≡ length locks
+as_many conn true locks = refl
+as_many conn false locks = length-map locks (released conn)
+
+pub content-leave : (shape : Shape) (caps : Caps) (content : Content) (conn : ConnId) (keep : Bool)
+    → IsContent shape caps content
+    → IsContent shape caps (content_without content conn keep)
+content-leave shape caps content conn keep is =
+    content_fewer shape caps content (λ m. not (is_of conn m))
+    (cond keep content.locks (map (released conn) content.locks)) is
+    (as_many conn keep content.locks)
+
+-- ---- every command
+
+pub content-done : (shape : Shape) (caps : Caps) (content : Content) (by : ConnId) (cmd : ListCmd)
+    → IsContent shape caps content
+    → cause shape caps content by cmd ≡ None → IsContent shape caps (done content by cmd).state
+content-done shape caps content by (Write header head name key body adj cond) is h =
+    content-write shape caps content by header head name key body adj cond is h
+content-done shape caps content by (Update at body adj cond) is h =
+    content-update shape caps content by at body adj cond is h
+content-done shape caps content by (Read at cond) is h = is
+content-done shape caps content by (Move at header head key cond) is h =
+    content-move shape caps content by at header head key cond is h
+content-done shape caps content by (Delete at cond) is h =
+    content-without shape caps content (the_record content.lists at).id is
+content-done shape caps content by (ReadList header) is h = is
+content-done shape caps content by (LockSet lock) is h = content-locks shape caps content lock (Some by) is
+content-done shape caps content by (LockReset lock) is h = content-locks shape caps content lock None is
+content-done shape caps content by (LockTest lock) is h = is
+content-done shape caps content by (LControls header) is h = is
+content-done shape caps content by (SetLimit header n) is h = content-limits shape caps content header n is
+content-done shape caps content by (Monitor header index) is h =
+    content-monitor shape caps content by header index is h
+content-done shape caps content by (Unmonitor header) is h = content-unmonitor shape caps content by header is
+
+unless_step : (shape : Shape) (caps : Caps) (refusal : Option Refusal) (content : Content)
+    (outcome : Outcome ListReply Content)
+    → IsContent shape caps content → (refusal ≡ None → IsContent shape caps outcome.state)
+    → IsContent shape caps (unless_refused refusal content outcome).state
+unless_step shape caps None content outcome is h = h refl
+unless_step shape caps (Some refusal) content outcome is h = is
+
+pub content-step : (shape : Shape) (caps : Caps) (content : Content) (by : ConnId) (cmd : ListCmd)
+    → IsContent shape caps content
+    → IsContent shape caps (unless_refused (cause shape caps content by cmd) content (done content by cmd)).state
+content-step shape caps content by cmd is =
+    unless_step shape caps (cause shape caps content by cmd) content (done content by cmd) is
+    (content-done shape caps content by cmd is)

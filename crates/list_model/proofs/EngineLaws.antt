@@ -1,0 +1,450 @@
+-- The laws of the engine's meaning.
+use Rattle.std.proofs.Common.{◌&&◌, ◌≡◌, ℕ, zero, suc, ◌+◌, ◌-◌, ◌<◌, ◌≤◌, ◌==◌, ◌||◌, Bool, true, false, not, cond, List, [], ◌∷◌, ◌++◌, Option, None, is_some, length, length-append, length-take, map, take, drop, take-append-drop, replicate, sum_by, ◌⊎◌, inl, inr, refl, sym, ap, ◌∙◌, subst, append_assoc, arith}
+use Rattle.std.specs.List.{list_all, list_any}
+use Rattle.std.proofs.lemmas.Bool.{and_parts, and_from, or_from}
+use Rattle.std.proofs.lemmas.Bool.Decides.{nat_tests}
+use Rattle.std.proofs.lemmas.List.{length-replicate}
+use Rattle.std.proofs.lemmas.List.Sums.{sum_by-cons, sum_by-append}
+use Rattle.std.proofs.lemmas.Option.{slice_get_within}
+use Rattle.cf_types.specs.declared.forms.Caps.{Caps}
+use Rattle.cf_types.specs.declared.forms.Kind.{Kind}
+use Rattle.cf_types.specs.declared.forms.Kind.TheVariants as kind
+use Rattle.cf_types.specs.declared.numbers.ConnId.{ConnId}
+use Rattle.cf_types.specs.declared.list_commands.ListCmd.{ListCmd}
+use Rattle.cf_types.specs.declared.names.Key16.{Key16}
+use Rattle.cf_types.specs.declared.names.Name16.{Name16}
+use Rattle.cf_types.specs.declared.numbers.EntryId.{EntryId}
+use Rattle.engine_api.specs.declared.shapes.Shape.{Shape}
+use Rattle.engine_api.specs.Meaning.{stepped}
+use Rattle.engine_api.specs.Items.{IsNoMore, IsNoMoreOf, IsNextItem, made}
+use Rattle.list_laws.specs.Pairwise.{pairwise}
+use Rattle.list_laws.proofs.PairwiseLaws.{pairwise_front}
+use Rattle.list_laws.proofs.FilterLaws.{none_from_all, list_all_weaker}
+use Rattle.list_store.specs.declared.records.Rec.{Rec}
+use Rattle.list_store.specs.Lists.{Lists, all_records, count_of, ids_apart, records_of, with_records, is_id}
+use Rattle.list_model.specs.declared.items.ListItem.{ListItem}
+use Rattle.list_model.specs.declared.items.ListItem.TheVariants.{Controls, Row}
+use Rattle.list_model.specs.Records.{elements_in, is_known, names_apart, may_precede}
+use Rattle.list_model.specs.Lists.{first_records, no_record}
+use Rattle.list_model.specs.Contents.{Content, IsContent, is_given, nothing, headers_of, locks_of, refs_of, content_without, stands}
+use Rattle.list_model.specs.Items.{has_controls, controls_of, row_of, rows_from, items_of, content_with, content_without_last, entries_for, elements_for, need_of, Triple}
+use Rattle.list_model.specs.Meaning.{list_meaning}
+use Rattle.list_model.proofs.RecordLaws.{ids_apart-sym}
+use Rattle.list_model.proofs.ListLaws.{IsWith, with-push, with-records, with-pairwise}
+use Rattle.list_model.proofs.ItemLaws.{next-row, record_in, header_in, content_front, controls_in, items-front, made-again, place-next, take_append, take_next, controls-placed, first-none, first-first, first-all, count-first, length-rows, ComesFirst, ComesNext, item-comes}
+use Rattle.list_model.proofs.ContentLaws as laws
+use Rattle.list_model.proofs.ContentLaws.{size}
+
+-- ---- an empty content
+
+no_lists : (n : ℕ) → all_records (replicate n []) ≡ []
+no_lists zero = refl
+no_lists (suc n) = no_lists n
+
+no_rows : (n header : ℕ) → rows_from header (replicate n []) ≡ []
+no_rows zero header = refl
+no_rows (suc n) header = no_rows n (header + 1)
+
+all_ordered : (n : ℕ) → list_all (pairwise may_precede) (replicate n []) ≡ true
+all_ordered zero = refl
+all_ordered (suc n) = all_ordered n
+
+pub content-nothing : (shape : Shape) (caps : Caps) → IsContent shape caps (nothing shape)
+content-nothing shape caps =
+    let none = no_lists (headers_of shape.kind) in
+    record {
+      headers = length-replicate (headers_of shape.kind) [];
+      limits = length-replicate (headers_of shape.kind) shape.caps.entries;
+      locks = length-replicate (locks_of shape.kind) None;
+      one_for_id = ap (λ (l : List Rec). pairwise ids_apart l) none;
+      given_ids = ap (λ (l : List Rec). list_all (is_given 1) l) none;
+      one_for_name = ap (λ (l : List Rec). pairwise names_apart l) none;
+      known = ap (λ (l : List Rec). list_all (is_known (refs_of shape.kind)) l) none;
+      ordered = all_ordered (headers_of shape.kind);
+      entries = omega (arith, ap (λ (l : List Rec). length l) none);
+      elements = omega (arith, ap (λ (l : List Rec). elements_in l) none);
+      watch = record { one_at_index = refl; one_for_header = refl };
+      within = refl;
+    }
+
+pub clear-nothing : (shape : Shape) (conn : ConnId) (index : ℕ) → stands (nothing shape) conn index ≡ false
+clear-nothing shape conn index = refl
+
+same_test : (n : ℕ) → not (n == n) ≡ false
+same_test n = grind (arith, nat_tests)
+
+no_limits : (k n : ℕ) → list_any (λ limit. not (limit == n)) (replicate k n) ≡ false
+no_limits zero n = refl
+no_limits (suc k) n =
+    or_from (not (n == n)) (list_any (λ (limit : ℕ). not (limit == n)) (replicate k n)) (same_test n)
+    (no_limits k n)
+
+no_holders : (k : ℕ) → list_any is_some (replicate k (let nobody : Option ConnId = None in nobody)) ≡ false
+no_holders zero = refl
+no_holders (suc k) = no_holders k
+
+pub no-controls : (shape : Shape) → has_controls shape (nothing shape) ≡ false
+no-controls shape =
+    let limited =
+    list_any (λ (limit : ℕ). not (limit == shape.caps.entries))
+    (replicate (headers_of shape.kind) shape.caps.entries) in
+    let nobody : Option ConnId = None in
+    let held = list_any is_some (replicate (locks_of shape.kind) nobody) in
+    or_from (false || limited || held) false
+    (or_from (false || limited) held (or_from false limited refl (no_limits (headers_of shape.kind) shape.caps.entries))
+    (no_holders (locks_of shape.kind))) refl
+
+pub items-nothing : (shape : Shape) → items_of shape (nothing shape) ≡ []
+items-nothing shape =
+    ap (λ (b : Bool). cond b (controls_of (nothing shape) ∷ rows_from 0 (nothing shape).lists) (rows_from 0 (nothing shape).lists)) (no-controls shape)
+    ∙ no_rows (headers_of shape.kind) 0
+
+-- ---- commands and departures
+
+pub step-content : (shape : Shape) (caps : Caps) (content : Content) (by : ConnId) (cmd : ListCmd)
+    → IsContent shape caps content
+    → IsContent shape caps
+    (stepped list_meaning (record { shape = shape; caps = caps; state = content }) by cmd).state
+step-content shape caps content by cmd is = laws.content-step shape caps content by cmd is
+
+pub leave-content : (shape : Shape) (caps : Caps) (content : Content) (conn : ConnId) (keep : Bool)
+    → IsContent shape caps content
+    → IsContent shape caps (content_without content conn keep)
+leave-content shape caps content conn keep is = laws.content-leave shape caps content conn keep is
+
+-- ---- items
+
+pub made-items : (shape : Shape) (caps : Caps) (content : Content) → IsContent shape caps content
+    → made list_meaning shape (items_of shape content) ≡ content
+made-items shape caps content is = made-again shape caps content is
+
+-- where the item comes
+pub next-comes : (shape : Shape) (caps : Caps) (state : Content) (item : ListItem)
+    (next : IsNextItem list_meaning (IsContent shape caps) shape state item)
+    → ComesFirst shape next.whole state item ⊎ ComesNext shape next.whole state item
+next-comes shape caps state item next =
+    item-comes shape caps next.whole state item
+    (items_of shape state) next.others next.content next.first next.made_so
+
+comes_first : (shape : Shape) (caps : Caps) (whole state : Content) (item : ListItem) → IsContent shape caps whole
+    → ComesFirst shape whole state item
+    → content_with state item ≡ content_front 0 whole
+comes_first shape caps whole state item is first =
+    (λ i. content_with (first.start i) (first.controls i)) ∙ controls-placed shape caps whole is
+
+comes_next : (shape : Shape) (whole state : Content) (item : ListItem) (next : ComesNext shape whole state item)
+    → content_with state item ≡ content_front (next.count + 1) whole
+comes_next shape whole state item next =
+    ap (λ (c : Content). content_with c item) next.front ∙ place-next next.count whole item next.row
+
+place_items : (shape : Shape) (caps : Caps) (whole state : Content) (item : ListItem) → IsContent shape caps whole
+    → ComesFirst shape whole state item ⊎ ComesNext shape whole state item
+    → items_of shape (content_with state item) ≡ items_of shape state ++ item ∷ []
+place_items shape caps whole state item is (inl first) =
+    ap (λ (c : Content). items_of shape c) (comes_first shape caps whole state item is first)
+    ∙ items-front shape whole 0
+    ∙ ap (λ (b : Bool). cond b (controls_of whole ∷ []) [] ++ []) first.there
+    ∙ (λ i. sym (items-nothing shape) i ++ sym first.controls i ∷ [])
+    ∙ ap (λ (c : Content). items_of shape c ++ item ∷ []) (sym first.start)
+place_items shape caps whole state item is (inr next) =
+    let rows = rows_from 0 whole.lists in
+    ap (λ (c : Content). items_of shape c) (comes_next shape whole state item next)
+    ∙ items-front shape whole (next.count + 1)
+    ∙ ap (λ (l : List ListItem). controls_in shape whole ++ l) (take_next rows next.count item next.row)
+    ∙ sym (append_assoc (controls_in shape whole) (take next.count rows) (item ∷ []))
+    ∙ ap (λ (l : List ListItem). l ++ item ∷ []) (sym (items-front shape whole next.count))
+    ∙ ap (λ (c : Content). items_of shape c ++ item ∷ []) (sym next.front)
+
+pub items-place : (shape : Shape) (caps : Caps) (state : Content) (item : ListItem)
+    → IsNextItem list_meaning (IsContent shape caps) shape state item
+    → items_of shape (content_with state item) ≡ items_of shape state ++ item ∷ []
+items-place shape caps state item next =
+    place_items shape caps next.whole state item next.content (next-comes shape caps state item next)
+
+without_none : (shape : Shape) (content : Content) → count_of content.lists ≡ 0
+    → content_without_last shape content ≡ record (nothing shape) { lists = content.lists }
+without_none shape content h =
+    let e : (count_of content.lists == 0) ≡ true = grind (arith, nat_tests, h) in
+    rw e refl
+
+without_one : (shape : Shape) (content : Content) (n : ℕ) → count_of content.lists ≡ n + 1
+    → content_without_last shape content ≡ record content { lists = first_records n content.lists }
+without_one shape content n h =
+    let e : (count_of content.lists == 0) ≡ false = grind (arith, nat_tests, h) in
+    let less : count_of content.lists - 1 ≡ n = omega (arith, h) in
+    rw e (ap (λ (k : ℕ). record content { lists = first_records k content.lists }) less)
+
+place_back : (shape : Shape) (caps : Caps) (whole state : Content) (item : ListItem) → IsContent shape caps whole
+    → ComesFirst shape whole state item ⊎ ComesNext shape whole state item
+    → content_without_last shape (content_with state item) ≡ state
+place_back shape caps whole state item is (inl first) =
+    ap (λ (c : Content). content_without_last shape c) (comes_first shape caps whole state item is first)
+    ∙ without_none shape (content_front 0 whole) (omega (arith, count-first 0 whole.lists))
+    ∙ ap (λ (l : Lists). record (nothing shape) { lists = l })
+    (first-none whole.lists ∙ ap (λ (k : ℕ). replicate k []) is.headers)
+    ∙ sym first.start
+place_back shape caps whole state item is (inr next) =
+    let rows = rows_from 0 whole.lists in
+    let within : next.count < length rows = slice_get_within rows next.count item next.row in
+    ap (λ (c : Content). content_without_last shape c) (comes_next shape whole state item next)
+    ∙ without_one shape (content_front (next.count + 1) whole) next.count
+    (omega (arith, count-first (next.count + 1) whole.lists, length-rows 0 whole.lists, within))
+    ∙ ap (λ (l : Lists). record whole { lists = l })
+    (first-first next.count (next.count + 1) whole.lists (omega arith))
+    ∙ sym next.front
+
+pub unplace-place : (shape : Shape) (caps : Caps) (state : Content) (item : ListItem)
+    → IsNextItem list_meaning (IsContent shape caps) shape state item
+    → content_without_last shape (content_with state item) ≡ state
+unplace-place shape caps state item next =
+    place_back shape caps next.whole state item next.content (next-comes shape caps state item next)
+
+-- ---- need
+
+pub need-front : (items others : List ListItem) → IsNoMore (need_of items) (need_of (items ++ others))
+need-front items others =
+    (omega (arith, sum_by-append entries_for items others), omega (arith, sum_by-append elements_for items others))
+
+entries_of_map : (header : ℕ) (records : List Rec)
+    → sum_by entries_for (map (row_of header) records) ≡ length records
+entries_of_map header [] = refl
+entries_of_map header (rec ∷ records) =
+    omega
+    (arith, sum_by-cons entries_for (row_of header rec) (map (row_of header) records), entries_of_map header records)
+
+elements_of_map : (header : ℕ) (records : List Rec)
+    → sum_by elements_for (map (row_of header) records) ≡ elements_in records
+elements_of_map header [] = refl
+elements_of_map header (rec ∷ records) =
+    omega
+    (arith, sum_by-cons elements_for (row_of header rec) (map (row_of header) records), sum_by-cons size rec records, elements_of_map header records)
+
+entries_of_rows : (header : ℕ) (lists : Lists) → sum_by entries_for (rows_from header lists) ≡ count_of lists
+entries_of_rows header [] = refl
+entries_of_rows header (records ∷ lists) =
+    omega (
+      arith,
+      sum_by-append entries_for (map (row_of header) records) (rows_from (header + 1) lists),
+      entries_of_map header records,
+      length-append records (all_records lists),
+      entries_of_rows (header + 1) lists,
+    )
+
+elements_of_rows : (header : ℕ) (lists : Lists)
+    → sum_by elements_for (rows_from header lists) ≡ elements_in (all_records lists)
+elements_of_rows header [] = refl
+elements_of_rows header (records ∷ lists) =
+    omega (
+      arith,
+      sum_by-append elements_for (map (row_of header) records) (rows_from (header + 1) lists),
+      elements_of_map header records,
+      sum_by-append size records (all_records lists),
+      elements_of_rows (header + 1) lists,
+    )
+
+either_sum : (f : ListItem → ℕ) (b : Bool) (item : ListItem) (rows : List ListItem) → f item ≡ 0
+    → sum_by f (cond b (item ∷ rows) rows) ≡ sum_by f rows
+either_sum f true item rows h = omega (arith, sum_by-cons f item rows, h)
+either_sum f false item rows h = refl
+
+-- the items of a content need as much as its records
+pub need-items : (shape : Shape) (content : Content)
+    → need_of
+    (items_of shape content) ≡ record { entries = count_of content.lists; elements = elements_in (all_records content.lists) }
+need-items shape content =
+    let rows = rows_from 0 content.lists in
+    let caps : ℕ → ℕ → Caps = λ entries elements. record { entries = entries; elements = elements } in
+    ap (λ (n : ℕ). caps n (sum_by elements_for (items_of shape content)))
+    (either_sum entries_for (has_controls shape content) (controls_of content) rows refl ∙ entries_of_rows 0 content.lists)
+    ∙ ap (λ (n : ℕ). caps (count_of content.lists) n)
+    (either_sum elements_for (has_controls shape content) (controls_of content) rows refl ∙ elements_of_rows 0 content.lists)
+
+same_need : (kind : Kind) (need other : Caps) → need ≡ other → IsNoMoreOf kind need other
+same_need kind.Cache need other e =
+    (omega (arith, ap (λ (c : Caps). c.entries) e), omega (arith, ap (λ (c : Caps). c.elements) e))
+same_need (kind.List headers locks refs) need other e =
+    (omega (arith, ap (λ (c : Caps). c.entries) e), omega (arith, ap (λ (c : Caps). c.elements) e))
+same_need kind.Lock need other e = omega (arith, ap (λ (c : Caps). c.elements) e)
+
+pub need-leave : (shape : Shape) (content : Content) (conn : ConnId) (keep : Bool)
+    → IsNoMoreOf shape.kind (need_of (items_of shape (content_without content conn keep)))
+    (need_of (items_of shape content))
+need-leave shape content conn keep =
+    same_need shape.kind (need_of (items_of shape (content_without content conn keep)))
+    (need_of (items_of shape content))
+    (need-items shape (content_without content conn keep) ∙ sym (need-items shape content))
+
+pub need-same : (shape : Shape) (content : Content)
+    → IsNoMoreOf shape.kind (need_of (items_of shape content)) (need_of (items_of shape content))
+need-same shape content =
+    same_need shape.kind (need_of (items_of shape content)) (need_of (items_of shape content)) refl
+
+-- ---- a front of the records
+
+pub records-first : (n : ℕ) (lists : Lists) → all_records (first_records n lists) ≡ take n (all_records lists)
+records-first n [] = sym (none_taken n)
+  where
+    none_taken : (k : ℕ) → take {A = Rec} k [] ≡ []
+    none_taken zero = refl
+    none_taken (suc k) = refl
+records-first n (records ∷ lists) =
+    ap (λ (l : List Rec). take n records ++ l) (records-first (n - length records) lists)
+    ∙ sym (take_append n records (all_records lists))
+
+length_first : (n : ℕ) (lists : Lists) → length (first_records n lists) ≡ length lists
+length_first n [] = refl
+length_first n (records ∷ lists) = ap (λ (k : ℕ). suc k) (length_first (n - length records) lists)
+
+all_taken : {X : Type 0} (p : X → Bool) (n : ℕ) (xs : List X) → list_all p xs ≡ true → list_all p (take n xs) ≡ true
+all_taken p zero xs h = refl
+all_taken p (suc n) [] h = refl
+all_taken p (suc n) (x ∷ xs) h =
+    let parts = and_parts (p x) (list_all p xs) h in
+    and_from (p x) (list_all p (take n xs)) parts.0 (all_taken p n xs parts.1)
+
+pair_taken : {X : Type 0} (relation : X → X → Bool) (n : ℕ) (xs : List X) → pairwise relation xs ≡ true
+    → pairwise relation (take n xs) ≡ true
+pair_taken relation n xs h =
+    pairwise_front relation (take n xs) (drop n xs) (ap (λ l. pairwise relation l) (take-append-drop n xs) ∙ h)
+
+first_ordered : (n : ℕ) (lists : Lists) → list_all (pairwise may_precede) lists ≡ true
+    → list_all (pairwise may_precede) (first_records n lists) ≡ true
+first_ordered n [] h = refl
+first_ordered n (records ∷ lists) h =
+    let parts = and_parts (pairwise may_precede records) (list_all (pairwise may_precede) lists) h in
+    and_from (pairwise may_precede (take n records))
+    (list_all (pairwise may_precede) (first_records (n - length records) lists))
+    (pair_taken may_precede n records parts.0) (first_ordered (n - length records) lists parts.1)
+
+sum_taken : (n : ℕ) (records : List Rec) → elements_in (take n records) ≤ elements_in records
+sum_taken n records =
+    omega
+    (arith, sum_by-append size (take n records) (drop n records), ap (λ (l : List Rec). sum_by size l) (take-append-drop n records))
+
+-- the first records of a content are a content
+pub content-front : (shape : Shape) (caps : Caps) (content : Content) (n : ℕ) → IsContent shape caps content
+    → IsContent shape caps (content_front n content)
+content-front shape caps content n is =
+    let e = records-first n content.lists in
+    let all = all_records content.lists in
+    record {
+      headers = length_first n content.lists ∙ is.headers;
+      limits = is.limits;
+      locks = is.locks;
+      one_for_id = rw e (pair_taken ids_apart n all is.one_for_id);
+      given_ids = rw e (all_taken (is_given content.next) n all is.given_ids);
+      one_for_name = rw e (pair_taken names_apart n all is.one_for_name);
+      known = rw e (all_taken (is_known (refs_of shape.kind)) n all is.known);
+      ordered = first_ordered n content.lists is.ordered;
+      entries = rw e (omega (arith, length-take n all, is.entries));
+      elements = rw e (omega (arith, sum_taken n all, is.elements));
+      watch = is.watch;
+      within = is.within;
+    }
+
+place_content : (shape : Shape) (caps : Caps) (whole state : Content) (item : ListItem) → IsContent shape caps whole
+    → ComesFirst shape whole state item ⊎ ComesNext shape whole state item
+    → IsContent shape caps (content_with state item)
+place_content shape caps whole state item is (inl first) =
+    subst (λ (c : Content). IsContent shape caps c) (sym (comes_first shape caps whole state item is first))
+    (content-front shape caps whole 0 is)
+place_content shape caps whole state item is (inr next) =
+    subst (λ (c : Content). IsContent shape caps c) (sym (comes_next shape whole state item next))
+    (content-front shape caps whole (next.count + 1) is)
+
+-- with an item more
+pub content-place : (shape : Shape) (caps : Caps) (state : Content) (item : ListItem)
+    → IsNextItem list_meaning (IsContent shape caps) shape state item
+    → IsContent shape caps (content_with state item)
+content-place shape caps state item next =
+    place_content shape caps next.whole state item next.content (next-comes shape caps state item next)
+
+-- a record that comes next has a header that is there, and an id and a name of its own
+pub record FitsIn (content : Content) (item : ListItem) : Type 0 where
+  pub header : header_in item < length content.lists
+  pub alone : list_any (is_id (record_in item).id) (all_records content.lists) ≡ false
+
+fits_next : (shape : Shape) (caps : Caps) (whole state : Content) (item : ListItem) → IsContent shape caps whole
+    → (next : ComesNext shape whole state item) → IsContent shape caps (content_with state item) → FitsIn state item
+fits_next shape caps whole state item is next placed =
+    let row = next-row 0 next.count whole.lists item next.row in
+    let at : header_in item ≡ row.place =
+    ap (λ (i : ListItem). header_in i) row.is_row ∙ (let e : 0 + row.place ≡ row.place = omega arith in e) in
+    let few : length state.lists ≡ length whole.lists =
+    ap (λ (c : Content). length c.lists) next.front ∙ length_first next.count whole.lists in
+    let header : header_in item < length state.lists = omega (arith, at, few, row.within) in
+    let rec = record_in item in
+    let all = all_records state.lists in
+    let records = records_of state.lists (header_in item) ++ rec ∷ [] in
+    let made : content_with state item ≡ record state { lists = with_records state.lists (header_in item) records } =
+    ap (λ (i : ListItem). content_with state i) row.is_row
+    ∙ ap (λ (h : ℕ). record state { lists = with_records state.lists h (records_of state.lists h ++ rec ∷ []) })
+    (let e : 0 + row.place ≡ row.place = omega arith in e ∙ sym at) in
+    let w : IsWith rec all (all_records (with_records state.lists (header_in item) records)) =
+    with-records rec state.lists (header_in item) records header
+    (with-push rec (records_of state.lists (header_in item))) in
+    let apart : pairwise ids_apart (all_records (with_records state.lists (header_in item) records)) ≡ true =
+    ap (λ (c : Content). pairwise ids_apart (all_records c.lists)) (sym made) ∙ placed.one_for_id in
+    record {
+      header = header;
+      alone = none_from_all (is_id rec.id) all
+          (list_all_weaker (λ other. ids_apart rec other && ids_apart other rec) (λ other. not (is_id rec.id other))
+          (λ other k. (and_parts (ids_apart rec other) (ids_apart other rec) k).0) all
+          (with-pairwise ids_apart ids_apart-sym rec all (all_records (with_records state.lists (header_in item) records)) w apart));
+    }
+
+fits : (shape : Shape) (caps : Caps) (whole state : Content) (header : ℕ) (id : EntryId) (name : Option Name16)
+    (key : Option Key16)
+    (body adj : Option (List ℕ)) → IsContent shape caps whole
+    → ComesFirst shape whole state (Row header id name key body adj) ⊎ ComesNext shape whole state
+    (Row header id name key body adj)
+    → FitsIn state (Row header id name key body adj)
+fits shape caps whole state header id name key body adj is (inl first) =
+    let same : Row header id name key body adj ≡ controls_of whole = first.controls in absurd (cc)
+fits shape caps whole state header id name key body adj is (inr next) =
+    fits_next shape caps whole state (Row header id name key body adj) is next
+    (place_content shape caps whole state (Row header id name key body adj) is (inr next))
+
+pub next-fits : (shape : Shape) (caps : Caps) (state : Content) (header : ℕ) (id : EntryId) (name : Option Name16)
+    (key : Option Key16)
+    (body adj : Option (List ℕ))
+    → IsNextItem list_meaning (IsContent shape caps) shape state (Row header id name key body adj)
+    → FitsIn state (Row header id name key body adj)
+next-fits shape caps state header id name key body adj next =
+    fits shape caps next.whole state header id name key body adj next.content
+    (next-comes shape caps state (Row header id name key body adj) next)
+
+-- controls come to an empty content
+pub controls-first : (shape : Shape) (caps : Caps) (state : Content) (next : ℕ) (limits : List ℕ)
+    (locks : List (Option ConnId))
+    (watches : List Triple)
+    → IsNextItem list_meaning (IsContent shape caps) shape state (Controls next limits locks watches)
+    → state ≡ nothing shape
+controls-first shape caps state next limits locks watches comes =
+    go (next-comes shape caps state (Controls next limits locks watches) comes)
+  where
+    go : ComesFirst shape comes.whole state (Controls next limits locks watches)
+        ⊎ ComesNext shape comes.whole state (Controls next limits locks watches) → state ≡ nothing shape
+    go (inl first) = first.start
+    go (inr behind) =
+        let row = next-row 0 behind.count comes.whole.lists (Controls next limits locks watches) behind.row in
+        let same : Controls next limits locks watches ≡ row_of (0 + row.place) no_record = row.is_row in absurd (cc)
+
+without_step : (shape : Shape) (caps : Caps) (content : Content) → IsContent shape caps content → (n : ℕ)
+    → count_of content.lists ≡ n
+    → IsContent shape caps (content_without_last shape content)
+without_step shape caps content is zero h =
+    let alone : content.lists ≡ replicate (headers_of shape.kind) [] =
+    sym (first-all 0 content.lists (omega (arith, h))) ∙ first-none content.lists
+    ∙ ap (λ (k : ℕ). replicate k []) is.headers in
+    subst (λ (c : Content). IsContent shape caps c)
+    (sym (without_none shape content h ∙ ap (λ (l : Lists). record (nothing shape) { lists = l }) alone))
+    (content-nothing shape caps)
+without_step shape caps content is (suc n) h =
+    subst (λ (c : Content). IsContent shape caps c) (sym (without_one shape content n (omega (arith, h))))
+    (content-front shape caps content n is)
+
+-- without the last item
+pub content-unplace : (shape : Shape) (caps : Caps) (content : Content) → IsContent shape caps content
+    → IsContent shape caps (content_without_last shape content)
+content-unplace shape caps content is = without_step shape caps content is (count_of content.lists) refl

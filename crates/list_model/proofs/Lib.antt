@@ -1,0 +1,8 @@
+pub mod RecordLaws
+pub mod ListLaws
+pub mod MonitorLaws
+pub mod ContentLaws
+pub mod ItemLaws
+pub mod EngineLaws
+pub mod StoreLaws
+pub mod WatchLaws

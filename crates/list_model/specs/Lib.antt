@@ -1,0 +1,9 @@
+pub mod Keys
+pub mod Records
+pub mod Lists
+pub mod Contents
+pub mod Items
+pub mod Refusals
+pub mod Commands
+pub mod Step
+pub mod Meaning

@@ -1,0 +1,20 @@
+use Rattle.std.proofs.Common.{List, set, sym, ap, ◌∙◌, arith}
+use Rattle.std.specs.Vec.{with_item}
+use Rattle.list_store.specs.declared.records.Rec.{Rec}
+use Rattle.list_store.specs.Stored.{lists_in}
+use Rattle.list_store.proofs.VecLaws.{list_of-in, lists_in-set, place-less}
+use Rattle.list_store.proofs.lists.set_at.Goals as goal
+
+pub returns-clause-lists : goal.returns-clause-lists
+returns-clause-lists c =
+    let lists = c.args.lists.now.items in
+    let here = list_of-in lists c.args.header c.index_mut.result.now (omega arith) c.index_mut.ensures.value in
+    lists_in-set lists c.args.header (with_item c.index_mut.result.now c.args.place c.replace.new.dest)
+    ∙ ap (λ (recs : List Rec). set (lists_in lists) c.args.header recs)
+    (ap (λ (r : Rec). set c.index_mut.result.now.items c.args.place r) c.replace.ensures.after
+    ∙ ap (λ (recs : List Rec). set recs c.args.place c.args.rec) (sym here))
+
+pub returns-clause-room : goal.returns-clause-room
+returns-clause-room c =
+    place-less c.args.lists.now.items c.args.header c.index_mut.result.now
+    (with_item c.index_mut.result.now c.args.place c.replace.new.dest) (omega arith) c.index_mut.ensures.value (omega arith) (omega arith)

@@ -1,0 +1,413 @@
+-- The bits that change when monitors come, turn and end.
+use Rattle.std.proofs.Common.{◌≡◌, ℕ, Bool, true, false, not, ◌&&◌, ◌||◌, ◌==◌, if◌then◌else◌, List, [], ◌∷◌, ◌++◌, filter, map, refl, sym, ap, ◌∙◌, subst₂, inl, inr, ◌⊎◌, arith}
+use Rattle.std.specs.List.{list_any, list_all}
+use Rattle.std.proofs.lemmas.Bool.{and_parts, false≢true, eqb-true, eq-eqb}
+use Rattle.std.proofs.lemmas.Bool.Decides.{nat_tests}
+use Rattle.std.proofs.lemmas.List.{map-id}
+use Rattle.std.proofs.lemmas.List.Folds.{list_all-map, list_any-append}
+use Rattle.std.proofs.lemmas.Map.Views.{any-filter_same}
+use Rattle.cf_types.specs.declared.numbers.ConnId.{ConnId}
+use Rattle.cf_types.specs.declared.effects.BitChange.{BitChange}
+use Rattle.cf_types.specs.Gains.{Gains, told, difference}
+use Rattle.cf_types.proofs.GainsLaws.{gains_none, gains_one, gains_then}
+use Rattle.list_laws.specs.Pairwise.{pairwise}
+use Rattle.list_laws.proofs.FilterLaws.{none_from_all, list_all_weaker}
+use Rattle.list_watch.specs.declared.monitors.Monitor.{Monitor}
+use Rattle.list_watch.specs.declared.monitors.Watched.{Watched}
+use Rattle.list_watch.specs.Monitors.{is_at, is_for, places_apart}
+use Rattle.list_watch.specs.Rows.{monitors_of, is_lit, lit, turned}
+use Rattle.list_watch.specs.Ends.{change_to, differs, is_turned, turn_changes, rows_put}
+
+-- ---- one monitor at most at an index
+
+abbrev pub stands_at : ConnId → ℕ → Watched → Bool
+stands_at conn index row = is_at conn index row.monitor
+
+same_place : (c i d j k n : ℕ) → (c == k) && (i == n) ≡ true → not ((c == d) && (i == j)) ≡ true → not ((d == k) && (j == n)) ≡ true
+same_place c i d j k n h e = grind (arith, nat_tests)
+
+-- where one stands at an index, no later one does
+none_later : (row : Watched) (rows : List Watched) (conn : ConnId) (index : ℕ) → pairwise places_apart (monitors_of (row ∷ rows)) ≡ true
+    → stands_at conn index row ≡ true → list_any (stands_at conn index) rows ≡ false
+none_later row rows conn index apart here =
+    none_from_all (stands_at conn index) rows
+    (list_all_weaker (λ other. places_apart row.monitor other.monitor) (λ other. not (stands_at conn index other))
+    (λ other h. same_place row.monitor.conn.0 row.monitor.index other.monitor.conn.0 other.monitor.index conn.0 index here h) rows
+    (sym (list_all-map (places_apart row.monitor) (λ (r : Watched). r.monitor) rows)
+    ∙ (and_parts (list_all (places_apart row.monitor) (monitors_of rows)) (pairwise places_apart (monitors_of rows)) apart).0))
+
+rest_apart : (row : Watched) (rows : List Watched) → pairwise places_apart (monitors_of (row ∷ rows)) ≡ true
+    → pairwise places_apart (monitors_of rows) ≡ true
+rest_apart row rows apart = (and_parts (list_all (places_apart row.monitor) (monitors_of rows)) (pairwise places_apart (monitors_of rows)) apart).1
+
+-- nobody there, so no bit and nothing told
+dark : (conn : ConnId) (index : ℕ) (rows : List Watched) → list_any (stands_at conn index) rows ≡ false → lit rows conn index ≡ false
+dark conn index [] e = refl
+dark conn index (row ∷ rows) e = go (stands_at conn index row) refl e (dark conn index rows)
+  where
+    go : (b : Bool) → stands_at conn index row ≡ b → b || list_any (stands_at conn index) rows ≡ false
+        → (list_any (stands_at conn index) rows ≡ false → lit rows conn index ≡ false) → lit (row ∷ rows) conn index ≡ false
+    go true f e rest = absurd (false≢true (sym e))
+    go false f e rest = rw f (rest e)
+
+dark_filter : (p : Watched → Bool) (conn : ConnId) (index : ℕ) (rows : List Watched) → list_any (stands_at conn index) rows ≡ false
+    → lit (filter p rows) conn index ≡ false
+dark_filter p conn index [] e = refl
+dark_filter p conn index (row ∷ rows) e = go (stands_at conn index row) (p row) refl refl e (dark_filter p conn index rows)
+  where
+    go : (b d : Bool) → stands_at conn index row ≡ b → p row ≡ d → b || list_any (stands_at conn index) rows ≡ false
+        → (list_any (stands_at conn index) rows ≡ false → lit (filter p rows) conn index ≡ false) → lit (filter p (row ∷ rows)) conn index ≡ false
+    go true d f g e rest = absurd (false≢true (sym e))
+    go false true f g e rest = rw (g, f) (rest e)
+    go false false f g e rest = rw g (rest e)
+
+dark_map : (f : Watched → Watched) → ((row : Watched) → (f row).monitor ≡ row.monitor) → (conn : ConnId) (index : ℕ) (rows : List Watched)
+    → list_any (stands_at conn index) rows ≡ false → lit (map f rows) conn index ≡ false
+dark_map f same conn index [] e = refl
+dark_map f same conn index (row ∷ rows) e = go (stands_at conn index row) refl e (dark_map f same conn index rows)
+  where
+    go : (b : Bool) → stands_at conn index row ≡ b → b || list_any (stands_at conn index) rows ≡ false
+        → (list_any (stands_at conn index) rows ≡ false → lit (map f rows) conn index ≡ false) → lit (map f (row ∷ rows)) conn index ≡ false
+    go true g e rest = absurd (false≢true (sym e))
+    go false g e rest =
+        let here : stands_at conn index (f row) ≡ false = ap (is_at conn index) (same row) ∙ g in
+        rw here (rest e)
+
+quiet : (bit : Bool) (p : Watched → Bool) (conn : ConnId) (index : ℕ) (rows : List Watched) → list_any (stands_at conn index) rows ≡ false
+    → told (map (change_to bit) (filter p rows)) conn index ≡ []
+quiet bit p conn index [] e = refl
+quiet bit p conn index (row ∷ rows) e = go (stands_at conn index row) (p row) refl refl e (quiet bit p conn index rows)
+  where
+    go : (b d : Bool) → stands_at conn index row ≡ b → p row ≡ d → b || list_any (stands_at conn index) rows ≡ false
+        → (list_any (stands_at conn index) rows ≡ false → told (map (change_to bit) (filter p rows)) conn index ≡ [])
+        → told (map (change_to bit) (filter p (row ∷ rows))) conn index ≡ []
+    go true d f g e rest = absurd (false≢true (sym e))
+    go false true f g e rest = rw (g, f) (rest e)
+    go false false f g e rest = rw g (rest e)
+
+-- ---- monitors end
+
+ended_step : (p : Watched → Bool) (conn : ConnId) (index : ℕ) (row : Watched) (rows : List Watched) (a b c : Bool)
+    → stands_at conn index row ≡ a → p row ≡ b → row.full ≡ c → (a ≡ true → list_any (stands_at conn index) rows ≡ false)
+    → told (map (change_to false) (filter (λ r. r.full && p r) rows)) conn index
+    ≡ difference (lit rows conn index) (lit (filter (λ r. not (p r)) rows) conn index)
+    → told (map (change_to false) (filter (λ r. r.full && p r) (row ∷ rows))) conn index
+    ≡ difference (lit (row ∷ rows) conn index) (lit (filter (λ r. not (p r)) (row ∷ rows)) conn index)
+ended_step p conn index row rows true true true e f g none ih =
+    rw (f, g, e, quiet false (λ r. r.full && p r) conn index rows (none refl), dark_filter (λ r. not (p r)) conn index rows (none refl)) refl
+ended_step p conn index row rows true true false e f g none ih =
+    rw (f, g, e, quiet false (λ r. r.full && p r) conn index rows (none refl), dark_filter (λ r. not (p r)) conn index rows (none refl), dark conn index rows (none refl)) refl
+ended_step p conn index row rows true false true e f g none ih =
+    rw (f, g, e, quiet false (λ r. r.full && p r) conn index rows (none refl)) refl
+ended_step p conn index row rows true false false e f g none ih =
+    rw (f, g, e, quiet false (λ r. r.full && p r) conn index rows (none refl), dark_filter (λ r. not (p r)) conn index rows (none refl), dark conn index rows (none refl)) refl
+ended_step p conn index row rows false true true e f g none ih = rw (f, g, e) ih
+ended_step p conn index row rows false true false e f g none ih = rw (f, g, e) ih
+ended_step p conn index row rows false false true e f g none ih = rw (f, g, e) ih
+ended_step p conn index row rows false false false e f g none ih = rw (f, g, e) ih
+
+ended_told : (p : Watched → Bool) (conn : ConnId) (index : ℕ) (rows : List Watched) → pairwise places_apart (monitors_of rows) ≡ true
+    → told (map (change_to false) (filter (λ r. r.full && p r) rows)) conn index
+    ≡ difference (lit rows conn index) (lit (filter (λ r. not (p r)) rows) conn index)
+ended_told p conn index [] apart = refl
+ended_told p conn index (row ∷ rows) apart =
+    ended_step p conn index row rows (stands_at conn index row) (p row) row.full refl refl refl (none_later row rows conn index apart)
+    (ended_told p conn index rows (rest_apart row rows apart))
+
+-- each monitor that ends clears its bit
+pub gains_ended : (p : Watched → Bool) (rows : List Watched) (bits : List BitChange) → pairwise places_apart (monitors_of rows) ≡ true
+    → Gains (lit rows) (lit (filter (λ row. not (p row)) rows)) bits (bits ++ map (change_to false) (filter (λ row. row.full && p row) rows))
+gains_ended p rows bits apart =
+    record {
+      added = map (change_to false) (filter (λ row. row.full && p row) rows);
+      behind = refl;
+      exactly = λ conn index. ended_told p conn index rows apart;
+    }
+
+-- ---- the monitors of a header turn
+
+same_monitor : (header : ℕ) (full : Bool) (row : Watched) → (turned header full row).monitor ≡ row.monitor
+same_monitor header full row = go (row.monitor.header == header)
+  where
+    go : (b : Bool) → (if b then record row { full = full } else row).monitor ≡ row.monitor
+    go true = refl
+    go false = refl
+
+turned_step : (header : ℕ) (full : Bool) (conn : ConnId) (index : ℕ) (row : Watched) (rows : List Watched) (a b c : Bool)
+    → stands_at conn index row ≡ a → (row.monitor.header == header) ≡ b → row.full ≡ c
+    → (a ≡ true → list_any (stands_at conn index) rows ≡ false)
+    → told (turn_changes header full rows) conn index ≡ difference (lit rows conn index) (lit (map (turned header full) rows) conn index)
+    → told (turn_changes header full (row ∷ rows)) conn index
+    ≡ difference (lit (row ∷ rows) conn index) (lit (map (turned header full) (row ∷ rows)) conn index)
+turned_step header true conn index row rows true true true e f g none ih =
+    rw (f, g, e, quiet true (is_turned header true) conn index rows (none refl)) refl
+turned_step header true conn index row rows true true false e f g none ih =
+    rw (f, g, e, quiet true (is_turned header true) conn index rows (none refl), dark conn index rows (none refl)) refl
+turned_step header true conn index row rows true false true e f g none ih =
+    rw (f, g, e, quiet true (is_turned header true) conn index rows (none refl)) refl
+turned_step header true conn index row rows true false false e f g none ih =
+    rw (f, g, e, quiet true (is_turned header true) conn index rows (none refl), dark conn index rows (none refl), dark_map (turned header true) (same_monitor header true) conn index rows (none refl)) refl
+turned_step header true conn index row rows false true true e f g none ih =
+    rw (f, g, e) ih
+turned_step header true conn index row rows false true false e f g none ih =
+    rw (f, g, e) ih
+turned_step header true conn index row rows false false true e f g none ih =
+    rw (f, g, e) ih
+turned_step header true conn index row rows false false false e f g none ih =
+    rw (f, g, e) ih
+turned_step header false conn index row rows true true true e f g none ih =
+    rw (f, g, e, quiet false (is_turned header false) conn index rows (none refl), dark_map (turned header false) (same_monitor header false) conn index rows (none refl)) refl
+turned_step header false conn index row rows true true false e f g none ih =
+    rw (f, g, e, quiet false (is_turned header false) conn index rows (none refl), dark conn index rows (none refl), dark_map (turned header false) (same_monitor header false) conn index rows (none refl)) refl
+turned_step header false conn index row rows true false true e f g none ih =
+    rw (f, g, e, quiet false (is_turned header false) conn index rows (none refl)) refl
+turned_step header false conn index row rows true false false e f g none ih =
+    rw (f, g, e, quiet false (is_turned header false) conn index rows (none refl), dark conn index rows (none refl), dark_map (turned header false) (same_monitor header false) conn index rows (none refl)) refl
+turned_step header false conn index row rows false true true e f g none ih =
+    rw (f, g, e) ih
+turned_step header false conn index row rows false true false e f g none ih =
+    rw (f, g, e) ih
+turned_step header false conn index row rows false false true e f g none ih =
+    rw (f, g, e) ih
+turned_step header false conn index row rows false false false e f g none ih =
+    rw (f, g, e) ih
+
+turned_told : (header : ℕ) (full : Bool) (conn : ConnId) (index : ℕ) (rows : List Watched) → pairwise places_apart (monitors_of rows) ≡ true
+    → told (turn_changes header full rows) conn index ≡ difference (lit rows conn index) (lit (map (turned header full) rows) conn index)
+turned_told header full conn index [] apart = refl
+turned_told header full conn index (row ∷ rows) apart =
+    turned_step header full conn index row rows (stands_at conn index row) (row.monitor.header == header) row.full refl refl refl
+    (none_later row rows conn index apart) (turned_told header full conn index rows (rest_apart row rows apart))
+
+pub gains_turned : (header : ℕ) (full : Bool) (rows : List Watched) (bits : List BitChange) → pairwise places_apart (monitors_of rows) ≡ true
+    → Gains (lit rows) (lit (map (turned header full) rows)) bits (bits ++ turn_changes header full rows)
+gains_turned header full rows bits apart =
+    record {
+      added = turn_changes header full rows;
+      behind = refl;
+      exactly = λ conn index. turned_told header full conn index rows apart;
+    }
+
+-- the monitors stay
+pub monitors-turned : (header : ℕ) (full : Bool) (rows : List Watched) → monitors_of (map (turned header full) rows) ≡ monitors_of rows
+monitors-turned header full [] = refl
+monitors-turned header full (row ∷ rows) =
+    ap (λ (m : Monitor). m ∷ monitors_of (map (turned header full) rows)) (same_monitor header full row)
+    ∙ ap (λ (l : List Monitor). row.monitor ∷ l) (monitors-turned header full rows)
+
+-- ---- a monitor comes
+
+same_test : (a b c d x y : ℕ) → (a == c) && (b == d) ≡ true → not ((a == x) && (b == y)) ≡ not ((x == c) && (y == d))
+same_test a b c d x y e = grind (arith, nat_tests)
+
+elsewhere_step : (conn : ConnId) (i : ℕ) (by : ConnId) (index : ℕ) (row : Watched) (rows : List Watched) (a b d : Bool)
+    → stands_at conn i row ≡ a → not (is_at by index row.monitor) ≡ b → not ((by.0 == conn.0) && (index == i)) ≡ d → (a ≡ true → b ≡ d)
+    → lit (filter (λ r. not (is_at by index r.monitor)) rows) conn i ≡ (d && lit rows conn i)
+    → lit (filter (λ r. not (is_at by index r.monitor)) (row ∷ rows)) conn i ≡ (d && lit (row ∷ rows) conn i)
+elsewhere_step conn i by index row rows a true true e f g h ih = rw f (ap (λ b. is_lit conn i row || b) ih)
+elsewhere_step conn i by index row rows a false false e f g h ih = rw f ih
+elsewhere_step conn i by index row rows true true false e f g h ih = absurd (false≢true (sym (h refl)))
+elsewhere_step conn i by index row rows true false true e f g h ih = absurd (false≢true (h refl))
+elsewhere_step conn i by index row rows false true false e f g h ih = rw (f, e) ih
+elsewhere_step conn i by index row rows false false true e f g h ih = rw (f, e) ih
+
+-- without what stood at an index
+lit_elsewhere : (rows : List Watched) (by conn : ConnId) (index i : ℕ)
+    → lit (filter (λ r. not (is_at by index r.monitor)) rows) conn i ≡ (not ((by.0 == conn.0) && (index == i)) && lit rows conn i)
+lit_elsewhere [] by conn index i = none (not ((by.0 == conn.0) && (index == i)))
+  where
+    none : (b : Bool) → false ≡ b && false
+    none true = refl
+    none false = refl
+lit_elsewhere (row ∷ rows) by conn index i =
+    elsewhere_step conn i by index row rows (stands_at conn i row) (not (is_at by index row.monitor)) (not ((by.0 == conn.0) && (index == i)))
+    refl refl refl (λ e. same_test row.monitor.conn.0 row.monitor.index conn.0 i by.0 index e) (lit_elsewhere rows by conn index i)
+
+-- with the new one behind
+lit_put : (new : Watched) (rows : List Watched) (conn : ConnId) (i : ℕ)
+    → lit (rows_put new rows) conn i
+    ≡ (not ((new.monitor.conn.0 == conn.0) && (new.monitor.index == i)) && lit rows conn i)
+    || ((((new.monitor.conn.0 == conn.0) && (new.monitor.index == i)) && new.full) || false)
+lit_put new rows conn i =
+    list_any-append (is_lit conn i) (filter (λ r. not (is_at new.monitor.conn new.monitor.index r.monitor)) rows) (new ∷ [])
+    ∙ ap (λ b. b || ((((new.monitor.conn.0 == conn.0) && (new.monitor.index == i)) && new.full) || false)) (lit_elsewhere rows new.monitor.conn conn new.monitor.index i)
+
+other_bits : (a x y : Bool) → a ≡ false → (not a && x) || ((a && y) || false) ≡ x
+other_bits false true y e = refl
+other_bits false false y e = refl
+other_bits true x y e = absurd (false≢true (sym e))
+
+own_bit : (a x y : Bool) → a ≡ true → (not a && x) || ((a && y) || false) ≡ y
+own_bit true x true e = refl
+own_bit true x false e = refl
+own_bit false x y e = absurd (false≢true e)
+
+lit_put-other : (new : Watched) (rows : List Watched) (conn : ConnId) (i : ℕ) → (new.monitor.conn.0 == conn.0) && (new.monitor.index == i) ≡ false
+    → lit (rows_put new rows) conn i ≡ lit rows conn i
+lit_put-other new rows conn i e =
+    lit_put new rows conn i ∙ other_bits ((new.monitor.conn.0 == conn.0) && (new.monitor.index == i)) (lit rows conn i) new.full e
+
+self : (a b : ℕ) → (a == a) && (b == b) ≡ true
+self a b = grind (arith, nat_tests)
+
+lit_put-here : (new : Watched) (rows : List Watched) → lit (rows_put new rows) new.monitor.conn new.monitor.index ≡ new.full
+lit_put-here new rows =
+    lit_put new rows new.monitor.conn new.monitor.index
+    ∙ own_bit ((new.monitor.conn.0 == new.monitor.conn.0) && (new.monitor.index == new.monitor.index)) (lit rows new.monitor.conn new.monitor.index) new.full
+    (self new.monitor.conn.0 new.monitor.index)
+
+same_pair : (new : Watched) (rows : List Watched) (conn : ConnId) (i : ℕ) (b : Bool) → (new.monitor.conn.0 == conn.0) && (new.monitor.index == i) ≡ b
+    → lit rows new.monitor.conn new.monitor.index ≡ new.full → lit (rows_put new rows) conn i ≡ lit rows conn i
+same_pair new rows conn i true e stood =
+    let parts = and_parts (new.monitor.conn.0 == conn.0) (new.monitor.index == i) e in
+    subst₂ (λ (c n : ℕ). list_any (is_lit (record { 0 = c }) n) (rows_put new rows) ≡ list_any (is_lit (record { 0 = c }) n) rows)
+    (eqb-true new.monitor.conn.0 conn.0 parts.0) (eqb-true new.monitor.index i parts.1) (lit_put-here new rows ∙ sym stood)
+same_pair new rows conn i false e stood = lit_put-other new rows conn i e
+
+unequal : (a b : Bool) → differs a b ≡ true → a ≡ b → ⊥
+unequal true true e f = false≢true e
+unequal true false e f = false≢true (sym f)
+unequal false true e f = false≢true f
+unequal false false e f = false≢true e
+
+equal : (a b : Bool) → differs a b ≡ false → a ≡ b
+equal true true e = refl
+equal true false e = absurd (false≢true (sym e))
+equal false true e = absurd (false≢true (sym e))
+equal false false e = refl
+
+-- its bit is told where it stood otherwise
+pub gains_put : (new : Watched) (rows : List Watched) (bits : List BitChange)
+    → Gains (lit rows) (lit (rows_put new rows)) bits
+    (if differs (lit rows new.monitor.conn new.monitor.index) new.full
+    then bits ++ record { conn = new.monitor.conn; index = new.monitor.index; bit = new.full } ∷ []
+    else bits)
+gains_put new rows bits = go (differs (lit rows new.monitor.conn new.monitor.index) new.full) refl
+  where
+    go : (b : Bool) → differs (lit rows new.monitor.conn new.monitor.index) new.full ≡ b
+        → Gains (lit rows) (lit (rows_put new rows)) bits
+        (if b then bits ++ record { conn = new.monitor.conn; index = new.monitor.index; bit = new.full } ∷ [] else bits)
+    go true e =
+        let now = lit_put-here new rows in
+        let one = gains_one new.monitor.conn new.monitor.index (lit rows) (lit (rows_put new rows)) bits
+        (λ same. unequal (lit rows new.monitor.conn new.monitor.index) new.full e (same ∙ now)) (λ conn i f. lit_put-other new rows conn i f) in
+        rw now at one
+    go false e =
+        gains_none (lit rows) (lit (rows_put new rows)) bits
+        (λ conn i. same_pair new rows conn i ((new.monitor.conn.0 == conn.0) && (new.monitor.index == i)) refl
+        (equal (lit rows new.monitor.conn new.monitor.index) new.full e))
+
+-- ---- first the connector's monitor of the header elsewhere ends, and then it comes
+
+spared : (f b : Bool) → b ≡ true → not (f && not b) ≡ true
+spared true true e = refl
+spared false b e = refl
+spared true false e = absurd (false≢true e)
+
+at_index : (f c full : Bool) (j i n : ℕ) → (c && (j == i)) && full ≡ true → n ≡ i → not (f && not (j == n)) ≡ true
+at_index f c full j i n h e =
+    spared f (j == n) (eq-eqb j n (eqb-true j i (and_parts c (j == i) (and_parts (c && (j == i)) full h).0).1 ∙ sym e))
+
+abbrev pub is_elsewhere : Watched → Watched → Bool
+is_elsewhere new row = is_for new.monitor.conn new.monitor.header row.monitor && not (row.monitor.index == new.monitor.index)
+
+pub gains_with : (new : Watched) (rows : List Watched) (xs ys zs : List BitChange)
+    → let middle = filter (λ row. not (is_elsewhere new row)) rows in
+    Gains (lit rows) (lit middle) xs ys → Gains (lit middle) (lit (rows_put new middle)) ys zs → Gains (lit rows) (lit (rows_put new middle)) xs zs
+gains_with new rows xs ys zs first second =
+    let middle = filter (λ row. not (is_elsewhere new row)) rows in
+    gains_then (lit rows) (lit middle) (lit (rows_put new middle)) xs ys zs
+    (λ conn i. once conn i ((new.monitor.conn.0 == conn.0) && (new.monitor.index == i)) refl) first second
+  where
+    once : (conn : ConnId) (i : ℕ) (b : Bool) → (new.monitor.conn.0 == conn.0) && (new.monitor.index == i) ≡ b
+        → (lit (filter (λ row. not (is_elsewhere new row)) rows) conn i ≡ lit rows conn i)
+        ⊎ (lit (rows_put new (filter (λ row. not (is_elsewhere new row)) rows)) conn i ≡ lit (filter (λ row. not (is_elsewhere new row)) rows) conn i)
+    once conn i true e =
+        inl (any-filter_same (is_lit conn i) (λ row. not (is_elsewhere new row)) true
+        (λ row h. at_index (is_for new.monitor.conn new.monitor.header row.monitor) (row.monitor.conn.0 == conn.0) row.full row.monitor.index i new.monitor.index h
+        (eqb-true new.monitor.index i (and_parts (new.monitor.conn.0 == conn.0) (new.monitor.index == i) e).1)) rows)
+    once conn i false e = inr (lit_put-other new (filter (λ row. not (is_elsewhere new row)) rows) conn i e)
+
+-- ---- two headers turn
+
+row_two : (a b : ℕ) (x y : Bool) → ((a == b) ≡ true → y ≡ x) → (row : Watched)
+    → ((turned a x row).full ≡ row.full) ⊎ ((turned b y (turned a x row)).full ≡ (turned a x row).full)
+row_two a b x y same row = go (row.monitor.header == a) (row.monitor.header == b) refl refl
+  where
+    both : (h a b : ℕ) → (h == a) ≡ true → (h == b) ≡ true → (a == b) ≡ true
+    both h a b e f = grind (arith, nat_tests)
+
+    go : (s t : Bool) → (row.monitor.header == a) ≡ s → (row.monitor.header == b) ≡ t
+        → ((turned a x row).full ≡ row.full) ⊎ ((turned b y (turned a x row)).full ≡ (turned a x row).full)
+    go false t e f = inl (rw e refl)
+    go true true e f = inr (rw (e, f) (same (both row.monitor.header a b e f)))
+    go true false e f = inr (rw (e, f) refl)
+
+alone : (f : Watched → Watched) → ((row : Watched) → (f row).monitor ≡ row.monitor) → (conn : ConnId) (index : ℕ) (row : Watched) (rows : List Watched)
+    → stands_at conn index row ≡ true → list_any (stands_at conn index) rows ≡ false → lit (map f (row ∷ rows)) conn index ≡ (f row).full
+alone f same conn index row rows here none =
+    let there : is_at conn index (f row).monitor ≡ true = ap (is_at conn index) (same row) ∙ here in
+    ap (λ b. is_lit conn index (f row) || b) (dark_map f same conn index rows none)
+    ∙ ap (λ b. (b && (f row).full) || false) there ∙ end (f row).full
+  where
+    end : (b : Bool) → (true && b) || false ≡ b
+    end true = refl
+    end false = refl
+
+absent : (f : Watched → Watched) → ((row : Watched) → (f row).monitor ≡ row.monitor) → (conn : ConnId) (index : ℕ) (row : Watched) (rows : List Watched)
+    → stands_at conn index row ≡ false → lit (map f (row ∷ rows)) conn index ≡ lit (map f rows) conn index
+absent f same conn index row rows apart =
+    let there : is_at conn index (f row).monitor ≡ false = ap (is_at conn index) (same row) ∙ apart in
+    ap (λ b. (b && (f row).full) || lit (map f rows) conn index) there
+
+two_once : (a b : ℕ) (x y : Bool) → ((a == b) ≡ true → y ≡ x) → (conn : ConnId) (index : ℕ) (rows : List Watched)
+    → pairwise places_apart (monitors_of rows) ≡ true
+    → (lit (map (turned a x) rows) conn index ≡ lit (map (λ r. r) rows) conn index)
+    ⊎ (lit (map (λ r. turned b y (turned a x r)) rows) conn index ≡ lit (map (turned a x) rows) conn index)
+two_once a b x y same conn index [] apart = inl refl
+two_once a b x y same conn index (row ∷ rows) apart =
+    go (stands_at conn index row) refl (none_later row rows conn index apart) (two_once a b x y same conn index rows (rest_apart row rows apart))
+    (row_two a b x y same row)
+  where
+    twice : (r : Watched) → (turned b y (turned a x r)).monitor ≡ r.monitor
+    twice r = same_monitor b y (turned a x r) ∙ same_monitor a x r
+
+    go : (s : Bool) → stands_at conn index row ≡ s → (s ≡ true → list_any (stands_at conn index) rows ≡ false)
+        → (lit (map (turned a x) rows) conn index ≡ lit (map (λ r. r) rows) conn index)
+        ⊎ (lit (map (λ r. turned b y (turned a x r)) rows) conn index ≡ lit (map (turned a x) rows) conn index)
+        → ((turned a x row).full ≡ row.full) ⊎ ((turned b y (turned a x row)).full ≡ (turned a x row).full)
+        → (lit (map (turned a x) (row ∷ rows)) conn index ≡ lit (map (λ r. r) (row ∷ rows)) conn index)
+        ⊎ (lit (map (λ r. turned b y (turned a x r)) (row ∷ rows)) conn index ≡ lit (map (turned a x) (row ∷ rows)) conn index)
+    go true e none rest (inl h) =
+        inl (alone (turned a x) (same_monitor a x) conn index row rows e (none refl) ∙ h
+        ∙ sym (alone (λ r. r) (λ r. refl) conn index row rows e (none refl)))
+    go true e none rest (inr h) =
+        inr (alone (λ r. turned b y (turned a x r)) twice conn index row rows e (none refl) ∙ h
+        ∙ sym (alone (turned a x) (same_monitor a x) conn index row rows e (none refl)))
+    go false e none (inl h) own =
+        inl (absent (turned a x) (same_monitor a x) conn index row rows e ∙ h ∙ sym (absent (λ r. r) (λ r. refl) conn index row rows e))
+    go false e none (inr h) own =
+        inr (absent (λ r. turned b y (turned a x r)) twice conn index row rows e ∙ h
+        ∙ sym (absent (turned a x) (same_monitor a x) conn index row rows e))
+
+map-twice : (f g : Watched → Watched) (rows : List Watched) → map g (map f rows) ≡ map (λ r. g (f r)) rows
+map-twice f g [] = refl
+map-twice f g (row ∷ rows) = ap (λ (l : List Watched). g (f row) ∷ l) (map-twice f g rows)
+
+-- no bit changes twice, also where both are one header
+pub gains_two : (a b : ℕ) (x y : Bool) (rows : List Watched) (xs ys zs : List BitChange) → ((a == b) ≡ true → y ≡ x)
+    → pairwise places_apart (monitors_of rows) ≡ true
+    → Gains (lit rows) (lit (map (turned a x) rows)) xs ys
+    → Gains (lit (map (turned a x) rows)) (lit (map (turned b y) (map (turned a x) rows))) ys zs
+    → Gains (lit rows) (lit (map (turned b y) (map (turned a x) rows))) xs zs
+gains_two a b x y rows xs ys zs same apart first second =
+    gains_then (lit rows) (lit (map (turned a x) rows)) (lit (map (turned b y) (map (turned a x) rows))) xs ys zs
+    (λ conn index. once conn index (two_once a b x y same conn index rows apart)) first second
+  where
+    once : (conn : ConnId) (index : ℕ)
+        → (lit (map (turned a x) rows) conn index ≡ lit (map (λ r. r) rows) conn index)
+        ⊎ (lit (map (λ r. turned b y (turned a x r)) rows) conn index ≡ lit (map (turned a x) rows) conn index)
+        → (lit (map (turned a x) rows) conn index ≡ lit rows conn index)
+        ⊎ (lit (map (turned b y) (map (turned a x) rows)) conn index ≡ lit (map (turned a x) rows) conn index)
+    once conn index (inl h) = inl (h ∙ ap (λ (l : List Watched). lit l conn index) (map-id rows))
+    once conn index (inr h) = inr (ap (λ (l : List Watched). lit l conn index) (map-twice (turned a x) (turned b y) rows) ∙ h)

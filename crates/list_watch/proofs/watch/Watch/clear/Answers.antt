@@ -1,0 +1,22 @@
+use Rattle.std.proofs.Common.{◌≤◌, ◌&&◌, not, List, length, sym, subst, arith}
+use Rattle.list_laws.proofs.FilterLaws.{length-filter-le}
+use Rattle.list_watch.specs.declared.monitors.Watched.{Watched}
+use Rattle.list_watch.specs.Monitors.{is_for, AreMonitors}
+use Rattle.list_watch.specs.Rows.{monitors_of}
+use Rattle.list_watch.specs.Watching.{Watching}
+use Rattle.list_watch.proofs.MonitorLaws.{monitors-filter}
+use Rattle.list_watch.proofs.watch.Watch.clear.Goals as goal
+
+pub end-requires-clause-room : goal.end-requires-clause-room
+end-requires-clause-room c =
+    let room : length c.self.inside.rows.items ≤ c.args.out.now.bits.room =
+    subst (λ (w : Watching). length w.rows ≤ c.args.out.now.bits.room) (sym c.self.view_is) c.requires in
+    omega (arith, room, length-filter-le (λ (row : Watched). row.full && is_for c.args.conn c.args.header row.monitor) c.self.inside.rows.items)
+
+pub invariant_of-self : goal.invariant_of-self
+invariant_of-self c =
+    record {
+      monitors = subst (λ (l : List Watched). AreMonitors (monitors_of l)) (sym c.end.ensures.rows)
+          (monitors-filter (λ row. not (is_for c.args.conn c.args.header row.monitor)) c.self.inside.rows.items c.self.invariant.monitors);
+      few = omega (arith, c.end.ensures.fewer, c.self.invariant.few);
+    }

@@ -1,0 +1,4 @@
+pub mod Monitors
+pub mod Rows
+pub mod Ends
+pub mod Watching
