@@ -3,3 +3,4 @@ pub mod Written
 pub mod Found
 pub mod RunnableLaws
 pub mod OutcomeLaws
+pub mod ReadingLaws

@@ -34,7 +34,7 @@ told_fault text line why fault e tells = subst (TellsFault text) e tells
 
 -- and a script that isn't built
 pub not_yet_exactly : (text : List ℕ) (line : ℕ) (script : Script) (status : ℕ) → IsScript text script
-    → not_yet text script ≡ Some line
+    → not_yet script ≡ Some line
     → (status ≡ 3) ⊎ (status ≡ 6) → status ≢ 6 → (status ≡ 3) ↔ IsUnserved text
 not_yet_exactly text line script status says e = refused_exactly text line _ status (inr (script, says, e, refl))
 
@@ -43,8 +43,8 @@ served_unrefused : (text : List ℕ) (script : Script) (line : ℕ) (told : List
 served_unrefused text script line told one never served (inl fault) = never text script line fault.0 served.says fault.1
 served_unrefused text script line told one never served (inr other) =
     let same : script ≡ other.0 = one text script other.0 served.says other.1 in
-    let none : not_yet text other.0 ≡ None = subst (λ s. not_yet text s ≡ None) same served.built in
-    let some : not_yet text other.0 ≡ Some line = other.2 in
+    let none : not_yet other.0 ≡ None = subst (λ s. not_yet s ≡ None) same served.built in
+    let some : not_yet other.0 ≡ Some line = other.2 in
     absurd (cc)
 
 -- a served text has another status

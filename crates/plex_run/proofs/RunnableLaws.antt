@@ -20,7 +20,7 @@ use Rattle.plex_script.specs.WellFormed.{IsWellFormed, IsLineOf, IsActOf, MayAsk
 use Rattle.plex_serial.specs.Kinds.{IsAskOf, IsBuiltKind}
 use Rattle.plex_serial.specs.Runnable.{IsRunnable, IsRunnableLine, IsRunnableAct}
 use Rattle.plex_serial.specs.Runnable as run
-use Rattle.plex_run.specs.NotYet.{is_unbuilt, is_unbuilt_ask, is_unbuilt_act, is_built_kind, are_built, unbuilt_line, unbuilt_policy, not_yet}
+use Rattle.plex_run.specs.NotYet.{is_unbuilt, is_unbuilt_ask, is_unbuilt_act, not_yet}
 
 -- ---- lists
 
@@ -36,27 +36,16 @@ none_found p (x ∷ xs) h k d lt = at_test (p x) refl h k lt (λ found j below. 
     at_test false e found zero lt rest = e
     at_test false e found (suc k) lt rest = rest found k (omega arith)
 
-none_mapped : {X Y : Type 0} (f : X → Y) (o : Option X) → option_map f o ≡ None → o ≡ None
+pub none_mapped : {X Y : Type 0} (f : X → Y) (o : Option X) → option_map f o ≡ None → o ≡ None
 none_mapped f None h = refl
 none_mapped f (Some x) h = absurd (cc)
 
 -- ---- structures
 
-built_kind : (k : Kind) → is_built_kind k ≡ true → IsBuiltKind k
-built_kind kind.Cache h = tt
-built_kind (kind.List headers locks refs) h = absurd (cc)
-built_kind kind.Lock h = absurd (cc)
-
-both_true : (a b : Bool) → (a && b) ≡ true → (a ≡ true) × (b ≡ true)
-both_true true b h = (refl, h)
-both_true false b h = absurd (cc)
-
-built_kinds : (forms : List StrForm) → are_built forms ≡ true → All (λ form. IsBuiltKind form.kind) forms
-built_kinds [] h k d lt = absurd (omega arith)
-built_kinds (form ∷ forms) h zero d lt =
-    built_kind form.kind (both_true (is_built_kind form.kind) (are_built forms) h).0
-built_kinds (form ∷ forms) h (suc k) d lt =
-    built_kinds forms (both_true (is_built_kind form.kind) (are_built forms) h).1 k d (omega arith)
+built_kind : (k : Kind) → IsBuiltKind k
+built_kind kind.Cache = tt
+built_kind (kind.List headers locks refs) = tt
+built_kind kind.Lock = tt
 
 -- ---- lines
 
@@ -105,26 +94,15 @@ runnable_line script line of h =
 
 -- ---- the whole
 
-built_script : (text : List ℕ) (script : Script) → not_yet text script ≡ None
-    → (are_built script.structures ≡ true) × (unbuilt_line script ≡ None)
-built_script text script h = at_test (are_built script.structures) refl h
-  where
-    at_test : (b : Bool) → are_built script.structures ≡ b
-        → cond b (unbuilt_line script) (Some (unbuilt_policy text)) ≡ None
-        → (are_built script.structures ≡ true) × (unbuilt_line script ≡ None)
-    at_test true e none = (e, none)
-    at_test false e none = absurd (cc)
-
-pub runnable : (text : List ℕ) (script : Script) → IsWellFormed script → not_yet text script ≡ None → IsRunnable script
-runnable text script well h =
-    let built = built_script text script h in
+pub runnable : (script : Script) → IsWellFormed script → not_yet script ≡ None → IsRunnable script
+runnable script well h =
     let none : All (λ (line : Line). is_unbuilt_act line.act ≡ false) script.lines =
     none_found (λ (line : Line). is_unbuilt_act line.act) script.lines
-    (none_mapped (λ (line : Line). line.at) (find (λ line. is_unbuilt_act line.act) script.lines) built.1) in
+    (none_mapped (λ (line : Line). line.at) (find (λ line. is_unbuilt_act line.act) script.lines) h) in
     record {
       structures = well.structures;
       connectors = well.connectors;
       forms = well.forms;
-      kinds = built_kinds script.structures built.0;
+      kinds = λ k d lt. built_kind _;
       lines = λ k d lt. runnable_line script _ (well.lines k d lt) (none k d lt);
     }

@@ -9,6 +9,7 @@ use Rattle.plex_script.specs.Scripts.{IsScript, IsFault}
 use Rattle.plex_serial.specs.Serial.{serial_run}
 use Rattle.plex_serial.specs.Headline.{ShowsHistories}
 use Rattle.plex_report.specs.Report.{report}
+use Rattle.plex_reading.specs.Readings.{Reading, IsReading, IsTheReading, report_of}
 use Rattle.plex_run.specs.Written.{Gains, GainsPrefix}
 use Rattle.plex_run.specs.NotYet.{not_yet}
 use Rattle.plex_run.specs.Full.{full_structure}
@@ -44,13 +45,13 @@ status_line status =
 -- the text says this script, and all of it is built
 pub record IsServed (text : List ℕ) (script : Script) : Type 0 where
   pub says : IsScript text script
-  pub built : not_yet text script ≡ None
+  pub built : not_yet script ≡ None
 
 -- a text isn't served for what is told of this line: it is the first faulty one, or what isn't built of a script
 abbrev pub IsRefused : List ℕ → ℕ → List ℕ → Type 0
 IsRefused text line told =
     ((why : Why) × IsFault text line why × (told ≡ why_word why))
-    ⊎ ((script : Script) × IsScript text script × (not_yet text script ≡ Some line) × (told ≡ codes "NOTYET"))
+    ⊎ ((script : Script) × IsScript text script × (not_yet script ≡ Some line) × (told ≡ codes "NOTYET"))
 
 -- the text is no script, or not all of it is built
 abbrev pub IsUnserved : List ℕ → Type 0
@@ -93,6 +94,12 @@ WritesHistories held held_now text =
     (script : Script) × (let run = serial_run journal_limit script in
     IsServed text script × ShowsHistories journal_limit script run.histories run.transcripts
     × Appends held held_now (full_line (full_in_run script) ++ report script run.histories run.transcripts))
+
+-- the report was written of histories and transcripts that each caller's work was done in, and of no others could it have been
+abbrev pub WritesOneReading : Option (List ℕ) → Option (List ℕ) → List ℕ → Type 0
+WritesOneReading held held_now text =
+    (script : Script) × ((reading : Reading) × IsServed text script × IsReading journal_limit script reading
+    × IsTheReading journal_limit script reading × Appends held held_now (report_of script reading))
 
 -- a front of what is written of the text's script was written
 abbrev pub WritesFront : Option (List ℕ) → Option (List ℕ) → List ℕ → Type 0

@@ -6,6 +6,5 @@ mod full;
 mod not_yet;
 mod program;
 mod status_lines;
-mod text_lines;
 
 pub use program::run;

@@ -1,17 +1,18 @@
-ghost use Rattle.std.specs.Prelude.{◌≡◌, ◌≢◌, ◌⊎◌, ◌↔◌, ℕ, ◌≤◌, ◌<◌, ◌++◌, length, IfSome, IfOk, OnOk, OnErr, IsTrue, codes, string_bytes};
+ghost use Rattle.std.specs.Prelude.{◌≡◌, ◌≢◌, ◌⊎◌, ◌↔◌, ℕ, ◌≤◌, ◌<◌, ◌++◌, ◌^◌, length, IfSome, IfOk, OnOk, OnErr, IsTrue, codes, string_bytes};
 ghost use Rattle.std.specs.Io.KnownBytes.{Appends};
 ghost use Rattle.cf_io.specs.Count.{Rises};
 ghost use Rattle.plex_script.specs.declared.scripts.Script.{Script};
 ghost use Rattle.plex_serial.specs.Runnable.{IsRunnable};
 ghost use Rattle.plex_run.specs.StatusLines.{script_line};
 ghost use Rattle.plex_run.specs.Written.{Gains, GainsPrefix};
-ghost use Rattle.plex_run.specs.Outcome.{IsSerial, IsStatus, status_line, script_limit, served_text, served_status, WritesReport, WritesFull, WritesHistories, WritesFront, WritesRefusal, IsServed, IsUnserved, IsExact, IsComplete};
+ghost use Rattle.plex_run.specs.Outcome.{IsSerial, IsStatus, status_line, script_limit, serial_report, served_text, served_status, WritesReport, WritesFull, WritesHistories, WritesOneReading, WritesFront, WritesRefusal, IsServed, IsUnserved, IsExact, IsComplete};
 
 use crate::full::full_structure;
 use crate::not_yet::not_yet;
 use crate::status_lines::{full_line, script_line, why_text};
 use cf_io::{ReadEnd, Sink, Source, WriteFault, read_all, write_all};
 use cf_types::NoMemory;
+use plex_reading::only_reading;
 use plex_report::render;
 use plex_script::{ReadFault, Script, never_both, one_script, read, well_formed};
 use plex_serial::{one_run, serial};
@@ -77,6 +78,8 @@ fn run_script(alloc: Global, script: &Script) -> Result<Answer, NoMemory>
     ensures status { IfOk result (λ it. it.status ≡ served_status script.now) }
     ensures text { IfOk result (λ it. it.heading.items ++ it.report.items
         ≡ served_text script.now) }
+    ensures short { IfOk result (λ it. length it.report.items < 2 ^ 64) }
+    ensures report { IfOk result (λ it. it.report.items ≡ serial_report script.now) }
 {
     let finished = serial(alloc, JOURNAL_LIMIT, script)?;
     let transcripts = finished.transcripts.items();
@@ -93,6 +96,7 @@ fn reported<K: Sink>(alloc: Global, script: &Script, sink: &mut K) -> u8
     requires { IsRunnable script.now }
     ensures whole { (result ≡ 0) ⊎ (result ≡ 8) → (result ≡ served_status script.now)
         × Appends (K.held sink.old) (K.held sink.new) (served_text script.now) }
+    ensures short { (result ≡ 0) ⊎ (result ≡ 8) → length (serial_report script.now) < 2 ^ 64 }
     ensures sink_fault { result ≡ 5 → Rises (K.faults sink.old) (K.faults sink.new)
         × GainsPrefix (K.held sink.old) (K.held sink.new) (served_text script.now) }
     ensures line { IfSome (status_line result)
@@ -137,6 +141,8 @@ fn judged<K: Sink>(alloc: Global, text: &[u8], sink: &mut K) -> u8
     ensures full { result ≡ 8 → WritesFull (K.held sink.old) (K.held sink.new) text.now }
     ensures headline { (result ≡ 0) ⊎ (result ≡ 8)
         → WritesHistories (K.held sink.old) (K.held sink.new) text.now }
+    ensures reading { result ≡ 0
+        → WritesOneReading (K.held sink.old) (K.held sink.new) text.now }
     ensures refused { result ≡ 3 → WritesRefusal (K.held sink.old) (K.held sink.new)
         (K.faults sink.old) (K.faults sink.new) text.now }
     ensures sink_fault { result ≡ 5 → Rises (K.faults sink.old) (K.faults sink.new)
@@ -160,11 +166,12 @@ fn judged<K: Sink>(alloc: Global, text: &[u8], sink: &mut K) -> u8
             return 6;
         }
     };
-    if let Some(line) = not_yet(text, &script) {
+    if let Some(line) = not_yet(&script) {
         return refused(alloc, line, b"NOTYET", sink);
     }
     well_formed(text, &script);
     one_run(JOURNAL_LIMIT, &script);
+    only_reading();
     reported(alloc, &script, sink)
 }
 
@@ -176,6 +183,8 @@ fn served<S: Source, K: Sink>(alloc: Global, source: &mut S, sink: &mut K) -> u8
         (WritesFull (K.held sink.old) (K.held sink.new)) }
     ensures headline { (result ≡ 0) ⊎ (result ≡ 8) → IfSome (S.left source.old)
         (WritesHistories (K.held sink.old) (K.held sink.new)) }
+    ensures reading { result ≡ 0 → IfSome (S.left source.old)
+        (WritesOneReading (K.held sink.old) (K.held sink.new)) }
     ensures read_fault { result ≡ 4 → Rises (S.faults source.old) (S.faults source.new) }
     ensures too_long { result ≡ 7 → IfSome (S.left source.old)
         (λ text. script_limit < length text) }
@@ -242,6 +251,9 @@ pub fn run<S: Source, K: Sink>(alloc: Global, words: &[String], source: &mut S, 
     // their order, and tests that tell what stood at a numbered point.
     ensures headline { (result ≡ 0) ⊎ (result ≡ 8) → IfSome (S.left source.old)
         (WritesHistories (K.held sink.old) (K.held sink.new)) }
+    // And no other legal histories, with transcripts that follow the script, have that report.
+    ensures reading { result ≡ 0 → IfSome (S.left source.old)
+        (WritesOneReading (K.held sink.old) (K.held sink.new)) }
 
     // Each other status has its cause.
     ensures usage { (result ≡ 2) ↔ (IsSerial words.now → ⊥) }

@@ -21,7 +21,7 @@ use Rattle.plex_serial.proofs.Fronts.{IsFront, AreFronts, runs_front}
 
 -- ---- items of one structure
 
-runs_elsewhere : (kind : Kind) (line : Option AnyAsk) (calls : List AnyCall) (by : ConnId) (on other : StrNo) (now : Step) (items : List Shown)
+pub runs_elsewhere : (kind : Kind) (line : Option AnyAsk) (calls : List AnyCall) (by : ConnId) (on other : StrNo) (now : Step) (items : List Shown)
     → on.0 == other.0 ≡ false → Runs kind line calls by on now items → numbers_on other items ≡ []
 runs_elsewhere kind line calls by on other now [] apart runs = refl
 runs_elsewhere kind line calls by on other now (shown.Call place number ∷ items) apart runs =

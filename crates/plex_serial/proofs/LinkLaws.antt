@@ -29,6 +29,10 @@ module _ {C R : Type 0} (of : Ask C → AnyAsk) (conn : ConnId) where
 
 abbrev pub linked_of : AnyStructure → ConnId → Bool
 linked_of (structure.Cache kept) conn = is_linked_in kept.entries conn
+linked_of (structure.List kept) conn = is_linked_in kept.entries conn
+linked_of (structure.Lock kept) conn = is_linked_in kept.entries conn
 
 pub linked_any : (one : AnyStructure) (conn : ConnId) → is_linked (own_calls (any_calls (history_of one)) conn) ≡ linked_of one conn
 linked_any (structure.Cache kept) conn = links_any ask.Cache conn false (calls kept.entries)
+linked_any (structure.List kept) conn = links_any ask.List conn false (calls kept.entries)
+linked_any (structure.Lock kept) conn = links_any ask.Lock conn false (calls kept.entries)

@@ -11,6 +11,8 @@ use Rattle.cf_types.specs.declared.numbers.ConnId.{ConnId}
 use Rattle.cf_types.specs.declared.numbers.StrNo.{StrNo}
 use Rattle.engine_api.proofs.HistoryLaws.{legal_none}
 use Rattle.cache_model.specs.Meaning.{cache_meaning}
+use Rattle.list_model.specs.Meaning.{list_meaning}
+use Rattle.lock_model.specs.Meaning.{lock_meaning}
 use Rattle.plex_script.specs.declared.scripts.Script.{Script}
 use Rattle.plex_script.specs.declared.transcripts.AgentEnd.{AgentEnd}
 use Rattle.plex_script.specs.declared.transcripts.AgentEnd.TheVariants as ended
@@ -47,8 +49,18 @@ start_history form built kind.Cache is =
       legal = legal_none cache_meaning form;
       counted = refl;
     }
-start_history form built (kind.List headers locks refs) is = absurd (subst IsBuiltKind is built)
-start_history form built kind.Lock is = absurd (subst IsBuiltKind is built)
+start_history form built (kind.List headers locks refs) is =
+    record {
+      kind = rw is tt;
+      legal = legal_none list_meaning form;
+      counted = refl;
+    }
+start_history form built kind.Lock is =
+    record {
+      kind = rw is tt;
+      legal = legal_none lock_meaning form;
+      counted = refl;
+    }
 
 replicated : {X : Type 0} (n : ℕ) (x y : X) (i : ℕ) → slice_get (replicate n x) i ≡ Some y → x ≡ y
 replicated zero x y i e = absurd cc

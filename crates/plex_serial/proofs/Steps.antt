@@ -117,8 +117,10 @@ pub any_numbers : (entries : AnyHistory) → IsCounted entries
     → map (λ call. call.no) (any_calls entries) ≡ numbers_from 1 (any_length entries)
 any_numbers (history.Cache entries) counted =
     map-map (λ (call : AnyCall). call.no) (any_call ask.Cache) (calls entries) ∙ counted
-any_numbers (history.List entries) counted = absurd counted
-any_numbers (history.Lock entries) counted = absurd counted
+any_numbers (history.List entries) counted =
+    map-map (λ (call : AnyCall). call.no) (any_call ask.List) (calls entries) ∙ counted
+any_numbers (history.Lock entries) counted =
+    map-map (λ (call : AnyCall). call.no) (any_call ask.Lock) (calls entries) ∙ counted
 
 -- the call that is added is heard by its number
 added_heard : (form : StrForm) (entries : AnyHistory) (by : ConnId) (asked : AnyAsk) → Takes entries asked → IsCounted entries

@@ -18,9 +18,13 @@ use Rattle.plex_serial.specs.Serial.{Run}
 
 abbrev pub form_of : AnyStructure → StrForm
 form_of (structure.Cache kept) = kept.form
+form_of (structure.List kept) = kept.form
+form_of (structure.Lock kept) = kept.form
 
 abbrev pub history_of : AnyStructure → AnyHistory
 history_of (structure.Cache kept) = history.Cache kept.entries
+history_of (structure.List kept) = history.List kept.entries
+history_of (structure.Lock kept) = history.Lock kept.entries
 
 -- the forms of the structures, the histories with the transcripts, and how many entries a journal takes
 pub record Board : Type 0 where

@@ -8,12 +8,14 @@ use Rattle.engine_api.specs.declared.told.Told.{Told}
 use Rattle.engine_api.specs.History.{next, next_reply, stands_after, IsLegal, Tells}
 use Rattle.engine_api.specs.Told.{told, told_plainly}
 use Rattle.cache_model.specs.Meaning.{cache_meaning}
+use Rattle.list_model.specs.Meaning.{list_meaning}
+use Rattle.lock_model.specs.Meaning.{lock_meaning}
 use Rattle.plex_script.specs.declared.scripts.AnyAsk.{AnyAsk}
 use Rattle.plex_script.specs.declared.scripts.AnyAsk.TheVariants as ask
 use Rattle.plex_script.specs.declared.asks.AnyHistory.{AnyHistory}
 use Rattle.plex_script.specs.declared.asks.AnyHistory.TheVariants as history
 
--- the history of a structure with no calls yet. List and lock structures aren't built yet
+-- the history of a structure with no calls yet
 abbrev pub no_calls : Kind → AnyHistory
 no_calls kind.Cache = history.Cache []
 no_calls (kind.List headers locks refs) = history.List []
@@ -46,30 +48,40 @@ IsAskOf kind.Lock (ask.Lock asked) = Unit {0}
 -- the kinds that are built
 abbrev pub IsBuiltKind : Kind → Type 0
 IsBuiltKind kind.Cache = Unit {0}
-IsBuiltKind (kind.List headers locks refs) = ⊥
-IsBuiltKind kind.Lock = ⊥
+IsBuiltKind (kind.List headers locks refs) = Unit {0}
+IsBuiltKind kind.Lock = Unit {0}
 
 -- a caller's next call, and what is told of it. An ask of another kind is none
 abbrev pub any_next : StrForm → AnyHistory → ConnId → AnyAsk → AnyHistory
 any_next form (history.Cache entries) by (ask.Cache asked) = history.Cache (next cache_meaning form entries by asked)
 any_next form (history.Cache entries) by (ask.List asked) = history.Cache entries
 any_next form (history.Cache entries) by (ask.Lock asked) = history.Cache entries
-any_next form (history.List entries) by asked = history.List entries
-any_next form (history.Lock entries) by asked = history.Lock entries
+any_next form (history.List entries) by (ask.Cache asked) = history.List entries
+any_next form (history.List entries) by (ask.List asked) = history.List (next list_meaning form entries by asked)
+any_next form (history.List entries) by (ask.Lock asked) = history.List entries
+any_next form (history.Lock entries) by (ask.Cache asked) = history.Lock entries
+any_next form (history.Lock entries) by (ask.List asked) = history.Lock entries
+any_next form (history.Lock entries) by (ask.Lock asked) = history.Lock (next lock_meaning form entries by asked)
 
 abbrev pub any_told : StrForm → AnyHistory → ConnId → AnyAsk → Told
 any_told form (history.Cache entries) by (ask.Cache asked) =
     told (length entries + 1) asked (next_reply cache_meaning form entries by asked)
 any_told form (history.Cache entries) by (ask.List asked) = told_plainly 0 false
 any_told form (history.Cache entries) by (ask.Lock asked) = told_plainly 0 false
-any_told form (history.List entries) by asked = told_plainly 0 false
-any_told form (history.Lock entries) by asked = told_plainly 0 false
+any_told form (history.List entries) by (ask.Cache asked) = told_plainly 0 false
+any_told form (history.List entries) by (ask.List asked) =
+    told (length entries + 1) asked (next_reply list_meaning form entries by asked)
+any_told form (history.List entries) by (ask.Lock asked) = told_plainly 0 false
+any_told form (history.Lock entries) by (ask.Cache asked) = told_plainly 0 false
+any_told form (history.Lock entries) by (ask.List asked) = told_plainly 0 false
+any_told form (history.Lock entries) by (ask.Lock asked) =
+    told (length entries + 1) asked (next_reply lock_meaning form entries by asked)
 
 -- the bit of a connector's vector
 abbrev pub any_stands : StrForm → AnyHistory → ConnId → ℕ → Bool
 any_stands form (history.Cache entries) conn index = stands_after cache_meaning form entries conn index
-any_stands form (history.List entries) conn index = false
-any_stands form (history.Lock entries) conn index = false
+any_stands form (history.List entries) conn index = stands_after list_meaning form entries conn index
+any_stands form (history.Lock entries) conn index = stands_after lock_meaning form entries conn index
 
 -- numbers from one on, so many
 abbrev pub numbers_from : ℕ → ℕ → List ℕ
@@ -84,11 +96,11 @@ any_word form entries conn word =
 
 abbrev pub IsAnyLegal : StrForm → AnyHistory → Type 0
 IsAnyLegal form (history.Cache entries) = IsLegal cache_meaning form entries
-IsAnyLegal form (history.List entries) = entries ≡ []
-IsAnyLegal form (history.Lock entries) = entries ≡ []
+IsAnyLegal form (history.List entries) = IsLegal list_meaning form entries
+IsAnyLegal form (history.Lock entries) = IsLegal lock_meaning form entries
 
 -- a test that shows a bit with a number tells what stood at a numbered point, not before what the connector had seen complete
 abbrev pub AnyTells : StrForm → AnyHistory → ℕ → ℕ → ConnId → ℕ → Bool → Type 0
 AnyTells form (history.Cache entries) at sure conn index bit = Tells cache_meaning form entries at sure conn index bit
-AnyTells form (history.List entries) at sure conn index bit = ⊥
-AnyTells form (history.Lock entries) at sure conn index bit = ⊥
+AnyTells form (history.List entries) at sure conn index bit = Tells list_meaning form entries at sure conn index bit
+AnyTells form (history.Lock entries) at sure conn index bit = Tells lock_meaning form entries at sure conn index bit

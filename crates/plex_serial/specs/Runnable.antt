@@ -1,4 +1,4 @@
--- The scripts whose run is built: cache structures, and lines whose commands are built.
+-- The scripts whose run is built: each line of theirs has a command that is built.
 use Rattle.std.specs.Prelude.{◌≡◌, ◌≤◌, length, slice_get, Some, All}
 use Rattle.cf_types.specs.declared.forms.StrForm.{StrForm}
 use Rattle.cf_types.specs.declared.numbers.ConnId.{ConnId}

@@ -1,6 +1,10 @@
 //! A structure of whatever kind.
-ghost use Rattle.std.specs.Prelude.{◌≡◌, ◌+◌, ◌*◌, ◌<◌, ◌^◌, IfOk, OnOk, OnErr, IsOk, nat_lt, ◌&&◌, if◌then◌else◌};
+ghost use Rattle.std.specs.Prelude.{◌≡◌, ◌+◌, ◌*◌, ◌<◌, ◌^◌, IfOk, OnOk, OnErr, IsOk, IsTrue, nat_lt, ◌&&◌, if◌then◌else◌};
 ghost use Rattle.cf_types.specs.Forms.{IsForm, IsCaller};
+ghost use Rattle.cache_core.specs.Seen.{is_cache};
+ghost use Rattle.list_core.specs.Seen.{is_list};
+ghost use Rattle.lock_core.specs.Seen.{is_lock};
+ghost use Rattle.plex_script.specs.declared.scripts.AnyAsk.TheVariants as asked;
 ghost use Rattle.plex_script.specs.Heard.{any_length, any_calls, own_calls, is_linked};
 ghost use Rattle.plex_serial.specs.Kinds.{IsAskOf, IsBuiltKind, no_calls, any_next, any_told, any_stands, any_word};
 ghost use Rattle.plex_serial.specs.Serial.{test_shown, word_shown};
@@ -9,8 +13,10 @@ ghost use Rattle.plex_serial.specs.Boards.{form_of, history_of};
 
 use crate::structure::Structure;
 use cache_core::CacheEngine;
-use cf_types::{ConnId, Kind, NoMemory, StrForm, StrNo};
-use engine_api::Told;
+use cf_types::{CacheCmd, ConnId, Kind, ListCmd, LockCmd, NoMemory, StrForm, StrNo};
+use engine_api::{Ask, Told};
+use list_core::ListEngine;
+use lock_core::LockEngine;
 use plex_script::{AnyAsk, AnyHistory, Shown};
 use std::alloc::Global;
 
@@ -18,6 +24,8 @@ use std::alloc::Global;
 #[derive(Drop)]
 pub enum AnyStructure {
     Cache(Structure<CacheEngine>),
+    List(Structure<ListEngine>),
+    Lock(Structure<LockEngine>),
 }
 
 impl AnyStructure {
@@ -30,7 +38,8 @@ impl AnyStructure {
     {
         match form.kind {
             Kind::Cache => Ok(AnyStructure::Cache(Structure::start(alloc, form)?)),
-            Kind::List { .. } | Kind::Lock => unreachable!(),
+            Kind::Lock => Ok(AnyStructure::Lock(Structure::start(alloc, form)?)),
+            Kind::List { .. } => Ok(AnyStructure::List(Structure::start(alloc, form)?)),
         }
     }
 
@@ -40,6 +49,8 @@ impl AnyStructure {
     {
         match self {
             AnyStructure::Cache(structure) => structure.len(),
+            AnyStructure::List(structure) => structure.len(),
+            AnyStructure::Lock(structure) => structure.len(),
         }
     }
 
@@ -50,6 +61,8 @@ impl AnyStructure {
     {
         match self {
             AnyStructure::Cache(structure) => structure.stands(conn, index),
+            AnyStructure::List(structure) => structure.stands(conn, index),
+            AnyStructure::Lock(structure) => structure.stands(conn, index),
         }
     }
 
@@ -60,6 +73,8 @@ impl AnyStructure {
     {
         match self {
             AnyStructure::Cache(structure) => structure.linked(conn),
+            AnyStructure::List(structure) => structure.linked(conn),
+            AnyStructure::Lock(structure) => structure.linked(conn),
         }
     }
 
@@ -147,10 +162,18 @@ impl AnyStructure {
         ensures err { OnErr result (history_of self.new ≡ history_of self.old) }
     {
         match self {
-            AnyStructure::Cache(structure) => match ask {
-                AnyAsk::Cache(ask) => structure.call(alloc, by, ask),
-                AnyAsk::List(_) | AnyAsk::Lock(_) => unreachable!(),
-            },
+            AnyStructure::Cache(structure) => {
+                let ask = cache_ask(structure.kind(), ask);
+                structure.call(alloc, by, ask)
+            }
+            AnyStructure::List(structure) => {
+                let ask = list_ask(structure.kind(), ask);
+                structure.call(alloc, by, ask)
+            }
+            AnyStructure::Lock(structure) => {
+                let ask = lock_ask(structure.kind(), ask);
+                structure.call(alloc, by, ask)
+            }
         }
     }
 
@@ -160,7 +183,48 @@ impl AnyStructure {
     {
         match self {
             AnyStructure::Cache(structure) => AnyHistory::Cache(structure.into_history()),
+            AnyStructure::List(structure) => AnyHistory::List(structure.into_history()),
+            AnyStructure::Lock(structure) => AnyHistory::Lock(structure.into_history()),
         }
+    }
+}
+
+// The ask of a cache structure.
+fn cache_ask(kind: Kind, ask: AnyAsk) -> Ask<CacheCmd>
+    requires kind { IsTrue (is_cache kind) }
+    requires asked { IsAskOf kind ask }
+    ensures { ask ≡ asked.Cache result }
+{
+    match ask {
+        AnyAsk::Cache(ask) => ask,
+        AnyAsk::List(_) => unreachable!(),
+        AnyAsk::Lock(_) => unreachable!(),
+    }
+}
+
+// The ask of a list structure.
+fn list_ask(kind: Kind, ask: AnyAsk) -> Ask<ListCmd>
+    requires kind { IsTrue (is_list kind) }
+    requires asked { IsAskOf kind ask }
+    ensures { ask ≡ asked.List result }
+{
+    match ask {
+        AnyAsk::List(ask) => ask,
+        AnyAsk::Cache(_) => unreachable!(),
+        AnyAsk::Lock(_) => unreachable!(),
+    }
+}
+
+// The ask of a lock structure.
+fn lock_ask(kind: Kind, ask: AnyAsk) -> Ask<LockCmd>
+    requires kind { IsTrue (is_lock kind) }
+    requires asked { IsAskOf kind ask }
+    ensures { ask ≡ asked.Lock result }
+{
+    match ask {
+        AnyAsk::Lock(ask) => ask,
+        AnyAsk::Cache(_) => unreachable!(),
+        AnyAsk::List(_) => unreachable!(),
     }
 }
 

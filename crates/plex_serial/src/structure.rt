@@ -12,7 +12,7 @@ ghost use Rattle.plex_serial.specs.Structures.{AreOf, machine_of, called, is_lin
 
 use crate::links::Links;
 use cf_types::limits::CONNECTORS;
-use cf_types::{ConnId, Effects, Letter, NoMemory, Refusal, ShellCmd, StrForm};
+use cf_types::{ConnId, Effects, Kind, Letter, NoMemory, Refusal, ShellCmd, StrForm};
 use engine_api::{Ask, Deeds, Engine, Entry, History, Reply, Told, What};
 use plex_shell::{ACT_LETTERS, Room, Shell, Verdict};
 use std::alloc::Global;
@@ -60,6 +60,14 @@ impl<E: Engine> Structure<E> {
             links: Links::none(),
             out: Effects::new(alloc),
         })
+    }
+
+    /// Its kind, which is that of its engine.
+    pub fn kind(&self) -> Kind
+        ensures form { result ≡ self.now.form.kind }
+        ensures of_engine { IsTrue (E.is_kind result) }
+    {
+        self.form.kind
     }
 
     /// How many calls there were.

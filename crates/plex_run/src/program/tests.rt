@@ -85,14 +85,6 @@ fn unbuilt_line(rt: HostRuntime) -> Result<(), Fail> {
 }
 
 #[test]
-fn unbuilt_structure(rt: HostRuntime) -> Result<(), Fail> {
-    let (status, text) = ran(rt.alloc(), "STRUCTURE L LOCK 8 8 4 KEEP\nA GBP POST\n")?;
-    assert_eq!(rt; status, 3);
-    assert_eq!(rt; text.as_slice(), b"SCRIPT 8 NOTYET\n".as_slice());
-    Ok(())
-}
-
-#[test]
 fn oversized_source(rt: HostRuntime) -> Result<(), Fail> {
     let mut source = source_of(rt.alloc(), "", "", &[])?;
     source.bytes = vec![in rt.alloc(); b'*'; 1_048_577]?;

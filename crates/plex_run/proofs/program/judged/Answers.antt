@@ -1,6 +1,7 @@
-use Rattle.std.proofs.Common.{inr, sym, ◌∙◌}
+use Rattle.std.proofs.Common.{inl, inr, sym, ◌∙◌}
 use Rattle.plex_run.specs.Outcome.{IsServed}
 use Rattle.plex_run.proofs.RunnableLaws.{runnable}
+use Rattle.plex_run.proofs.ReadingLaws.{reading_written}
 use Rattle.plex_run.proofs.OutcomeLaws.{fault_exactly, told_fault, not_yet_exactly, served_exactly, full_written}
 use Rattle.plex_run.proofs.program.judged.Goals as goal
 
@@ -17,11 +18,11 @@ returns-in-Some-clause-exact g c =
 
 pub one_run-requires : goal.one_run-requires
 one_run-requires g c =
-    runnable c.args.text.now c.in-Ok.script c.well_formed-2.ensures (sym c.not_yet.ensures ∙ c.in_default.is)
+    runnable c.in-Ok.script c.well_formed-2.ensures (sym c.not_yet.ensures ∙ c.in_default.is)
 
 pub reported-requires : goal.reported-requires
 reported-requires g c =
-    runnable c.args.text.now c.in-Ok.script c.well_formed-2.ensures (sym c.not_yet.ensures ∙ c.in_default.is)
+    runnable c.in-Ok.script c.well_formed-2.ensures (sym c.not_yet.ensures ∙ c.in_default.is)
 
 pub returns-clause-full : goal.returns-clause-full
 returns-clause-full g c = λ eight.
@@ -36,3 +37,11 @@ returns-clause-exact g c = λ other.
     record { says = c.in-Ok.ensures.script; built = sym c.not_yet.ensures ∙ c.in_default.is } in
     served_exactly c.args.text.now c.in-Ok.script c.reported.result c.one_script.ensures c.never_both.ensures served
     c.reported.ensures.statuses
+
+pub returns-clause-reading : goal.returns-clause-reading
+returns-clause-reading g c = λ zero.
+    let served : IsServed c.args.text.now c.in-Ok.script =
+    record { says = c.in-Ok.ensures.script; built = sym c.not_yet.ensures ∙ c.in_default.is } in
+    let whole = c.reported.ensures.whole (inl zero) in
+    reading_written _ _ c.args.text.now c.in-Ok.script c.reported.result served c.only_reading.ensures c.one_run.ensures zero whole.0 whole.1
+    (c.reported.ensures.short (inl zero))

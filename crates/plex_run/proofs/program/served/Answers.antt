@@ -1,5 +1,5 @@
 use Rattle.std.proofs.Common.{◌≤◌, length, arith}
-use Rattle.plex_run.specs.Outcome.{WritesReport, WritesFull, WritesHistories, WritesRefusal, WritesFront, IsExact, script_limit}
+use Rattle.plex_run.specs.Outcome.{WritesReport, WritesFull, WritesHistories, WritesOneReading, WritesRefusal, WritesFront, IsExact, script_limit}
 use Rattle.plex_run.proofs.OutcomeLaws.{of_left, exactly_short}
 use Rattle.plex_run.proofs.program.served.Goals as goal
 
@@ -44,3 +44,9 @@ returns-clause-exact g c = λ fine other.
     (λ text. IsExact text c.judged.result)
     c.deref.ensures.value c.in-Ok.ensures.whole
     (exactly_short c.deref.result.now c.judged.result short c.judged.ensures.statuses (c.judged.ensures.exact other))
+
+pub returns-clause-reading : goal.returns-clause-reading
+returns-clause-reading g c = λ is.
+    of_left (g.S.Source.left c.args.source.now) c.in-Ok.text.items c.deref.result.now
+    (WritesOneReading (g.K.Sink.held c.args.sink.now) (g.K.Sink.held c.judged.new.sink))
+    c.deref.ensures.value c.in-Ok.ensures.whole (c.judged.ensures.reading is)

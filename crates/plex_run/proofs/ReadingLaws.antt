@@ -1,0 +1,107 @@
+-- Where no journal got full each caller's work was done, and the report can be read in one way.
+use Rattle.std.proofs.Common.{◌≡◌, ℕ, zero, suc, ◌+◌, ◌≤◌, ◌<◌, ◌==◌, ◌^◌, Bool, true, false, List, [], ◌∷◌, ◌++◌, length, Option, Some, None, slice_get, get_or, refl, sym, ap, subst, ◌∙◌, arith}
+use Rattle.std.specs.Prelude.{find, if◌then◌else◌}
+use Rattle.std.specs.List.{list_any, enumerate_from}
+use Rattle.std.specs.Io.KnownBytes.{Appends}
+use Rattle.std.proofs.lemmas.Bool.Decides.{nat_tests}
+use Rattle.std.proofs.lemmas.List.Folds.{list_any_at}
+use Rattle.std.proofs.lemmas.Option.{get_or_from_slice_get, slice_get_within}
+use Rattle.cf_types.specs.declared.forms.StrForm.{StrForm}
+use Rattle.cf_types.specs.declared.names.Name16.{Name16}
+use Rattle.plex_script.specs.declared.asks.AnyHistory.{AnyHistory}
+use Rattle.plex_script.specs.declared.scripts.Script.{Script}
+use Rattle.plex_script.specs.declared.transcripts.AgentEnd.{AgentEnd}
+use Rattle.plex_script.specs.declared.transcripts.AgentEnd.TheVariants as ended
+use Rattle.plex_script.specs.declared.transcripts.Transcript.{Transcript}
+use Rattle.plex_script.specs.Heard.{length_on}
+use Rattle.plex_serial.specs.Headline.{ShowsHistories, EndsRight}
+use Rattle.plex_serial.specs.Serial.{serial_run}
+use Rattle.plex_reading.specs.Readings.{Reading, IsReading, IsTheReading, IsOnlyReading, report_of}
+use Rattle.plex_run.specs.Full.{ends_full_at, is_full_at, full_structure}
+use Rattle.plex_run.specs.Outcome.{IsServed, WritesOneReading, full_in_run, serial_report, served_text, served_status, journal_limit}
+use Rattle.plex_run.proofs.RunnableLaws.{none_mapped}
+
+-- a place within the list that passes is found
+found_within : (p : ℕ → Bool) (first n : ℕ) (forms : List StrForm) → n < length forms → p (first + n) ≡ true
+    → find (λ (place : ℕ × StrForm). p place.0) (enumerate_from first forms) ≡ None → ⊥
+found_within p first n [] within passes none = omega (arith, within)
+found_within p first n (form ∷ forms) within passes none =
+    by_test (p first) refl none n within passes (λ m low found k. found_within p (first + 1) m forms low found k)
+  where
+    later : List (ℕ × StrForm)
+    later = enumerate_from (first + 1) forms
+
+    by_test : (b : Bool) → p first ≡ b
+        → (if b then Some (first, form) else find (λ (place : ℕ × StrForm). p place.0) later) ≡ None
+        → (n : ℕ) → n < length (form ∷ forms) → p (first + n) ≡ true
+        → ((m : ℕ) → m < length forms → p ((first + 1) + m) ≡ true → find (λ (place : ℕ × StrForm). p place.0) later ≡ None → ⊥)
+        → ⊥
+    by_test true here k m low found behind = cc
+    by_test false past k zero low found behind =
+        let same : first + 0 ≡ first = omega arith in
+        let wrong : false ≡ true = sym past ∙ (ap p (sym same) ∙ found) in cc
+    by_test false past k (suc m) low found behind =
+        let further : first + suc m ≡ (first + 1) + m = omega arith in
+        behind m (omega (arith, low)) (ap p (sym further) ∙ found) k
+
+-- a history with calls is there
+there_on : (histories : List AnyHistory) (x : ℕ) → 0 < length_on histories (record { 0 = x }) → x < length histories
+there_on [] zero calls = absurd (omega (arith, calls))
+there_on [] (suc x) calls = absurd (omega (arith, calls))
+there_on (first ∷ histories) zero calls = omega arith
+there_on (first ∷ histories) (suc x) calls = omega (arith, there_on histories x calls)
+
+-- where no journal got full, each transcript goes to the end of its caller's work
+all_done : (limit : ℕ) (script : Script) (histories : List AnyHistory) (transcripts : List Transcript) → 0 < limit
+    → ShowsHistories limit script histories transcripts → full_structure script.structures transcripts ≡ None
+    → (c : ℕ) (transcript : Transcript) → slice_get transcripts c ≡ Some transcript → transcript.end ≡ ended.Done
+all_done limit script histories transcripts some shows none c transcript there =
+    by_end transcript.end refl (shows.ends c transcript there)
+  where
+    nowhere : find (λ (place : ℕ × StrForm). is_full_at transcripts place.0) (enumerate_from 0 script.structures) ≡ None
+    nowhere = none_mapped (λ (place : ℕ × StrForm). place.1.name) _ none
+
+    by_end : (end : AgentEnd) → transcript.end ≡ end → EndsRight limit script histories (record { 0 = c }) transcript.items end
+        → transcript.end ≡ ended.Done
+    by_end ended.Done is right = is
+    by_end ended.NoMemory is right = absurd right
+    by_end (ended.JournalFull on) is right =
+        let calls : 0 < length_on histories on = omega (arith, some, right.full) in
+        let within : on.0 < length script.structures = omega (arith, there_on histories on.0 calls, shows.structures) in
+        let itself : on.0 == on.0 ≡ true = grind (arith, nat_tests) in
+        let stopped : ends_full_at on.0 transcript.end ≡ true = rw is itself in
+        let here : get_or transcripts c transcript ≡ transcript = get_or_from_slice_get transcripts c transcript transcript there in
+        let found : is_full_at transcripts on.0 ≡ true =
+        list_any_at (λ (t : Transcript). ends_full_at on.0 t.end) transcripts c transcript (slice_get_within transcripts c transcript there)
+        (rw here stopped) in
+        let place : on.0 ≡ 0 + on.0 = omega arith in
+        absurd (found_within (is_full_at transcripts) 0 on.0 script.structures within (ap (is_full_at transcripts) (sym place) ∙ found) nowhere)
+
+-- the report of a script's run can be read in one way
+pub one_reading : (held held_now : Option (List ℕ)) (text : List ℕ) (script : Script) → IsServed text script → IsOnlyReading
+    → (let run = serial_run journal_limit script in ShowsHistories journal_limit script run.histories run.transcripts)
+    → full_in_run script ≡ None → length (serial_report script) < 2 ^ 64 → Appends held held_now (serial_report script)
+    → WritesOneReading held held_now text
+one_reading held held_now text script served only shows none short appends =
+    let run = serial_run journal_limit script in
+    let reading : Reading = record { histories = run.histories; transcripts = run.transcripts } in
+    let is : IsReading journal_limit script reading =
+    record { shows = shows; done = all_done journal_limit script run.histories run.transcripts (omega arith) shows none } in
+    let the : IsTheReading journal_limit script reading =
+    λ other other_is same. sym (only text journal_limit script reading other served.says is other_is short (sym same)) in
+    (script, (reading, served, is, the, appends))
+
+-- the status 0 tells that no journal got full
+pub reading_written : (held held_now : Option (List ℕ)) (text : List ℕ) (script : Script) (status : ℕ) → IsServed text script → IsOnlyReading
+    → (let run = serial_run journal_limit script in ShowsHistories journal_limit script run.histories run.transcripts)
+    → status ≡ 0 → status ≡ served_status script → Appends held held_now (served_text script) → length (serial_report script) < 2 ^ 64
+    → WritesOneReading held held_now text
+reading_written held held_now text script status served only shows none is appends short =
+    by_full (full_in_run script) refl
+  where
+    by_full : (full : Option Name16) → full_in_run script ≡ full → WritesOneReading held held_now text
+    by_full None fine =
+        let same : served_text script ≡ serial_report script = rw fine refl in
+        one_reading held held_now text script served only shows fine short (subst (Appends held held_now) same appends)
+    by_full (Some name) full =
+        let eight : served_status script ≡ 8 = rw full refl in absurd (omega (arith, none, is, eight))
