@@ -405,7 +405,7 @@ impl Kept {
         ensures { self.new.content
             ≡ record self.old.content { lists = lists_replaced rec self.old.content.lists } }
     {
-        let _ = self.store.set(rec);
+        let _ = self.store.set(rec.id, rec);
     }
 
     /// Takes away the record with an id, which is there.

@@ -127,14 +127,15 @@ impl Store {
         put(&mut self.lists, header as usize, place as usize, rec);
     }
 
-    /// Puts a record in place of the one with its id, which is there; gives that one.
-    pub fn set(&mut self, rec: Rec) -> Rec
-        requires { list_any (is_id rec.id) (all_records self.old.lists) ≡ true }
-        ensures record { record_of rec.id self.old.lists ≡ Some result }
+    /// Puts a record in place of the one with this id, which is there and is the record's own; gives that one.
+    pub fn set(&mut self, id: EntryId, rec: Rec) -> Rec
+        requires there { list_any (is_id id) (all_records self.old.lists) ≡ true }
+        requires same { id ≡ rec.id }
+        ensures record { record_of id self.old.lists ≡ Some result }
         ensures lists { self.new.lists ≡ lists_replaced rec self.old.lists }
         ensures room { self.old.room ≤ self.new.room }
     {
-        match places_of(self.lists.as_slice(), rec.id) {
+        match places_of(self.lists.as_slice(), id) {
             Some((header, place)) => set_at(&mut self.lists, header, place, rec),
             None => unreachable!(),
         }

@@ -17,7 +17,7 @@ use Rattle.plex_script.specs.declared.scripts.Line.{Line}
 use Rattle.plex_script.specs.declared.scripts.Script.{Script}
 use Rattle.plex_script.specs.LineWords.{is_ask_of}
 use Rattle.plex_script.specs.WellFormed.{IsWellFormed, IsLineOf, IsActOf, MayAskAny}
-use Rattle.plex_serial.specs.Kinds.{IsAskOf, IsBuiltKind}
+use Rattle.plex_serial.specs.Kinds.{IsAskOf}
 use Rattle.plex_serial.specs.Runnable.{IsRunnable, IsRunnableLine, IsRunnableAct}
 use Rattle.plex_serial.specs.Runnable as run
 use Rattle.plex_run.specs.NotYet.{is_unbuilt, is_unbuilt_ask, is_unbuilt_act, not_yet}
@@ -39,13 +39,6 @@ none_found p (x ∷ xs) h k d lt = at_test (p x) refl h k lt (λ found j below. 
 pub none_mapped : {X Y : Type 0} (f : X → Y) (o : Option X) → option_map f o ≡ None → o ≡ None
 none_mapped f None h = refl
 none_mapped f (Some x) h = absurd (cc)
-
--- ---- structures
-
-built_kind : (k : Kind) → IsBuiltKind k
-built_kind kind.Cache = tt
-built_kind (kind.List headers locks refs) = tt
-built_kind kind.Lock = tt
 
 -- ---- lines
 
@@ -103,6 +96,5 @@ runnable script well h =
       structures = well.structures;
       connectors = well.connectors;
       forms = well.forms;
-      kinds = λ k d lt. built_kind _;
       lines = λ k d lt. runnable_line script _ (well.lines k d lt) (none k d lt);
     }

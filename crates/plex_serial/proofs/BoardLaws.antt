@@ -31,7 +31,7 @@ use Rattle.plex_script.specs.declared.scripts.Line.{Line}
 use Rattle.plex_script.specs.declared.scripts.Script.{Script}
 use Rattle.plex_script.specs.Agent.{asked_by, step_after, common, first_step}
 use Rattle.plex_script.specs.Heard.{any_length}
-use Rattle.plex_serial.specs.Kinds.{IsAskOf, IsBuiltKind, no_calls, any_next, any_told, numbers_from}
+use Rattle.plex_serial.specs.Kinds.{IsAskOf, no_calls, any_next, any_told, numbers_from}
 use Rattle.plex_serial.specs.Runnable.{MayAskAny, IsRunnable, IsRunnableLine, IsRunnableAct}
 use Rattle.plex_serial.specs.declared.any_structure.AnyStructure.{AnyStructure}
 use Rattle.plex_serial.specs.Boards.{Board, form_of, history_of, IsPlace, IsSameBoard, CanAsk, AllMayAsk, IsWithin}
@@ -157,7 +157,6 @@ place_kept old new form by on place same =
     record {
       known = rw same.forms place.known;
       there = rw same.structures place.there;
-      kind = place.kind;
       caller = place.caller;
       shown = rw same.callers place.shown;
     }
@@ -179,13 +178,12 @@ test_there structures n one by item run there = rw (history_there structures n o
 
 -- the structures of a board, one after another
 pub place_of : (board : Board) (forms : List StrForm) (conn : ConnId) (i : ℕ) (form d : StrForm) → board.forms ≡ forms
-    → length board.run.histories ≡ length forms → All (λ form. IsBuiltKind form.kind) forms → IsCaller conn
+    → length board.run.histories ≡ length forms → IsCaller conn
     → conn.0 < length board.run.transcripts → i < length forms → form ≡ get_or forms i d → IsPlace board form conn (record { 0 = i })
-place_of board forms conn i form d same counted built caller shown within value =
+place_of board forms conn i form d same counted caller shown within value =
     record {
       known = rw (same, value) (slice_get-get_or forms i d within);
       there = rw counted within;
-      kind = rw value (All-get_or (λ (form : StrForm). IsBuiltKind form.kind) forms i d within built);
       caller = caller;
       shown = shown;
     }
@@ -264,7 +262,6 @@ line_place script limit board line form d runs line_runs kept value =
     record {
       known = rw kept.forms there;
       there = rw kept.structures within;
-      kind = rw value (All-get_or (λ (form : StrForm). IsBuiltKind form.kind) script.structures line.on.0 d within runs.kinds);
       caller = omega (arith, line_runs.caller, runs.connectors);
       shown = omega (arith, kept.callers, line_runs.caller);
     }

@@ -20,7 +20,6 @@ use Rattle.plex_script.specs.declared.transcripts.Transcript.{Transcript}
 use Rattle.plex_script.specs.Agent.{most_asks, common}
 use Rattle.plex_script.specs.Heard.{AnyCall, any_calls, own_calls, is_linked, calls_on, length_on}
 use Rattle.plex_script.specs.Follows.{ShowsLines, lines_of, number_on, numbers_on, is_linked_by, ShowsClosing, ShowsClosings}
-use Rattle.plex_serial.specs.Kinds.{IsBuiltKind}
 use Rattle.plex_serial.specs.Serial.{Run, transcript_at, is_done, is_done_as, all_steps_made, departed, after_departure}
 use Rattle.plex_serial.proofs.Steps.{IsAt, AreSteps, EndsAs, steps_are, common_ask_of}
 use Rattle.plex_serial.proofs.Fronts.{AreFronts, front_same, shows_lines_front}
@@ -119,7 +118,7 @@ closed_at conn k closed other = cond (other == conn.0) k (closed other)
 
 module _ (limit : ℕ) (script : Script) (closed : ℕ → ℕ) (conn : ConnId) (k : ℕ) (form : StrForm) (run : Run)
     (was : IsRunOf script (AreClosed limit script (closed_at conn k closed)) run) (connector : conn.0 ≢ 0)
-    (known : slice_get script.structures k ≡ Some form) (built : IsBuiltKind form.kind)
+    (known : slice_get script.structures k ≡ Some form)
     (first : take (k + 1) script.structures ≡ take k script.structures ++ form ∷ []) (count : length (take k script.structures) ≡ k)
     (entries : AnyHistory) (items : List Shown) (at : IsAt run conn (record { 0 = k }) entries items) where
   abbrev place : StrNo
@@ -224,7 +223,7 @@ module _ (limit : ℕ) (script : Script) (closed : ℕ → ℕ) (conn : ConnId) 
   departs linked =
       let run' : Run = all_steps_made limit form (Some (common form.kind cmd.Disconnect)) conn place (step.Call 0) run in
       let steps : AreSteps limit form (Some (common form.kind cmd.Disconnect)) conn place (step.Call 0) entries items run run' =
-      steps_are limit (most_asks (step.Call 0)) form (Some (common form.kind cmd.Disconnect)) conn place built (common_ask_of form.kind cmd.Disconnect)
+      steps_are limit (most_asks (step.Call 0)) form (Some (common form.kind cmd.Disconnect)) conn place (common_ask_of form.kind cmd.Disconnect)
       (step.Call 0) entries items run at (was.kept place form entries known at.there) tt (omega arith) in
       let change : IsChange script.structures form conn place entries items run run' =
       steps_change limit script.structures form (Some (common form.kind cmd.Disconnect)) conn place (step.Call 0) entries items run run' at steps in
@@ -292,10 +291,10 @@ stopped_stays limit script closed conn k run transcript was there stopped =
 -- one structure
 departure_runs : (limit : ℕ) (script : Script) (closed : ℕ → ℕ) (conn : ConnId) (k : ℕ) (form : StrForm) (run : Run)
     → IsRunOf script (AreClosed limit script (closed_at conn k closed)) run → conn.0 ≢ 0 → conn.0 ≤ length script.connectors
-    → slice_get script.structures k ≡ Some form → IsBuiltKind form.kind
+    → slice_get script.structures k ≡ Some form
     → take (k + 1) script.structures ≡ take k script.structures ++ form ∷ [] → length (take k script.structures) ≡ k
     → IsRunOf script (AreClosed limit script (closed_at conn (k + 1) closed)) (after_departure limit conn run (k, form))
-departure_runs limit script closed conn k form run was connector within known built first count =
+departure_runs limit script closed conn k form run was connector within known first count =
     let caller : (t : Transcript) × (slice_get run.transcripts conn.0 ≡ Some t) =
     get_within run.transcripts conn.0 (omega (arith, was.transcripts, within)) in
     let there : (h : AnyHistory) × (slice_get run.histories k ≡ Some h) =
@@ -304,8 +303,8 @@ departure_runs limit script closed conn k form run was connector within known bu
   where
     by_link : (t : Transcript) (h : AnyHistory) → IsAt run conn (record { 0 = k }) h t.items → (b : Bool) → is_linked (own_calls (any_calls h) conn) ≡ b
         → IsRunOf script (AreClosed limit script (closed_at conn (k + 1) closed)) (departed limit conn (record { 0 = k }) form (Some h) run)
-    by_link t h at true linked = rw linked (departs limit script closed conn k form run was connector known built first count h t.items at linked)
-    by_link t h at false linked = rw linked (stays limit script closed conn k form run was connector known built first count h t.items at linked)
+    by_link t h at true linked = rw linked (departs limit script closed conn k form run was connector known first count h t.items at linked)
+    by_link t h at false linked = rw linked (stays limit script closed conn k form run was connector known first count h t.items at linked)
 
     by_end : (t : Transcript) (end : AgentEnd) → t.end ≡ end → slice_get run.transcripts conn.0 ≡ Some t → (h : AnyHistory)
         → slice_get run.histories k ≡ Some h
@@ -329,13 +328,12 @@ get_behind (y ∷ front) x others = get_behind front x others
 pub departures_run : (limit : ℕ) (script : Script) (closed : ℕ → ℕ) (conn : ConnId) (front left : List StrForm) (run : Run)
     → script.structures ≡ front ++ left → IsRunOf script (AreClosed limit script (closed_at conn (length front) closed)) run → conn.0 ≢ 0
     → conn.0 ≤ length script.connectors
-    → ((form : StrForm) (x : ℕ) → slice_get script.structures x ≡ Some form → IsBuiltKind form.kind)
     → IsRunOf script (AreClosed limit script (closed_at conn (length script.structures) closed))
     (fold (after_departure limit conn) run (enumerate_from (length front) left))
-departures_run limit script closed conn front [] run split was connector within built =
+departures_run limit script closed conn front [] run split was connector within =
     let all : length front ≡ length script.structures = ap length (sym (split ∙ append-nil front)) in
     subst (λ (n : ℕ). IsRunOf script (AreClosed limit script (closed_at conn n closed)) run) all was
-departures_run limit script closed conn front (form ∷ left) run split was connector within built =
+departures_run limit script closed conn front (form ∷ left) run split was connector within =
     let known : slice_get script.structures (length front) ≡ Some form = rw split (get_behind front form left) in
     let before : take (length front) script.structures ≡ front = rw split (take_at front (form ∷ left) (length front) refl) in
     let split' : script.structures ≡ (front ++ form ∷ []) ++ left = split ∙ sym (append_assoc front (form ∷ []) left) in
@@ -344,9 +342,9 @@ departures_run limit script closed conn front (form ∷ left) run split was conn
     rw split' (take_at (front ++ form ∷ []) left (length front + 1) longer) in
     let run' : Run = after_departure limit conn run (length front, form) in
     let next : IsRunOf script (AreClosed limit script (closed_at conn (length front + 1) closed)) run' =
-    departure_runs limit script closed conn (length front) form run was connector within known (built form (length front) known)
+    departure_runs limit script closed conn (length front) form run was connector within known
     (upto ∙ ap (λ (t : List StrForm). t ++ form ∷ []) (sym before)) (ap length before) in
     subst (λ (n : ℕ). IsRunOf script (AreClosed limit script (closed_at conn (length script.structures) closed))
     (fold (after_departure limit conn) run' (enumerate_from n left))) longer
     (departures_run limit script closed conn (front ++ form ∷ []) left run' split'
-    (subst (λ (n : ℕ). IsRunOf script (AreClosed limit script (closed_at conn n closed)) run') (sym longer) next) connector within built)
+    (subst (λ (n : ℕ). IsRunOf script (AreClosed limit script (closed_at conn n closed)) run') (sym longer) next) connector within)

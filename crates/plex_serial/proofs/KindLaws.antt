@@ -21,9 +21,9 @@ use Rattle.plex_script.specs.declared.scripts.AnyAsk.TheVariants as ask
 use Rattle.plex_script.specs.declared.asks.AnyHistory.{AnyHistory}
 use Rattle.plex_script.specs.declared.asks.AnyHistory.TheVariants as history
 use Rattle.plex_script.specs.Heard.{AnyCall, any_call, any_calls, any_length}
-use Rattle.plex_serial.specs.Kinds.{IsOfKind, IsAskOf, IsBuiltKind, any_next, any_told, any_stands, IsAnyLegal, AnyTells, numbers_from}
+use Rattle.plex_serial.specs.Kinds.{IsOfKind, IsAskOf, any_next, any_told, any_stands, IsAnyLegal, AnyTells, numbers_from}
 
--- the history takes the ask: both are of one kind, which is built
+-- the history takes the ask: both are of one kind
 abbrev pub Takes : AnyHistory → AnyAsk → Type 0
 Takes (history.Cache entries) (ask.Cache asked) = Unit {0}
 Takes (history.Cache entries) (ask.List asked) = ⊥
@@ -35,23 +35,23 @@ Takes (history.Lock entries) (ask.Cache asked) = ⊥
 Takes (history.Lock entries) (ask.List asked) = ⊥
 Takes (history.Lock entries) (ask.Lock asked) = Unit {0}
 
-pub takes_of_kind : (kind : Kind) (entries : AnyHistory) (asked : AnyAsk) → IsOfKind kind entries → IsAskOf kind asked → IsBuiltKind kind
+pub takes_of_kind : (kind : Kind) (entries : AnyHistory) (asked : AnyAsk) → IsOfKind kind entries → IsAskOf kind asked
     → Takes entries asked
-takes_of_kind kind.Cache (history.Cache entries) (ask.Cache asked) of_kind ask_of built = tt
-takes_of_kind kind.Cache (history.Cache entries) (ask.List asked) of_kind ask_of built = absurd ask_of
-takes_of_kind kind.Cache (history.Cache entries) (ask.Lock asked) of_kind ask_of built = absurd ask_of
-takes_of_kind kind.Cache (history.List entries) asked of_kind ask_of built = absurd of_kind
-takes_of_kind kind.Cache (history.Lock entries) asked of_kind ask_of built = absurd of_kind
-takes_of_kind (kind.List headers locks refs) (history.List entries) (ask.List asked) of_kind ask_of built = tt
-takes_of_kind (kind.List headers locks refs) (history.List entries) (ask.Cache asked) of_kind ask_of built = absurd ask_of
-takes_of_kind (kind.List headers locks refs) (history.List entries) (ask.Lock asked) of_kind ask_of built = absurd ask_of
-takes_of_kind (kind.List headers locks refs) (history.Cache entries) asked of_kind ask_of built = absurd of_kind
-takes_of_kind (kind.List headers locks refs) (history.Lock entries) asked of_kind ask_of built = absurd of_kind
-takes_of_kind kind.Lock (history.Lock entries) (ask.Lock asked) of_kind ask_of built = tt
-takes_of_kind kind.Lock (history.Lock entries) (ask.Cache asked) of_kind ask_of built = absurd ask_of
-takes_of_kind kind.Lock (history.Lock entries) (ask.List asked) of_kind ask_of built = absurd ask_of
-takes_of_kind kind.Lock (history.Cache entries) asked of_kind ask_of built = absurd of_kind
-takes_of_kind kind.Lock (history.List entries) asked of_kind ask_of built = absurd of_kind
+takes_of_kind kind.Cache (history.Cache entries) (ask.Cache asked) of_kind ask_of = tt
+takes_of_kind kind.Cache (history.Cache entries) (ask.List asked) of_kind ask_of = absurd ask_of
+takes_of_kind kind.Cache (history.Cache entries) (ask.Lock asked) of_kind ask_of = absurd ask_of
+takes_of_kind kind.Cache (history.List entries) asked of_kind ask_of = absurd of_kind
+takes_of_kind kind.Cache (history.Lock entries) asked of_kind ask_of = absurd of_kind
+takes_of_kind (kind.List headers locks refs) (history.List entries) (ask.List asked) of_kind ask_of = tt
+takes_of_kind (kind.List headers locks refs) (history.List entries) (ask.Cache asked) of_kind ask_of = absurd ask_of
+takes_of_kind (kind.List headers locks refs) (history.List entries) (ask.Lock asked) of_kind ask_of = absurd ask_of
+takes_of_kind (kind.List headers locks refs) (history.Cache entries) asked of_kind ask_of = absurd of_kind
+takes_of_kind (kind.List headers locks refs) (history.Lock entries) asked of_kind ask_of = absurd of_kind
+takes_of_kind kind.Lock (history.Lock entries) (ask.Lock asked) of_kind ask_of = tt
+takes_of_kind kind.Lock (history.Lock entries) (ask.Cache asked) of_kind ask_of = absurd ask_of
+takes_of_kind kind.Lock (history.Lock entries) (ask.List asked) of_kind ask_of = absurd ask_of
+takes_of_kind kind.Lock (history.Cache entries) asked of_kind ask_of = absurd of_kind
+takes_of_kind kind.Lock (history.List entries) asked of_kind ask_of = absurd of_kind
 
 -- the call that an ask adds
 abbrev pub call_added : StrForm → AnyHistory → ConnId → AnyAsk → AnyCall

@@ -18,7 +18,6 @@ use Rattle.plex_script.specs.declared.transcripts.Transcript.{Transcript}
 use Rattle.plex_script.specs.Agent.{first_step, most_asks, call_of}
 use Rattle.plex_script.specs.Heard.{AnyCall, any_calls, own_calls, calls_on, length_on}
 use Rattle.plex_script.specs.Follows.{RunsUpTo, ShowsAct, ShowsTest, ShowsWord, ShowsLines, numbers_on}
-use Rattle.plex_serial.specs.Kinds.{IsBuiltKind}
 use Rattle.plex_serial.specs.Serial.{Run, transcript_at, is_done, is_done_as, shown_to, all_steps_made, act_made, after_line, test_shown, word_shown}
 use Rattle.plex_serial.specs.Runnable.{IsRunnableAct, IsRunnableLine}
 use Rattle.plex_serial.proofs.Steps.{IsHistory, IsAt, AreSteps, EndsAs, IsReady, IsLineOf, steps_are}
@@ -147,7 +146,7 @@ get_within (x ∷ xs) (suc i) within = get_within xs i (omega arith)
 
 module _ (limit : ℕ) (script : Script) (lines : List Line) (line : Line) (form : StrForm) (run : Run)
     (was : IsRunOf script (IsPlayed limit script.structures lines) run) (known : slice_get script.structures line.on.0 ≡ Some form)
-    (built : IsBuiltKind form.kind) (entries : AnyHistory) (items : List Shown) (at : IsAt run line.by line.on entries items) where
+    (entries : AnyHistory) (items : List Shown) (at : IsAt run line.by line.on entries items) where
   kept : IsHistory form entries
   kept = was.kept line.on form entries known at.there
 
@@ -220,7 +219,7 @@ module _ (limit : ℕ) (script : Script) (lines : List Line) (line : Line) (form
   calls_run of_kind ready shows =
       let run' : Run = all_steps_made limit form (call_of line.act) line.by line.on (first_step line.act line.retry) run in
       let steps : AreSteps limit form (call_of line.act) line.by line.on (first_step line.act line.retry) entries items run run' =
-      steps_are limit (most_asks (first_step line.act line.retry)) form (call_of line.act) line.by line.on built of_kind
+      steps_are limit (most_asks (first_step line.act line.retry)) form (call_of line.act) line.by line.on of_kind
       (first_step line.act line.retry) entries items run at kept ready (omega arith) in
       let change : IsChange script.structures form line.by line.on entries items run run' =
       steps_change limit script.structures form (call_of line.act) line.by line.on (first_step line.act line.retry) entries items run run' at steps in
@@ -313,9 +312,9 @@ stopped_still limit script lines line run transcript was there stopped =
         played_other limit script.structures lines line run.histories conn other.items other.end apart is
 
 pub line_runs : (limit : ℕ) (script : Script) (lines : List Line) (line : Line) (run : Run)
-    → IsRunOf script (IsPlayed limit script.structures lines) run → (runnable : IsRunnableLine script line) → IsBuiltKind runnable.form.kind
+    → IsRunOf script (IsPlayed limit script.structures lines) run → (runnable : IsRunnableLine script line)
     → IsRunOf script (IsPlayed limit script.structures (lines ++ line ∷ [])) (after_line limit script run line)
-line_runs limit script lines line run was runnable built =
+line_runs limit script lines line run was runnable =
     let caller : (t : Transcript) × (slice_get run.transcripts line.by.0 ≡ Some t) =
     get_within run.transcripts line.by.0 (omega (arith, was.transcripts, runnable.caller)) in
     let there : (h : AnyHistory) × (slice_get run.histories line.on.0 ≡ Some h) =
@@ -332,7 +331,7 @@ line_runs limit script lines line run was runnable built =
         let open' : is_done run line.by ≡ true =
         ap (λ (o : Option Transcript). is_done_as (transcript_at o).end) caller ∙ ap is_done_as is in
         rw open'
-        (act_run limit script lines line runnable.form run was runnable.known built h t.items
+        (act_run limit script lines line runnable.form run was runnable.known h t.items
         (record { there = there; caller = caller ∙ ap Some (sym same) }) line.act refl runnable.act)
     by_end t (ended.JournalFull on) is caller h there =
         let closed' : is_done run line.by ≡ false =
@@ -345,14 +344,14 @@ line_runs limit script lines line run was runnable built =
 
 -- the lines that are left, one after another
 pub lines_run : (limit : ℕ) (script : Script) (lines left : List Line) (run : Run) → IsRunOf script (IsPlayed limit script.structures lines) run
-    → All (IsRunnableLine script) left → ((form : StrForm) (x : ℕ) → slice_get script.structures x ≡ Some form → IsBuiltKind form.kind)
+    → All (IsRunnableLine script) left
     → IsRunOf script (IsPlayed limit script.structures (lines ++ left)) (fold (after_line limit script) run left)
-lines_run limit script lines [] run was runnable built =
+lines_run limit script lines [] run was runnable =
     subst (λ (t : List Line). IsRunOf script (IsPlayed limit script.structures t) run) (sym (append-nil lines)) was
-lines_run limit script lines (line ∷ left) run was runnable built =
+lines_run limit script lines (line ∷ left) run was runnable =
     let first : IsRunnableLine script line = All-head (IsRunnableLine script) line left runnable in
     subst (λ (t : List Line). IsRunOf script (IsPlayed limit script.structures t) (fold (after_line limit script) run (line ∷ left)))
     (append_assoc lines (line ∷ []) left)
     (lines_run limit script (lines ++ line ∷ []) left (after_line limit script run line)
-    (line_runs limit script lines line run was first (built first.form line.on.0 first.known))
-    (All-tail (IsRunnableLine script) line left runnable) built)
+    (line_runs limit script lines line run was first)
+    (All-tail (IsRunnableLine script) line left runnable))

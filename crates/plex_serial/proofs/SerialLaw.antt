@@ -20,7 +20,7 @@ use Rattle.plex_script.specs.declared.transcripts.Shown.{Shown}
 use Rattle.plex_script.specs.declared.transcripts.Transcript.{Transcript}
 use Rattle.plex_script.specs.Heard.{AnyCall, any_calls, own_calls, calls_on, calls_of}
 use Rattle.plex_script.specs.Follows.{ShowsClosings, AgreesWith, Follows, Stops, lines_of, numbers_on}
-use Rattle.plex_serial.specs.Kinds.{IsBuiltKind, no_calls, numbers_from}
+use Rattle.plex_serial.specs.Kinds.{no_calls, numbers_from}
 use Rattle.plex_serial.specs.Serial.{Run, start, no_items, after_line, after_closing, serial_run}
 use Rattle.plex_serial.specs.Runnable.{IsRunnable}
 use Rattle.plex_serial.specs.Headline.{EndsRight, ShowsHistories}
@@ -42,20 +42,20 @@ start_calls [] x = refl
 start_calls (form ∷ forms) zero = none_calls form.kind
 start_calls (form ∷ forms) (suc x) = start_calls forms x
 
-start_history : (form : StrForm) → IsBuiltKind form.kind → (k : Kind) → form.kind ≡ k → IsHistory form (no_calls k)
-start_history form built kind.Cache is =
+start_history : (form : StrForm) (k : Kind) → form.kind ≡ k → IsHistory form (no_calls k)
+start_history form kind.Cache is =
     record {
       kind = rw is tt;
       legal = legal_none cache_meaning form;
       counted = refl;
     }
-start_history form built (kind.List headers locks refs) is =
+start_history form (kind.List headers locks refs) is =
     record {
       kind = rw is tt;
       legal = legal_none list_meaning form;
       counted = refl;
     }
-start_history form built kind.Lock is =
+start_history form kind.Lock is =
     record {
       kind = rw is tt;
       legal = legal_none lock_meaning form;
@@ -67,9 +67,9 @@ replicated zero x y i e = absurd cc
 replicated (suc n) x y zero e = cc
 replicated (suc n) x y (suc i) e = replicated n x y i e
 
-start_is : (limit : ℕ) (script : Script) → ((form : StrForm) (x : ℕ) → slice_get script.structures x ≡ Some form → IsBuiltKind form.kind)
+start_is : (limit : ℕ) (script : Script)
     → IsRunOf script (IsPlayed limit script.structures []) (start script)
-start_is limit script built =
+start_is limit script =
     record {
       structures = length-map script.structures (λ (form : StrForm). no_calls form.kind);
       kept = λ on form entries known there. (
@@ -77,7 +77,7 @@ start_is limit script built =
           ap (option_map (λ (form : StrForm). no_calls form.kind)) (sym known)
           ∙ sym (slice_get-map (λ (form : StrForm). no_calls form.kind) script.structures on.0) ∙ there in
           let same : no_calls form.kind ≡ entries = cc in
-          subst (IsHistory form) same (start_history form (built form on.0 known) form.kind refl));
+          subst (IsHistory form) same (start_history form form.kind refl));
       callers = λ on entries there. (
           let none : any_calls entries ≡ [] = ap calls_of (sym there) ∙ start_calls script.structures on.0 in
           subst (All (λ (call : AnyCall). call.by.0 ≤ length script.connectors)) (sym none)
@@ -134,25 +134,24 @@ closed_as limit script closed closed' run same was =
     (λ conn transcript there is. subst (λ (n : ℕ). IsClosed limit script n run.histories conn transcript.items transcript.end) (same conn.0) is)
 
 closings_run : (limit : ℕ) (script : Script) (last left : ℕ) (run : Run)
-    → ((form : StrForm) (x : ℕ) → slice_get script.structures x ≡ Some form → IsBuiltKind form.kind)
     → last + left ≡ length script.connectors
     → IsRunOf script (AreClosed limit script (closed_upto (length script.structures) last)) run
     → IsRunOf script (AreClosed limit script (closed_upto (length script.structures) (length script.connectors)))
     (fold (after_closing limit script) run
     (map (λ (number : ℕ). (let conn : ConnId = record { 0 = number } in conn)) (numbers_from (last + 1) left)))
-closings_run limit script last zero run built all was =
+closings_run limit script last zero run all was =
     let done : last ≡ length script.connectors = omega (arith, all) in
     subst (λ (n : ℕ). IsRunOf script (AreClosed limit script (closed_upto (length script.structures) n)) run) done was
-closings_run limit script last (suc left) run built all was =
+closings_run limit script last (suc left) run all was =
     let conn : ConnId = record { 0 = last + 1 } in
     let run' : Run = after_closing limit script run conn in
-    closings_run limit script (last + 1) left run' built (omega (arith, all))
+    closings_run limit script (last + 1) left run' (omega (arith, all))
     (closed_as limit script (closed_at conn (length script.structures) (closed_upto (length script.structures) last))
     (closed_upto (length script.structures) (last + 1)) run' (after_closings (length script.structures) last)
     (departures_run limit script (closed_upto (length script.structures) last) conn [] script.structures run refl
     (closed_as limit script (closed_upto (length script.structures) last) (closed_at conn 0 (closed_upto (length script.structures) last)) run
     (λ n. sym (before_closing (length script.structures) last n)) was)
-    (λ e. omega (arith, e)) (omega (arith, all)) built))
+    (λ e. omega (arith, e)) (omega (arith, all))))
 
 -- ---- the whole
 
@@ -263,13 +262,10 @@ module _ (limit : ℕ) (script : Script) (run : Run)
 pub serial_shows : (limit : ℕ) (script : Script) → IsRunnable script
     → (let run : Run = serial_run limit script in ShowsHistories limit script run.histories run.transcripts)
 serial_shows limit script runnable =
-    let built : (form : StrForm) (x : ℕ) → slice_get script.structures x ≡ Some form → IsBuiltKind form.kind = λ form x known.
-    subst (λ (f : StrForm). IsBuiltKind f.kind) (get_or_from_slice_get script.structures x form form known)
-    (All-get_or (λ (form : StrForm). IsBuiltKind form.kind) script.structures x form (slice_get_within script.structures x form known) runnable.kinds) in
     let is : IsRunOf script (AreClosed limit script (closed_upto (length script.structures) (length script.connectors))) (serial_run limit script) =
-    closings_run limit script 0 (length script.connectors) (fold (after_line limit script) (start script) script.lines) built (omega arith)
+    closings_run limit script 0 (length script.connectors) (fold (after_line limit script) (start script) script.lines) (omega arith)
     (closing_begins limit script (fold (after_line limit script) (start script) script.lines)
-    (lines_run limit script [] script.lines (start script) (start_is limit script built) runnable.lines built)) in
+    (lines_run limit script [] script.lines (start script) (start_is limit script) runnable.lines)) in
     record {
       structures = is.structures;
       histories_right = λ x form entries known there. (

@@ -28,7 +28,7 @@ use Rattle.engine_api.specs.History.{calls}
 use Rattle.plex_script.specs.declared.scripts.AnyAsk.TheVariants as ask
 use Rattle.plex_script.specs.Heard.{AnyCall, any_call, any_calls, any_length, heard, own_calls}
 use Rattle.plex_script.specs.Follows.{Runs, RunsUpTo}
-use Rattle.plex_serial.specs.Kinds.{IsOfKind, IsAskOf, IsBuiltKind, IsAnyLegal, any_next, any_told, numbers_from}
+use Rattle.plex_serial.specs.Kinds.{IsOfKind, IsAskOf, IsAnyLegal, any_next, any_told, numbers_from}
 use Rattle.plex_serial.specs.Serial.{Run, Made, shown_to, stopped_at, transcript_of, transcript_at, call_made, step_made, steps_made}
 use Rattle.plex_serial.proofs.KindLaws.{Takes, takes_of_kind, call_added, calls-next, length-next, kind-next, legal-next, counted-next, IsCounted, Stood, stood-next}
 use Rattle.plex_serial.proofs.Fronts.{heard_front}
@@ -328,9 +328,9 @@ HoldFor limit most form line by on =
 
 first_step_is : (limit most : ℕ) (form : StrForm) (line : Option AnyAsk) (by : ConnId) (on : StrNo) (now : Step) (entries : AnyHistory)
     (items : List Shown) (run : Run) → HoldFor limit most form line by on → IsAt run by on entries items → IsHistory form entries
-    → IsBuiltKind form.kind → IsLineOf form.kind line → IsReady line now → most_asks now ≤ suc most
+    → IsLineOf form.kind line → IsReady line now → most_asks now ≤ suc most
     → AreStepsFrom limit most form line by on now entries items run (step_made limit form line by on now run)
-first_step_is limit most form line by on now entries items run fewer_hold at kept built of_kind ready enough =
+first_step_is limit most form line by on now entries items run fewer_hold at kept of_kind ready enough =
     by_ask (asked_by form.kind line now) refl
   where
     by_full : (asked : AnyAsk) → asked_by form.kind line now ≡ Some asked → (b : Bool) → nat_le limit (any_length entries) ≡ b
@@ -340,7 +340,7 @@ first_step_is limit most form line by on now entries items run fewer_hold at kep
         (full_steps limit form line by on now entries items run asked at kept asks (is_full limit (any_length entries) full))
     by_full asked asks false room =
         let takes : Takes entries asked =
-        takes_of_kind form.kind entries asked kept.kind (ask_of_step form.kind line now asked of_kind asks) built in
+        takes_of_kind form.kind entries asked kept.kind (ask_of_step form.kind line now asked of_kind asks) in
         let told : Told = any_told form entries by asked in
         let item : Shown = shown.Call on (any_length entries + 1) in
         let later : AnyHistory = any_next form entries by asked in
@@ -366,10 +366,10 @@ first_step_is limit most form line by on now entries items run fewer_hold at kep
     by_ask (Some asked) asks = rw (asks, at.there) (by_full asked asks (nat_le limit (any_length entries)) refl)
 
 -- a step and the steps behind it
-pub steps_are : (limit most : ℕ) (form : StrForm) (line : Option AnyAsk) (by : ConnId) (on : StrNo) → IsBuiltKind form.kind
+pub steps_are : (limit most : ℕ) (form : StrForm) (line : Option AnyAsk) (by : ConnId) (on : StrNo)
     → IsLineOf form.kind line → HoldFor limit most form line by on
-steps_are limit zero form line by on built of_kind now entries items run at kept ready enough =
+steps_are limit zero form line by on of_kind now entries items run at kept ready enough =
     no_steps limit form line by on now entries items run at kept (rests now enough)
-steps_are limit (suc most) form line by on built of_kind now entries items run at kept ready enough =
-    first_step_is limit most form line by on now entries items run (steps_are limit most form line by on built of_kind)
-    at kept built of_kind ready enough
+steps_are limit (suc most) form line by on of_kind now entries items run at kept ready enough =
+    first_step_is limit most form line by on now entries items run (steps_are limit most form line by on of_kind)
+    at kept of_kind ready enough

@@ -12,7 +12,7 @@ use Rattle.plex_script.specs.Agent.{asked_by}
 use Rattle.plex_script.specs.Heard.{any_length}
 use Rattle.plex_serial.specs.declared.any_structure.AnyStructure.{AnyStructure}
 use Rattle.plex_serial.specs.declared.any_structure.AnyStructure.TheVariants as structure
-use Rattle.plex_serial.specs.Kinds.{IsAskOf, IsBuiltKind}
+use Rattle.plex_serial.specs.Kinds.{IsAskOf}
 use Rattle.plex_serial.specs.Runnable.{MayAskAny}
 use Rattle.plex_serial.specs.Serial.{Run}
 
@@ -48,7 +48,6 @@ pub record IsSameBoard (old new : Board) : Type 0 where
 pub record IsPlace (board : Board) (form : StrForm) (by : ConnId) (on : StrNo) : Type 0 where
   pub known : slice_get board.forms on.0 ≡ Some form
   pub there : on.0 < length board.run.histories
-  pub kind : IsBuiltKind form.kind
   pub caller : IsCaller by
   pub shown : by.0 < length board.run.transcripts
 

@@ -45,12 +45,6 @@ IsAskOf kind.Lock (ask.Cache asked) = ⊥
 IsAskOf kind.Lock (ask.List asked) = ⊥
 IsAskOf kind.Lock (ask.Lock asked) = Unit {0}
 
--- the kinds that are built
-abbrev pub IsBuiltKind : Kind → Type 0
-IsBuiltKind kind.Cache = Unit {0}
-IsBuiltKind (kind.List headers locks refs) = Unit {0}
-IsBuiltKind kind.Lock = Unit {0}
-
 -- a caller's next call, and what is told of it. An ask of another kind is none
 abbrev pub any_next : StrForm → AnyHistory → ConnId → AnyAsk → AnyHistory
 any_next form (history.Cache entries) by (ask.Cache asked) = history.Cache (next cache_meaning form entries by asked)

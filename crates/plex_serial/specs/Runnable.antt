@@ -10,7 +10,7 @@ use Rattle.plex_script.specs.declared.scripts.Act.{Act}
 use Rattle.plex_script.specs.declared.scripts.Act.TheVariants as act
 use Rattle.plex_script.specs.declared.scripts.Line.{Line}
 use Rattle.plex_script.specs.declared.scripts.Script.{Script}
-use Rattle.plex_serial.specs.Kinds.{IsAskOf, IsBuiltKind}
+use Rattle.plex_serial.specs.Kinds.{IsAskOf}
 
 -- a caller may ask this, and its command is built
 abbrev pub MayAskAny : ConnId → AnyAsk → Type 0
@@ -37,5 +37,4 @@ pub record IsRunnable (script : Script) : Type 0 where
   pub structures : length script.structures ≤ 16
   pub connectors : length script.connectors ≤ 32
   pub forms : All IsForm script.structures
-  pub kinds : All (λ form. IsBuiltKind form.kind) script.structures
   pub lines : All (IsRunnableLine script) script.lines

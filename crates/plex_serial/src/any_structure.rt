@@ -6,7 +6,7 @@ ghost use Rattle.list_core.specs.Seen.{is_list};
 ghost use Rattle.lock_core.specs.Seen.{is_lock};
 ghost use Rattle.plex_script.specs.declared.scripts.AnyAsk.TheVariants as asked;
 ghost use Rattle.plex_script.specs.Heard.{any_length, any_calls, own_calls, is_linked};
-ghost use Rattle.plex_serial.specs.Kinds.{IsAskOf, IsBuiltKind, no_calls, any_next, any_told, any_stands, any_word};
+ghost use Rattle.plex_serial.specs.Kinds.{IsAskOf, no_calls, any_next, any_told, any_stands, any_word};
 ghost use Rattle.plex_serial.specs.Serial.{test_shown, word_shown};
 ghost use Rattle.plex_serial.specs.Runnable.{MayAskAny};
 ghost use Rattle.plex_serial.specs.Boards.{form_of, history_of};
@@ -32,7 +32,6 @@ impl AnyStructure {
     /// A structure of this form, without calls yet.
     pub fn start(alloc: Global, form: StrForm) -> Result<AnyStructure, NoMemory>
         requires formed { IsForm form }
-        requires built { IsBuiltKind form.kind }
         ensures form { IfOk result (λ one. form_of one ≡ form) }
         ensures history { IfOk result (λ one. history_of one ≡ no_calls form.kind) }
     {
@@ -150,7 +149,6 @@ impl AnyStructure {
     /// A call is answered and journalled at once; what is told of it.
     pub fn call(&mut self, alloc: Global, by: ConnId, ask: AnyAsk) -> Result<Told, NoMemory>
         requires kind { IsAskOf (form_of self.old).kind ask }
-        requires built { IsBuiltKind (form_of self.old).kind }
         requires may { MayAskAny by ask }
         requires numbered { any_length (history_of self.old) + 1 < 2 ^ 32 }
         ensures form { form_of self.new ≡ form_of self.old }

@@ -9,7 +9,7 @@ ghost use Rattle.plex_script.specs.Heard.{any_length, any_calls, own_calls, is_l
 ghost use Rattle.plex_serial.specs.Boards.{AllMayAsk, CanAsk, IsPlace, IsSameBoard};
 ghost use Rattle.plex_serial.specs.Runnable.{IsRunnableAct, MayAskAny};
 ghost use Rattle.plex_serial.specs.Serial.{start, shown_to, stopped_at, is_done, step_made, all_steps_made, test_shown, word_shown, with_shown, act_made, line_made, after_departure};
-ghost use Rattle.plex_serial.specs.Kinds.{IsAskOf, IsBuiltKind, any_next, any_told, any_word};
+ghost use Rattle.plex_serial.specs.Kinds.{IsAskOf, any_next, any_told, any_word};
 
 use crate::any_structure::AnyStructure;
 use crate::runs::Finished;
@@ -250,7 +250,6 @@ impl Board {
     pub fn close(&mut self, alloc: Global, forms: &[StrForm], conn: ConnId) -> Result<(), NoMemory>
         requires forms { self.old.forms ≡ forms.now }
         requires few { length forms.now ≤ 16 }
-        requires built { All (λ form. IsBuiltKind form.kind) forms.now }
         requires structures { length self.old.run.histories ≡ length forms.now }
         requires connector { IsConnector conn }
         requires caller { conn.0 < length self.old.run.transcripts }
@@ -269,7 +268,6 @@ impl Board {
     /// A board before any line: no calls, and nothing shown to the operator and the connectors.
     pub fn start(alloc: Global, limit: u32, script: &Script) -> Result<Board, NoMemory>
         requires forms { All IsForm script.now.structures }
-        requires built { All (λ form. IsBuiltKind form.kind) script.now.structures }
         ensures forms { IfOk result (λ board. board.forms ≡ script.now.structures) }
         ensures run { IfOk result (λ board. board.run ≡ start script.now) }
         ensures limit { IfOk result (λ board. board.limit ≡ limit) }
