@@ -1,3 +1,6 @@
-pub mod FrontLaws
+pub mod IndexLaws
+pub mod LookupLaws
+pub mod KeptLaws
 pub mod EndLaws
+pub mod FrontLaws
 pub mod PlanLaws

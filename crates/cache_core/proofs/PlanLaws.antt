@@ -1,8 +1,7 @@
 -- What a plan that isn't refused says.
-use Rattle.std.proofs.Common.{◌≡◌, ℕ, ◌+◌, ◌≤◌, Bool, true, false, List, [], ◌∷◌, ◌++◌, Option, None, Some, Result, Ok, Err, length, refl, sym, ap, ◌∙◌, subst, arith}
-use Rattle.std.specs.Prelude.{OnOk, OnErr, IsTrue}
+use Rattle.std.proofs.Common.{◌≡◌, ℕ, List, Option, None, Some, Result, Ok, Err, refl, sym, ap, ◌∙◌, subst}
+use Rattle.std.specs.Prelude.{OnOk, OnErr}
 use Rattle.cf_types.specs.declared.forms.Caps.{Caps}
-use Rattle.cf_types.specs.declared.names.Name16.{Name16}
 use Rattle.cf_types.specs.declared.numbers.ConnId.{ConnId}
 use Rattle.cf_types.specs.declared.refusals.Refusal.{Refusal}
 use Rattle.cf_types.specs.declared.cache_commands.CacheCmd.{CacheCmd}
@@ -13,7 +12,7 @@ use Rattle.cache_model.specs.Rows.{IsDirectory}
 use Rattle.cache_model.specs.Contents.{Content}
 use Rattle.cache_model.specs.Commands.Read as read
 use Rattle.cache_model.specs.Commands.Write as write
-use Rattle.cache_model.specs.Step.{cause, reply, victims}
+use Rattle.cache_model.specs.Step.{cause, victims}
 use Rattle.cache_model.proofs.RoomLaws.{request_spared}
 use Rattle.cache_core.specs.declared.plans.Plan.{Plan}
 use Rattle.cache_core.specs.Plans.{body_of, plan_unless, plan_for, IsSpared}

@@ -1,3 +1,4 @@
+pub mod Indexes
 pub mod RowBatch
 pub mod Measure
 pub mod Plans

@@ -66,12 +66,14 @@ impl Engine for CacheEngine {
     ghost is_ready = { IsReady };
 
     fn empty(alloc: Global, form: &StrForm, caps: Caps) -> Result<Self, NoMemory> {
+        // One place more than there are entries, since room for a command's row is taken before other rows go.
+        let rows = Rows::new(alloc, caps.entries + 1)?;
         let regs = Regs::new(alloc, form.conns, form.vector)?;
         Ok(CacheEngine {
             alloc,
             shape: Shape::of(form),
             caps,
-            rows: Rows::new(alloc),
+            rows,
             regs,
             plan: None,
         })
@@ -95,7 +97,7 @@ impl Engine for CacheEngine {
             self.alloc,
             self.shape.vector,
             self.caps,
-            self.rows.items(),
+            &self.rows,
             &self.regs,
             by,
             cmd,

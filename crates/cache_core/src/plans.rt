@@ -74,38 +74,35 @@ fn refusal(
 // The reply to a command that isn't refused.
 fn reply(
     alloc: Global,
-    rows: &[CacheItem],
+    rows: &Rows,
     regs: &Regs,
     by: ConnId,
     cmd: &CacheCmd,
 ) -> Result<CacheReply, NoMemory>
-    requires { length rows.now < 2 ^ 32 }
-    ensures { IfOk result (λ told. told ≡ reply (record { rows = rows.now; regs = regs.now.regs }) by cmd.now) }
+    requires { length rows.now.rows < 2 ^ 32 }
+    ensures { IfOk result (λ told. told
+        ≡ reply (record { rows = rows.now.rows; regs = regs.now.regs }) by cmd.now) }
 {
     match cmd {
-        CacheCmd::Read { name, stg, .. } => read::reply(alloc, rows, name, *stg),
+        CacheCmd::Read { name, stg, .. } => read::reply(alloc, rows.items(), name, *stg),
         CacheCmd::Write { .. } => Ok(CacheReply::Ok),
         CacheCmd::CrossInval { name } => Ok(cross_inval::reply(regs, by, name)),
         CacheCmd::RegList => reg_list::reply(alloc, regs, by),
-        CacheCmd::Castout { name } => castout::reply(alloc, rows, name),
-        CacheCmd::Unlock { name } => Ok(unlock::reply(rows, name)),
+        CacheCmd::Castout { name } => castout::reply(alloc, rows.items(), name),
+        CacheCmd::Unlock { name } => Ok(unlock::reply(rows.items(), name)),
         CacheCmd::CoClass { class } => co_class::reply(alloc, rows, *class),
         CacheCmd::CoStats => co_stats::reply(alloc, rows),
-        CacheCmd::DirInfo { name } => Ok(dir_info::reply(rows, regs, name)),
+        CacheCmd::DirInfo { name } => Ok(dir_info::reply(rows.items(), regs, name)),
         CacheCmd::Delete { .. } => Ok(CacheReply::Ok),
-        CacheCmd::StgStats { stg } => Ok(stg_stats::reply(rows, *stg)),
+        CacheCmd::StgStats { stg } => Ok(stg_stats::reply(rows.items(), *stg)),
     }
 }
 
 // The names of the rows that are reclaimed for a command.
-fn gone(
-    alloc: Global,
-    caps: Caps,
-    rows: &[CacheItem],
-    cmd: &CacheCmd,
-) -> Result<Vec<Name16>, NoMemory>
-    requires { elements_in rows.now < 2 ^ 32 }
-    ensures { IfOk result (λ names. names.items ≡ victims caps rows.now cmd.now) }
+fn gone(alloc: Global, caps: Caps, rows: &Rows, cmd: &CacheCmd) -> Result<Vec<Name16>, NoMemory>
+    requires few { length rows.now.rows < 2 ^ 32 }
+    requires elements { elements_in rows.now.rows < 2 ^ 32 }
+    ensures { IfOk result (λ names. names.items ≡ victims caps rows.now.rows cmd.now) }
 {
     match cmd {
         CacheCmd::Read { name, stg, .. } => victims(alloc, caps, rows, &read::request(name, *stg)),
@@ -135,14 +132,15 @@ ghost use Rattle.cache_core.specs.Plans.{body_of};
 fn plan_done(
     alloc: Global,
     caps: Caps,
-    rows: &[CacheItem],
+    rows: &Rows,
     regs: &Regs,
     by: ConnId,
     cmd: &CacheCmd,
 ) -> Result<Plan, NoMemory>
-    requires few { length rows.now < 2 ^ 32 }
-    requires elements { elements_in rows.now < 2 ^ 32 }
-    ensures { IfOk result (λ plan. plan ≡ plan_unless None caps (record { rows = rows.now; regs = regs.now.regs }) by cmd.now) }
+    requires few { length rows.now.rows < 2 ^ 32 }
+    requires elements { elements_in rows.now.rows < 2 ^ 32 }
+    ensures { IfOk result (λ plan. plan ≡ plan_unless None caps
+        (record { rows = rows.now.rows; regs = regs.now.regs }) by cmd.now) }
 {
     let told = reply(alloc, rows, regs, by, cmd)?;
     let names = gone(alloc, caps, rows, cmd)?;
@@ -162,16 +160,17 @@ pub(crate) fn make_plan(
     alloc: Global,
     vector: u32,
     caps: Caps,
-    rows: &[CacheItem],
+    rows: &Rows,
     regs: &Regs,
     by: ConnId,
     cmd: &CacheCmd,
 ) -> Result<Plan, NoMemory>
-    requires few { length rows.now < 2 ^ 32 }
-    requires elements { elements_in rows.now < 2 ^ 32 }
-    ensures { IfOk result (λ plan. plan ≡ plan_for vector caps (record { rows = rows.now; regs = regs.now.regs }) by cmd.now) }
+    requires few { length rows.now.rows < 2 ^ 32 }
+    requires elements { elements_in rows.now.rows < 2 ^ 32 }
+    ensures { IfOk result (λ plan. plan ≡ plan_for vector caps
+        (record { rows = rows.now.rows; regs = regs.now.regs }) by cmd.now) }
 {
-    match refusal(vector, caps, rows, regs, by, cmd) {
+    match refusal(vector, caps, rows.items(), regs, by, cmd) {
         Some(refusal) => Ok(Plan {
             reply: Err(refusal),
             gone: Listing::from_vec(Vec::new(alloc)),

@@ -1,11 +1,10 @@
 //! Room for a request: which unchanged rows are reclaimed for it.
-ghost use Rattle.std.specs.Prelude.{◌≡◌, ◌^◌, ◌<◌, ◌++◌, ◌&&◌, ◌==◌, [], not, IfOk, OnOk, length, map, filter, sum_by};
-ghost use Rattle.list_laws.specs.Prefixes.{shortest_prefix};
-ghost use Rattle.cache_model.specs.Rows.{has_storage, elements_of, elements_in, rows_without};
-ghost use Rattle.cache_model.specs.Room.{is_reclaimable, reclaim_order, victims, room_refusal};
-ghost use Rattle.cache_core.specs.Measure.{room_for, has_place, free_elements, is_enough, reclaimable_of, is_enough_of};
+ghost use Rattle.std.specs.Prelude.{◌≡◌, ◌^◌, ◌<◌, Some, IfOk, length, filter, option_map};
+ghost use Rattle.cache_model.specs.Rows.{elements_of, elements_in, rows_without};
+ghost use Rattle.cache_model.specs.Room.{is_reclaimable, victims, room_refusal};
+ghost use Rattle.cache_core.specs.Measure.{room_for, has_place, free_elements, is_enough, reclaimable_of, other_than, victim_at, reclaimable_from, front_names};
 
-use crate::rows::{elements_of, has_row};
+use crate::rows::{Rows, elements_of, has_row};
 use cache_model::{CacheItem, Request};
 use cf_types::{Caps, Name16, NoMemory, Refusal};
 use std::alloc::Global;
@@ -133,66 +132,55 @@ pub(crate) fn room_refusal(caps: Caps, rows: &[CacheItem], request: &Request) ->
     }
 }
 
-// One row more that may be reclaimed.
-fn push_reclaimable(order: &mut Vec<Reclaimable>, row: &CacheItem) -> Result<(), NoMemory>
-    ensures { OnOk result (order.new.items ≡ order.old.items ++ reclaimable_of row.now ∷ []) }
+// The row that is reclaimed at a place (from 0) for a request; none where that is the request's own, or past the end.
+fn victim_at(rows: &Rows, request: &Request, k: u32) -> Option<Reclaimable>
+    ensures { result ≡ victim_at request.now rows.now.rows k }
 {
-    let elements = elements_of(row);
-    order.push(Reclaimable {
-        name: row.name,
-        elements,
-    })?;
-    Ok(())
-}
-
-// The rows of the request's storage class that may be reclaimed, behind others; or those of the other classes.
-fn push_order(
-    order: &mut Vec<Reclaimable>,
-    rows: &[CacheItem],
-    request: &Request,
-    first: bool,
-) -> Result<(), NoMemory>
-    ensures { OnOk result (order.new.items ≡ order.old.items
-        ++ map reclaimable_of (filter (λ row. is_reclaimable request.now.name row && in_turn request.now.stg first row) rows.now)) }
-{
-    for row in rows {
-        if is_reclaimable(row, &request.name) && (row.stg == request.stg) == first {
-            push_reclaimable(order, row)?;
-        }
+    match rows.reclaimed(request.stg, k) {
+        None => None,
+        Some(row) => reclaimable_for(row, &request.name),
     }
-    Ok(())
 }
 
-ghost use Rattle.std.specs.Prelude.{◌∷◌};
-ghost use Rattle.cache_core.specs.Measure.{in_turn};
-
-// The order of reclaiming.
-fn reclaim_order(
-    alloc: Global,
-    rows: &[CacheItem],
-    request: &Request,
-) -> Result<Vec<Reclaimable>, NoMemory>
-    ensures { IfOk result (λ order. order.items ≡ map reclaimable_of (reclaim_order request.now rows.now)) }
+// What a row gives if it is reclaimed, unless it is the row of this name.
+fn reclaimable_for(row: &CacheItem, name: &Name16) -> Option<Reclaimable>
+    ensures { result ≡ option_map reclaimable_of (other_than name.now (Some row.now)) }
 {
-    let mut order = Vec::new(alloc);
-    push_order(&mut order, rows, request, true)?;
-    push_order(&mut order, rows, request, false)?;
-    Ok(order)
+    if row.name == *name {
+        None
+    } else {
+        Some(Reclaimable {
+            name: row.name,
+            elements: elements_of(row),
+        })
+    }
 }
 
-// The names of as few rows from the front of the order as leave room.
-fn front(alloc: Global, order: &[Reclaimable], room: &Room) -> Result<Vec<Name16>, NoMemory>
-    requires { sum_by (λ row. row.elements) order.now < 2 ^ 32 }
-    ensures { IfOk result (λ names. names.items ≡ map (λ row. row.name) (shortest_prefix (is_enough_of room.now) order.now)) }
+// The names of as few rows from the front of the order of reclaiming as leave room.
+fn front(
+    alloc: Global,
+    rows: &Rows,
+    request: &Request,
+    room: &Room,
+) -> Result<Vec<Name16>, NoMemory>
+    requires few { length rows.now.rows < 2 ^ 32 }
+    requires elements { elements_in rows.now.rows < 2 ^ 32 }
+    ensures { IfOk result (λ names. names.items
+        ≡ front_names room.now (reclaimable_from request.now rows.now.rows 0)) }
 {
     let mut names = Vec::new(alloc);
     let mut given = 0;
-    for row in order {
+    for k in 0..rows.items().len() as u32 {
         if room.is_enough(names.len(), given) {
             return Ok(names);
         }
-        names.push(row.name)?;
-        given += row.elements;
+        match victim_at(rows, request, k) {
+            Some(row) => {
+                names.push(row.name)?;
+                given += row.elements;
+            }
+            None => {}
+        }
     }
     Ok(names)
 }
@@ -201,16 +189,13 @@ fn front(alloc: Global, order: &[Reclaimable], room: &Room) -> Result<Vec<Name16
 pub(crate) fn victims(
     alloc: Global,
     caps: Caps,
-    rows: &[CacheItem],
+    rows: &Rows,
     request: &Request,
 ) -> Result<Vec<Name16>, NoMemory>
-    requires { elements_in rows.now < 2 ^ 32 }
-    ensures { IfOk result (λ names. names.items ≡ victims caps request.now rows.now) }
+    requires few { length rows.now.rows < 2 ^ 32 }
+    requires elements { elements_in rows.now.rows < 2 ^ 32 }
+    ensures { IfOk result (λ names. names.items ≡ victims caps request.now rows.now.rows) }
 {
-    let room = Room::measure(caps, rows, request);
-    if room.is_enough(0, 0) {
-        return Ok(Vec::new(alloc));
-    }
-    let order = reclaim_order(alloc, rows, request)?;
-    front(alloc, order.as_slice(), &room)
+    let room = Room::measure(caps, rows.items(), request);
+    front(alloc, rows, request, &room)
 }

@@ -1,13 +1,20 @@
 //! The rows of the directory.
-ghost use Rattle.std.specs.Prelude.{◌≡◌, ◌+◌, ◌^◌, ◌<◌, ◌≤◌, ◌++◌, ◌∷◌, [], IsTrue, IfOk, IfErr, OnOk, OnErr, Some, false, option_map, option_to_list, position, map, length};
-ghost use Rattle.std.specs.List.{prefix_len, insert};
+ghost use Rattle.std.specs.Prelude.{◌≡◌, ◌+◌, ◌^◌, ◌<◌, ◌≤◌, ◌++◌, ◌∷◌, [], IsTrue, IfOk, IfErr, OnOk, OnErr, Some, false, option_map, option_to_list, position, map, filter, length, slice_get};
+ghost use Rattle.std.specs.List.{list_all, prefix_len, insert};
 ghost use Rattle.std.specs.Vec.{vec_len, vec_capacity};
 ghost use Rattle.list_laws.specs.Pairwise.{pairwise};
-ghost use Rattle.cache_model.specs.Rows.{is_row_of, is_changed, is_held_by, elements_of, elements_in, row_of, has_row, rows_without, stands_before, rows_with, names_apart};
+ghost use Rattle.cache_model.specs.Rows.{is_row_of, is_changed, is_held_by, elements_of, elements_in, row_of, has_row, rows_without, stands_before, rows_with, may_precede, names_apart, has_class};
+ghost use Rattle.cache_model.specs.Commands.CoStats.{rows_of_class};
+ghost use Rattle.cache_model.specs.declared.items.CacheItem.{CacheItem};
+ghost use Rattle.cache_classes.specs.Castout.{names_set, names_without};
+ghost use Rattle.cache_reclaim.specs.LastUse.{order_without};
+ghost use Rattle.cache_core.specs.Indexes.{order_with, reclaimed_for};
 ghost use Rattle.cache_model.specs.Contents.{is_among, rows_spared, without_hold};
 ghost use Rattle.cf_types.specs.declared.names.Name16.{Name16};
 
+use cache_classes::Classes;
 use cache_model::CacheItem;
+use cache_reclaim::Order;
 use cf_types::{Body, ConnId, Name16, NoMemory, copy_body};
 use std::alloc::Global;
 use std::marker::Model;
@@ -190,35 +197,69 @@ fn push_copy(alloc: Global, copy: &mut Vec<CacheItem>, row: &CacheItem) -> Resul
     Ok(())
 }
 
-/// The rows of a directory, one at most for a name, with room for more. Contracts see the list of them, and for how
-/// many more there is room.
+// Puts a row into the indexes: a changed one under its castout class, and an unchanged one as the most recently used.
+fn index_row(classes: &mut Classes, order: &mut Order, row: &CacheItem)
+    requires class_room { 1 ≤ classes.old.room }
+    requires order_room { 1 ≤ order.old.room }
+    requires place { length order.old.order < order.old.entries }
+    ensures classes { classes.new.names ≡ names_set row.now.name row.now.class classes.old.names }
+    ensures order { order.new.order ≡ order_with row.now order.old.order }
+    ensures entries { order.new.entries ≡ order.old.entries }
+{
+    classes.set(row.name, row.class);
+    if row.class.is_none() {
+        order.touch(row.name, row.stg);
+    }
+}
+
+// Takes a name out of the indexes.
+fn unindex(classes: &mut Classes, order: &mut Order, name: &Name16)
+    ensures classes { classes.new.names ≡ names_without name.now classes.old.names }
+    ensures class_room { classes.old.room ≤ classes.new.room }
+    ensures order { order.new.order ≡ order_without name.now order.old.order }
+    ensures order_room { order.old.room ≤ order.new.room }
+    ensures entries { order.new.entries ≡ order.old.entries }
+{
+    classes.set(*name, None);
+    order.remove(name);
+}
+
+/// The rows of a directory, one at most for a name, the changed ones first, with room for more. Contracts see the list
+/// of them, and for how many more there is room.
+///
+/// Beside the list stand two indexes: the castout classes of the changed rows, and the order in which the unchanged
+/// ones were last used.
 #[derive(Debug, Drop)]
 pub(crate) struct Rows {
     rows: Vec<CacheItem>,
+    classes: Classes,
+    order: Order,
+    entries: u32,
 }
 
 impl Model for Rows {
-    ghost use Rattle.std.specs.Prelude.{◌-◌, IsTrue};
-    ghost use Rattle.std.specs.Vec.{vec_len, vec_capacity};
-    ghost use Rattle.list_laws.specs.Pairwise.{pairwise};
-    ghost use Rattle.cache_model.specs.Rows.{names_apart};
-    ghost use Rattle.cache_core.specs.RowBatch.{RowBatch};
+    ghost use Rattle.cache_core.specs.RowBatch.{RowBatch, batch_of, IsKept};
 
     ghost Value = { RowBatch };
 
-    ghost view = { λ r. record { rows = r.rows.items; room = vec_capacity r.rows - vec_len r.rows } };
+    ghost view = { batch_of };
 
-    ghost invariant = { λ r. IsTrue (pairwise names_apart r.rows.items) };
+    ghost invariant = { IsKept };
 }
 
 impl Rows {
-    /// No rows.
-    pub(crate) fn new(alloc: Global) -> Rows
-        ensures { result.rows ≡ [] }
+    /// No rows, of which there may be so many.
+    pub(crate) fn new(alloc: Global, entries: u32) -> Result<Rows, NoMemory>
+        ensures { IfOk result (λ rows. rows.rows ≡ []) }
     {
-        Rows {
+        let classes = Classes::new(alloc)?;
+        let order = Order::new(alloc, entries)?;
+        Ok(Rows {
             rows: Vec::new(alloc),
-        }
+            classes,
+            order,
+            entries,
+        })
     }
 
     /// The same rows once more.
@@ -226,7 +267,14 @@ impl Rows {
         ensures { IfOk result (λ copy. copy.rows ≡ self.now.rows) }
     {
         let rows = copy_rows(alloc, self.rows.as_slice())?;
-        Ok(Rows { rows })
+        let classes = self.classes.copy(alloc)?;
+        let order = self.order.copy(alloc)?;
+        Ok(Rows {
+            rows,
+            classes,
+            order,
+            entries: self.entries,
+        })
     }
 
     /// The rows, in their order.
@@ -236,13 +284,44 @@ impl Rows {
         self.rows.as_slice()
     }
 
-    /// Takes room for one row more.
+    /// The names of a castout class, in the order of names.
+    pub(crate) fn names_of_class(&self, alloc: Global, class: u32) -> Result<Vec<Name16>, NoMemory>
+        ensures { IfOk result (λ names. names.items
+            ≡ map (λ (row : CacheItem). row.name) (filter (has_class class) self.now.rows)) }
+    {
+        self.classes.names(alloc, class)
+    }
+
+    /// How many rows a castout class has.
+    pub(crate) fn count_of_class(&self, class: u32) -> u32
+        ensures { result ≡ rows_of_class self.now.rows class }
+    {
+        self.classes.count(class)
+    }
+
+    /// The row that is reclaimed as the `k`-th (from 0) for a storage class, if there are so many unchanged rows.
+    pub(crate) fn reclaimed(&self, stg: u32, k: u32) -> Option<&CacheItem>
+        ensures { option_map (λ row. row.now) result
+            ≡ slice_get (reclaimed_for stg self.now.rows) k }
+    {
+        match self.order.victim(stg, k) {
+            Some(name) => row_of(&self.rows, &name),
+            None => None,
+        }
+    }
+
+    /// Takes room for one row more, in the list and in both indexes. It is refused where there are as many rows as
+    /// there may be.
     pub(crate) fn reserve(&mut self) -> Result<(), NoMemory>
         ensures room { OnOk result (1 ≤ self.new.room) }
         ensures rows { self.new.rows ≡ self.old.rows }
     {
+        if self.rows.len() >= self.entries as usize {
+            return Err(NoMemory);
+        }
         self.rows.reserve(1)?;
-        Ok(())
+        self.classes.room()?;
+        self.order.room()
     }
 
     /// Takes out the row of a name.
@@ -251,6 +330,7 @@ impl Rows {
         ensures rest { self.new.rows ≡ rows_without name.now self.old.rows }
         ensures room { self.old.room ≤ self.new.room }
     {
+        unindex(&mut self.classes, &mut self.order, name);
         take_row(&mut self.rows, name)
     }
 
@@ -260,6 +340,7 @@ impl Rows {
         requires alone { has_row row.name self.old.rows ≡ false }
         ensures rows { self.new.rows ≡ rows_with row self.old.rows }
     {
+        index_row(&mut self.classes, &mut self.order, &row);
         put_row(&mut self.rows, row);
     }
 
@@ -268,7 +349,9 @@ impl Rows {
         ensures rows { self.new.rows ≡ rows_spared names.now self.old.rows }
         ensures room { self.old.room ≤ self.new.room }
     {
-        self.rows.retain(|row| !is_among(names, &row.name));
+        for name in names {
+            let _ = self.take(name);
+        }
     }
 
     /// Releases all castout locks of a connector.
@@ -278,16 +361,21 @@ impl Rows {
         release_all(&mut self.rows, conn);
     }
 
-    /// Puts a row behind the others, whatever its place; no row has its name. Want of memory hands it back.
+    /// Puts a row behind the others, where it has its place; no row has its name. Want of memory hands it back.
     pub(crate) fn push(&mut self, row: CacheItem) -> Result<(), CacheItem>
-        requires { has_row row.name self.old.rows ≡ false }
+        requires alone { has_row row.name self.old.rows ≡ false }
+        requires last { IsTrue (list_all (λ other. may_precede other row) self.old.rows) }
         ensures ok { OnOk result (self.new.rows ≡ self.old.rows ++ row ∷ []) }
         ensures err { OnErr result (self.new.rows ≡ self.old.rows) }
         ensures handed_back { IfErr result (λ back. back ≡ row) }
     {
-        match self.rows.push(row) {
-            Ok(()) => Ok(()),
-            Err(failed) => Err(failed.value),
+        match self.reserve() {
+            Ok(()) => {
+                index_row(&mut self.classes, &mut self.order, &row);
+                self.rows.push_reserved(row);
+                Ok(())
+            }
+            Err(_) => Err(row),
         }
     }
 
@@ -296,7 +384,9 @@ impl Rows {
         requires { 0 < length self.old.rows }
         ensures { self.new.rows ≡ take (length self.old.rows - 1) self.old.rows }
     {
-        let _ = self.rows.pop();
+        if let Some(row) = self.rows.pop() {
+            unindex(&mut self.classes, &mut self.order, &row.name);
+        }
     }
 }
 

@@ -103,3 +103,35 @@ fn a_changed_row_is_cast_out(rt: HostRuntime) -> Result<(), Fail> {
     assert_eq!(rt; body.bytes(), b"data".as_slice());
     Ok(())
 }
+
+#[test]
+fn the_least_recently_used_row_goes(rt: HostRuntime) -> Result<(), Fail> {
+    let alloc = rt.alloc();
+    let mut engine = cache_of(alloc)?;
+    let mut out = Effects::new(alloc);
+    for letter in 65..68u8 {
+        let read = CacheCmd::Read {
+            name: Name16([letter; 16]),
+            index: 0,
+            old: Some(Name16([letter.saturating_sub(1); 16])),
+            stg: 1,
+        };
+        let _ = call(&mut engine, ConnId(1), &read, &mut out)?;
+    }
+    let first = call(
+        &mut engine,
+        ConnId(1),
+        &CacheCmd::DirInfo {
+            name: Name16([65; 16]),
+        },
+        &mut out,
+    )?;
+    assert!(rt; matches!(&first, Err(Refusal::NoEntry)));
+    assert!(rt; engine.count() == 2);
+    let Ok(CacheReply::Stats(stats)) = call(&mut engine, ConnId(1), &CacheCmd::CoStats, &mut out)?
+    else {
+        panic!(rt; "no counts")
+    };
+    assert!(rt; stats.items().is_empty());
+    Ok(())
+}

@@ -1,4 +1,4 @@
-use Rattle.std.proofs.Common.{◌≡◌, ◌<◌, ◌+◌, ◌^◌, not, true, sym, arith, rules}
+use Rattle.std.proofs.Common.{◌≡◌, not, true, sym, arith}
 use Rattle.cache_model.specs.declared.items.CacheItem.{CacheItem}
 use Rattle.cache_model.specs.Rows.{is_row_of}
 use Rattle.cache_core.proofs.FrontLaws.{part_bound}

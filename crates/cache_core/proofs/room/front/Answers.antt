@@ -1,22 +1,60 @@
-use Rattle.std.proofs.Common.{◌≡◌, ◌++◌, ◌<◌, true, false, length, sym, ap, ◌∙◌, append-nil, arith, rules}
+use Rattle.std.proofs.Common.{◌≡◌, ◌≤◌, ◌∙◌, true, false, length, vec_len, sym, ap, List, arith}
+use Rattle.std.specs.declared.vec.Vec.{Vec}
+use Rattle.std.specs.declared.alloc.Global.{Global}
 use Rattle.cf_types.specs.declared.names.Name16.{Name16}
-use Rattle.std.proofs.Common.{List, drop}
+use Rattle.cache_model.specs.declared.items.CacheItem.{CacheItem}
 use Rattle.cache_core.specs.Measure.{is_enough}
-use Rattle.cache_core.proofs.FrontLaws.{front_from, front_enough, front_turn, weight_turn}
+use Rattle.cache_core.proofs.FrontLaws.{fronting_start, fronting_enough, fronting_fits, fronting_some, fronting_none, fronting_end}
+use Rattle.cache_core.proofs.room.front.Goals.{in-Some+in_ok-push-in-Some, in-None}
 use Rattle.cache_core.proofs.room.front.Goals as goal
+
+pub loop-k-init : goal.loop-k-init
+loop-k-init c =
+    rw (c.new-names.ensures.items, c.new-names.ensures.len)
+    (fronting_start c.args.request.now c.args.rows.now.rows c.args.room.now)
 
 pub returns-then-is_enough : goal.returns-then-is_enough
 returns-then-is_enough c =
-    let enough : is_enough c.args.room.now c.loop-row.row-index c.loop-row.given ≡ true = rw (c.len.ensures, c.loop-row.invariant.1) at (sym c.if-is_enough.ensures) in
-    sym (append-nil c.loop-row.names.items)
-    ∙ ap (λ (l : List Name16). c.loop-row.names.items ++ l) (sym (front_enough c.args.room.now c.loop-row.row-index c.loop-row.given (drop c.loop-row.row-index c.args.order.now) enough))
-    ∙ c.loop-row.invariant.0
+    let l = c.loop-k in
+    let enough : is_enough c.args.room.now (vec_len l.names) l.given ≡ true =
+    rw c.len.ensures at (sym c.if-is_enough.ensures) in
+    fronting_enough c.args.request.now c.args.rows.now.rows c.args.room.now l.names.items (vec_len l.names) l.given l.k
+    enough l.invariant
 
-pub loop-row-preserved : goal.loop-row-preserved
-loop-row-preserved c =
-    let enough : is_enough c.args.room.now c.loop-row.row-index c.loop-row.given ≡ false = rw (c.len.ensures, c.loop-row.invariant.1) at (sym c.if-is_enough.ensures) in
-    let within : c.loop-row.row-index < length c.args.order.now = omega arith in (
-      rw c.in_ok-push.ensures.items (front_turn c.args.room.now c.loop-row.names.items _ c.args.order.now c.loop-row.row-index c.loop-row.given _ within enough c.loop-row.invariant.0),
-      omega (arith, c.in_ok-push.ensures.len, c.loop-row.invariant.1),
-      weight_turn c.args.order.now c.loop-row.row-index c.loop-row.given _ _ within c.loop-row.invariant.2,
-    )
+pub overflow_add-given : goal.overflow_add-given
+overflow_add-given c =
+    let l = c.loop-k in
+    let fits =
+    fronting_fits c.args.request.now c.args.rows.now.rows c.args.room.now l.names.items (vec_len l.names) l.given l.k
+    c.victim_at.result c.in-Some.row c.victim_at.ensures c.in-Some.is l.invariant in
+    omega (arith, fits, c.requires.elements)
+
+pub loop-k-preserved : goal.loop-k-preserved
+loop-k-preserved c =
+    let l = c.loop-k in
+    let next = c.match-victim_at in
+    let lacks : is_enough c.args.room.now (vec_len l.names) l.given ≡ false =
+    rw c.len.ensures at (sym c.if-is_enough.ensures) in
+    let items = λ (v : Vec Name16 Global). v.items in
+    let long = λ (v : Vec Name16 Global). vec_len v in
+    elim c.match-victim_at.branch [
+      | in-Some+in_ok-push-in-Some w ↦
+          fronting_some c.args.request.now c.args.rows.now.rows c.args.room.now l.names.items next.names.items
+          (vec_len l.names) l.given (vec_len next.names) next.given l.k c.victim_at.result w.in-Some.row
+          c.victim_at.ensures w.in-Some.is lacks
+          (ap items w.names-is ∙ w.in_ok-push-in-Some.ensures.items)
+          (ap long w.names-is ∙ w.in_ok-push-in-Some.ensures.len) w.given-is l.invariant
+      | in-None w ↦
+          fronting_none c.args.request.now c.args.rows.now.rows c.args.room.now l.names.items next.names.items
+          (vec_len l.names) l.given (vec_len next.names) next.given l.k c.victim_at.result
+          c.victim_at.ensures w.in-None.is
+          (ap items w.names-is) (ap long w.names-is) w.given-is l.invariant
+    ]
+
+pub returns : goal.returns
+returns c =
+    let l = c.loop-k in
+    let few : length c.args.rows.now.rows ≤ l.k =
+    omega (arith, ap (λ (rows : List CacheItem). length rows) c.items.ensures) in
+    fronting_end c.args.request.now c.args.rows.now.rows c.args.room.now l.names.items (vec_len l.names) l.given l.k
+    few l.invariant

@@ -1,4 +1,4 @@
-use Rattle.std.proofs.Common.{◌≡◌, true, sym, arith, rules}
+use Rattle.std.proofs.Common.{◌≡◌, true, sym, arith}
 use Rattle.cache_model.specs.Room.{is_reclaimable}
 use Rattle.cache_core.proofs.FrontLaws.{part_bound}
 use Rattle.cache_core.proofs.room.reclaimable_elements.Goals as goal

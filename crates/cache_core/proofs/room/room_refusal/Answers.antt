@@ -1,6 +1,5 @@
-use Rattle.std.proofs.Common.{◌≡◌, true, false, length, filter, sym, refl, rules}
+use Rattle.std.proofs.Common.{◌≡◌, true, false, length, filter, sym, refl}
 use Rattle.std.proofs.lemmas.Bool.{le-leb, lt-leb}
-use Rattle.std.specs.Prelude.{nat_le}
 use Rattle.cache_model.specs.Rows.{elements_in}
 use Rattle.cache_model.specs.Room.{is_reclaimable}
 use Rattle.cache_core.specs.Measure.{room_for, has_place, free_elements}

@@ -1,6 +1,6 @@
 use Rattle.std.proofs.Common.{arith}
 use Rattle.list_laws.proofs.FilterLaws.{length-filter-le}
-use Rattle.std.proofs.Common.{Some, None}
+use Rattle.std.proofs.Common.{Some}
 use Rattle.cache_regs.specs.Registrations.{ends_with_name}
 use Rattle.cache_core.proofs.commands.cross_inval.act.Goals as goal
 

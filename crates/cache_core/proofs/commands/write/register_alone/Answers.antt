@@ -1,5 +1,4 @@
-use Rattle.std.proofs.Common.{◌≡◌, ◌&&◌, ◌==◌, not, true, Some, ap, arith}
-use Rattle.std.proofs.lemmas.Bool.{eq-eqb}
+use Rattle.std.proofs.Common.{not, Some, ap, arith}
 use Rattle.cf_types.proofs.GainsLaws.{gains_falls}
 use Rattle.list_laws.proofs.FilterLaws.{length-filter-le}
 use Rattle.cache_regs.specs.declared.registrations.Registration.{Registration}

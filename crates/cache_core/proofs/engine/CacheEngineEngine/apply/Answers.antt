@@ -1,11 +1,10 @@
-use Rattle.std.proofs.Common.{◌≡◌, Some, Option, List, refl, ap, sym, ◌∙◌, subst}
+use Rattle.std.proofs.Common.{◌≡◌, Some, List, refl, ap, sym, ◌∙◌, subst}
 use Rattle.cf_types.specs.declared.names.Name16.{Name16}
 use Rattle.cf_types.proofs.GainsLaws.{gains_none}
 use Rattle.cache_model.specs.Contents.{Content, IsContent}
 use Rattle.cache_model.specs.Step.{after, victims}
 use Rattle.cache_model.proofs.ContentLaws.{content-done}
-use Rattle.cache_core.specs.declared.plans.Plan.{Plan}
-use Rattle.cache_core.specs.Plans.{plan_for, IsSpared}
+use Rattle.cache_core.specs.Plans.{plan_for}
 use Rattle.cache_core.specs.Seen.{Seen, content_of}
 use Rattle.cache_core.proofs.PlanLaws.{plan_taken, plan_accepted, spared_victims}
 use Rattle.cache_core.proofs.engine.CacheEngineEngine.apply.Goals as goal

@@ -1,4 +1,4 @@
-use Rattle.std.proofs.Common.{◌≡◌, ◌≤◌, length, sym, subst, arith}
+use Rattle.std.proofs.Common.{◌≤◌, length, sym, subst, arith}
 use Rattle.list_laws.proofs.FilterLaws.{length-filter-le}
 use Rattle.cache_regs.specs.Registrations.{is_of}
 use Rattle.cache_model.proofs.ContentLaws.{content-without}

@@ -1,19 +1,29 @@
 use Rattle.std.proofs.Common.{◌≡◌, ◌++◌, ◌∷◌, [], List, sym, subst, true}
-use Rattle.engine_api.specs.Items.{IsNextItem}
 use Rattle.list_laws.specs.Pairwise.{pairwise}
 use Rattle.cache_model.specs.declared.items.CacheItem.{CacheItem}
-use Rattle.cache_model.specs.Rows.{names_apart}
-use Rattle.cache_model.specs.Contents.{Content, IsContent}
+use Rattle.cache_model.specs.Rows.{may_precede, names_apart}
+use Rattle.cache_model.specs.Contents.{IsContent}
 use Rattle.cache_model.proofs.EngineLaws.{alone-next, content-next}
 use Rattle.cache_core.specs.Seen.{Seen, content_of}
+use Rattle.cache_core.proofs.IndexLaws.{before_next}
 use Rattle.cache_core.proofs.PlanLaws.{either_way}
 use Rattle.cache_core.proofs.engine.CacheEngineEngine.place.Goals as goal
 
-pub push-requires : goal.push-requires
-push-requires c =
+pub push-requires-clause-last : goal.push-requires-clause-last
+push-requires-clause-last c =
     let next = c.requires.next in
     let first : next.whole.rows ≡ c.self.inside.rows.rows ++ c.args.item ∷ next.others =
-    subst (λ (e : Seen). next.whole.rows ≡ e.held.state.rows ++ c.args.item ∷ next.others) (sym c.self.view_is) next.first in
+    subst (λ (e : Seen). next.whole.rows ≡ e.held.state.rows ++ c.args.item ∷ next.others)
+    (sym c.self.view_is) next.first in
+    before_next may_precede c.self.inside.rows.rows c.args.item next.others
+    (subst (λ (l : List CacheItem). pairwise may_precede l ≡ true) first next.content.directory.ordered)
+
+pub push-requires-clause-alone : goal.push-requires-clause-alone
+push-requires-clause-alone c =
+    let next = c.requires.next in
+    let first : next.whole.rows ≡ c.self.inside.rows.rows ++ c.args.item ∷ next.others =
+    subst (λ (e : Seen). next.whole.rows ≡ e.held.state.rows ++ c.args.item ∷ next.others)
+    (sym c.self.view_is) next.first in
     alone-next c.self.inside.rows.rows next.others c.args.item
     (subst (λ (l : List CacheItem). pairwise names_apart l ≡ true) first next.content.directory.one_for_name)
 
@@ -21,13 +31,16 @@ pub invariant_of-self : goal.invariant_of-self
 invariant_of-self c =
     let next = c.requires.next in
     let first : next.whole.rows ≡ c.self.inside.rows.rows ++ c.args.item ∷ next.others =
-    subst (λ (e : Seen). next.whole.rows ≡ e.held.state.rows ++ c.args.item ∷ next.others) (sym c.self.view_is) next.first in
-    let whole : IsContent c.self.inside.caps next.whole = subst (λ (e : Seen). IsContent e.held.caps next.whole) (sym c.self.view_is) next.content in
+    subst (λ (e : Seen). next.whole.rows ≡ e.held.state.rows ++ c.args.item ∷ next.others)
+    (sym c.self.view_is) next.first in
+    let whole : IsContent c.self.inside.caps next.whole = subst (λ (e : Seen). IsContent e.held.caps next.whole)
+    (sym c.self.view_is) next.content in
     record {
       cache = c.self.invariant.cache;
       caps = c.self.invariant.caps;
       content =
-          either_way (λ (l : List CacheItem). IsContent c.self.inside.caps (record { rows = l; regs = c.self.inside.regs.regs })) c.push.result
+          either_way (λ (l : List CacheItem). IsContent c.self.inside.caps
+          (record { rows = l; regs = c.self.inside.regs.regs })) c.push.result
           c.self.inside.rows.rows (c.self.inside.rows.rows ++ c.args.item ∷ []) c.push.new.self.rows c.push.ensures.ok c.push.ensures.err
           (content-next c.self.inside.caps (content_of c.self.inside) next.whole c.args.item next.others c.self.invariant.content whole first)
           c.self.invariant.content;

@@ -1,10 +1,14 @@
-use Rattle.std.proofs.Common.{not}
-use Rattle.list_laws.proofs.PairwiseLaws.{pairwise-filter}
-use Rattle.cache_model.specs.declared.items.CacheItem.{CacheItem}
-use Rattle.cache_model.specs.Rows.{is_row_of, names_apart}
+use Rattle.std.proofs.Common.{refl}
+use Rattle.cache_core.proofs.KeptLaws.{kept_without}
 use Rattle.cache_core.proofs.rows.Rows.take.Goals as goal
 
 pub invariant_of-self : goal.invariant_of-self
 invariant_of-self c =
-    rw c.take_row.ensures.rest
-    (pairwise-filter names_apart (λ (row : CacheItem). not (is_row_of c.args.name.now row)) c.self.inside.rows.items c.self.invariant)
+    kept_without c.self.inside _ c.args.name.now c.self.invariant
+    (record {
+      classes = c.unindex.ensures.classes;
+      order = c.unindex.ensures.order;
+      limit = c.unindex.ensures.entries;
+      entries = refl;
+    })
+    c.take_row.ensures.rest

@@ -1,0 +1,2 @@
+pub mod Castout
+pub mod ClassBatch

@@ -1,0 +1,11 @@
+//! The order in which the names of unchanged rows were last used, from which rows are reclaimed.
+#![tactic(auto)]
+
+mod order;
+mod used;
+
+pub use order::Order;
+pub use used::Used;
+
+#[cfg(test)]
+mod tests;
