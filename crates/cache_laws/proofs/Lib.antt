@@ -1,0 +1,8 @@
+pub mod Steps
+pub mod UniqueLaws
+pub mod Traces
+pub mod Replies
+pub mod FreshLaws
+pub mod Allocated
+pub mod Pages
+mod Examples

@@ -1,0 +1,145 @@
+-- Every history leads to a content, and in a content names, indexes and registrations are unique.
+use Rattle.std.proofs.Common.{◌≡◌, ℕ, ◌≤◌, Bool, true, false, not, ◌&&◌, ◌||◌, ◌==◌, nat_lt, cond, List, [], ◌∷◌, Option, None, Some, length, filter, fold, refl, sym, ap, ◌∙◌, subst, arith}
+use Rattle.std.specs.List.{list_all}
+use Rattle.std.proofs.lemmas.Bool.{and_parts, false≢true}
+use Rattle.std.proofs.lemmas.Bool.Decides.{nat_tests}
+use Rattle.cf_types.specs.declared.cache_commands.CacheCmd.{CacheCmd}
+use Rattle.cf_types.specs.declared.forms.StrForm.{StrForm}
+use Rattle.cf_types.specs.declared.names.Name16.{Name16}
+use Rattle.cf_types.specs.declared.numbers.ConnId.{ConnId}
+use Rattle.cf_types.specs.declared.refusals.Refusal.{Refusal}
+use Rattle.cf_types.specs.Name.{same_name}
+use Rattle.engine_api.specs.declared.asks.Ask.{Ask}
+use Rattle.engine_api.specs.declared.asks.Ask.TheVariants as ask
+use Rattle.engine_api.specs.declared.asks.What.{What}
+use Rattle.engine_api.specs.declared.asks.What.TheVariants as what
+use Rattle.engine_api.specs.Machine.{Machine, opening, step, unless, content_done}
+use Rattle.engine_api.specs.Shapes.{shape_of}
+use Rattle.engine_api.specs.Shell.{content_cause}
+use Rattle.engine_api.specs.History.{after, after_what}
+use Rattle.list_laws.specs.Pairwise.{pairwise}
+use Rattle.list_laws.proofs.FilterLaws.{list_all_weaker, none_from_all, filter_none}
+use Rattle.cache_regs.specs.declared.registrations.Registration.{Registration}
+use Rattle.cache_regs.specs.Registrations.{is_of, is_at, is_for, stands_before, names_apart as regs_apart}
+use Rattle.cache_regs.proofs.NameLaws.{same_name-eq}
+use Rattle.cache_model.specs.declared.items.CacheItem.{CacheItem}
+use Rattle.cache_model.specs.Rows.{is_row_of, names_apart}
+use Rattle.cache_model.specs.Contents.{Content, IsContent}
+use Rattle.cache_model.specs.Meaning.{cache_meaning}
+use Rattle.cache_model.proofs.EngineLaws.{content-nothing, step-content, leave-content}
+use Rattle.cache_laws.specs.Histories.{CacheHistory, content_after}
+use Rattle.cache_laws.specs.Unique.{IsUnique}
+use Rattle.cache_laws.proofs.Steps.{Change, shell_change}
+use Rattle.cache_laws.proofs.Steps.Change.{Same, Without, Cleared}
+
+-- ---- one at most
+
+one_step : {X : Type 0} (p : X → Bool) (b : Bool) (x : X) (xs : List X) → (b ≡ true → filter p xs ≡ [])
+    → length (filter p xs) ≤ 1
+    → length (cond b (x ∷ filter p xs) (filter p xs)) ≤ 1
+one_step p true x xs none few = let e = ap (λ l. length l) (none refl) in omega (arith, e)
+one_step p false x xs none few = few
+
+-- where no two elements that pass stand in the relation, at most one passes
+one_passes : {X : Type 0} (relation : X → X → Bool) (p : X → Bool)
+    → ((x y : X) → p x ≡ true → relation x y ≡ true → not (p y) ≡ true)
+    → (xs : List X) → pairwise relation xs ≡ true → length (filter p xs) ≤ 1
+one_passes relation p apart [] h = omega arith
+one_passes relation p apart (x ∷ xs) h =
+    let parts = and_parts (list_all (relation x) xs) (pairwise relation xs) h in
+    one_step p (p x) x xs
+    (λ e. filter_none p xs (none_from_all p xs
+    (list_all_weaker (relation x) (λ y. not (p y)) (λ y k. apart x y e k) xs parts.0)))
+    (one_passes relation p apart xs parts.1)
+
+-- a name of its own
+other_name : (a b name : Name16) → same_name a name ≡ true → not (same_name a b) ≡ true → not (same_name b name) ≡ true
+other_name a b name same apart = go (same_name b name) refl
+  where
+    go : (s : Bool) → same_name b name ≡ s → not s ≡ true
+    go false e = refl
+    go true e =
+        let here : same_name a b ≡ true = subst (λ (n : Name16). same_name a n ≡ true)
+        (sym (same_name-eq b name e)) same in
+        absurd (false≢true (sym (ap not here) ∙ apart))
+
+rows_apart : (name : Name16) (row other : CacheItem) → is_row_of name row ≡ true → names_apart row other ≡ true
+    → not (is_row_of name other) ≡ true
+rows_apart name row other same apart = other_name row.name other.name name same apart
+
+other_place : (c i d j k n : ℕ) → (c == k) && (i == n) ≡ true → nat_lt c d || ((c == d) && nat_lt i j) ≡ true
+    → not ((d == k) && (j == n)) ≡ true
+other_place c i d j k n here before = grind (arith, nat_tests)
+
+places_apart : (conn : ConnId) (index : ℕ) (reg other : Registration) → is_at conn index reg ≡ true
+    → stands_before reg other ≡ true
+    → not (is_at conn index other) ≡ true
+places_apart conn index reg other here before =
+    other_place reg.conn.0 reg.index other.conn.0 other.index conn.0 index here before
+
+same_conn : (c d k : ℕ) → (c == k) ≡ true → (d == k) ≡ true → (c == d) ≡ true
+same_conn c d k e f = grind (arith, nat_tests)
+
+registered_once : (conn : ConnId) (name : Name16) (reg other : Registration) → is_for conn name reg ≡ true
+    → regs_apart reg other ≡ true
+    → not (is_for conn name other) ≡ true
+registered_once conn name reg other here apart =
+    let mine = and_parts (is_of conn reg) (same_name reg.name name) here in
+    go mine.0 mine.1 (is_of conn other) (reg.conn.0 == other.conn.0) refl refl apart
+  where
+    go : reg.conn.0 == conn.0 ≡ true → same_name reg.name name ≡ true → (of both : Bool) → is_of conn other ≡ of
+        → (reg.conn.0 == other.conn.0) ≡ both
+        → not (both && same_name reg.name other.name) ≡ true → not (of && same_name other.name name) ≡ true
+    go one same false both e f apart = refl
+    go one same true true e f apart = other_name reg.name other.name name same apart
+    go one same true false e f apart = absurd (false≢true (sym f ∙ same_conn reg.conn.0 other.conn.0 conn.0 one e))
+
+-- ---- every history leads to a content
+
+abbrev pub IsSound : StrForm → Machine Content → Type 0
+IsSound form machine = IsContent form.caps machine.content
+
+sound_change : (form : StrForm) (before after : Machine Content) → Change before after → IsSound form before
+    → IsSound form after
+sound_change form before after (Same e) is = subst (IsContent form.caps) (sym e) is
+sound_change form before after (Without conn e) is =
+    subst (IsContent form.caps) (sym e) (leave-content form.caps before.content conn is)
+sound_change form before after (Cleared e gone) is = subst (IsContent form.caps) (sym e) (content-nothing form.caps)
+
+pub sound-step : (form : StrForm) (machine : Machine Content) (by : ConnId) (asked : Ask CacheCmd)
+    → IsSound form machine
+    → IsSound form (step cache_meaning form machine by asked).machine
+sound-step form machine by (ask.Shell command) is =
+    sound_change form machine _ (shell_change form machine by command) is
+sound-step form machine by (ask.Content command) is = go (content_cause machine.shell by)
+  where
+    go : (cause : Option Refusal)
+        → IsSound form (unless cache_meaning form cause machine
+        (content_done cache_meaning form machine by command)).machine
+    go (Some refusal) = is
+    go None = step-content (shape_of form) form.caps machine.content by command is
+
+sound-after : (form : StrForm) (machine : Machine Content) (by : ConnId) (told : What CacheCmd) → IsSound form machine
+    → IsSound form (after_what cache_meaning form machine by told)
+sound-after form machine by (what.Call asked) is = sound-step form machine by asked is
+sound-after form machine by (what.Lost cf) is = is
+
+sound-fold : (form : StrForm) (machine : Machine Content) (history : CacheHistory) → IsSound form machine
+    → IsSound form (fold (after cache_meaning form) machine history)
+sound-fold form machine [] is = is
+sound-fold form machine (entry ∷ entries) is =
+    sound-fold form (after cache_meaning form machine entry) entries (sound-after form machine entry.by entry.what is)
+
+-- after every history the directory and the registrations are a content
+pub content-after : (form : StrForm) (history : CacheHistory) → IsContent form.caps (content_after form history)
+content-after form history = sound-fold form (opening cache_meaning form) history (content-nothing form.caps)
+
+pub unique : (form : StrForm) (history : CacheHistory) → IsUnique (content_after form history)
+unique form history =
+    let is = content-after form history in
+    record {
+      row = λ name. one_passes names_apart (is_row_of name) (rows_apart name) _ is.directory.one_for_name;
+      index = λ conn index. one_passes stands_before (is_at conn index) (places_apart conn index) _ is.registry.ordered;
+      name = λ conn name. one_passes regs_apart (is_for conn name)
+          (registered_once conn name) _ is.registry.one_for_name;
+    }

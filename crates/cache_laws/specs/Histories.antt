@@ -1,0 +1,59 @@
+-- The history of a cache structure: what it leads to, and which of its entries are accepted commands on the content.
+use Rattle.std.specs.Prelude.{Bool, IsTrue, false, List, [], ◌∷◌, ◌++◌, Option, None, Some, is_some, option_map, unwrap_or}
+use Rattle.cf_types.specs.declared.cache_commands.CacheCmd.{CacheCmd}
+use Rattle.cf_types.specs.declared.cache_commands.CacheReply.{CacheReply}
+use Rattle.cf_types.specs.declared.forms.StrForm.{StrForm}
+use Rattle.engine_api.specs.declared.asks.Ask.TheVariants as ask
+use Rattle.engine_api.specs.declared.asks.Reply.{Reply}
+use Rattle.engine_api.specs.declared.asks.Reply.TheVariants as reply
+use Rattle.engine_api.specs.declared.asks.What.{What}
+use Rattle.engine_api.specs.declared.asks.What.TheVariants as what
+use Rattle.engine_api.specs.declared.histories.Entry.{Entry}
+use Rattle.engine_api.specs.History.{IsLegal, replay}
+use Rattle.cache_model.specs.Contents.{Content}
+use Rattle.cache_model.specs.Meaning.{cache_meaning}
+
+abbrev pub CacheEntry : Type 0
+CacheEntry = Entry CacheCmd CacheReply
+
+abbrev pub CacheHistory : Type 0
+CacheHistory = List CacheEntry
+
+-- ---- what a history leads to
+
+abbrev pub IsLegalCache : StrForm → CacheHistory → Type 0
+IsLegalCache form history = IsLegal cache_meaning form history
+
+-- the directory and the registrations after a history
+abbrev pub content_after : StrForm → CacheHistory → Content
+content_after form history = (replay cache_meaning form history).content
+
+-- an instance of the structure stands
+abbrev pub is_allocated : StrForm → CacheHistory → Bool
+is_allocated form history = is_some (replay cache_meaning form history).shell.instances.primary
+
+-- the structure isn't deallocated by these further entries: an instance stands after each of them
+abbrev pub StaysAllocated : StrForm → CacheHistory → CacheHistory → Type 0
+StaysAllocated form history [] = Unit {0}
+StaysAllocated form history (entry ∷ entries) =
+    IsTrue (is_allocated form (history ++ entry ∷ [])) × StaysAllocated form (history ++ entry ∷ []) entries
+
+-- ---- accepted commands
+
+-- a command on the content that was accepted, and its answer
+pub record Accepted : Type 0 where
+  pub command : CacheCmd
+  pub answer : CacheReply
+
+abbrev pub accepted_as : What CacheCmd → Reply CacheReply → Option Accepted
+accepted_as (what.Call (ask.Content command)) (reply.Content answer) = Some
+    (record { command = command; answer = answer })
+accepted_as _ _ = None
+
+-- the accepted command that an entry tells, if it tells one
+abbrev pub accepted : CacheEntry → Option Accepted
+accepted entry = accepted_as entry.what entry.reply
+
+-- the entry tells an accepted command of this sort
+abbrev pub is_accepted : (CacheCmd → Bool) → CacheEntry → Bool
+is_accepted is entry = unwrap_or (option_map (λ told. is told.command) (accepted entry)) false

@@ -1,0 +1,4 @@
+pub mod Histories
+pub mod Unique
+pub mod Copies
+pub mod Uncast
