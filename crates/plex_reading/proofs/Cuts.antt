@@ -11,7 +11,7 @@ use Rattle.std.proofs.lemmas.List.{append_cancel_left}
 use Rattle.plex_spell.specs.Tokens.{is_numeral}
 use Rattle.plex_spell.proofs.NumberLaws.{numeral-decimal}
 use Rattle.plex_report.specs.Lines.{heading}
-use Rattle.plex_report.specs.Report.{ended}
+use Rattle.plex_spell.specs.Words.{ended}
 
 -- the byte doesn't stand in the text
 abbrev pub is_free : ℕ → List ℕ → Bool

@@ -25,7 +25,8 @@ use Rattle.plex_serial.proofs.WordLaws.{word_below}
 use Rattle.plex_report.specs.Naming.{caller_name}
 use Rattle.plex_report.specs.CommandWords.{cache_words, list_words, lock_words}
 use Rattle.plex_report.specs.ReplyWords.{cache_reply_words, list_reply_words, lock_reply_words}
-use Rattle.plex_report.specs.Lines.{entry_line, facility_line, connector_line, history_lines, transcript_lines, shown_line}
+use Rattle.plex_plain.specs.PolicyLines.{facility_line, connector_line}
+use Rattle.plex_report.specs.Lines.{entry_line, history_lines, transcript_lines, shown_line}
 use Rattle.plex_report.specs.Report.{by_number, lines_each, structures_lines, histories_lines, transcripts_lines, report_lines}
 use Rattle.plex_reading.specs.Readings.{Reading, IsReading, IsOnlyReading, report_of}
 use Rattle.plex_reading.proofs.Cuts.{text_of, text-append, text-long, same_behind, same_heading}

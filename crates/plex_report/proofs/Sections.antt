@@ -10,7 +10,8 @@ use Rattle.plex_script.specs.declared.transcripts.Transcript.{Transcript}
 use Rattle.plex_report.specs.Naming.{caller_name, structure_name}
 use Rattle.plex_report.specs.CommandWords.{cache_words, list_words, lock_words}
 use Rattle.plex_report.specs.ReplyWords.{cache_reply_words, list_reply_words, lock_reply_words}
-use Rattle.plex_report.specs.Lines.{heading, form_line, pref_line, structure_lines, entry_line, history_lines, any_length, shown_line, transcript_lines}
+use Rattle.plex_plain.specs.PolicyLines.{form_line, pref_line, structure_lines}
+use Rattle.plex_report.specs.Lines.{heading, entry_line, history_lines, any_length, shown_line, transcript_lines}
 use Rattle.plex_report.specs.Report.{structures_lines, histories_lines, transcripts_lines}
 use Rattle.plex_report.proofs.LinesAt.{get_spot, get_after, length-under}
 
@@ -18,9 +19,8 @@ pub past_end : (line : List ℕ) (n : ℕ) → 0 < n → slice_get (line ∷ [])
 past_end line zero h = absurd (omega arith)
 past_end line (suc n) h = refl
 
-structure-sized : (script : Script) (i : ℕ) (form : StrForm)
-    → length (structure_lines script form) ≡ length form.prefs + 1
-structure-sized script i form = length-under (pref_line form) (form_line script form) form.prefs
+structure-sized : (i : ℕ) (form : StrForm) → length (structure_lines form) ≡ length form.prefs + 1
+structure-sized i form = length-under (pref_line form) (form_line form) form.prefs
 
 history-sized : (script : Script) (i : ℕ) (history : AnyHistory)
     → length (history_lines script i history) ≡ any_length history + 1
@@ -44,17 +44,17 @@ pub structure_spot : (script : Script) (rest : List (List ℕ)) (i k j : ℕ) (f
     → i < length script.structures → form ≡ get_or script.structures i form
     → k ≡ sum_by (λ (x : StrForm). length x.prefs + 1) (take i script.structures) + j
     → j ≤ option_map_or (λ (x : StrForm). length x.prefs) (slice_get script.structures i) 0
-    → slice_get (structures_lines script ++ rest) k ≡ slice_get (structure_lines script form) j
+    → slice_get (structures_lines script ++ rest) k ≡ slice_get (structure_lines form) j
 structure_spot script rest i k j form =
-    get_spot (λ i form. structure_lines script form) (λ (x : StrForm). length x.prefs)
-    (structure-sized script) script.structures rest i k j form
+    get_spot (λ i form. structure_lines form) (λ (x : StrForm). length x.prefs)
+    structure-sized script.structures rest i k j form
 
 pub structures_after : (script : Script) (rest : List (List ℕ)) (k n : ℕ)
     → k ≡ sum_by (λ (x : StrForm). length x.prefs + 1) script.structures + n
     → slice_get (structures_lines script ++ rest) k ≡ slice_get rest n
 structures_after script rest k n =
-    get_after (λ i form. structure_lines script form) (λ (x : StrForm). length x.prefs)
-    (structure-sized script) 0 script.structures rest k n
+    get_after (λ i form. structure_lines form) (λ (x : StrForm). length x.prefs)
+    structure-sized 0 script.structures rest k n
 
 pub history_spot : (script : Script) (histories : List AnyHistory) (rest : List (List ℕ)) (i k j : ℕ)
     (history : AnyHistory)

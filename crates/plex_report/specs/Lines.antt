@@ -2,11 +2,8 @@
 use Rattle.std.specs.Prelude.{ℕ, ◌+◌, ◌/◌, ◌%◌, Bool, true, false, List, [], ◌∷◌, ◌++◌, zero, suc, length, map, codes}
 use Rattle.std.specs.Fmt.{decimal}
 use Rattle.cf_types.specs.declared.numbers.ConnId.{ConnId}
-use Rattle.cf_types.specs.declared.names.Name16.{Name16}
 use Rattle.cf_types.specs.declared.forms.Kind.{Kind}
 use Rattle.cf_types.specs.declared.forms.Kind.TheVariants as kind
-use Rattle.cf_types.specs.declared.forms.Pref.{Pref}
-use Rattle.cf_types.specs.declared.forms.StrForm.{StrForm}
 use Rattle.cf_types.specs.declared.shell_commands.ShellCmd.{ShellCmd}
 use Rattle.cf_types.specs.declared.shell_commands.ShellCmd.TheVariants as cmd
 use Rattle.cf_types.specs.declared.shell_commands.ShellReply.{ShellReply}
@@ -18,38 +15,18 @@ use Rattle.engine_api.specs.declared.asks.What.{What}
 use Rattle.engine_api.specs.declared.asks.What.TheVariants as what
 use Rattle.engine_api.specs.declared.histories.Entry.{Entry}
 use Rattle.plex_spell.specs.Words.{line_of}
-use Rattle.plex_spell.specs.Tokens.{name_word}
 use Rattle.plex_script.specs.declared.asks.AnyHistory.{AnyHistory}
 use Rattle.plex_script.specs.declared.asks.AnyHistory.TheVariants as any
 use Rattle.plex_script.specs.declared.scripts.Script.{Script}
 use Rattle.plex_script.specs.declared.transcripts.Shown.{Shown}
 use Rattle.plex_script.specs.declared.transcripts.Shown.TheVariants.{Call, Test, Word, BadIndex, Posted, Took}
 use Rattle.plex_script.specs.declared.transcripts.Transcript.{Transcript}
-use Rattle.plex_script.specs.PolicyWords.{form_tokens}
 use Rattle.plex_script.specs.Causes.{kind_of}
-use Rattle.plex_report.specs.Naming.{facility_word, caller_name, caller_word, structure_name, structure_word, token_words}
+use Rattle.plex_plain.specs.Naming.{facility_word}
+use Rattle.plex_report.specs.Naming.{caller_name, caller_word, structure_name, structure_word}
 use Rattle.plex_report.specs.CommandWords.{ask_words, cache_words, list_words, lock_words}
 use Rattle.plex_report.specs.RefusalWords.{refusal_words}
 use Rattle.plex_report.specs.ReplyWords.{shell_reply_words, cache_reply_words, list_reply_words, lock_reply_words}
-
--- ---- the policy
-
-abbrev pub facility_line : Pref → List ℕ
-facility_line facility = line_of (codes "FACILITY" ∷ facility_word facility.cf ∷ decimal facility.units ∷ [])
-
-abbrev pub form_line : Script → StrForm → List ℕ
-form_line script form = line_of (codes "STRUCTURE" ∷ name_word form.name ∷ token_words script
-    (form_tokens form.kind form))
-
-abbrev pub pref_line : StrForm → Pref → List ℕ
-pref_line form pref = line_of (codes "PREF" ∷ name_word form.name ∷ facility_word pref.cf ∷ decimal pref.units ∷ [])
-
-abbrev pub connector_line : Name16 → List ℕ
-connector_line name = line_of (codes "CONNECTOR" ∷ name_word name ∷ [])
-
--- a structure, and where its instances may stand
-abbrev pub structure_lines : Script → StrForm → List (List ℕ)
-structure_lines script form = form_line script form ∷ map (pref_line form) form.prefs
 
 -- ---- histories
 

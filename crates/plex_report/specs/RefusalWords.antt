@@ -4,15 +4,15 @@ use Rattle.std.specs.Fmt.{decimal}
 use Rattle.cf_types.specs.declared.numbers.ConnId.{ConnId}
 use Rattle.cf_types.specs.declared.events.Stage.{Stage}
 use Rattle.cf_types.specs.declared.events.Stage.TheVariants as stage
-use Rattle.cf_types.specs.declared.forms.Refs.{Refs}
-use Rattle.cf_types.specs.declared.forms.Refs.TheVariants as refs
 use Rattle.cf_types.specs.declared.refusals.StateWord.{StateWord}
 use Rattle.cf_types.specs.declared.refusals.StateWord.TheVariants.{Active, Leaving, Gone}
 use Rattle.cf_types.specs.declared.refusals.Refusal.{Refusal}
 use Rattle.cf_types.specs.declared.refusals.Refusal.TheVariants.{NotRegistered, IndexInUse, BadIndex, IsChanged, NotChanged, CastoutHeld, NotHeld, NoEntry, DirectoryFull, NoElements, BadClass, NoRecordThere, NameTaken, BadHeader, ListFull, EntriesFull, NoListElements, LockHeld, LockNotHeldBy, WrongReference, HeaderInUse, BadLock, AlreadyInterested, NotInterested, RecordsFull, NotManager, NoWaiter, NoRecord, StillPending, NotConnected, NameActive, TooManyConns, NotFailed, HasConnections, NoSpace, NothingOwed, RebuildInProgress, NoRebuild, WrongStage, ItemsLeft, TooSmall, Quiesced, LostConn, LostFacility, StructureFailed, NoFacility, AlreadyDuplexed, NoEvent, NotAllocated}
 use Rattle.plex_spell.specs.Tokens.{name_word}
 use Rattle.plex_script.specs.declared.scripts.Script.{Script}
-use Rattle.plex_report.specs.Naming.{facility_word, record_word, caller_word}
+use Rattle.plex_plain.specs.Naming.{facility_word, record_word}
+use Rattle.plex_plain.specs.PlainWords.{refs_word, state_word}
+use Rattle.plex_report.specs.Naming.{caller_word}
 
 abbrev pub connection_word : StateWord → List ℕ
 connection_word Active = codes "ACTIVE"
@@ -25,16 +25,6 @@ stage_word stage.Connect = codes "CONNECT"
 stage_word stage.Copy = codes "COPY"
 stage_word stage.Cleanup = codes "CLEANUP"
 stage_word stage.Stopping = codes "STOPPING"
-
-abbrev pub refs_word : Refs → List ℕ
-refs_word refs.Names = codes "NAMES"
-refs_word refs.Keys = codes "KEYS"
-refs_word refs.Nothing = codes "NOTHING"
-
--- the state of a lock
-abbrev pub state_word : Bool → List ℕ
-state_word true = codes "EXCL"
-state_word false = codes "SHR"
 
 -- who holds something, if anyone does
 abbrev pub holder_word : Script → Option ConnId → List ℕ

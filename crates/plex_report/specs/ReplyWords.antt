@@ -2,7 +2,6 @@
 use Rattle.std.specs.Prelude.{ℕ, Bool, true, false, List, [], ◌∷◌, ◌++◌, length, map, Option, None, Some, codes}
 use Rattle.std.specs.Fmt.{decimal}
 use Rattle.cf_types.specs.declared.names.Name16.{Name16}
-use Rattle.cf_types.specs.declared.names.Key16.{Key16}
 use Rattle.cf_types.specs.declared.resources.Resource.{Resource}
 use Rattle.cf_types.specs.declared.events.Event.{Event}
 use Rattle.cf_types.specs.declared.events.Event.TheVariants as event
@@ -15,10 +14,11 @@ use Rattle.cf_types.specs.declared.list_commands.ListReply.TheVariants as list
 use Rattle.cf_types.specs.declared.lock_commands.LockReply.{LockReply}
 use Rattle.cf_types.specs.declared.lock_commands.LockReply.TheVariants as lock
 use Rattle.plex_spell.specs.Tokens.{name_word}
-use Rattle.cf_types.specs.Term.{unpadded}
 use Rattle.plex_script.specs.declared.scripts.Script.{Script}
-use Rattle.plex_report.specs.Naming.{facility_word, record_word, resource_word, caller_word}
-use Rattle.plex_report.specs.RefusalWords.{holder_word, state_word}
+use Rattle.plex_plain.specs.Naming.{facility_word, record_word, resource_word}
+use Rattle.plex_plain.specs.PlainWords.{told_words, text_words, name_words, key_words, state_word}
+use Rattle.plex_report.specs.Naming.{caller_word}
+use Rattle.plex_report.specs.RefusalWords.{holder_word}
 
 -- ---- events, and replies to common commands
 
@@ -54,23 +54,6 @@ shell_reply_words script (shell.Stopped number) = codes "STOPPED" ∷ decimal nu
 shell_reply_words script shell.FailedNow = codes "FAILED" ∷ []
 
 -- ---- parts of replies
-
--- what may be told: a word, and the words of the value, where there is one
-abbrev pub told_words : {X : Type 0} → List ℕ → (X → List (List ℕ)) → Option X → List (List ℕ)
-told_words word value None = []
-told_words word value (Some x) = word ∷ value x
-
-abbrev pub number_words : ℕ → List (List ℕ)
-number_words n = decimal n ∷ []
-
-abbrev pub text_words : List ℕ → List (List ℕ)
-text_words text = text ∷ []
-
-abbrev pub name_words : Name16 → List (List ℕ)
-name_words name = name_word name ∷ []
-
-abbrev pub key_words : Key16 → List (List ℕ)
-key_words key = unpadded key.0 ∷ []
 
 abbrev pub adjunct_words : Option (List ℕ) → List (List ℕ)
 adjunct_words adj = told_words (codes "ADJ") text_words adj

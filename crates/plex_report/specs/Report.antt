@@ -8,7 +8,9 @@ use Rattle.cf_types.specs.declared.forms.Pref.{Pref}
 use Rattle.plex_script.specs.declared.asks.AnyHistory.{AnyHistory}
 use Rattle.plex_script.specs.declared.scripts.Script.{Script}
 use Rattle.plex_script.specs.declared.transcripts.Transcript.{Transcript}
-use Rattle.plex_report.specs.Lines.{facility_line, structure_lines, connector_line, history_lines, transcript_lines}
+use Rattle.plex_spell.specs.Words.{ended}
+use Rattle.plex_plain.specs.PolicyLines.{facility_line, structure_lines, connector_line}
+use Rattle.plex_report.specs.Lines.{history_lines, transcript_lines}
 
 -- the facilities CF1 to CF4 by number
 abbrev pub with_number : ℕ → List Pref → List Pref
@@ -24,7 +26,7 @@ lines_each lines first [] = []
 lines_each lines first (x ∷ xs) = lines first x ++ lines_each lines (first + 1) xs
 
 abbrev pub structures_lines : Script → List (List ℕ)
-structures_lines script = lines_each (λ i form. structure_lines script form) 0 script.structures
+structures_lines script = lines_each (λ i form. structure_lines form) 0 script.structures
 
 abbrev pub histories_lines : Script → List AnyHistory → List (List ℕ)
 histories_lines script histories = lines_each (λ i history. history_lines script i history) 0 histories
@@ -38,10 +40,6 @@ abbrev pub report_lines : Script → List AnyHistory → List Transcript → Lis
 report_lines script histories transcripts =
     map facility_line (by_number script.facilities) ++ (structures_lines script ++ (map connector_line script.connectors
     ++ (histories_lines script histories ++ (transcripts_lines script transcripts ++ codes "END" ∷ []))))
-
--- a line with its line feed
-abbrev pub ended : List ℕ → List ℕ
-ended line = line ++ 10 ∷ []
 
 -- each line of the report, with its line feed
 abbrev pub report : Script → List AnyHistory → List Transcript → List ℕ

@@ -2,12 +2,13 @@
 
 ghost use Rattle.std.specs.Prelude.{◌≡◌, ◌∷◌, ◌++◌, [], OnOk};
 ghost use Rattle.plex_spell.specs.Words.{spaced};
-ghost use Rattle.std.specs.Fmt.{decimal};
-ghost use Rattle.plex_report.specs.Naming.{caller_word, resource_word};
+ghost use Rattle.plex_plain.specs.Naming.{resource_word};
+ghost use Rattle.plex_report.specs.Naming.{caller_word};
 ghost use Rattle.plex_report.specs.ReplyWords.{event_words};
 
-use crate::line_text::{put_caller, put_facility, put_number, put_resource, put_word, state_text};
+use crate::line_text::put_caller;
 use cf_types::{ConnId, Event, NoMemory, Resource};
+use plex_plain::{put_at, put_of, put_resource, put_word, state_text};
 use plex_script::Script;
 
 // A word and a connector.
@@ -17,15 +18,6 @@ fn put_about(line: &mut Vec<u8>, script: &Script, word: &[u8], conn: ConnId) -> 
 {
     put_word(line, word)?;
     put_caller(line, script, conn)
-}
-
-// A word and the number of a rebuild.
-fn put_rebuild(line: &mut Vec<u8>, word: &[u8], number: u32) -> Result<(), NoMemory>
-    ensures { OnOk result (line.new.items ≡ line.old.items
-        ++ spaced (word.now ∷ decimal number ∷ [])) }
-{
-    put_word(line, word)?;
-    put_number(line, u64::from(number))
 }
 
 // A word, a resource and a connector that waits for it.
@@ -52,17 +44,14 @@ pub(crate) fn put_event(line: &mut Vec<u8>, script: &Script, event: &Event) -> R
     match event {
         Event::NewConn { conn } => put_about(line, script, b"NEWCONN", *conn),
         Event::DiscFail { conn } => put_about(line, script, b"DISCFAIL", *conn),
-        Event::Quiesce { number } => put_rebuild(line, b"QUIESCE", *number),
-        Event::RebuildConnect { number } => put_rebuild(line, b"REBUILDCONNECT", *number),
-        Event::ConnectsDone { number } => put_rebuild(line, b"CONNECTSDONE", *number),
-        Event::Cleanup { number } => put_rebuild(line, b"CLEANUP", *number),
-        Event::Complete { number } => put_rebuild(line, b"COMPLETE", *number),
-        Event::Stop { number } => put_rebuild(line, b"STOP", *number),
-        Event::StopDone { number } => put_rebuild(line, b"STOPDONE", *number),
-        Event::LostConn { cf } => {
-            put_word(line, b"LOSTCONN")?;
-            put_facility(line, *cf)
-        }
+        Event::Quiesce { number } => put_of(line, b"QUIESCE", *number),
+        Event::RebuildConnect { number } => put_of(line, b"REBUILDCONNECT", *number),
+        Event::ConnectsDone { number } => put_of(line, b"CONNECTSDONE", *number),
+        Event::Cleanup { number } => put_of(line, b"CLEANUP", *number),
+        Event::Complete { number } => put_of(line, b"COMPLETE", *number),
+        Event::Stop { number } => put_of(line, b"STOP", *number),
+        Event::StopDone { number } => put_of(line, b"STOPDONE", *number),
+        Event::LostConn { cf } => put_at(line, b"LOSTCONN", *cf),
         Event::StrFail => put_word(line, b"STRFAIL"),
         Event::Contention { r, conn } => put_waiter(line, script, b"CONTENTION", *r, *conn),
         Event::Notify { r, conn } => put_waiter(line, script, b"NOTIFY", *r, *conn),

@@ -4,13 +4,13 @@ ghost use Rattle.std.specs.Prelude.{◌≡◌, ℕ, List, ◌∷◌, ◌++◌, [
 ghost use Rattle.std.specs.Fmt.{decimal};
 ghost use Rattle.plex_spell.specs.Tokens.{name_word};
 ghost use Rattle.plex_spell.specs.Words.{spaced};
-ghost use Rattle.plex_report.specs.Naming.{record_word};
+ghost use Rattle.plex_plain.specs.Naming.{record_word};
 ghost use Rattle.plex_report.specs.ReplyWords.{index_word, count_word, held_word, counted_words};
 
-use crate::line_text::{
+use cf_types::{Adjunct, EntryId, Name16, NoMemory, Resource};
+use plex_plain::{
     put_digits, put_name, put_number, put_record, put_resource, put_text, put_word, state_text,
 };
-use cf_types::{Adjunct, EntryId, Name16, NoMemory, Resource};
 use plex_spell::name_text;
 
 /// An item of a reply.

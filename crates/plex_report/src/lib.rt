@@ -8,7 +8,6 @@ mod line_text;
 mod lines;
 mod list_text;
 mod lock_text;
-mod options;
 mod refusals;
 mod report;
 mod shell_text;

@@ -3,22 +3,24 @@
 ghost use Rattle.std.specs.Prelude.{◌≡◌, ◌∷◌, ◌++◌, [], codes, length, IfOk, OnOk};
 ghost use Rattle.std.specs.Fmt.{decimal};
 ghost use Rattle.plex_spell.specs.Words.{spaced};
-ghost use Rattle.plex_script.specs.PolicyWords.{form_tokens};
+ghost use Rattle.plex_plain.specs.PolicyLines.{facility_line, form_line, pref_line, connector_line};
 ghost use Rattle.plex_script.specs.Causes.{kind_of};
-ghost use Rattle.plex_report.specs.Naming.{caller_name, structure_name, token_words};
-ghost use Rattle.plex_report.specs.CommandWords.{keep_word, ask_words};
-ghost use Rattle.plex_report.specs.RefusalWords.{refs_word};
+ghost use Rattle.plex_report.specs.Naming.{caller_name, structure_name};
+ghost use Rattle.plex_report.specs.CommandWords.{ask_words};
 ghost use Rattle.plex_report.specs.ReplyWords.{shell_reply_words};
-ghost use Rattle.plex_report.specs.Lines.{facility_line, form_line, pref_line, connector_line, heading, is_vary, is_of_vary, vary_words, ok_words, what_words, reply_words, entry_line, bit_word, binary_digits, test_word, shown_line};
+ghost use Rattle.plex_report.specs.Lines.{heading, is_vary, is_of_vary, vary_words, ok_words, what_words, reply_words, entry_line, bit_word, binary_digits, test_word, shown_line};
 
 use crate::line_text::{
-    numbered, put_caller, put_caller_name, put_facility, put_name, put_number, put_numbers,
-    put_structure_name, put_word, structure_begun,
+    numbered, put_caller, put_caller_name, put_structure_name, structure_begun,
 };
-use crate::refusals::{put_refusal, refs_text};
+use crate::refusals::put_refusal;
 use crate::spelled::Spelled;
 use cf_types::{ConnId, Kind, Name16, NoMemory, Pref, ShellCmd, ShellReply, StrForm, StrNo};
 use engine_api::{Ask, Entry, Reply, What};
+use plex_plain::{
+    put_connector_line, put_facility, put_facility_line, put_form_line, put_number, put_of,
+    put_pref_line, put_word,
+};
 use plex_script::{Script, Shown};
 use std::alloc::Global;
 
@@ -26,73 +28,17 @@ use std::alloc::Global;
 pub(crate) fn facility_line(alloc: Global, facility: &Pref) -> Result<Vec<u8>, NoMemory>
     ensures { IfOk result (λ line. line.items ≡ facility_line facility.now) }
 {
-    let mut line = Vec::from_slice(alloc, b"FACILITY")?;
-    put_facility(&mut line, facility.cf)?;
-    put_number(&mut line, u64::from(facility.units))?;
+    let mut line = Vec::new(alloc);
+    put_facility_line(&mut line, facility)?;
     Ok(line)
 }
 
-// The kind of a structure, its capacity and how many connections it admits.
-fn put_caps(line: &mut Vec<u8>, kind: &[u8], form: &StrForm) -> Result<(), NoMemory>
-    ensures { OnOk result (line.new.items ≡ line.old.items
-        ++ spaced (kind.now ∷ decimal form.now.caps.entries ∷ decimal form.now.caps.elements
-        ∷ decimal form.now.conns ∷ [])) }
-{
-    put_word(line, kind)?;
-    put_numbers(line, form.caps.entries, form.caps.elements)?;
-    put_number(line, u64::from(form.conns))
-}
-
-// Whether a structure stays.
-fn keep_text(keep: bool) -> &'static [u8]
-    ensures { result.now ≡ keep_word keep }
-{
-    if keep { b"KEEP" } else { b"DELETE" }
-}
-
-// The length of the vectors of a structure, and whether it stays.
-fn put_vector(line: &mut Vec<u8>, form: &StrForm) -> Result<(), NoMemory>
-    ensures { OnOk result (line.new.items ≡ line.old.items
-        ++ spaced (decimal form.now.vector ∷ keep_word form.now.keep ∷ [])) }
-{
-    put_number(line, u64::from(form.vector))?;
-    put_word(line, keep_text(form.keep))
-}
-
-#[tactic(auto, using(crate::proofs::CommandLaws::words_cache_form, crate::proofs::CommandLaws::words_list_form, crate::proofs::CommandLaws::words_lock_form))]
-fn put_form(line: &mut Vec<u8>, script: &Script, form: &StrForm) -> Result<(), NoMemory>
-    ensures { OnOk result (line.new.items ≡ line.old.items
-        ++ spaced (token_words script.now (form_tokens form.now.kind form.now))) }
-{
-    match form.kind {
-        Kind::Cache => {
-            put_caps(line, b"CACHE", form)?;
-            put_vector(line, form)
-        }
-        Kind::List {
-            headers,
-            locks,
-            refs,
-        } => {
-            put_caps(line, b"LIST", form)?;
-            put_vector(line, form)?;
-            put_numbers(line, headers, locks)?;
-            put_word(line, refs_text(refs))
-        }
-        Kind::Lock => {
-            put_caps(line, b"LOCK", form)?;
-            put_word(line, keep_text(form.keep))
-        }
-    }
-}
-
 /// The line that declares a structure.
-pub(crate) fn form_line(alloc: Global, script: &Script, form: &StrForm) -> Result<Vec<u8>, NoMemory>
-    ensures { IfOk result (λ line. line.items ≡ form_line script.now form.now) }
+pub(crate) fn form_line(alloc: Global, form: &StrForm) -> Result<Vec<u8>, NoMemory>
+    ensures { IfOk result (λ line. line.items ≡ form_line form.now) }
 {
-    let mut line = Vec::from_slice(alloc, b"STRUCTURE")?;
-    put_name(&mut line, &form.name)?;
-    put_form(&mut line, script, form)?;
+    let mut line = Vec::new(alloc);
+    put_form_line(&mut line, form)?;
     Ok(line)
 }
 
@@ -100,10 +46,8 @@ pub(crate) fn form_line(alloc: Global, script: &Script, form: &StrForm) -> Resul
 pub(crate) fn pref_line(alloc: Global, form: &StrForm, pref: &Pref) -> Result<Vec<u8>, NoMemory>
     ensures { IfOk result (λ line. line.items ≡ pref_line form.now pref.now) }
 {
-    let mut line = Vec::from_slice(alloc, b"PREF")?;
-    put_name(&mut line, &form.name)?;
-    put_facility(&mut line, pref.cf)?;
-    put_number(&mut line, u64::from(pref.units))?;
+    let mut line = Vec::new(alloc);
+    put_pref_line(&mut line, form, pref)?;
     Ok(line)
 }
 
@@ -111,8 +55,8 @@ pub(crate) fn pref_line(alloc: Global, form: &StrForm, pref: &Pref) -> Result<Ve
 pub(crate) fn connector_line(alloc: Global, name: &Name16) -> Result<Vec<u8>, NoMemory>
     ensures { IfOk result (λ line. line.items ≡ connector_line name.now) }
 {
-    let mut line = Vec::from_slice(alloc, b"CONNECTOR")?;
-    put_name(&mut line, name)?;
+    let mut line = Vec::new(alloc);
+    put_connector_line(&mut line, name)?;
     Ok(line)
 }
 
@@ -293,15 +237,6 @@ fn put_bits(line: &mut Vec<u8>, bits: u32) -> Result<(), NoMemory>
         left /= 2;
     }
     Ok(())
-}
-
-// A word and a number.
-fn put_of(line: &mut Vec<u8>, word: &[u8], number: u32) -> Result<(), NoMemory>
-    ensures { OnOk result (line.new.items ≡ line.old.items
-        ++ spaced (word.now ∷ decimal number ∷ [])) }
-{
-    put_word(line, word)?;
-    put_number(line, u64::from(number))
 }
 
 // A test of a bit.

@@ -2,13 +2,13 @@
 
 ghost use Rattle.std.specs.Prelude.{◌≡◌, ◌∷◌, ◌++◌, [], OnOk};
 ghost use Rattle.plex_spell.specs.Words.{spaced};
-ghost use Rattle.plex_report.specs.RefusalWords.{connection_word, stage_word, refs_word, refusal_number, refusal_word, refusal_fields, refusal_words};
+ghost use Rattle.plex_report.specs.RefusalWords.{connection_word, stage_word, refusal_number, refusal_word, refusal_fields, refusal_words};
 
-use crate::line_text::{
-    put_caller, put_facility, put_holder, put_name, put_number, put_numbers, put_record, put_word,
-    state_text,
+use crate::line_text::{put_caller, put_holder};
+use cf_types::{NoMemory, Refusal, Stage, StateWord};
+use plex_plain::{
+    put_facility, put_name, put_number, put_numbers, put_record, put_word, refs_text, state_text,
 };
-use cf_types::{NoMemory, Refs, Refusal, Stage, StateWord};
 use plex_script::Script;
 
 // The word for the state of a connection.
@@ -32,17 +32,6 @@ fn stage_text(stage: Stage) -> &'static [u8]
         Stage::Copy => b"COPY",
         Stage::Cleanup => b"CLEANUP",
         Stage::Stopping => b"STOPPING",
-    }
-}
-
-/// The word for what the records of a list structure are known by.
-pub(crate) fn refs_text(refs: Refs) -> &'static [u8]
-    ensures { result.now ≡ refs_word refs }
-{
-    match refs {
-        Refs::Names => b"NAMES",
-        Refs::Keys => b"KEYS",
-        Refs::Nothing => b"NOTHING",
     }
 }
 

@@ -1,8 +1,10 @@
 //! The report, line by line and whole.
 
 ghost use Rattle.std.specs.Prelude.{◌≡◌, ℕ, ◌∷◌, ◌++◌, [], ◌==◌, codes, map, option_map, slice_get, IfOk, OnOk};
-ghost use Rattle.plex_report.specs.Lines.{connector_line, structure_lines, entry_lines, history_lines, transcript_lines};
-ghost use Rattle.plex_report.specs.Report.{with_number, by_number, structures_lines, histories_lines, transcripts_lines, report_lines, report, ended};
+ghost use Rattle.plex_spell.specs.Words.{ended};
+ghost use Rattle.plex_plain.specs.PolicyLines.{connector_line, structure_lines};
+ghost use Rattle.plex_report.specs.Lines.{entry_lines, history_lines, transcript_lines};
+ghost use Rattle.plex_report.specs.Report.{with_number, by_number, structures_lines, histories_lines, transcripts_lines, report_lines, report};
 
 use crate::lines::{
     connector_line, entry_line, facility_line, form_line, history_heading, pref_line, shown_line,
@@ -41,17 +43,12 @@ fn by_number(alloc: Global, facilities: &[Pref]) -> Result<Vec<Pref>, NoMemory>
 }
 
 // The k-th line of a structure: its own, and then those of its facilities.
-fn structure_line(
-    alloc: Global,
-    script: &Script,
-    form: &StrForm,
-    k: usize,
-) -> Result<Option<Vec<u8>>, NoMemory>
+fn structure_line(alloc: Global, form: &StrForm, k: usize) -> Result<Option<Vec<u8>>, NoMemory>
     ensures { IfOk result (λ line. option_map (λ v. v.items) line
-        ≡ slice_get (structure_lines script.now form.now) k) }
+        ≡ slice_get (structure_lines form.now) k) }
 {
     if k == 0 {
-        return Ok(Some(form_line(alloc, script, form)?));
+        return Ok(Some(form_line(alloc, form)?));
     }
     let prefs = form.prefs.items();
     if k > prefs.len() {
@@ -198,7 +195,7 @@ fn behind_facilities(
 {
     let forms = script.structures.items();
     match spot_of(forms, k) {
-        Spot::Within { section, line } => structure_line(alloc, script, &forms[section], line),
+        Spot::Within { section, line } => structure_line(alloc, &forms[section], line),
         Spot::Past { lines } => behind_structures(alloc, script, histories, transcripts, lines),
     }
 }

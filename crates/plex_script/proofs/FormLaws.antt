@@ -18,14 +18,17 @@ use Rattle.plex_spell.specs.Tokens.{Declared, is_declared}
 use Rattle.plex_spell.proofs.PlaceLaws.{Words}
 use Rattle.plex_script.specs.declared.declarations.Declaration.{Declaration}
 use Rattle.plex_script.specs.declared.declarations.Declaration.TheVariants.{Facility, Structure, Pref, Connector}
+use Rattle.plex_script.specs.declared.scripts.Line.{Line}
 use Rattle.plex_script.specs.declared.scripts.Script.{Script}
-use Rattle.plex_script.specs.PolicyWords.{form_tokens, declaration_tokens, IsVectorTold, Declares}
+use Rattle.plex_spell.specs.FormWords.{form_tokens}
+use Rattle.plex_script.specs.PolicyWords.{declaration_tokens, IsVectorTold, Declares}
 use Rattle.plex_script.specs.Causes.{declared_in, has_lines, is_full, is_twice, has_pref}
 use Rattle.plex_script.specs.Scripts.{with_pref, with_declaration, AddsDeclaration}
 use Rattle.plex_script.specs.WellFormed.{IsLineOf, IsWellFormed}
-use Rattle.plex_script.proofs.TokenFacts.{KeepBounds, words-bounds}
+use Rattle.plex_plain.specs.Ranges.{AreWithin}
+use Rattle.plex_plain.proofs.Within.{words-within}
 
-not-true : (b : Bool) → not b ≡ true → b ≡ false
+pub not-true : (b : Bool) → not b ≡ true → b ≡ false
 not-true true h = absurd (cc)
 not-true false h = refl
 
@@ -57,8 +60,8 @@ formed form kind_ entries elements conns vector none =
       apart = told.1;
     }
 
-told-form : (declared : Declared) (k : Kind) (form : StrForm) → form.kind ≡ k → form.prefs ≡ []
-    → IsVectorTold k form.vector → KeepBounds declared (form_tokens k form) → IsForm form
+pub told-form : (declared : Declared) (k : Kind) (form : StrForm) → form.kind ≡ k → form.prefs ≡ []
+    → IsVectorTold k form.vector → AreWithin declared (form_tokens k form) → IsForm form
 told-form declared kind.Cache form is none told h =
     formed form (rw is tt) h.1.0 h.1.1.0 h.1.1.1.0 (rw is h.1.1.1.1.0) none
 told-form declared (kind.List headers locks refs) form is none told h =
@@ -77,7 +80,8 @@ known-form structures place form known forms =
     forms place form (slice_get_within structures place form known) in
     subst IsForm (get_or_from_slice_get structures place form form known) here
 
-apart-new : (prefs : List Set) (pref : Set) → is_declared prefs pref.cf ≡ false → (k : ℕ) (d : Set) → k < length prefs
+pub apart-new : (prefs : List Set) (pref : Set) → is_declared prefs pref.cf ≡ false → (k : ℕ) (d : Set)
+    → k < length prefs
     → (get_or prefs k d).cf.0 ≢ pref.cf.0
 apart-new prefs pref new k d low same =
     let one : ((get_or prefs k d).cf.0 == pref.cf.0) ≡ true = grind (arith, nat_tests) in
@@ -85,7 +89,7 @@ apart-new prefs pref new k d low same =
     let wrong : true ≡ false = sym found ∙ new in
     absurd (cc)
 
-form-with : (form : StrForm) (pref : Set) → IsForm form → IsPref pref → is_declared form.prefs pref.cf ≡ false
+pub form-with : (form : StrForm) (pref : Set) → IsForm form → IsPref pref → is_declared form.prefs pref.cf ≡ false
     → IsForm (record form { prefs = form.prefs ++ pref ∷ [] })
 form-with form pref h p new =
     record {
@@ -118,9 +122,9 @@ pref-keeps structures on pref p new forms = at_form (slice_get structures on.0) 
 
 -- ---- a declaration
 
-no_lines : (script after : Script) → has_lines script ≡ false → after.lines ≡ script.lines
-    → All (IsLineOf after) after.lines
-no_lines script after early same =
+pub no_lines : (P : Line → Type 0) (script after : Script) → has_lines script ≡ false → after.lines ≡ script.lines
+    → All P after.lines
+no_lines P script after early same =
     let none : length script.lines ≡ 0 = grind (arith, nat_tests) in
     let none_after : length after.lines ≡ 0 = ap length same ∙ none in
     λ k d low. absurd (omega (arith, low, none_after))
@@ -129,7 +133,7 @@ or-false : (a b : Bool) → (a || b) ≡ false → (a ≡ false) × (b ≡ false
 or-false true b h = absurd (cc)
 or-false false b h = (refl, h)
 
-room_structures : (script : Script) (first : List ℕ) → first ≡ codes "STRUCTURE" → is_full script first ≡ false
+pub room_structures : (script : Script) (first : List ℕ) → first ≡ codes "STRUCTURE" → is_full script first ≡ false
     → length script.structures + 1 ≤ 16
 room_structures script first is h =
     let full : is_full script (codes "STRUCTURE") ≡ false =
@@ -138,7 +142,7 @@ room_structures script first is h =
     (or-false (nat_le 16 (length script.structures)) false full).0 in
     grind (arith, nat_tests)
 
-room_connectors : (script : Script) (first : List ℕ) → first ≡ codes "CONNECTOR" → is_full script first ≡ false
+pub room_connectors : (script : Script) (first : List ℕ) → first ≡ codes "CONNECTOR" → is_full script first ≡ false
     → length script.connectors + 1 ≤ 32
 room_connectors script first is h =
     let full : is_full script (codes "CONNECTOR") ≡ false =
@@ -155,33 +159,37 @@ declared-keeps script first ws (Facility pref) h early told room new =
       structures = h.structures;
       connectors = h.connectors;
       forms = h.forms;
-      lines = no_lines script (with_declaration script (Facility pref)) early refl;
+      lines = no_lines (IsLineOf (with_declaration script (Facility pref))) script
+          (with_declaration script (Facility pref)) early refl;
     }
 declared-keeps script first ws (Structure form) h early told room new =
-    let bounds = words-bounds (declared_in script) (declaration_tokens (Structure form)) (first ∷ ws) [] told.spelled in
+    let bounds = words-within (declared_in script) (declaration_tokens (Structure form)) (first ∷ ws) [] told.spelled in
     let is : IsForm form = told-form (declared_in script) form.kind form refl told.whole.0 told.whole.1 bounds.1.1 in
     record {
       structures = rw (length_push script.structures form) (room_structures script first told.spelled.0 room);
       connectors = h.connectors;
       forms = All-push IsForm script.structures form h.forms is;
-      lines = no_lines script (with_declaration script (Structure form)) early refl;
+      lines = no_lines (IsLineOf (with_declaration script (Structure form))) script
+          (with_declaration script (Structure form)) early refl;
     }
 declared-keeps script first ws (Pref on pref) h early told room new =
-    let bounds = words-bounds (declared_in script) (declaration_tokens (Pref on pref)) (first ∷ ws) [] told.spelled in
-    let is : IsPref pref = (bounds.1.1.0, bounds.1.1.1.0.0, bounds.1.1.1.0.1) in
+    let bounds = words-within (declared_in script) (declaration_tokens (Pref on pref)) (first ∷ ws) [] told.spelled in
+    let is : IsPref pref = (bounds.1.1.0.0, bounds.1.1.1.0.0, bounds.1.1.1.0.1) in
     let kept = pref-keeps script.structures on pref is new h.forms in
     record {
       structures = rw kept.0 h.structures;
       connectors = h.connectors;
       forms = kept.1;
-      lines = no_lines script (with_declaration script (Pref on pref)) early refl;
+      lines = no_lines (IsLineOf (with_declaration script (Pref on pref))) script
+          (with_declaration script (Pref on pref)) early refl;
     }
 declared-keeps script first ws (Connector name) h early told room new =
     record {
       structures = h.structures;
       connectors = rw (length_push script.connectors name) (room_connectors script first told.spelled.0 room);
       forms = h.forms;
-      lines = no_lines script (with_declaration script (Connector name)) early refl;
+      lines = no_lines (IsLineOf (with_declaration script (Connector name))) script
+          (with_declaration script (Connector name)) early refl;
     }
 
 pub declaration-keeps : (script : Script) (first : List ℕ) (ws : Words) (after : Script) → IsWellFormed script

@@ -1,28 +1,20 @@
 -- What a line adds to a script keeps it well formed, and so does a whole text.
-use Rattle.std.proofs.Common.{◌≡◌, ℕ, ◌+◌, ◌≤◌, ◌==◌, Bool, true, false, not, List, [], ◌∷◌, ◌++◌, Option, Some, None, length, codes, refl, sym, ap, ◌∙◌, arith, subst, slice_get, get_or, All}
-use Rattle.std.specs.Bool.{MatchBool, if◌then◌else◌}
-use Rattle.std.specs.List.{position}
-use Rattle.std.specs.Option.{MatchOption}
+use Rattle.std.proofs.Common.{◌≡◌, ℕ, ◌≤◌, ◌==◌, Bool, true, false, not, List, [], ◌∷◌, ◌++◌, Option, Some, length, codes, refl, sym, ap, ◌∙◌, arith, subst, slice_get, All}
+use Rattle.std.specs.Bool.{if◌then◌else◌}
 use Rattle.std.proofs.lemmas.Bool.Decides.{nat_tests}
 use Rattle.std.proofs.lemmas.List.Elements.{All-nil, All-push, All-weaker}
-use Rattle.std.proofs.lemmas.List.Quantifiers.{position-Some}
-use Rattle.std.proofs.lemmas.Option.{slice_get-get_or}
-use Rattle.cf_types.specs.declared.names.Name16.{Name16}
 use Rattle.cf_types.specs.declared.numbers.ConnId.{ConnId}
 use Rattle.cf_types.specs.declared.numbers.StrNo.{StrNo}
 use Rattle.cf_types.specs.declared.forms.Kind.{Kind}
-use Rattle.cf_types.specs.declared.forms.Kind.TheVariants as kind
 use Rattle.cf_types.specs.declared.forms.StrForm.{StrForm}
 use Rattle.cf_types.specs.declared.shell_commands.ShellCmd.{ShellCmd}
 use Rattle.cf_types.specs.declared.shell_commands.ShellCmd.TheVariants as cmd
 use Rattle.cf_types.specs.Forms.{IsForm, IsConnector}
 use Rattle.engine_api.specs.declared.asks.Ask.TheVariants.{Shell, Content}
 use Rattle.engine_api.specs.Asking.{IsOperator, MayCommand}
-use Rattle.plex_spell.specs.Words.{same_word, words_of, lines_of}
-use Rattle.plex_spell.specs.Tokens.{Declared, connector_of, structure_of, name_word}
+use Rattle.plex_spell.specs.Tokens.{Declared}
 use Rattle.plex_spell.specs.Tokens.Token.{Literal, Number}
 use Rattle.plex_spell.specs.ShellWords.{shell_tokens, may_give, is_operator}
-use Rattle.plex_spell.proofs.Choices.{mapped}
 use Rattle.plex_spell.proofs.PlaceLaws.{Words}
 use Rattle.plex_script.specs.declared.scripts.AnyAsk.{AnyAsk}
 use Rattle.plex_script.specs.declared.scripts.AnyAsk.TheVariants as any
@@ -31,11 +23,13 @@ use Rattle.plex_script.specs.declared.scripts.Act.TheVariants.{Call, Test, TestW
 use Rattle.plex_script.specs.declared.scripts.Line.{Line}
 use Rattle.plex_script.specs.declared.scripts.Script.{Script}
 use Rattle.plex_script.specs.LineWords.{ask_tokens, act_tokens, retry_tokens, MayAsk, MayDo}
-use Rattle.plex_script.specs.Causes.{declared_in, kind_of, caller_of, is_comment, is_policy_word}
-use Rattle.plex_script.specs.Scripts.{AddsDeclaration, AddsLine, AddsOfCaller, AddsWords, AddsAll, IsScript, empty_script, line_number}
+use Rattle.plex_script.specs.Causes.{declared_in, kind_of}
+use Rattle.plex_script.specs.Scripts.{AddsLine, IsScript, empty_script}
 use Rattle.plex_script.specs.WellFormed.{MayAskAny, IsActOf, IsLineOf, IsWellFormed}
-use Rattle.plex_script.proofs.TokenFacts.{IsOneOf, KeepBounds, words-bounds, bounds-front, bounds-back, connector-bounds}
+use Rattle.plex_plain.specs.Ranges.{IsOneOf, AreWithin}
+use Rattle.plex_plain.proofs.Within.{words-within, within-front, within-back}
 use Rattle.plex_script.proofs.FormLaws.{declaration-keeps}
+use Rattle.plex_script.proofs.KeptAll.{Known, script-keeps}
 
 -- ---- who calls
 
@@ -52,7 +46,7 @@ one_of count conn few h = (h.0, omega (arith, few, h.1))
 
 command-may : (declared : Declared) (by : ConnId) (command : ShellCmd) → length declared.connectors ≤ 32 → by.0 ≤ 32
     → may_give by command ≡ true
-    → KeepBounds declared (shell_tokens command) → MayCommand by command
+    → AreWithin declared (shell_tokens command) → MayCommand by command
 command-may declared by (cmd.Connect keep) few low may h = no_operator by low may
 command-may declared by cmd.Disconnect few low may h = no_operator by low may
 command-may declared by cmd.Fail few low may h = no_operator by low may
@@ -75,16 +69,16 @@ command-may declared by (cmd.ForceConn conn) few low may h =
     (operator by may, one_of (length declared.connectors) conn few h.1.0)
 command-may declared by cmd.ForceStr few low may h = operator by may
 command-may declared by (cmd.LoseConn conn cf) few low may h =
-    (operator by may, one_of (length declared.connectors) conn few h.1.0, h.1.1.0)
+    (operator by may, one_of (length declared.connectors) conn few h.1.0, h.1.1.0.0)
 command-may declared by (cmd.RestoreConn conn cf) few low may h =
-    (operator by may, one_of (length declared.connectors) conn few h.1.0, h.1.1.0)
-command-may declared by (cmd.Vary cf off) few low may h = (operator by may, h.1.0)
+    (operator by may, one_of (length declared.connectors) conn few h.1.0, h.1.1.0.0)
+command-may declared by (cmd.Vary cf off) few low may h = (operator by may, h.1.0.0)
 command-may declared by cmd.DuplexStart few low may h = operator by may
 command-may declared by cmd.DuplexStop few low may h = operator by may
 
 ask-may : (declared : Declared) (by : ConnId) (given : Option ℕ) (asked : AnyAsk) → length declared.connectors ≤ 32
     → by.0 ≤ 32 → MayAsk by given asked
-    → KeepBounds declared (ask_tokens given asked) → MayAskAny by asked
+    → AreWithin declared (ask_tokens given asked) → MayAskAny by asked
 ask-may declared by given (any.Cache (Shell command)) few low may h = command-may declared by command few low may.0 h
 ask-may declared by given (any.Cache (Content command)) few low may h = no_operator by low may.0
 ask-may declared by given (any.List (Shell command)) few low may h = command-may declared by command few low may.0 h
@@ -94,7 +88,7 @@ ask-may declared by given (any.Lock (Content command)) few low may h = no_operat
 
 act-may : (declared : Declared) (by : ConnId) (k : Kind) (given : Option ℕ) (act : Act) (retry : ℕ)
     → length declared.connectors ≤ 32 → by.0 ≤ 32
-    → MayDo by k given act retry → KeepBounds declared (act_tokens given act) → IsActOf k by act
+    → MayDo by k given act retry → AreWithin declared (act_tokens given act) → IsActOf k by act
 act-may declared by k given (Call asked) retry few low may h = (may.0, ask-may declared by given asked few low may.1 h)
 act-may declared by k given (Test index) retry few low may h = no_operator by low may.1
 act-may declared by k given (TestWord word) retry few low may h = no_operator by low may.1
@@ -102,57 +96,17 @@ act-may declared by k given Post retry few low may h = no_operator by low may.0
 act-may declared by k given Take retry few low may h = no_operator by low may.0
 act-may declared by k given Events retry few low may h = no_operator by low may.0
 
-retry-few : (declared : Declared) (retry : ℕ) → KeepBounds declared (retry_tokens retry) → retry ≤ 1000
+retry-few : (declared : Declared) (retry : ℕ) → AreWithin declared (retry_tokens retry) → retry ≤ 1000
 retry-few declared retry h = at_test (retry == 0) refl h
   where
     at_test : (b : Bool) → (retry == 0) ≡ b
-        → KeepBounds declared (if b then [] else Literal (codes "RETRY") ∷ Number 1 1000 retry ∷ []) → retry ≤ 1000
+        → AreWithin declared (if b then [] else Literal (codes "RETRY") ∷ Number 1 1000 retry ∷ []) → retry ≤ 1000
     at_test true e k = let zero : retry ≡ 0 = grind (arith, nat_tests) in omega (arith, zero)
     at_test false e k = k.1.0.1
 
 -- ---- a line
 
-caller-few : (connectors : List Name16) (word : List ℕ) (by : ConnId) → caller_of connectors word ≡ Some by
-    → by.0 ≤ length connectors
-caller-few connectors word by h = at_test (same_word word (codes "OP")) h
-  where
-    at_test : (b : Bool) → (if b then Some (record { 0 = 0 }) else connector_of connectors word) ≡ Some by
-        → by.0 ≤ length connectors
-    at_test true k =
-        let here : (let operator_ : ConnId = record { 0 = 0 } in operator_) ≡ by = cc in
-        let same : 0 ≡ by.0 = ap (λ (conn : ConnId). conn.0) here in omega (arith, same)
-    at_test false k = (connector-bounds connectors word by k).1
-
-abbrev any_form : StrForm
-any_form =
-    record {
-      name = record { 0 = [] };
-      kind = kind.Cache;
-      caps = record { entries = 0; elements = 0 };
-      conns = 0;
-      vector = 0;
-      keep = false;
-      prefs = [];
-    }
-
-record Known (structures : List StrForm) (on : StrNo) : Type 0 where
-  form : StrForm
-  known : slice_get structures on.0 ≡ Some form
-
-structure-known : (structures : List StrForm) (word : List ℕ) (on : StrNo) → structure_of structures word ≡ Some on
-    → Known structures on
-structure-known structures word on h =
-    let named : StrForm → Bool = λ form. same_word (name_word form.name) word in
-    let numbered : ℕ → StrNo = λ place. (record { 0 = place }) in
-    let found = mapped numbered (position named structures) on h in
-    let here = position-Some named structures found.value any_form found.read in
-    let same : found.value ≡ on.0 = ap (λ (s : StrNo). s.0) found.made in
-    record {
-      form = get_or structures on.0 any_form;
-      known = slice_get-get_or structures on.0 any_form (rw (← same) here.0);
-    }
-
-kind-known : (structures : List StrForm) (on : StrNo) (form : StrForm) → slice_get structures on.0 ≡ Some form
+pub kind-known : (structures : List StrForm) (on : StrNo) (form : StrForm) → slice_get structures on.0 ≡ Some form
     → kind_of structures on ≡ form.kind
 kind-known structures on form h = rw h refl
 
@@ -176,9 +130,9 @@ line-keeps script at by on ws after h caller known adds =
     let next : Script = record script { lines = script.lines ++ line ∷ [] } in
     let acts = act_tokens adds.says.given adds.act in
     let retries = retry_tokens adds.retry in
-    let bounds = words-bounds (declared_in script) (acts ++ retries) ws [] adds.says.spelled in
-    let front = bounds-front (declared_in script) acts retries bounds in
-    let back = bounds-back (declared_in script) acts retries bounds in
+    let bounds = words-within (declared_in script) (acts ++ retries) ws [] adds.says.spelled in
+    let front = within-front (declared_in script) acts retries bounds in
+    let back = within-back (declared_in script) acts retries bounds in
     let low : by.0 ≤ 32 = omega (arith, caller, h.connectors) in
     let k = kind_of script.structures on in
     let does : IsActOf k by adds.act =
@@ -204,45 +158,6 @@ line-keeps script at by on ws after h caller known adds =
     } in
     subst IsWellFormed (sym adds.same) kept
 
-caller-keeps : (script : Script) (at : ℕ) (by : ConnId) (ws : Words) (after : Script) → IsWellFormed script
-    → by.0 ≤ length script.connectors
-    → AddsOfCaller script at by ws after → IsWellFormed after
-caller-keeps script at by [] after h caller adds = absurd adds
-caller-keeps script at by (second ∷ ws) after h caller adds =
-    at_structure (structure_of script.structures second) refl adds
-  where
-    at_structure : (o : Option StrNo) → structure_of script.structures second ≡ o
-        → MatchOption o ⊥ (λ on. AddsLine script at by on ws after) → IsWellFormed after
-    at_structure None e k = absurd k
-    at_structure (Some on) e k =
-        line-keeps script at by on ws after h caller (structure-known script.structures second on e) k
-
--- ---- a text
-
-words-keep : (script : Script) (at : ℕ) (ws : Words) (after : Script) → IsWellFormed script
-    → AddsWords script at ws after → IsWellFormed after
-words-keep script at [] after h adds = subst IsWellFormed (sym adds) h
-words-keep script at (first ∷ ws) after h adds =
-    by_tests (is_comment first) (is_policy_word first) (caller_of script.connectors first) refl adds
-  where
-    by_tests : (c p : Bool) (o : Option ConnId) → caller_of script.connectors first ≡ o
-        → MatchBool c (after ≡ script)
-        (MatchBool p (AddsDeclaration script first (first ∷ ws) after)
-        (MatchOption o ⊥ (λ by. AddsOfCaller script at by ws after)))
-        → IsWellFormed after
-    by_tests true p o e k = subst IsWellFormed (sym k) h
-    by_tests false true o e k = declaration-keeps script first ws after h k
-    by_tests false false None e k = absurd k
-    by_tests false false (Some by) e k =
-        caller-keeps script at by ws after h (caller-few script.connectors first by e) k
-
-lines-keep : (lines : List (List ℕ)) (script : Script) (count : ℕ) (after : Script) → IsWellFormed script
-    → AddsAll script count lines after → IsWellFormed after
-lines-keep [] script count after h adds = subst IsWellFormed (sym adds) h
-lines-keep (line ∷ lines) script count after h adds =
-    let next : IsWellFormed adds.0 = words-keep script (line_number (count + 1)) (words_of line) adds.0 h adds.1.1 in
-    lines-keep lines adds.0 (count + 1) after next adds.2
-
 empty-formed : IsWellFormed empty_script
 empty-formed =
     record {
@@ -253,4 +168,4 @@ empty-formed =
     }
 
 pub script-formed : (text : List ℕ) (script : Script) → IsScript text script → IsWellFormed script
-script-formed text script h = lines-keep (lines_of text) empty_script 0 script empty-formed h
+script-formed text script h = script-keeps IsWellFormed declaration-keeps line-keeps text script empty-formed h

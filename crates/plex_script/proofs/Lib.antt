@@ -7,6 +7,13 @@ pub mod CauseLaws
 pub mod ReadLaws
 pub mod LineLaws
 pub mod DecidedLaws
-pub mod TokenFacts
 pub mod FormLaws
+pub mod KeptAll
 pub mod FormedLines
+pub mod Chains
+pub mod PolicyPrinted
+pub mod LinesPrinted
+pub mod ReadBack
+pub mod Spaced
+pub mod TokensTold
+pub mod KeptLimits

@@ -20,7 +20,8 @@ use Rattle.plex_spell.proofs.PatternLaws.{ArePlaces, are_rows, values-sound, val
 use Rattle.plex_spell.proofs.VerbLaws.{verb-sound, command-complete, led-complete, AreFree-tail, all_lack_retry}
 use Rattle.plex_script.specs.declared.declarations.Declaration.{Declaration}
 use Rattle.plex_script.specs.declared.declarations.Declaration.TheVariants.{Facility, Structure, Pref, Connector}
-use Rattle.plex_script.specs.PolicyWords.{form_tokens, declaration_tokens, IsDeclaration, IsVectorTold, Declares}
+use Rattle.plex_spell.specs.FormWords.{form_tokens}
+use Rattle.plex_script.specs.PolicyWords.{declaration_tokens, IsDeclaration, IsVectorTold, Declares}
 use Rattle.plex_script.specs.LineReading.{ended}
 use Rattle.plex_script.specs.PolicyReading.{facility_places, facility_from, pref_places, pref_from, cache_places, cache_from, list_places, list_from, lock_places, lock_from, form_at, structure_at, declared_at, declaration_at}
 use Rattle.plex_script.proofs.ActLaws.{ended-is}

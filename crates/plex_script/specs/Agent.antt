@@ -1,6 +1,6 @@
 -- What a caller asks in the work of one line: its call, again after an event round while it is refused for the stage of a rebuild; or an
 -- event round alone.
-use Rattle.std.specs.Prelude.{ℕ, zero, suc, ◌+◌, ◌*◌, Bool, if◌then◌else◌, Option, None, Some}
+use Rattle.std.specs.Prelude.{ℕ, zero, suc, ◌+◌, ◌*◌, if◌then◌else◌, Option, None, Some}
 use Rattle.cf_types.specs.declared.forms.Kind.{Kind}
 use Rattle.cf_types.specs.declared.forms.Kind.TheVariants as kind
 use Rattle.cf_types.specs.declared.shell_commands.ShellCmd.{ShellCmd}

@@ -1,5 +1,5 @@
 -- The calls of a structure's history, as its callers hear of them, whatever its kind.
-use Rattle.std.specs.Prelude.{◌≡◌, ℕ, ◌==◌, Bool, false, List, [], ◌∷◌, length, filter, find, fold, map, slice_get, Option, None, Some, unwrap_or}
+use Rattle.std.specs.Prelude.{ℕ, ◌==◌, Bool, false, List, [], length, filter, find, fold, map, slice_get, Option, None, Some, unwrap_or}
 use Rattle.cf_types.specs.declared.numbers.ConnId.{ConnId}
 use Rattle.cf_types.specs.declared.numbers.StrNo.{StrNo}
 use Rattle.engine_api.specs.declared.asks.Ask.{Ask}

@@ -3,6 +3,8 @@ use Rattle.std.specs.Prelude.{◌≡◌, ℕ, List, ◌⊎◌}
 use Rattle.plex_script.specs.declared.faults.Why.{Why}
 use Rattle.plex_script.specs.declared.scripts.Script.{Script}
 use Rattle.plex_script.specs.Scripts.{IsScript, IsFault}
+use Rattle.plex_script.specs.Printed.{printed, renumbered}
+use Rattle.plex_script.specs.Limits.{KeepsLimits}
 
 -- a text says one script
 abbrev pub SaysOne : Type 0
@@ -10,8 +12,18 @@ SaysOne = (text : List ℕ) (one other : Script) → IsScript text one → IsScr
 
 -- each text is a script or has a first fault
 abbrev pub IsDecided : Type 0
-IsDecided = (text : List ℕ) → ((script : Script) × IsScript text script) ⊎ ((number : ℕ) × (why : Why) × IsFault text number why)
+IsDecided = (text : List ℕ)
+    → ((script : Script) × IsScript text script) ⊎ ((number : ℕ) × (why : Why) × IsFault text number why)
 
 -- and not both
 abbrev pub IsExclusive : Type 0
-IsExclusive = (text : List ℕ) (script : Script) (number : ℕ) (why : Why) → IsScript text script → IsFault text number why → ⊥
+IsExclusive = (text : List ℕ) (script : Script) (number : ℕ) (why : Why) → IsScript text script
+    → IsFault text number why → ⊥
+
+-- the printed text of a script says the script again, but for the numbers of its lines
+abbrev pub IsReadBack : Type 0
+IsReadBack = (script : Script) → KeepsLimits script → IsScript (printed script) (renumbered script)
+
+-- each script of a text keeps the limits
+abbrev pub KeepLimits : Type 0
+KeepLimits = (text : List ℕ) (script : Script) → IsScript text script → KeepsLimits script

@@ -10,3 +10,5 @@ pub mod Agent
 pub mod Heard
 pub mod Follows
 pub mod WellFormed
+pub mod Printed
+pub mod Limits

@@ -2,35 +2,16 @@
 use Rattle.std.specs.Prelude.{◌≡◌, ℕ, List, [], ◌∷◌, codes}
 use Rattle.cf_types.specs.declared.forms.Kind.{Kind}
 use Rattle.cf_types.specs.declared.forms.Kind.TheVariants as kind
-use Rattle.cf_types.specs.declared.forms.StrForm.{StrForm}
 use Rattle.plex_spell.specs.declared.rigour.Rigour.{Rigour}
 use Rattle.plex_spell.specs.Tokens.{Declared, Token, Spells}
 use Rattle.plex_spell.specs.Tokens.Token.{Literal, NewFacility, NewName, Number, OfFacility, OfStructure}
-use Rattle.plex_spell.specs.Fields.{disposition, references}
-use Rattle.plex_spell.specs.ShellWords.{amount}
+use Rattle.plex_spell.specs.FormWords.{form_tokens}
 use Rattle.plex_script.specs.declared.declarations.Declaration.{Declaration}
 use Rattle.plex_script.specs.declared.declarations.Declaration.TheVariants.{Facility, Structure, Pref, Connector}
 
 -- units of a facility
 abbrev pub units : ℕ → Token
 units n = Number 1 1000000 n
-
-abbrev pub connections : ℕ → Token
-connections n = Number 1 32 n
-
-abbrev pub vector_bits : ℕ → Token
-vector_bits n = Number 1 1024 n
-
--- what stands behind the name of a structure
-abbrev pub form_tokens : Kind → StrForm → List Token
-form_tokens kind.Cache form =
-    Literal (codes "CACHE") ∷ amount form.caps.entries ∷ amount form.caps.elements ∷ connections form.conns
-    ∷ vector_bits form.vector ∷ disposition form.keep ∷ []
-form_tokens (kind.List headers locks refs) form =
-    Literal (codes "LIST") ∷ amount form.caps.entries ∷ amount form.caps.elements ∷ connections form.conns
-    ∷ vector_bits form.vector ∷ disposition form.keep ∷ Number 1 64 headers ∷ Number 0 64 locks ∷ references refs ∷ []
-form_tokens kind.Lock form =
-    Literal (codes "LOCK") ∷ amount form.caps.entries ∷ amount form.caps.elements ∷ connections form.conns ∷ disposition form.keep ∷ []
 
 abbrev pub declaration_tokens : Declaration → List Token
 declaration_tokens (Facility pref) = Literal (codes "FACILITY") ∷ NewFacility pref.cf ∷ units pref.units ∷ []

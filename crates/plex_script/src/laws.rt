@@ -1,4 +1,4 @@
-ghost use Rattle.plex_script.specs.Laws.{SaysOne, IsDecided, IsExclusive};
+ghost use Rattle.plex_script.specs.Laws.{SaysOne, IsDecided, IsExclusive, IsReadBack, KeepLimits};
 ghost use Rattle.plex_script.specs.Scripts.{IsScript};
 ghost use Rattle.plex_script.specs.WellFormed.{IsWellFormed};
 
@@ -23,4 +23,15 @@ pub fn never_both()
 pub fn well_formed(text: &[u8], script: &Script)
     requires { IsScript text.now script.now }
     ensures { IsWellFormed script.now }
+{}
+
+/// The printed text of a script that keeps the forms, the ranges and the limits of the language
+/// says the script again, with its lines numbered as they stand in the text.
+pub fn read_back()
+    ensures { IsReadBack }
+{}
+
+/// Each script of a text keeps the forms, the ranges and the limits of the language.
+pub fn keeps_limits()
+    ensures { KeepLimits }
 {}

@@ -2,6 +2,7 @@ pub mod Words
 pub mod Tokens
 pub mod Fields
 pub mod ShellWords
+pub mod FormWords
 pub mod CacheWords
 pub mod ListWords
 pub mod LockWords
@@ -11,4 +12,3 @@ pub mod CacheReading
 pub mod ListReading
 pub mod LockReading
 pub mod ShellReading
-pub mod PlainWords

@@ -56,3 +56,7 @@ spaced words = flat_map (λ word. 32 ∷ word) words
 abbrev pub line_of : List (List ℕ) → List ℕ
 line_of [] = []
 line_of (word ∷ words) = word ++ spaced words
+
+-- a line with its line feed
+abbrev pub ended : List ℕ → List ℕ
+ended line = line ++ 10 ∷ []

@@ -13,7 +13,6 @@ mod numerals;
 mod rigour;
 mod shell_reader;
 mod singles;
-pub mod spelling;
 mod texts;
 mod words;
 
@@ -26,5 +25,5 @@ pub use numerals::{is_numeral, number};
 pub use rigour::Rigour;
 pub use shell_reader::shell;
 pub use singles::{connector_number, is_about, structure_number};
-pub use texts::{is_name, is_term, name_text};
+pub use texts::{is_name, is_term, key_text, name_text};
 pub use words::{Words, is};

@@ -8,7 +8,7 @@ ghost use Rattle.plex_spell.specs.Places.{text_of, stands_in};
 
 use crate::rigour::Rigour;
 use crate::words::is;
-use cf_types::Name16;
+use cf_types::{Key16, Name16};
 
 fn is_term_byte(byte: u8) -> bool
     ensures { result ≡ term_byte byte }
@@ -122,4 +122,11 @@ pub fn name_text(name: &Name16) -> &[u8]
     ensures { result.now ≡ name_word name.now }
 {
     unpadded_text(&name.0)
+}
+
+/// The text of a key.
+pub fn key_text(key: &Key16) -> &[u8]
+    ensures { result.now ≡ unpadded key.now.0 }
+{
+    unpadded_text(&key.0)
 }

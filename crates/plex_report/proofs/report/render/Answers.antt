@@ -1,6 +1,7 @@
 use Rattle.std.proofs.Common.{◌≡◌, ◌++◌, Some, map, sym, ap, ◌∙◌}
 use Rattle.std.specs.List.{slice_get}
-use Rattle.plex_report.specs.Report.{report_lines, ended}
+use Rattle.plex_spell.specs.Words.{ended}
+use Rattle.plex_report.specs.Report.{report_lines}
 use Rattle.plex_report.proofs.LinesAt.{text_more}
 use Rattle.plex_report.proofs.report.render.Goals as goal
 

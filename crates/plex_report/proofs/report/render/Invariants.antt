@@ -1,6 +1,7 @@
 use Rattle.std.proofs.Common.{◌≡◌, take}
 use Rattle.std.specs.List.{flat_map}
-use Rattle.plex_report.specs.Report.{report_lines, ended}
+use Rattle.plex_spell.specs.Words.{ended}
+use Rattle.plex_report.specs.Report.{report_lines}
 use Rattle.plex_report.proofs.report.render.Given as goal
 
 -- the lines before this one stand there

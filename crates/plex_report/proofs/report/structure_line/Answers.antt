@@ -1,5 +1,5 @@
 use Rattle.std.proofs.Common.{◌≡◌, ◌-◌, length, Some, sym, ap, ◌∙◌, arith}
-use Rattle.plex_report.specs.Lines.{form_line, pref_line}
+use Rattle.plex_plain.specs.PolicyLines.{form_line, pref_line}
 use Rattle.plex_report.proofs.LinesAt.{get_item}
 use Rattle.plex_report.proofs.report.structure_line.Goals as goal
 
@@ -8,5 +8,5 @@ returns c =
     let form = c.args.form.now in
     let len : length c.items-prefs.result.now ≡ length form.prefs = ap length c.items-prefs.ensures in
     ap Some (rw c.items-prefs.ensures at c.in_ok-pref_line.ensures)
-    ∙ sym (get_item (pref_line form) (form_line c.args.script.now form) form.prefs c.args.k (c.args.k - 1) _
+    ∙ sym (get_item (pref_line form) (form_line form) form.prefs c.args.k (c.args.k - 1) _
     (omega arith) (omega arith))

@@ -1,0 +1,266 @@
+-- The words of commands with options.
+use Rattle.std.proofs.Common.{◌≡◌, ℕ, Bool, true, false, List, [], ◌∷◌, ◌++◌, Option, None, Some, codes, refl, sym, ap, ◌∙◌}
+use Rattle.std.specs.Prelude.{if◌then◌else◌}
+use Rattle.std.specs.Fmt.{decimal}
+use Rattle.cf_types.specs.declared.names.Name16.{Name16}
+use Rattle.cf_types.specs.declared.names.Key16.{Key16}
+use Rattle.cf_types.specs.declared.resources.Resource.{Resource}
+use Rattle.cf_types.specs.declared.cache_commands.CacheCmd.{CacheCmd}
+use Rattle.cf_types.specs.declared.cache_commands.CacheCmd.TheVariants as cache
+use Rattle.cf_types.specs.declared.list_commands.At.{At}
+use Rattle.cf_types.specs.declared.list_commands.At.TheVariants as at
+use Rattle.cf_types.specs.declared.list_commands.Cond.{Cond}
+use Rattle.cf_types.specs.declared.list_commands.Cond.TheVariants.{NotHeld, HeldBy}
+use Rattle.cf_types.specs.declared.list_commands.ListCmd.{ListCmd}
+use Rattle.cf_types.specs.declared.list_commands.ListCmd.TheVariants as list
+use Rattle.plex_spell.specs.Tokens.{Token, name_word}
+use Rattle.plex_spell.specs.Tokens.Token.{Literal, OnResource}
+use Rattle.plex_spell.specs.Fields.{joined, disposition, references, number, end, state, option_tokens, flag_tokens, name_tokens, key_tokens, short_tokens, data_tokens, number_tokens}
+use Rattle.cf_types.specs.declared.forms.Kind.TheVariants as kind
+use Rattle.cf_types.specs.declared.forms.Refs.{Refs}
+use Rattle.cf_types.specs.declared.forms.Refs.TheVariants as refs
+use Rattle.cf_types.specs.declared.forms.StrForm.{StrForm}
+use Rattle.plex_spell.specs.FormWords.{form_tokens}
+use Rattle.plex_spell.specs.CacheWords.{class_tokens, cache_tokens}
+use Rattle.plex_spell.specs.ListWords.{at_tokens, cond_tokens, list_tokens}
+use Rattle.plex_plain.specs.Naming.{resource_word}
+use Rattle.plex_plain.specs.PlainWords.{plain_word, plain_words, storage_told, class_told, castout_words, keep_word, end_word, cache_words, list_words, state_word, refs_word, told_words, number_words, text_words, name_words, key_words}
+use Rattle.plex_plain.proofs.TokenLaws.{words_option, words_flag, words_joined}
+
+-- the words of a command under the names of connectors, which it has none of
+abbrev pub cache_in : List Name16 → CacheCmd → List (List ℕ)
+cache_in connectors cmd = plain_words [] connectors (cache_tokens (storage_told cmd) cmd)
+
+abbrev pub list_in : List Name16 → ListCmd → List (List ℕ)
+list_in connectors cmd = plain_words [] connectors (list_tokens cmd)
+
+word_end : (connectors : List Name16) (head : Bool) → plain_word [] connectors (end head) ≡ end_word head
+word_end connectors true = refl
+word_end connectors false = refl
+
+word_state : (connectors : List Name16) (excl : Bool) → plain_word [] connectors (state excl) ≡ state_word excl
+word_state connectors true = refl
+word_state connectors false = refl
+
+words_class : (connectors : List Name16) (class : Option ℕ)
+    → plain_words [] connectors (class_tokens class) ≡ castout_words class
+words_class connectors None = refl
+words_class connectors (Some class) = refl
+
+word_keep : (connectors : List Name16) (keep : Bool) → plain_word [] connectors (disposition keep) ≡ keep_word keep
+word_keep connectors true = refl
+word_keep connectors false = refl
+
+word_refs : (connectors : List Name16) (refs : Refs) → plain_word [] connectors (references refs) ≡ refs_word refs
+word_refs connectors refs.Names = refl
+word_refs connectors refs.Keys = refl
+word_refs connectors refs.Nothing = refl
+
+pub words_read : (connectors : List Name16) (name : Name16) (index : ℕ) (old : Option Name16) (stg : ℕ)
+    → cache_in connectors (cache.Read name index old stg)
+    ≡ codes "READ" ∷ name_word name ∷ decimal index
+    ∷ (told_words (codes "OLD") name_words old ++ (told_words (codes "STG") number_words (class_told stg) ++ []))
+words_read connectors name index old stg =
+    ap (λ words. codes "READ" ∷ name_word name ∷ decimal index ∷ words)
+    (words_joined connectors (option_tokens (codes "OLD") name_tokens old ∷ option_tokens (codes "STG") number_tokens
+    (class_told stg) ∷ [])
+    ∙ simp (
+      words_option connectors (codes "OLD") name_tokens old,
+      words_option connectors (codes "STG") number_tokens (class_told stg),
+    ) refl)
+
+pub words_write : (connectors : List Name16) (name : Name16) (index : ℕ) (body : List ℕ) (class : Option ℕ)
+    (adj : Option (List ℕ))
+    (old : Option Name16) (stg : ℕ) (when_reg : Bool)
+    → cache_in connectors (cache.Write name index body class adj old stg when_reg)
+    ≡ codes "WRITE" ∷ name_word name ∷ decimal index ∷ body
+    ∷ (castout_words class ++ (told_words (codes "ADJ") text_words adj
+    ++ (told_words (codes "OLD") name_words old ++ (told_words (codes "STG") number_words (class_told stg)
+    ++ ((if when_reg then codes "WHENREG" ∷ [] else []) ++ [])))))
+words_write connectors name index body class adj old stg when_reg =
+    ap (λ words. codes "WRITE" ∷ name_word name ∷ decimal index ∷ body ∷ words)
+    (words_joined connectors (class_tokens class ∷ option_tokens (codes "ADJ") short_tokens adj ∷ option_tokens
+    (codes "OLD") name_tokens old
+    ∷ option_tokens (codes "STG") number_tokens (class_told stg) ∷ flag_tokens (codes "WHENREG") when_reg ∷ [])
+    ∙ simp (
+      words_class connectors class,
+      words_option connectors (codes "ADJ") short_tokens adj,
+      words_option connectors (codes "OLD") name_tokens old,
+      words_option connectors (codes "STG") number_tokens (class_told stg),
+      words_flag connectors (codes "WHENREG") when_reg,
+    )
+    refl)
+
+pub words_make : (connectors : List Name16) (header : ℕ) (head : Bool) (name : Option Name16) (key : Option Key16)
+    (body adj : Option (List ℕ)) (cond : Option Cond)
+    → list_in connectors (list.Write header head name key body adj cond)
+    ≡ codes "WRITE" ∷ decimal header ∷ end_word head
+    ∷ (told_words (codes "NAME") name_words name ++ (told_words (codes "KEY") key_words key
+    ++ (told_words (codes "DATA") text_words body ++ (told_words
+    (codes "ADJ") text_words adj ++ (plain_words [] connectors (cond_tokens cond) ++ [])))))
+words_make connectors header head name key body adj cond =
+    heads head ∙ ap (λ words. codes "WRITE" ∷ decimal header ∷ end_word head ∷ words)
+    (words_joined connectors (option_tokens (codes "NAME") name_tokens name ∷ option_tokens (codes "KEY") key_tokens key
+    ∷ option_tokens (codes "DATA") data_tokens body ∷ option_tokens
+    (codes "ADJ") short_tokens adj ∷ cond_tokens cond ∷ [])
+    ∙ simp (
+      words_option connectors (codes "NAME") name_tokens name,
+      words_option connectors (codes "KEY") key_tokens key,
+      words_option connectors (codes "DATA") data_tokens body,
+      words_option connectors (codes "ADJ") short_tokens adj,
+    ) refl)
+  where
+    parts : List Token
+    parts = joined (option_tokens (codes "NAME") name_tokens name ∷ option_tokens (codes "KEY") key_tokens key
+        ∷ option_tokens (codes "DATA") data_tokens body ∷ option_tokens
+        (codes "ADJ") short_tokens adj ∷ cond_tokens cond ∷ [])
+
+    heads : (head : Bool)
+        → codes "WRITE" ∷ decimal header ∷ plain_word [] connectors (end head) ∷ plain_words [] connectors parts
+        ≡ codes "WRITE" ∷ decimal header ∷ end_word head ∷ plain_words [] connectors parts
+    heads head = ap (λ word. codes "WRITE" ∷ decimal header ∷ word ∷ plain_words [] connectors parts)
+        (word_end connectors head)
+
+pub words_update : (connectors : List Name16) (at : At) (body adj : Option (List ℕ)) (cond : Option Cond)
+    → list_in connectors (list.Update at body adj cond)
+    ≡ codes "UPDATE" ∷ (plain_words [] connectors (at_tokens at)
+    ++ (told_words (codes "DATA") text_words body ++ (told_words
+    (codes "ADJ") text_words adj ++ (plain_words [] connectors (cond_tokens cond) ++ []))))
+words_update connectors at body adj cond =
+    ap (λ words. codes "UPDATE" ∷ words)
+    (words_joined connectors (at_tokens at ∷ option_tokens (codes "DATA") data_tokens body ∷ option_tokens
+    (codes "ADJ") short_tokens adj ∷ cond_tokens cond ∷ [])
+    ∙ simp (
+      words_option connectors (codes "DATA") data_tokens body,
+      words_option connectors
+          (codes "ADJ") short_tokens adj,
+    )
+    refl)
+
+pub words_at : (connectors : List Name16) (verb : List ℕ) (at : At) (cond : Option Cond)
+    → plain_words [] connectors (Literal verb ∷ joined (at_tokens at ∷ cond_tokens cond ∷ []))
+    ≡ verb ∷ (plain_words [] connectors (at_tokens at) ++ (plain_words [] connectors (cond_tokens cond) ++ []))
+words_at connectors verb at cond =
+    ap (λ words. verb ∷ words) (words_joined connectors (at_tokens at ∷ cond_tokens cond ∷ []))
+
+pub words_move : (connectors : List Name16) (at : At) (header : ℕ) (head : Bool) (key : Option Key16)
+    (cond : Option Cond)
+    → list_in connectors (list.Move at header head key cond)
+    ≡ codes "MOVE" ∷ (plain_words [] connectors (at_tokens at) ++ ((decimal header ∷ end_word head ∷ [])
+    ++ (told_words (codes "KEY") key_words key ++ (plain_words [] connectors (cond_tokens cond) ++ []))))
+words_move connectors at header head key cond =
+    ap (λ words. codes "MOVE" ∷ words)
+    (words_joined connectors (at_tokens at ∷ (number header ∷ end head ∷ []) ∷ option_tokens
+    (codes "KEY") key_tokens key ∷ cond_tokens cond ∷ [])
+    ∙ ap (λ word. plain_words [] connectors (at_tokens at) ++ ((decimal header ∷ word ∷ [])
+    ++ (plain_words [] connectors (option_tokens (codes "KEY") key_tokens key) ++ (plain_words [] connectors
+    (cond_tokens cond) ++ [])))) (word_end connectors head)
+    ∙ simp (words_option connectors (codes "KEY") key_tokens key) refl)
+
+-- a request for a resource: the command's word, the resource, the state, and record data
+pub words_request : (connectors : List Name16) (verb : List ℕ) (r : Resource) (excl : Bool) (rec : Option (List ℕ))
+    → plain_words [] connectors (Literal verb ∷ OnResource r ∷ state excl ∷ joined
+    (option_tokens (codes "REC") short_tokens rec ∷ []))
+    ≡ verb ∷ resource_word r ∷ state_word excl ∷ (told_words (codes "REC") text_words rec ++ [])
+words_request connectors verb r excl rec =
+    ap (λ word. verb ∷ resource_word r ∷ word ∷ plain_words [] connectors
+    (joined (option_tokens (codes "REC") short_tokens rec ∷ []))) (word_state connectors excl)
+    ∙ ap (λ words. verb ∷ resource_word r ∷ state_word excl ∷ words)
+    (words_joined connectors (option_tokens (codes "REC") short_tokens rec ∷ [])
+    ∙ simp (words_option connectors (codes "REC") short_tokens rec) refl)
+
+-- ---- forms of structures
+
+abbrev pub caps_words : List ℕ → StrForm → List (List ℕ)
+caps_words kind form = kind ∷ decimal form.caps.entries ∷ decimal form.caps.elements ∷ decimal form.conns ∷ []
+
+pub words_cache_form : (connectors : List Name16) (form : StrForm)
+    → plain_words [] connectors (form_tokens kind.Cache form)
+    ≡ caps_words (codes "CACHE") form ++ (decimal form.vector ∷ keep_word form.keep ∷ [])
+words_cache_form connectors form =
+    ap (λ word. caps_words (codes "CACHE") form ++ (decimal form.vector ∷ word ∷ [])) (word_keep connectors form.keep)
+
+pub words_list_form : (connectors : List Name16) (form : StrForm) (headers locks : ℕ) (refs : Refs)
+    → plain_words [] connectors (form_tokens (kind.List headers locks refs) form)
+    ≡ caps_words
+    (codes "LIST") form ++ ((decimal form.vector ∷ keep_word form.keep ∷ []) ++ (decimal headers ∷ decimal
+    locks ∷ refs_word refs ∷ []))
+words_list_form connectors form headers locks refs =
+    ap
+    (λ word. caps_words
+    (codes "LIST") form ++
+    ((decimal form.vector ∷ word ∷ []) ++
+    (decimal headers ∷ decimal locks ∷ plain_word [] connectors (references refs) ∷ [])))
+    (word_keep connectors form.keep)
+    ∙ ap
+    (λ word. caps_words
+    (codes "LIST") form ++ ((decimal form.vector ∷ keep_word form.keep ∷ []) ++ (decimal headers ∷ decimal
+    locks ∷ word ∷ [])))
+    (word_refs connectors refs)
+
+pub words_lock_form : (connectors : List Name16) (form : StrForm)
+    → plain_words [] connectors (form_tokens kind.Lock form) ≡ caps_words (codes "LOCK") form ++
+    (keep_word form.keep ∷ [])
+words_lock_form connectors form =
+    ap (λ word. caps_words (codes "LOCK") form ++ (word ∷ [])) (word_keep connectors form.keep)
+
+-- ---- commands that name no connector
+
+at-same : (connectors : List Name16) (ref : At)
+    → plain_words [] connectors (at_tokens ref) ≡ plain_words [] [] (at_tokens ref)
+at-same connectors (at.Id id) = refl
+at-same connectors (at.Name name) = refl
+at-same connectors (at.Head header) = refl
+at-same connectors (at.Tail header) = refl
+at-same connectors (at.Key header key) = refl
+
+cond-same : (connectors : List Name16) (cond : Option Cond)
+    → plain_words [] connectors (cond_tokens cond) ≡ plain_words [] [] (cond_tokens cond)
+cond-same connectors None = refl
+cond-same connectors (Some (NotHeld lock)) = refl
+cond-same connectors (Some (HeldBy lock)) = refl
+
+pub cache-same : (connectors : List Name16) (cmd : CacheCmd) → cache_words cmd ≡ cache_in connectors cmd
+cache-same connectors (cache.Read name index old stg) =
+    words_read [] name index old stg ∙ sym (words_read connectors name index old stg)
+cache-same connectors (cache.Write name index body class adj old stg when_reg) =
+    words_write [] name index body class adj old stg when_reg
+    ∙ sym (words_write connectors name index body class adj old stg when_reg)
+cache-same connectors (cache.CrossInval name) = refl
+cache-same connectors cache.RegList = refl
+cache-same connectors (cache.Castout name) = refl
+cache-same connectors (cache.Unlock name) = refl
+cache-same connectors (cache.CoClass class) = refl
+cache-same connectors cache.CoStats = refl
+cache-same connectors (cache.DirInfo name) = refl
+cache-same connectors (cache.Delete name) = refl
+cache-same connectors (cache.StgStats stg) = refl
+
+on-same : (connectors : List Name16) (verb : List ℕ) (ref : At) (cond : Option Cond)
+    → plain_words [] [] (Literal verb ∷ joined (at_tokens ref ∷ cond_tokens cond ∷ []))
+    ≡ plain_words [] connectors (Literal verb ∷ joined (at_tokens ref ∷ cond_tokens cond ∷ []))
+on-same connectors verb ref cond =
+    words_at [] verb ref cond
+    ∙ (sym (words_at connectors verb ref cond ∙ simp (at-same connectors ref, cond-same connectors cond) refl))
+
+pub list-same : (connectors : List Name16) (cmd : ListCmd) → list_words cmd ≡ list_in connectors cmd
+list-same connectors (list.Write header head name key body adj cond) =
+    words_make [] header head name key body adj cond
+    ∙ (sym (words_make connectors header head name key body adj cond ∙ simp (cond-same connectors cond) refl))
+list-same connectors (list.Update ref body adj cond) =
+    words_update [] ref body adj cond
+    ∙ (sym (words_update connectors ref body adj cond ∙ simp (at-same connectors ref, cond-same connectors cond) refl))
+list-same connectors (list.Read ref cond) = on-same connectors (codes "READ") ref cond
+list-same connectors (list.Move ref header head key cond) =
+    words_move [] ref header head key cond
+    ∙ (sym (words_move connectors ref header head key cond
+    ∙ simp (at-same connectors ref, cond-same connectors cond) refl))
+list-same connectors (list.Delete ref cond) = on-same connectors (codes "DELETE") ref cond
+list-same connectors (list.ReadList header) = refl
+list-same connectors (list.LockSet lock) = refl
+list-same connectors (list.LockReset lock) = refl
+list-same connectors (list.LockTest lock) = refl
+list-same connectors (list.LControls header) = refl
+list-same connectors (list.SetLimit header n) = refl
+list-same connectors (list.Monitor header index) = refl
+list-same connectors (list.Unmonitor header) = refl

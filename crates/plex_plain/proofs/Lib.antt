@@ -1,0 +1,9 @@
+pub mod TokenLaws
+pub mod CommandLaws
+pub mod Tests
+pub mod Places
+pub mod Said
+pub mod Texts
+pub mod Rooms
+pub mod Rows
+pub mod Within

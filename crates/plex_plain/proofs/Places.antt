@@ -1,0 +1,91 @@
+-- Where a name stands among names.
+use Rattle.std.proofs.Common.{◌≡◌, ◌≢◌, ℕ, ◌-◌, ◌<◌, ◌≤◌, ◌==◌, ◌||◌, Bool, true, false, nat_lt, List, [], ◌∷◌, ◌++◌, length, length-append, get_or, Option, Some, position, decimal, refl, sym, ap, ◌∙◌, arith, zero, suc}
+use Rattle.std.specs.List.{position_or_len, list_any}
+use Rattle.std.specs.Option.{option_map_or}
+use Rattle.std.proofs.lemmas.Bool.Decides.{nat_tests}
+use Rattle.std.proofs.lemmas.Option.{slice_get-get_or}
+use Rattle.cf_types.specs.declared.names.Name16.{Name16}
+use Rattle.cf_types.specs.Term.{padded}
+use Rattle.plex_spell.specs.Words.{same_word}
+use Rattle.plex_spell.specs.Tokens.{name_word}
+use Rattle.plex_spell.proofs.Choices.{same_word-refl, word-same}
+use Rattle.plex_plain.specs.Naming.{caller_name}
+use Rattle.plex_plain.specs.Ranges.{IsNamed}
+
+-- ---- the first place at which a test holds
+
+first_place : {X : Type 0} (p : X → Bool) (xs : List X) (i : ℕ) (d : X) → i < length xs → p (get_or xs i d) ≡ true
+    → ((k : ℕ) → k < i → p (get_or xs k d) ≡ false) → position_or_len p xs ≡ i
+first_place p [] i d low here before = absurd (omega arith)
+first_place p (x ∷ xs) zero d low here before = rw here refl
+first_place p (x ∷ xs) (suc i) d low here before =
+    let no : p x ≡ false = before 0 (omega arith) in
+    let rest = first_place p xs i d (omega arith) here (λ k h. before (suc k) (omega arith)) in
+    rw no (omega (arith, rest))
+
+pub position-first : {X : Type 0} (p : X → Bool) (xs : List X) (i : ℕ) (d : X) → i < length xs
+    → p (get_or xs i d) ≡ true
+    → ((k : ℕ) → k < i → p (get_or xs k d) ≡ false) → position p xs ≡ Some i
+position-first p xs i d low here before =
+    let at = first_place p xs i d low here before in
+    let within : nat_lt i (length xs) ≡ true = grind (arith, nat_tests) in
+    rw (at, within) refl
+
+-- ---- names
+
+same_bytes : (a b : Name16) → IsNamed a → IsNamed b → name_word a ≡ name_word b → a ≡ b
+same_bytes a b h k e =
+    let bytes : a.0 ≡ b.0 = h.0.1 ∙ ap padded e ∙ sym k.0.1 in
+    ap (λ (bs : List ℕ). (let name : Name16 = record { 0 = bs } in name)) bytes
+
+pub apart_words : (a b : Name16) → IsNamed a → IsNamed b → a ≢ b → same_word (name_word a) (name_word b) ≡ false
+apart_words a b h k apart = at_test (same_word (name_word a) (name_word b)) refl
+  where
+    at_test : (t : Bool) → same_word (name_word a) (name_word b) ≡ t → t ≡ false
+    at_test true e = absurd (apart (same_bytes a b h k (word-same (name_word a) (name_word b) e)))
+    at_test false e = refl
+
+-- things that have names, each once
+pub record HaveNames {X : Type 0} (name : X → Name16) (xs : List X) : Type 0 where
+  pub named : (k : ℕ) (d : X) → k < length xs → IsNamed (name (get_or xs k d))
+  pub apart : (j k : ℕ) (d : X) → j < k → k < length xs → name (get_or xs j d) ≢ name (get_or xs k d)
+
+-- a name stands where it stands, and not before
+pub name-place : {X : Type 0} (name : X → Name16) (xs : List X) (i : ℕ) (d : X) → HaveNames name xs → i < length xs
+    → position (λ x. same_word (name_word (name x)) (name_word (name (get_or xs i d)))) xs ≡ Some i
+name-place name xs i d h low =
+    position-first (λ x. same_word (name_word (name x)) (name_word (name (get_or xs i d)))) xs i d low
+    (same_word-refl (name_word (name (get_or xs i d))))
+    (λ k before. apart_words (name (get_or xs k d)) (name (get_or xs i d)) (h.named k d (omega arith)) (h.named i d low)
+    (h.apart k i d before low))
+
+-- a connector by its name
+pub caller-word : (connectors : List Name16) (n : ℕ) (d : Name16) → 1 ≤ n → n ≤ length connectors
+    → caller_name connectors n ≡ name_word (get_or connectors (n - 1) d)
+caller-word connectors n d some most =
+    let no : (n == 0) ≡ false = grind (arith, nat_tests) in
+    let known = slice_get-get_or connectors (n - 1) d (omega arith) in
+    rw no (ap (λ (o : Option Name16). option_map_or name_word o (decimal n)) known)
+
+-- behind things at which a test fails
+seam_place : {X : Type 0} (p : X → Bool) (front : List X) (x : X) (back : List X) → list_any p front ≡ false
+    → p x ≡ true
+    → position_or_len p (front ++ x ∷ back) ≡ length front
+seam_place p [] x back before here = rw here refl
+seam_place p (y ∷ front) x back before here =
+    let parts = or_false (p y) (list_any p front) before in
+    let rest = seam_place p front x back parts.1 here in
+    let no = parts.0 in
+    rw no (omega (arith, rest))
+  where
+    or_false : (a b : Bool) → (a || b) ≡ false → (a ≡ false) × (b ≡ false)
+    or_false true b h = absurd (cc)
+    or_false false b h = (refl, h)
+
+pub position-seam : {X : Type 0} (p : X → Bool) (front : List X) (x : X) (back : List X) → list_any p front ≡ false
+    → p x ≡ true → position p (front ++ x ∷ back) ≡ Some (length front)
+position-seam p front x back before here =
+    let at = seam_place p front x back before here in
+    let within : nat_lt (length front) (length (front ++ x ∷ back)) ≡ true =
+    grind (arith, nat_tests, length-append front (x ∷ back)) in
+    rw (at, within) refl

@@ -1,0 +1,31 @@
+-- The words that lists of tokens are printed as.
+use Rattle.std.proofs.Common.{◌≡◌, ℕ, Bool, true, false, List, [], ◌∷◌, ◌++◌, Option, None, Some, refl, ap, ◌∙◌}
+use Rattle.std.specs.Prelude.{if◌then◌else◌}
+use Rattle.std.proofs.lemmas.List.{map-append}
+use Rattle.plex_spell.specs.Tokens.{Token}
+use Rattle.plex_spell.specs.Fields.{joined, option_tokens, flag_tokens}
+use Rattle.cf_types.specs.declared.names.Name16.{Name16}
+use Rattle.plex_plain.specs.PlainWords.{plain_word, plain_words, told_words}
+
+pub words_option : {X : Type 0} (connectors : List Name16) (word : List ℕ) (tokens : X → List Token) (o : Option X)
+    → plain_words [] connectors (option_tokens word tokens o) ≡ told_words word
+    (λ x. plain_words [] connectors (tokens x)) o
+words_option connectors word tokens None = refl
+words_option connectors word tokens (Some x) = refl
+
+pub words_flag : (connectors : List Name16) (word : List ℕ) (flag : Bool)
+    → plain_words [] connectors (flag_tokens word flag) ≡ (if flag then word ∷ [] else [])
+words_flag connectors word false = refl
+words_flag connectors word true = refl
+
+-- the words of parts that are joined
+abbrev pub joined_words : List Name16 → List (List Token) → List (List ℕ)
+joined_words connectors [] = []
+joined_words connectors (part ∷ parts) = plain_words [] connectors part ++ joined_words connectors parts
+
+pub words_joined : (connectors : List Name16) (parts : List (List Token))
+    → plain_words [] connectors (joined parts) ≡ joined_words connectors parts
+words_joined connectors [] = refl
+words_joined connectors (part ∷ parts) =
+    map-append (plain_word [] connectors) part (joined parts)
+    ∙ ap (λ words. plain_words [] connectors part ++ words) (words_joined connectors parts)

@@ -1,0 +1,171 @@
+-- What words stand for is in its form and its range.
+use Rattle.std.proofs.Common.{◌≡◌, ℕ, ◌+◌, ◌*◌, ◌-◌, ◌≤◌, ◌<◌, ◌==◌, Bool, true, false, not, cond, nat_lt, List, [], ◌∷◌, ◌++◌, Option, Some, None, length, codes, refl, sym, ap, ◌∙◌, arith, subst, zero, suc, inl, inr, replicate, position}
+use Rattle.std.specs.Bool.{if◌then◌else◌}
+use Rattle.std.specs.List.{list_all, position_or_len}
+use Rattle.std.specs.Option.{option_map_or}
+use Rattle.std.proofs.lemmas.Bool.{and_parts}
+use Rattle.std.proofs.lemmas.Bool.Decides.{nat_tests}
+use Rattle.std.proofs.lemmas.List.Sums.{take_while-cons}
+use Rattle.cf_types.specs.declared.names.Name16.{Name16}
+use Rattle.cf_types.specs.declared.numbers.CfId.{CfId}
+use Rattle.cf_types.specs.declared.numbers.ConnId.{ConnId}
+use Rattle.cf_types.specs.declared.numbers.StrNo.{StrNo}
+use Rattle.cf_types.specs.declared.forms.StrForm.{StrForm}
+use Rattle.cf_types.specs.Forms.{IsFacility}
+use Rattle.cf_types.specs.Term.{IsTerm, IsPadded, padded, unpadded, term_byte}
+use Rattle.plex_spell.specs.declared.rigour.Rigour.TheVariants.{Names}
+use Rattle.plex_spell.specs.Words.{same_word}
+use Rattle.plex_spell.specs.Tokens.{Declared, Token, IsWord, IsText, IsData, IsRecord, Spells, is_term, is_name, facility_of, connector_of, structure_of, name_word}
+use Rattle.plex_spell.specs.Tokens.Token.{Literal, Number, Term, Short, Data, OnResource, Record, OfFacility, OfConnector, OfStructure, NewFacility, NewName}
+use Rattle.plex_spell.proofs.Choices.{mapped}
+use Rattle.plex_spell.proofs.PlaceLaws.{Words}
+use Rattle.plex_spell.proofs.TextLaws.{characters-term, IsTerm-whole, IsTerm-repeat, length-repeat}
+use Rattle.plex_spell.proofs.WordLaws.{term-name}
+use Rattle.plex_plain.specs.Ranges.{IsOneOf, IsNamed, IsWithin, AreWithin}
+
+-- ---- names and data
+
+abbrev no_blank : ℕ → Bool
+no_blank b = not (b == 32)
+
+not_blank : (b : ℕ) → term_byte b ≡ true → no_blank b ≡ true
+not_blank b h = grind (arith, nat_tests)
+
+word-front : (word : List ℕ) (n : ℕ) → list_all term_byte word ≡ true → unpadded (word ++ replicate n 32) ≡ word
+word-front [] zero h = refl
+word-front [] (suc n) h = take_while-cons no_blank 32 (replicate n 32)
+word-front (b ∷ word) n h =
+    let parts = and_parts (term_byte b) (list_all term_byte word) h in
+    let here = not_blank b parts.0 in
+    take_while-cons no_blank b (word ++ replicate n 32)
+    ∙ (rw here (ap (λ (w : List ℕ). b ∷ w) (word-front word n parts.1)))
+
+unpadded-is : (bytes word : List ℕ) → is_term word ≡ true → bytes ≡ padded word → unpadded bytes ≡ word
+unpadded-is bytes word term e = ap unpadded e ∙ word-front word (16 - length word) (characters-term word term)
+
+term-within : (bytes word : List ℕ) → is_term word ≡ true → length word ≤ 16 → bytes ≡ padded word → IsPadded bytes
+term-within bytes word term short e =
+    let is = unpadded-is bytes word term e in
+    (subst (IsTerm 16) (sym is) (IsTerm-whole 16 word short term), e ∙ ap padded (sym is))
+
+name-within : (name : Name16) (word : List ℕ) → is_name word ≡ true → length word ≤ 16 → name.0 ≡ padded word
+    → IsNamed name
+name-within name word named short e =
+    let term = term-name word named in
+    let is = unpadded-is name.0 word term e in
+    (term-within name.0 word term short e, subst (λ (w : List ℕ). is_name w ≡ true) (sym is) named)
+
+text-within : (limit : ℕ) (text word : List ℕ) → IsText Names limit text word → IsTerm limit text
+text-within limit text word h = subst (IsTerm limit) (sym h.1.1) (IsTerm-whole limit word h.1.0 h.0)
+
+data-within : (text word : List ℕ) → IsData Names text word → IsTerm 4096 text
+data-within text word (inl h) = text-within 4096 text word h
+data-within text word (inr h) =
+    let long : length text ≡ h.count * length h.piece = ap length h.whole.0 ∙ length-repeat h.count h.piece in
+    let short : h.count * length h.piece ≤ 4096 = omega (arith, long, h.whole.1) in
+    let some : 0 < h.count = omega (arith, h.numeral.1.1) in
+    subst (IsTerm 4096) (sym h.whole.0) (IsTerm-repeat 4096 h.count h.piece h.term some short)
+
+-- ---- what a word names
+
+abbrev number_or : ℕ → Option CfId → ℕ
+number_or d o = option_map_or (λ (cf : CfId). cf.0) o d
+
+facility-number : (n : ℕ) (cf : CfId) → 1 ≤ n → n ≤ 4 → (let f : CfId = record { 0 = n } in Some f) ≡ Some cf
+    → IsFacility cf
+facility-number n cf low high h =
+    let same : n ≡ cf.0 = ap (number_or 0) h in
+    (omega (arith, same), omega (arith, same))
+
+facility-bounds : (word : List ℕ) (cf : CfId) → facility_of word ≡ Some cf → IsFacility cf
+facility-bounds word cf h = by_tests (same_word word (codes "CF1")) (same_word word (codes "CF2"))
+    (same_word word (codes "CF3")) (same_word word (codes "CF4")) h
+  where
+    by_tests : (a b c d : Bool)
+        → (if a then Some (record { 0 = 1 })
+        else if b then Some (record { 0 = 2 })
+        else if c then Some (record { 0 = 3 })
+        else if d then Some (record { 0 = 4 })
+        else None) ≡ Some cf
+        → IsFacility cf
+    by_tests true b c d k = facility-number 1 cf (omega arith) (omega arith) k
+    by_tests false true c d k = facility-number 2 cf (omega arith) (omega arith) k
+    by_tests false false true d k = facility-number 3 cf (omega arith) (omega arith) k
+    by_tests false false false true k = facility-number 4 cf (omega arith) (omega arith) k
+    by_tests false false false false k = absurd (cc)
+
+position-within : {X : Type 0} (p : X → Bool) (xs : List X) (i : ℕ) → position p xs ≡ Some i → i < length xs
+position-within p xs i h = at_test (nat_lt (position_or_len p xs) (length xs)) refl h
+  where
+    at_test : (b : Bool) → nat_lt (position_or_len p xs) (length xs) ≡ b
+        → cond b (Some (position_or_len p xs)) None ≡ Some i
+        → i < length xs
+    at_test true e k =
+        let low : position_or_len p xs < length xs = grind (arith, nat_tests) in
+        let is : position_or_len p xs ≡ i = cc in
+        omega (arith, low, is)
+    at_test false e k = absurd (cc)
+
+pub connector-bounds : (connectors : List Name16) (word : List ℕ) (conn : ConnId)
+    → connector_of connectors word ≡ Some conn → IsOneOf (length connectors) conn
+connector-bounds connectors word conn h =
+    let named : Name16 → Bool = λ name. same_word (name_word name) word in
+    let numbered : ℕ → ConnId = λ place. (record { 0 = place + 1 }) in
+    let found = mapped numbered (position named connectors) conn h in
+    let low = position-within named connectors found.value found.read in
+    let same : found.value + 1 ≡ conn.0 = ap (λ (c : ConnId). c.0) found.made in
+    (omega (arith, same), omega (arith, same, low))
+
+structure-bounds : (structures : List StrForm) (word : List ℕ) (on : StrNo) → structure_of structures word ≡ Some on
+    → on.0 < length structures
+structure-bounds structures word on h =
+    let named : StrForm → Bool = λ form. same_word (name_word form.name) word in
+    let numbered : ℕ → StrNo = λ place. (record { 0 = place }) in
+    let found = mapped numbered (position named structures) on h in
+    let low = position-within named structures found.value found.read in
+    let same : found.value ≡ on.0 = ap (λ (s : StrNo). s.0) found.made in
+    omega (arith, same, low)
+
+record-within : (id : ℕ) (word : List ℕ) → IsRecord Names id word → (1 ≤ id) × (id ≤ 4294967295)
+record-within id [] h = absurd h
+record-within id (b ∷ word) h = (h.1.1.1, h.1.1.2)
+
+-- ---- words
+
+word-within : (declared : Declared) (token : Token) (word : List ℕ) → IsWord Names declared token word
+    → IsWithin declared token
+word-within declared (Literal text) word h = tt
+word-within declared (Number low high n) word h = (h.1.1, h.1.2)
+word-within declared (Term bytes) word h = term-within bytes word h.0 h.1.0 h.1.1
+word-within declared (Short text) word h = text-within 64 text word h
+word-within declared (Data text) word h = data-within text word h
+word-within declared (OnResource r) word h =
+    (term-within r.name.0 h.name h.named.0 h.named.1.0 h.padded, h.numeral.1.2)
+word-within declared (Record id) word h = record-within id.0 word h
+word-within declared (OfFacility cf) word h = (facility-bounds word cf h.0, h.1)
+word-within declared (OfConnector conn) word h = connector-bounds declared.connectors word conn h.1
+word-within declared (OfStructure on) word h = structure-bounds declared.structures word on h.1
+word-within declared (NewFacility cf) word h = facility-bounds word cf h
+word-within declared (NewName name) word h = name-within name word h.0.0 h.0.1 h.1
+
+pub words-within : (declared : Declared) (tokens : List Token) (ws rest : Words)
+    → Spells Names declared tokens ws rest → AreWithin declared tokens
+words-within declared [] ws rest h = tt
+words-within declared (token ∷ tokens) [] rest h = absurd h
+words-within declared (token ∷ tokens) (word ∷ ws) rest h =
+    (word-within declared token word h.0, words-within declared tokens ws rest h.1)
+
+pub within-front : (declared : Declared) (front back : List Token) → AreWithin declared (front ++ back)
+    → AreWithin declared front
+within-front declared [] back h = tt
+within-front declared (token ∷ front) back h = (h.0, within-front declared front back h.1)
+
+pub within-back : (declared : Declared) (front back : List Token) → AreWithin declared (front ++ back)
+    → AreWithin declared back
+within-back declared [] back h = h
+within-back declared (token ∷ front) back h = within-back declared front back h.1
+
+pub within-append : (declared : Declared) (front back : List Token) → AreWithin declared front → AreWithin declared back
+    → AreWithin declared (front ++ back)
+within-append declared [] back h k = k
+within-append declared (token ∷ front) back h k = (h.0, within-append declared front back h.1 k)

@@ -1,0 +1,4 @@
+pub mod Naming
+pub mod PlainWords
+pub mod PolicyLines
+pub mod Ranges

@@ -1,0 +1,359 @@
+-- Each script of a text keeps the limits.
+use Rattle.std.proofs.Common.{◌≡◌, ◌≢◌, ℕ, ◌+◌, ◌≤◌, ◌==◌, ◌||◌, Bool, true, false, cond, List, [], ◌∷◌, ◌++◌, Option, Some, None, length, map, refl, sym, ap, ◌∙◌, arith, subst, slice_get, slice_set, get_or, All}
+use Rattle.std.specs.List.{list_any, sum_by}
+use Rattle.std.specs.Option.{option_map_or}
+use Rattle.std.proofs.Math.Seq.{map-set_same}
+use Rattle.std.proofs.lemmas.Bool.Decides.{nat_tests}
+use Rattle.std.proofs.lemmas.List.{length-set, length_push, map-append}
+use Rattle.std.proofs.lemmas.List.Elements.{All-nil, All-push, All-set, All-weaker}
+use Rattle.std.proofs.lemmas.List.Folds.{list_any_at, list_any-append}
+use Rattle.std.proofs.lemmas.List.Quantifiers.{all_pairs_push}
+use Rattle.std.proofs.lemmas.List.Sums.{sum_by-cons, sum_by-set}
+use Rattle.std.proofs.lemmas.Option.{get_or_from_slice_get, slice_get_within}
+use Rattle.cf_types.specs.declared.names.Name16.{Name16}
+use Rattle.cf_types.specs.declared.numbers.CfId.{CfId}
+use Rattle.cf_types.specs.declared.numbers.ConnId.{ConnId}
+use Rattle.cf_types.specs.declared.numbers.StrNo.{StrNo}
+use Rattle.cf_types.specs.declared.forms.Kind.{Kind}
+use Rattle.cf_types.specs.declared.forms.Pref.{Pref as Set}
+use Rattle.cf_types.specs.declared.forms.StrForm.{StrForm}
+use Rattle.cf_types.specs.Forms.{IsPref, IsForm}
+use Rattle.plex_spell.specs.declared.rigour.Rigour.TheVariants.{Names}
+use Rattle.plex_spell.specs.Words.{same_word}
+use Rattle.plex_spell.specs.Tokens.{is_declared, name_word}
+use Rattle.plex_spell.proofs.Choices.{same_word-of}
+use Rattle.plex_spell.proofs.PlaceLaws.{Words}
+use Rattle.plex_plain.specs.Ranges.{IsNamed, AreNames, AreWithin}
+use Rattle.plex_plain.proofs.Within.{words-within, within-front, within-back, within-append}
+use Rattle.plex_script.specs.declared.declarations.Declaration.{Declaration}
+use Rattle.plex_script.specs.declared.declarations.Declaration.TheVariants.{Facility, Structure, Pref, Connector}
+use Rattle.plex_script.specs.declared.scripts.Line.{Line}
+use Rattle.plex_script.specs.declared.scripts.Script.{Script}
+use Rattle.plex_script.specs.LineWords.{act_tokens, retry_tokens, MayDo}
+use Rattle.plex_script.specs.PolicyWords.{declaration_tokens, Declares}
+use Rattle.plex_script.specs.Causes.{declared_in, has_lines, kind_of, is_full, is_twice, is_too_much, facility_units, units_of, all_prefs}
+use Rattle.plex_script.specs.Scripts.{with_declaration, AddsDeclaration, AddsLine, IsScript, empty_script}
+use Rattle.plex_script.specs.Printed.{class_in, line_tokens}
+use Rattle.plex_script.specs.Limits.{AreFacilities, IsStructureIn, IsLineIn, KeepsLimits}
+use Rattle.plex_script.proofs.FormLaws.{not-true, told-form, apart-new, form-with, no_lines, room_structures, room_connectors}
+use Rattle.plex_script.proofs.FormedLines.{kind-known}
+use Rattle.plex_script.proofs.KeptAll.{Known, script-keeps}
+use Rattle.plex_script.proofs.PolicyPrinted.{units-append, prefs-append}
+use Rattle.plex_script.proofs.TokensTold.{may-told, act-told}
+
+abbrev name_of : StrForm → Name16
+name_of form = form.name
+
+-- ---- names
+
+names-push : (names : List Name16) (name : Name16) → AreNames names → IsNamed name
+    → list_any (λ other. same_word (name_word other) (name_word name)) names ≡ false → AreNames (names ++ name ∷ [])
+names-push names name h named new = (
+  All-push IsNamed names name h.0 named,
+  all_pairs_push (λ (one : Name16) other. one ≢ other) names name h.1 (λ k d low same.
+      let here : same_word (name_word (get_or names k d)) (name_word name) ≡ true =
+      same_word-of _ _ (ap name_word same) in
+      let found = list_any_at (λ (other : Name16). same_word (name_word other) (name_word name)) names k d low here in
+      let wrong : true ≡ false = sym found ∙ new in
+      absurd (cc)),
+)
+
+any-map : {X Y : Type 0} (q : Y → Bool) (f : X → Y) (xs : List X) → list_any q (map f xs) ≡ list_any (λ x. q (f x)) xs
+any-map q f [] = refl
+any-map q f (x ∷ xs) = ap (λ (b : Bool). q (f x) || b) (any-map q f xs)
+
+-- ---- facilities
+
+facilities-push : (facilities : List Set) (pref : Set) → AreFacilities facilities → IsPref pref
+    → is_declared facilities pref.cf ≡ false → AreFacilities (facilities ++ pref ∷ [])
+facilities-push facilities pref h is new = (
+  All-push IsPref facilities pref h.0 is,
+  all_pairs_push (λ (one : Set) other. one.cf.0 ≢ other.cf.0) facilities pref h.1
+      (λ k d low. apart-new facilities pref new k d low),
+)
+
+still-declared : (facilities : List Set) (pref : Set) (cf : CfId) → is_declared facilities cf ≡ true
+    → is_declared (facilities ++ pref ∷ []) cf ≡ true
+still-declared facilities pref cf h =
+    list_any-append (λ (facility : Set). facility.cf.0 == cf.0) facilities (pref ∷ []) ∙ (rw h refl)
+
+more-units : (facilities : List Set) (pref : Set) (cf : CfId)
+    → facility_units facilities cf ≤ facility_units (facilities ++ pref ∷ []) cf
+more-units [] pref cf = omega arith
+more-units (facility ∷ facilities) pref cf = at_test (facility.cf.0 == cf.0) (more-units facilities pref cf)
+  where
+    at_test : (b : Bool) → facility_units facilities cf ≤ facility_units (facilities ++ pref ∷ []) cf
+        → cond b facility.units (facility_units facilities cf)
+        ≤ cond b facility.units (facility_units (facilities ++ pref ∷ []) cf)
+    at_test true rest = omega arith
+    at_test false rest = rest
+
+-- ---- units set aside
+
+abbrev own : Set → CfId → ℕ
+own pref cf = cond (pref.cf.0 == cf.0) pref.units 0
+
+units-one : (pref : Set) (cf : CfId) → units_of (pref ∷ []) cf ≡ own pref cf
+units-one pref cf = let e = sum_by-cons (λ (p : Set). own p cf) pref [] in omega (arith, e)
+
+units-by : (structures : List StrForm) (cf : CfId)
+    → units_of (all_prefs structures) cf ≡ sum_by (λ (form : StrForm). units_of form.prefs cf) structures
+units-by [] cf = refl
+units-by (form ∷ structures) cf =
+    let one = units-append form.prefs (all_prefs structures) cf in
+    let rest = units-by structures cf in
+    let all = sum_by-cons (λ (f : StrForm). units_of f.prefs cf) form structures in
+    omega (arith, one, rest, all)
+
+-- one more for a structure
+units-set : (structures : List StrForm) (place : ℕ) (form : StrForm) (pref : Set) (cf : CfId)
+    → slice_get structures place ≡ Some form
+    → units_of (all_prefs (slice_set structures place (record form { prefs = form.prefs ++ pref ∷ [] }))) cf
+    ≡ units_of (all_prefs structures) cf + own pref cf
+units-set structures place form pref cf known =
+    let more : StrForm = record form { prefs = form.prefs ++ pref ∷ [] } in
+    let f : StrForm → ℕ = λ g. units_of g.prefs cf in
+    let low = slice_get_within structures place form known in
+    let here : f (get_or structures place form) ≡ f form =
+    ap f (get_or_from_slice_get structures place form form known) in
+    let set = sum_by-set f structures place more form low in
+    let after = units-by (slice_set structures place more) cf in
+    let before = units-by structures cf in
+    let one : f more ≡ f form + units_of (pref ∷ []) cf = units-append form.prefs (pref ∷ []) cf in
+    let last = units-one pref cf in
+    omega (arith, here, set, after, before, one, last)
+
+same_cf : (one other : CfId) → one.0 ≡ other.0 → one ≡ other
+same_cf one other e = ap (λ (n : ℕ). (let cf : CfId = record { 0 = n } in cf)) e
+
+room-set : (facilities : List Set) (structures : List StrForm) (place : ℕ) (form : StrForm) (pref : Set)
+    → slice_get structures place ≡ Some form
+    → ((cf : CfId) → units_of (all_prefs structures) cf ≤ facility_units facilities cf)
+    → units_of (all_prefs structures) pref.cf + pref.units ≤ facility_units facilities pref.cf
+    → (cf : CfId)
+    → units_of (all_prefs (slice_set structures place (record form { prefs = form.prefs ++ pref ∷ [] }))) cf
+    ≤ facility_units facilities cf
+room-set facilities structures place form pref known room enough cf =
+    at_test (pref.cf.0 == cf.0) refl (units-set structures place form pref cf known)
+  where
+    total : ℕ
+    total = units_of (all_prefs (slice_set structures place (record form { prefs = form.prefs ++ pref ∷ [] }))) cf
+
+    at_test : (b : Bool) → (pref.cf.0 == cf.0) ≡ b
+        → total ≡ units_of (all_prefs structures) cf + cond b pref.units 0 → total ≤ facility_units facilities cf
+    at_test true e set =
+        let number : pref.cf.0 ≡ cf.0 = grind (arith, nat_tests) in
+        let same = same_cf pref.cf cf number in
+        let there = subst (λ (c : CfId). units_of (all_prefs structures) c + pref.units
+        ≤ facility_units facilities c) same enough in
+        omega (arith, set, there)
+    at_test false e set = omega (arith, set, room cf)
+
+-- ---- lines
+
+-- lines are those of each script that declares the same
+line-same : (script after : Script) (line : Line) → after.structures ≡ script.structures
+    → after.connectors ≡ script.connectors
+    → after.facilities ≡ script.facilities → IsLineIn script line → IsLineIn after line
+line-same script after line structures connectors facilities h =
+    record {
+      form = h.form;
+      known = ap (λ (forms : List StrForm). slice_get forms line.on.0) structures ∙ h.known;
+      caller = rw connectors h.caller;
+      allowed = h.allowed;
+      within = same_within (sym structures) (sym connectors) (sym facilities) h.within;
+    }
+  where
+    same_within : {f g : List Set} {s t : List StrForm} {c d : List Name16} → s ≡ t → c ≡ d → f ≡ g
+        → AreWithin (record { facilities = f; structures = s; connectors = c }) (line_tokens line)
+        → AreWithin (record { facilities = g; structures = t; connectors = d }) (line_tokens line)
+    same_within {f} {g} {s} {t} {c} {d} e k l w =
+        subst (λ (x : List Set). AreWithin (record { facilities = x; structures = t; connectors = d })
+        (line_tokens line)) l
+        (subst (λ (x : List Name16). AreWithin (record { facilities = f; structures = t; connectors = x })
+        (line_tokens line)) k
+        (subst (λ (x : List StrForm). AreWithin (record { facilities = f; structures = x; connectors = c })
+        (line_tokens line)) e w))
+
+-- ---- declarations
+
+declared-keeps : (script : Script) (first : List ℕ) (ws : Words) (declaration : Declaration) → KeepsLimits script
+    → has_lines script ≡ false → Declares Names (declared_in script) (first ∷ ws) declaration
+    → is_full script first ≡ false → is_twice script declaration ≡ false → is_too_much script declaration ≡ false
+    → KeepsLimits (with_declaration script declaration)
+declared-keeps script first ws (Facility pref) h early told room new enough =
+    let within = words-within (declared_in script) (declaration_tokens (Facility pref)) (first ∷ ws) [] told.spelled in
+    let is : IsPref pref = (within.1.0, within.1.1.0.0, within.1.1.0.1) in
+    let facilities = script.facilities ++ pref ∷ [] in
+    let stays : (form : StrForm) → IsStructureIn script.facilities form → IsStructureIn facilities form =
+    λ form k. (record {
+      formed = k.formed;
+      declared = All-weaker (λ (p : Set). is_declared script.facilities p.cf ≡ true)
+          (λ (p : Set). is_declared facilities p.cf ≡ true)
+          (λ p. still-declared script.facilities pref p.cf) form.prefs k.declared;
+    }) in
+    record {
+      facilities = facilities-push script.facilities pref h.facilities is new;
+      few_structures = h.few_structures;
+      structures = All-weaker (IsStructureIn script.facilities)
+          (IsStructureIn facilities) stays script.structures h.structures;
+      structure_names = h.structure_names;
+      few_connectors = h.few_connectors;
+      connectors = h.connectors;
+      room = λ cf. omega (arith, h.room cf, more-units script.facilities pref cf);
+      lines = no_lines (IsLineIn (with_declaration script (Facility pref))) script
+          (with_declaration script (Facility pref)) early refl;
+    }
+declared-keeps script first ws (Structure form) h early told room new enough =
+    let within = words-within (declared_in script) (declaration_tokens (Structure form)) (first ∷ ws) [] told.spelled in
+    let is : IsForm form = told-form (declared_in script) form.kind form refl told.whole.0 told.whole.1 within.1.1 in
+    let bare = told.whole.0 in
+    let in_script : IsStructureIn script.facilities form =
+    record {
+      formed = is;
+      declared = subst (All (λ (p : Set). is_declared script.facilities p.cf ≡ true)) (sym bare)
+          (All-nil (λ (p : Set). is_declared script.facilities p.cf ≡ true));
+    } in
+    let fresh : list_any (λ (other : Name16). same_word (name_word other) (name_word form.name))
+    (map name_of script.structures) ≡ false =
+    any-map (λ (other : Name16). same_word (name_word other) (name_word form.name)) name_of script.structures ∙ new in
+    let names = names-push (map name_of script.structures) form.name h.structure_names within.1.0 fresh in
+    let none : (cf : CfId) → units_of (all_prefs (form ∷ [])) cf ≡ 0 =
+    λ cf. ap (λ (prefs : List Set). units_of (prefs ++ []) cf) bare in
+    record {
+      facilities = h.facilities;
+      few_structures = rw (length_push script.structures form) (room_structures script first told.spelled.0 room);
+      structures = All-push (IsStructureIn script.facilities) script.structures form h.structures in_script;
+      structure_names = subst AreNames (sym (map-append name_of script.structures (form ∷ []))) names;
+      few_connectors = h.few_connectors;
+      connectors = h.connectors;
+      room = λ cf. omega (arith, h.room cf, prefs-append script.structures (form ∷ []) cf, none cf);
+      lines = no_lines (IsLineIn (with_declaration script (Structure form))) script
+          (with_declaration script (Structure form)) early refl;
+    }
+declared-keeps script first ws (Pref on pref) h early told room new enough =
+    let within = words-within (declared_in script) (declaration_tokens (Pref on pref)) (first ∷ ws) [] told.spelled in
+    let is : IsPref pref = (within.1.1.0.0, within.1.1.1.0.0, within.1.1.1.0.1) in
+    let known = within.1.1.0.1 in
+    let fits : units_of (all_prefs script.structures) pref.cf + pref.units
+    ≤ facility_units script.facilities pref.cf = grind (arith, nat_tests) in
+    at_form is known fits (slice_get script.structures on.0) refl new
+  where
+    at_form : IsPref pref → is_declared script.facilities pref.cf ≡ true
+        → units_of (all_prefs script.structures) pref.cf + pref.units ≤ facility_units script.facilities pref.cf
+        → (o : Option StrForm) → slice_get script.structures on.0 ≡ o
+        → option_map_or (λ (form : StrForm). is_declared form.prefs pref.cf) o false ≡ false
+        → (let put : StrForm → List StrForm =
+        λ form. slice_set script.structures on.0 (record form { prefs = form.prefs ++ pref ∷ [] }) in
+        KeepsLimits (record script { structures = option_map_or put o script.structures }))
+    at_form is known fits None e fresh = h
+    at_form is known fits (Some form) e fresh =
+        let more : StrForm = record form { prefs = form.prefs ++ pref ∷ [] } in
+        let structures = slice_set script.structures on.0 more in
+        let low = slice_get_within script.structures on.0 form e in
+        let here : get_or script.structures on.0 form ≡ form =
+        get_or_from_slice_get script.structures on.0 form form e in
+        let in_script : IsStructureIn script.facilities form =
+        subst (IsStructureIn script.facilities) here (h.structures on.0 form low) in
+        let more_in : IsStructureIn script.facilities more =
+        record {
+          formed = form-with form pref in_script.formed is fresh;
+          declared = All-push (λ (p : Set). is_declared script.facilities p.cf
+              ≡ true) form.prefs pref in_script.declared known;
+        } in
+        let names : map name_of structures ≡ map name_of script.structures =
+        map-set_same name_of script.structures on.0 more form (ap name_of (sym here)) in
+        record {
+          facilities = h.facilities;
+          few_structures = rw (length-set script.structures on.0 more) h.few_structures;
+          structures = All-set (IsStructureIn script.facilities) script.structures on.0 more more_in h.structures;
+          structure_names = subst AreNames (sym names) h.structure_names;
+          few_connectors = h.few_connectors;
+          connectors = h.connectors;
+          room = room-set script.facilities script.structures on.0 form pref e h.room fits;
+          lines = no_lines (IsLineIn (record script { structures = structures })) script
+              (record script { structures = structures }) early refl;
+        }
+declared-keeps script first ws (Connector name) h early told room new enough =
+    let within = words-within (declared_in script) (declaration_tokens (Connector name)) (first ∷ ws) [] told.spelled in
+    record {
+      facilities = h.facilities;
+      few_structures = h.few_structures;
+      structures = h.structures;
+      structure_names = h.structure_names;
+      few_connectors = rw (length_push script.connectors name) (room_connectors script first told.spelled.0 room);
+      connectors = names-push script.connectors name h.connectors within.1.0 new;
+      room = h.room;
+      lines = no_lines (IsLineIn (with_declaration script (Connector name))) script
+          (with_declaration script (Connector name)) early refl;
+    }
+
+limits-declaration : (script : Script) (first : List ℕ) (ws : Words) (after : Script) → KeepsLimits script
+    → AddsDeclaration script first (first ∷ ws) after → KeepsLimits after
+limits-declaration script first ws after h adds =
+    let early = not-true (has_lines script) adds.early in
+    let room = not-true (is_full script first) adds.not_full in
+    let new = not-true (is_twice script adds.declaration) adds.once in
+    let enough = not-true (is_too_much script adds.declaration) adds.within in
+    subst KeepsLimits (sym adds.same)
+    (declared-keeps script first ws adds.declaration h early adds.declares room new enough)
+
+-- ---- a line of a caller
+
+limits-line : (script : Script) (at : ℕ) (by : ConnId) (on : StrNo) (ws : Words) (after : Script) → KeepsLimits script
+    → by.0 ≤ length script.connectors → Known script.structures on → AddsLine script at by on ws after
+    → KeepsLimits after
+limits-line script at by on ws after h caller known adds =
+    let line : Line = record { at = at; by = by; on = on; act = adds.act; retry = adds.retry } in
+    let next : Script = record script { lines = script.lines ++ line ∷ [] } in
+    let declared = declared_in script in
+    let acts = act_tokens adds.says.given adds.act in
+    let retries = retry_tokens adds.retry in
+    let within = words-within declared (acts ++ retries) ws [] adds.says.spelled in
+    let front = act-told declared by
+    (kind_of script.structures on) adds.says.given adds.act adds.retry adds.says.allowed
+    (within-front declared acts retries within) in
+    let is : IsLineIn next line =
+    record {
+      form = known.form;
+      known = known.known;
+      caller = caller;
+      allowed = subst (λ (k : Kind). MayDo by k (class_in adds.act) adds.act adds.retry)
+          (kind-known script.structures on known.form known.known)
+          (may-told by (kind_of script.structures on) adds.says.given adds.act adds.retry adds.says.allowed);
+      within = within-append declared (act_tokens (class_in adds.act) adds.act) retries front
+          (within-back declared acts retries within);
+    } in
+    let others : All (IsLineIn next) script.lines =
+    All-weaker (IsLineIn script) (IsLineIn next)
+    (λ other. line-same script next other refl refl refl) script.lines h.lines in
+    let kept : KeepsLimits next =
+    record {
+      facilities = h.facilities;
+      few_structures = h.few_structures;
+      structures = h.structures;
+      structure_names = h.structure_names;
+      few_connectors = h.few_connectors;
+      connectors = h.connectors;
+      room = h.room;
+      lines = All-push (IsLineIn next) script.lines line others is;
+    } in
+    subst KeepsLimits (sym adds.same) kept
+
+-- ---- a text
+
+empty-limits : KeepsLimits empty_script
+empty-limits =
+    record {
+      facilities = (λ k d low. absurd (omega (arith, low)), λ i j d before low. absurd (omega (arith, low)));
+      few_structures = omega arith;
+      structures = All-nil (IsStructureIn []);
+      structure_names = (λ k d low. absurd (omega (arith, low)), λ i j d before low. absurd (omega (arith, low)));
+      few_connectors = omega arith;
+      connectors = (λ k d low. absurd (omega (arith, low)), λ i j d before low. absurd (omega (arith, low)));
+      room = λ cf. omega arith;
+      lines = All-nil (IsLineIn empty_script);
+    }
+
+pub script-limits : (text : List ℕ) (script : Script) → IsScript text script → KeepsLimits script
+script-limits text script h = script-keeps KeepsLimits limits-declaration limits-line text script empty-limits h

@@ -1,0 +1,245 @@
+-- The printed lines of callers do the same again.
+use Rattle.std.proofs.Common.{◌≡◌, ℕ, ◌+◌, ◌≤◌, ◌==◌, ◌||◌, Bool, true, false, not, cond, List, [], ◌∷◌, ◌++◌, length, map, Option, Some, option_map, position, slice_get, codes, decimal, refl, sym, ap, ◌∙◌, arith, zero, suc, length-append, subst, All}
+use Rattle.std.specs.Bool.{MatchBool}
+use Rattle.std.specs.List.{list_any}
+use Rattle.std.specs.Option.{MatchOption, option_map_or}
+use Rattle.std.proofs.lemmas.Bool.{and_parts}
+use Rattle.std.proofs.lemmas.Bool.Decides.{nat_tests}
+use Rattle.std.proofs.lemmas.Option.{get_or_from_slice_get, slice_get_within}
+use Rattle.std.specs.Char.{is_ascii_uppercase}
+use Rattle.cf_types.specs.declared.names.Name16.{Name16}
+use Rattle.cf_types.specs.declared.numbers.ConnId.{ConnId}
+use Rattle.cf_types.specs.declared.numbers.StrNo.{StrNo}
+use Rattle.cf_types.specs.declared.forms.Kind.{Kind}
+use Rattle.cf_types.specs.declared.forms.StrForm.{StrForm}
+use Rattle.cf_types.specs.Term.{IsPadded}
+use Rattle.engine_api.specs.declared.asks.Ask.TheVariants.{Shell, Content}
+use Rattle.plex_spell.specs.Words.{same_word, line_of, spaced}
+use Rattle.plex_spell.specs.Tokens.{name_word, is_name, is_capital, reserved_words, connector_of, structure_of}
+use Rattle.plex_spell.specs.Tokens.Token.{Literal, Number}
+use Rattle.plex_plain.specs.Naming.{caller_name, structure_name}
+use Rattle.plex_plain.specs.PlainWords.{plain_words}
+use Rattle.plex_plain.specs.Ranges.{AreNames}
+use Rattle.plex_plain.proofs.Places.{HaveNames, name-place}
+use Rattle.plex_plain.proofs.Said.{words-said, connector-said}
+use Rattle.plex_plain.proofs.Texts.{AreGood}
+use Rattle.plex_plain.proofs.Rooms.{IsRow, row-append, words-good, name-good, caller-good}
+use Rattle.plex_plain.proofs.Rows.{shell-row, cache-row, list-row, lock-row}
+use Rattle.plex_script.specs.declared.scripts.AnyAsk.TheVariants as any
+use Rattle.plex_script.specs.declared.scripts.Act.{Act}
+use Rattle.plex_script.specs.declared.scripts.Act.TheVariants.{Call, Test, TestWord, Post, Take, Events}
+use Rattle.plex_script.specs.declared.scripts.Line.{Line}
+use Rattle.plex_script.specs.declared.scripts.Script.{Script}
+use Rattle.plex_script.specs.LineWords.{act_tokens, retry_tokens, MayDo}
+use Rattle.plex_script.specs.Causes.{declared_in, caller_of, is_comment, is_policy_word}
+use Rattle.plex_script.specs.Scripts.{line_number, AddsWords, AddsLine}
+use Rattle.plex_script.specs.Printed.{class_in, line_tokens, body_line, numbered_behind}
+use Rattle.plex_script.specs.Limits.{IsLineIn}
+use Rattle.plex_script.proofs.Chains.{Leads, LeadsOne, leads-each}
+use Rattle.plex_script.proofs.FormedLines.{kind-known}
+use Rattle.plex_script.proofs.PolicyPrinted.{element, line-adds}
+
+-- ---- the first word
+
+upper_first : (b : ℕ) → is_ascii_uppercase b ≡ true → (b == 42) ≡ false
+upper_first b h = grind (arith, nat_tests)
+
+no_comment : (word : List ℕ) → is_name word ≡ true → is_comment word ≡ false
+no_comment [] h = absurd (cc)
+no_comment (b ∷ word) h =
+    let capital = (and_parts (is_capital (b ∷ word)) (not (list_any (same_word (b ∷ word)) reserved_words)) h).0 in
+    upper_first b (and_parts (is_ascii_uppercase b) _ capital).0
+
+reserved : (op sys none_ a b c d : Bool) → not (op || (sys || (none_ || (a || (b || (c || (d || false))))))) ≡ true
+    → (op ≡ false) × ((a || (b || (c || (d || false)))) ≡ false)
+reserved true sys none_ a b c d h = absurd (cc)
+reserved false true none_ a b c d h = absurd (cc)
+reserved false false true a b c d h = absurd (cc)
+reserved false false false true b c d h = absurd (cc)
+reserved false false false false true c d h = absurd (cc)
+reserved false false false false false true d h = absurd (cc)
+reserved false false false false false false true h = absurd (cc)
+reserved false false false false false false false h = (refl, refl)
+
+no_policy : (word : List ℕ) → is_name word ≡ true
+    → (same_word word (codes "OP") ≡ false) × (is_policy_word word ≡ false)
+no_policy word h =
+    reserved (same_word word (codes "OP")) (same_word word (codes "SYS")) (same_word word (codes "NONE"))
+    (same_word word (codes "FACILITY")) (same_word word (codes "STRUCTURE")) (same_word word (codes "PREF"))
+    (same_word word (codes "CONNECTOR"))
+    (and_parts (is_capital word) (not (list_any (same_word word) reserved_words)) h).1
+
+-- the word names this caller
+record Calls (connectors : List Name16) (word : List ℕ) (by : ConnId) : Type 0 where
+  comment : is_comment word ≡ false
+  policy_ : is_policy_word word ≡ false
+  caller : caller_of connectors word ≡ Some by
+
+calls : (connectors : List Name16) (n : ℕ) → AreNames connectors → n ≤ length connectors
+    → Calls connectors (caller_name connectors n) (record { 0 = n })
+calls connectors zero h most = record { comment = refl; policy_ = refl; caller = refl }
+calls connectors (suc n) h most =
+    let by : ConnId = record { 0 = suc n } in
+    let said = connector-said connectors by h (omega arith) most in
+    let word = caller_name connectors (suc n) in
+    let apart = no_policy word said.0.0 in
+    let other : same_word word (codes "OP") ≡ false = apart.0 in
+    record { comment = no_comment word said.0.0; policy_ = apart.1; caller = named word by other said.1 }
+  where
+    named : (word : List ℕ) (by : ConnId) → same_word word (codes "OP") ≡ false → connector_of connectors word ≡ Some by
+        → caller_of connectors word ≡ Some by
+    named word by other known = rw other known
+
+-- ---- the second word
+
+structure-word : (structures : List StrForm) (on : StrNo) (form : StrForm) → slice_get structures on.0 ≡ Some form
+    → structure_name structures on.0 ≡ name_word form.name
+structure-word structures on form known =
+    ap (λ (o : Option StrForm). option_map_or (λ (f : StrForm). name_word f.name) o (decimal on.0)) known
+
+structure-read : (structures : List StrForm) (on : StrNo) (form : StrForm)
+    → HaveNames (λ (f : StrForm). f.name) structures
+    → slice_get structures on.0 ≡ Some form → structure_of structures (name_word form.name) ≡ Some on
+structure-read structures on form names known =
+    let low = slice_get_within structures on.0 form known in
+    let here = get_or_from_slice_get structures on.0 form form known in
+    let place = name-place (λ (f : StrForm). f.name) structures on.0 form names low in
+    let numbered : ℕ → StrNo = λ n. (record { 0 = n }) in
+    let read : position (λ (f : StrForm). same_word (name_word f.name) (name_word form.name)) structures ≡ Some on.0 =
+    subst (λ (g : StrForm). position (λ (f : StrForm). same_word (name_word f.name) (name_word g.name)) structures
+    ≡ Some on.0) here place in
+    ap (option_map numbered) read
+
+-- ---- what is done
+
+act-row : (act : Act) → IsRow 6000 (act_tokens (class_in act) act)
+act-row (Call (any.Cache (Shell cmd))) = shell-row cmd
+act-row (Call (any.Cache (Content cmd))) = cache-row (class_in (Call (any.Cache (Content cmd)))) cmd
+act-row (Call (any.List (Shell cmd))) = shell-row cmd
+act-row (Call (any.List (Content cmd))) = list-row cmd
+act-row (Call (any.Lock (Shell cmd))) = shell-row cmd
+act-row (Call (any.Lock (Content cmd))) = lock-row cmd
+act-row (Test index) = record { plain = refl; short = omega arith }
+act-row (TestWord word) = record { plain = refl; short = omega arith }
+act-row Post = record { plain = refl; short = omega arith }
+act-row Take = record { plain = refl; short = omega arith }
+act-row Events = record { plain = refl; short = omega arith }
+
+retry-row : (retry : ℕ) → IsRow 130 (retry_tokens retry)
+retry-row retry = elim (retry == 0) as
+    (λ b. IsRow 130 (cond b [] (Literal (codes "RETRY") ∷ Number 1 1000 retry ∷ []))) [
+      | true ↦ record {
+        plain =
+            refl;
+        short = omega arith;
+      }
+      | false ↦ record { plain = refl; short = omega arith }
+    ]
+
+line-row : (line : Line) → IsRow 6130 (line_tokens line)
+line-row line =
+    row-append 6000 130 (act_tokens (class_in line.act) line.act) (retry_tokens line.retry) (act-row line.act)
+    (retry-row line.retry)
+
+-- ---- a line
+
+-- the tests for the sort of a line, passed
+of_caller : (c p : Bool) (o : Option ConnId) (by : ConnId) (A B : Type 0) (F : ConnId → Type 0) → c ≡ false → p ≡ false
+    → o ≡ Some by → F by → MatchBool c A (MatchBool p B (MatchOption o ⊥ F))
+of_caller c p o by A B F comment policy_ caller f = rw (comment, policy_, caller) f
+
+at_structure : (o : Option StrNo) (on : StrNo) (F : StrNo → Type 0) → o ≡ Some on → F on → MatchOption o ⊥ F
+at_structure o on F e f = rw e f
+
+body-adds : (script : Script) (front : List Line) (line : Line) (count : ℕ) → AreNames script.connectors
+    → HaveNames (λ (f : StrForm). f.name) script.structures → IsLineIn script line
+    → LeadsOne (record script { lines = front }) count (body_line script line)
+    (record script { lines = front ++ (record line { at = line_number (count + 1) }) ∷ [] })
+body-adds script front line count names structures h =
+    let state : Script = record script { lines = front } in
+    let after : Script = record script { lines = front ++ (record line { at = line_number (count + 1) }) ∷ [] } in
+    let declared = declared_in script in
+    let tokens = line_tokens line in
+    let row = line-row line in
+    let told = words-said declared tokens names row.plain h.within in
+    let fine = words-good declared tokens names row.plain h.within in
+    let who = caller_name script.connectors line.by.0 in
+    let where_ = structure_name script.structures line.on.0 in
+    let named = structures.named line.on.0 h.form (slice_get_within script.structures line.on.0 h.form h.known) in
+    let here = get_or_from_slice_get script.structures line.on.0 h.form h.form h.known in
+    let is : where_ ≡ name_word h.form.name = structure-word script.structures line.on h.form h.known in
+    let caller = caller-good script.connectors line.by.0 names h.caller in
+    let second = name-good h.form.name (subst (λ (f : StrForm). IsPadded f.name.0) here named.0) in
+    let words = who ∷ name_word h.form.name ∷ plain_words [] script.connectors tokens in
+    let good : AreGood words = (caller.some, caller.solid_all, (second.some, second.solid_all, fine.0)) in
+    let short : length (line_of words) ≤ 8192 = omega (
+      arith,
+      caller.short,
+      second.short,
+      fine.1,
+      row.short,
+      length-append (32 ∷ name_word h.form.name) (spaced (plain_words [] script.connectors tokens)),
+      length-append who (spaced (name_word h.form.name ∷ plain_words [] script.connectors tokens)),
+    ) in
+    let read = calls script.connectors line.by.0 names h.caller in
+    let on = structure-read script.structures line.on h.form structures h.known in
+    let does : AddsLine state (line_number (count + 1)) line.by line.on
+    (plain_words [] script.connectors tokens) after =
+    record {
+      act = line.act;
+      retry = line.retry;
+      says = record {
+        given = class_in line.act;
+        allowed = subst (λ (k : Kind). MayDo line.by k (class_in line.act) line.act line.retry)
+            (sym (kind-known script.structures line.on h.form h.known)) h.allowed;
+        spelled = told;
+      };
+      same = refl;
+    } in
+    let adds : AddsWords state (line_number (count + 1)) words after =
+    of_caller (is_comment who) (is_policy_word who)
+    (caller_of script.connectors who) line.by _ _ _ read.comment read.policy_
+    read.caller
+    (at_structure (structure_of script.structures (name_word h.form.name)) line.on _ on does) in
+    let leads = line-adds state after count words good short adds in
+    subst (λ (w : List ℕ). LeadsOne state count (line_of (who ∷ w ∷ plain_words [] script.connectors tokens)) after)
+    (sym is) leads
+
+-- ---- all lines
+
+numbered-more : (base : ℕ) (front : List Line) (line : Line)
+    → numbered_behind base (front ++ line ∷ []) ≡ numbered_behind base front ++
+    (record line { at = line_number (base + length front + 1) }) ∷ []
+numbered-more base [] line =
+    let same : base + 1 ≡ base + 0 + 1 = omega arith in
+    ap (λ (n : ℕ). (let l : Line = record line { at = line_number n } in l ∷ [])) same
+numbered-more base (first ∷ front) line =
+    let one : Line = record first { at = line_number (base + 1) } in
+    let same : base + 1 + length front + 1 ≡ base + length (first ∷ front) + 1 = omega arith in
+    ap (λ (ls : List Line). one ∷ ls) (numbered-more (base + 1) front line)
+    ∙ ap (λ (n : ℕ). (let l : Line =
+    record line { at = line_number n } in one ∷ (numbered_behind (base + 1) front ++ l ∷ []))) same
+
+line-of-all : (P : Line → Type 0) (front : List Line) (line : Line) (back all : List Line)
+    → front ++ line ∷ back ≡ all → All P all → P line
+line-of-all P front line back all e h = element P front line back (subst (All P) (sym e) h)
+
+pub lines-add : (script : Script) (base : ℕ) → AreNames script.connectors
+    → HaveNames (λ (f : StrForm). f.name) script.structures
+    → All (IsLineIn script) script.lines
+    → Leads (record script { lines = [] }) base (map (body_line script) script.lines)
+    (record script { lines = numbered_behind base script.lines })
+lines-add script base names structures h =
+    let with_lines : List Line → Script = λ ls. (record script { lines = ls }) in
+    leads-each (λ (front : List Line). with_lines (numbered_behind base front)) (body_line script) script.lines base
+    (λ front line back count e at.
+    let line_in = line-of-all (IsLineIn script) front line back script.lines e h in
+    let leads = body-adds script (numbered_behind base front) line count names structures line_in in
+    let number : count + 1 ≡ base + length front + 1 = omega (arith, at) in
+    let same : numbered_behind base front ++ (record line { at = line_number (count + 1) }) ∷ []
+    ≡ numbered_behind base (front ++ line ∷ []) =
+    ap (λ (n : ℕ). (let l : Line = record line { at = line_number n } in numbered_behind base front ++ l ∷ [])) number
+    ∙ sym (numbered-more base front line) in
+    subst (λ (ls : List Line). LeadsOne (with_lines (numbered_behind base front)) count (body_line script line)
+    (with_lines ls)) same leads)
+    [] script.lines base refl (omega arith)

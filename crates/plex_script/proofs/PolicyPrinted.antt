@@ -1,0 +1,526 @@
+-- The printed lines of a policy declare it again.
+use Rattle.std.proofs.Common.{◌≡◌, ◌≢◌, ℕ, ◌+◌, ◌<◌, ◌≤◌, ◌==◌, Bool, true, false, not, cond, nat_le, nat_lt, List, [], ◌∷◌, ◌++◌, length, map, get_or, Option, Some, option_map, slice_get, slice_set, codes, decimal, refl, sym, ap, ◌∙◌, arith, length-append, subst, All, lit<}
+use Rattle.std.specs.List.{list_any, flat_map}
+use Rattle.std.specs.Option.{option_map_or}
+use Rattle.std.proofs.Math.Seq.{get_or-append_seam, set-append_seam}
+use Rattle.std.proofs.lemmas.Bool.Decides.{nat_tests}
+use Rattle.std.proofs.lemmas.Grind.{flat_map-append}
+use Rattle.std.proofs.lemmas.List.{get_or_append_left, get_or-map, length-map}
+use Rattle.std.proofs.lemmas.List.Folds.{list_any_none}
+use Rattle.std.proofs.lemmas.List.Sums.{sum_by-append, sum_by-cons}
+use Rattle.std.proofs.lemmas.Option.{slice_get-get_or}
+use Rattle.cf_types.specs.declared.names.Name16.{Name16}
+use Rattle.cf_types.specs.declared.numbers.CfId.{CfId}
+use Rattle.cf_types.specs.declared.numbers.StrNo.{StrNo}
+use Rattle.cf_types.specs.declared.forms.Kind.{Kind}
+use Rattle.cf_types.specs.declared.forms.Kind.TheVariants as kind
+use Rattle.cf_types.specs.declared.forms.Refs.{Refs}
+use Rattle.cf_types.specs.declared.forms.Refs.TheVariants as refs
+use Rattle.cf_types.specs.declared.forms.Pref.{Pref as Set}
+use Rattle.cf_types.specs.declared.forms.StrForm.{StrForm}
+use Rattle.cf_types.specs.Forms.{IsForm, IsPref, IsKind, IsVectorOf}
+use Rattle.plex_spell.specs.declared.rigour.Rigour.TheVariants.{Names}
+use Rattle.plex_spell.specs.Words.{same_word, line_of, spaced}
+use Rattle.plex_spell.specs.FormWords.{form_tokens}
+use Rattle.plex_spell.specs.Fields.{disposition, references}
+use Rattle.plex_spell.specs.Tokens.{Declared, Token, Spells, name_word, is_declared, structure_of}
+use Rattle.plex_spell.specs.Tokens.Token.{Literal, Number}
+use Rattle.plex_spell.proofs.Choices.{same_word-refl}
+use Rattle.plex_plain.specs.Naming.{facility_word}
+use Rattle.plex_plain.specs.PlainWords.{plain_words}
+use Rattle.plex_plain.specs.PolicyLines.{facility_line, form_line, pref_line, connector_line, structure_lines}
+use Rattle.plex_plain.specs.Ranges.{IsNamed, AreNames, AreWithin}
+use Rattle.plex_plain.proofs.Places.{apart_words, HaveNames, position-seam}
+use Rattle.plex_plain.proofs.Said.{words-said, number-said, facility-said, name-said, connectors-named}
+use Rattle.plex_plain.proofs.Texts.{AreGood, words-back, line-clear}
+use Rattle.plex_plain.proofs.Rooms.{IsRow, row-append, row-wider, words-good, name-good, number-good, facility-good}
+use Rattle.plex_script.specs.declared.declarations.Declaration.TheVariants.{Facility, Structure, Pref, Connector}
+use Rattle.plex_script.specs.declared.scripts.Script.{Script}
+use Rattle.plex_script.specs.PolicyWords.{IsVectorTold}
+use Rattle.plex_script.specs.Causes.{declared_in, is_long, has_pref, facility_units, units_of, all_prefs}
+use Rattle.plex_script.specs.Scripts.{with_pref, AddsWords, line_number}
+use Rattle.plex_script.specs.Limits.{AreFacilities, IsStructureIn}
+use Rattle.plex_script.proofs.Chains.{Leads, LeadsOne, leads-each, leads-blocks, leads-one}
+
+abbrev policy : List Set → List StrForm → List Name16 → Script
+policy facilities structures connectors =
+    record { facilities = facilities; structures = structures; connectors = connectors; lines = [] }
+
+-- ---- a line of good words
+
+short_line : (line : List ℕ) → length line ≤ 8192 → not (is_long line) ≡ true
+short_line line h = grind (arith, nat_tests)
+
+-- a line is made of these words, and not long
+pub line-adds : (script after : Script) (count : ℕ) (words : List (List ℕ)) → AreGood words
+    → length (line_of words) ≤ 8192 → AddsWords script (line_number (count + 1)) words after
+    → LeadsOne script count (line_of words) after
+line-adds script after count words good short adds =
+    record {
+      clear_line = line-clear words good;
+      adds = (
+        short_line (line_of words) short,
+        subst (λ (ws : List (List ℕ)). AddsWords script (line_number (count + 1)) ws after)
+            (sym (words-back words good)) adds,
+      );
+    }
+
+-- ---- facilities
+
+unlike : (m n : ℕ) → m ≢ n → (m == n) ≡ false
+unlike m n apart = grind (arith, nat_tests)
+
+fresh_cf : (front : List Set) (x : Set) (back : List Set) → AreFacilities (front ++ x ∷ back)
+    → is_declared front x.cf ≡ false
+fresh_cf front x back h =
+    list_any_none (λ (facility : Set). facility.cf.0 == x.cf.0) front (λ k d low.
+    let apart = h.1 k (length front) d low (omega (arith, length-append front (x ∷ back))) in
+    let left = get_or_append_left front (x ∷ back) d k low in
+    let here = get_or-append_seam front x back d in
+    not_same (get_or (front ++ x ∷ back) k d) (get_or front k d)
+    (get_or (front ++ x ∷ back) (length front) d) x left here apart)
+  where
+    not_same : (a b c e : Set) → a ≡ b → c ≡ e → a.cf.0 ≢ c.cf.0 → (b.cf.0 == e.cf.0) ≡ false
+    not_same a b c e left here apart =
+        let first : a.cf.0 ≡ b.cf.0 = ap (λ (s : Set). s.cf.0) left in
+        let second : c.cf.0 ≡ e.cf.0 = ap (λ (s : Set). s.cf.0) here in
+        unlike b.cf.0 e.cf.0 (λ same. apart (first ∙ (same ∙ sym second)))
+
+pub element : {X : Type 0} (P : X → Type 0) (front : List X) (x : X) (back : List X) → All P (front ++ x ∷ back) → P x
+element P front x back h =
+    subst P (get_or-append_seam front x back x)
+    (h (length front) x (omega (arith, length-append front (x ∷ back))))
+
+not_false : (b : Bool) → b ≡ false → not b ≡ true
+not_false b h = rw h refl
+
+facility-adds : (front : List Set) (x : Set) (back : List Set) (count : ℕ) → AreFacilities (front ++ x ∷ back)
+    → LeadsOne (policy front [] []) count (facility_line x) (policy (front ++ x ∷ []) [] [])
+facility-adds front x back count h =
+    let is : IsPref x = element IsPref front x back h.0 in
+    let cf = facility-good x.cf is.0.1 in
+    let units = number-good x.units (omega (arith, is.2)) in
+    let words = codes "FACILITY" ∷ facility_word x.cf ∷ decimal x.units ∷ [] in
+    let good : AreGood words =
+    (refl, refl, (cf.some, cf.solid_all, (units.some, units.solid_all, tt))) in
+    let short : length (line_of words) ≤ 8192 = omega (
+      arith,
+      cf.short,
+      units.short,
+      length-append (32 ∷ facility_word x.cf) ((32 ∷ decimal x.units) ++ []),
+      length-append (32 ∷ decimal x.units) [],
+      length-append (codes "FACILITY") (spaced (facility_word x.cf ∷ decimal x.units ∷ [])),
+    ) in
+    line-adds (policy front [] []) (policy (front ++ x ∷ []) [] []) count words good short
+    (record {
+      early = refl;
+      declaration = Facility x;
+      declares = record {
+        whole = tt;
+        spelled = (refl, (facility-said x.cf is.0, (number-said 1 1000000 x.units (lit< tt) is.1 is.2, refl)));
+      };
+      not_full = refl;
+      once = not_false (is_declared front x.cf) (fresh_cf front x back h);
+      within = refl;
+      same = refl;
+    })
+
+pub facilities-add : (facilities : List Set) → AreFacilities facilities
+    → Leads (policy [] [] []) 0 (map facility_line facilities) (policy facilities [] [])
+facilities-add facilities h =
+    leads-each (λ (front : List Set). policy front [] []) facility_line facilities 0
+    (λ front x back count e at. facility-adds front x back count
+    (subst AreFacilities (sym e) h)) [] facilities 0 refl refl
+
+-- ---- names
+
+pub structures-named : (structures : List StrForm) → AreNames (map (λ (form : StrForm). form.name) structures)
+    → HaveNames (λ (form : StrForm). form.name) structures
+structures-named structures h =
+    let name : StrForm → Name16 = λ form. form.name in
+    let at : (k : ℕ) (d : StrForm) → k < length structures
+    → get_or (map name structures) k (name d) ≡ name (get_or structures k d) =
+    λ k d low. get_or-map name structures k d (name d) low in
+    record {
+      named = λ k d low.
+          subst IsNamed (at k d low) (h.0 k (name d) (omega (arith, low, length-map structures name)));
+      apart = λ j k d before low same.
+          h.1 j k (name d) before (omega (arith, low, length-map structures name))
+          (at j d (omega (arith, before, low)) ∙ (same ∙ sym (at k d low)));
+    }
+
+-- a name isn't one of those before it
+fresh_name : {X : Type 0} (name : X → Name16) (front : List X) (x : X) (back : List X)
+    → HaveNames name (front ++ x ∷ back)
+    → list_any (λ other. same_word (name_word (name other)) (name_word (name x))) front ≡ false
+fresh_name {X} name front x back h =
+    list_any_none (λ (other : X). same_word (name_word (name other)) (name_word (name x))) front (λ k d low.
+    let most : length front < length (front ++ x ∷ back) = omega (arith, length-append front (x ∷ back)) in
+    let left = get_or_append_left front (x ∷ back) d k low in
+    let here = get_or-append_seam front x back d in
+    other_word (get_or (front ++ x ∷ back) k d) (get_or front k d)
+    (get_or (front ++ x ∷ back) (length front) d) x left here
+    (apart_words (name (get_or (front ++ x ∷ back) k d)) (name (get_or (front ++ x ∷ back) (length front) d))
+    (h.named k d (omega (arith, low, most))) (h.named (length front) d most) (h.apart k (length front) d low most)))
+  where
+    other_word : (a b c e : X) → a ≡ b → c ≡ e → same_word (name_word (name a)) (name_word (name c)) ≡ false
+        → same_word (name_word (name b)) (name_word (name e)) ≡ false
+    other_word a b c e left here apart =
+        ap (λ (y : X). same_word (name_word (name y)) (name_word (name e))) (sym left)
+        ∙ (ap (λ (y : X). same_word (name_word (name a)) (name_word (name y))) (sym here) ∙ apart)
+
+name_of_element : {X : Type 0} (name : X → Name16) (front : List X) (x : X) (back : List X)
+    → HaveNames name (front ++ x ∷ back)
+    → IsNamed (name x)
+name_of_element name front x back h = element (λ y. IsNamed (name y)) front x back h.named
+
+-- ---- forms of structures
+
+disposition-row : (keep : Bool) → IsRow 65 (disposition keep ∷ [])
+disposition-row true = record { plain = refl; short = omega arith }
+disposition-row false = record { plain = refl; short = omega arith }
+
+references-row : (how : Refs) → IsRow 65 (references how ∷ [])
+references-row refs.Names = record { plain = refl; short = omega arith }
+references-row refs.Keys = record { plain = refl; short = omega arith }
+references-row refs.Nothing = record { plain = refl; short = omega arith }
+
+form-row : (k : Kind) (form : StrForm) → IsRow 1000 (form_tokens k form)
+form-row kind.Cache form =
+    row-wider 390 1000 _ (omega arith)
+    (row-append 325 65 (Literal (codes "CACHE") ∷ Number 1 4096 form.caps.entries ∷ Number 1 4096 form.caps.elements
+    ∷ Number 1 32 form.conns ∷ Number 1 1024 form.vector ∷ []) _ (record { plain = refl; short = omega arith })
+    (disposition-row form.keep))
+form-row (kind.List headers locks how) form =
+    row-wider 585 1000 _ (omega arith)
+    (row-append 325 260 (Literal (codes "LIST") ∷ Number 1 4096 form.caps.entries ∷ Number 1 4096 form.caps.elements
+    ∷ Number 1 32 form.conns ∷ Number 1 1024 form.vector ∷ []) _ (record { plain = refl; short = omega arith })
+    (row-append 65 195 _ _ (disposition-row form.keep)
+    (row-append 130 65 (Number 1 64 headers ∷ Number 0 64 locks ∷ []) _ (record { plain = refl; short = omega arith })
+    (references-row how))))
+form-row kind.Lock form =
+    row-wider 325 1000 _ (omega arith)
+    (row-append 260 65 (Literal (codes "LOCK") ∷ Number 1 4096 form.caps.entries ∷ Number 1 4096 form.caps.elements
+    ∷ Number 1 32 form.conns ∷ []) _ (record { plain = refl; short = omega arith })
+    (disposition-row form.keep))
+
+disposition-within : (declared : Declared) (keep : Bool) → AreWithin declared (disposition keep ∷ [])
+disposition-within declared true = (tt, tt)
+disposition-within declared false = (tt, tt)
+
+references-within : (declared : Declared) (how : Refs) → AreWithin declared (references how ∷ [])
+references-within declared refs.Names = (tt, tt)
+references-within declared refs.Keys = (tt, tt)
+references-within declared refs.Nothing = (tt, tt)
+
+form-within : (declared : Declared) (k : Kind) (form : StrForm) → IsForm form → IsKind k → IsVectorOf k form.vector
+    → AreWithin declared (form_tokens k form)
+form-within declared kind.Cache form h is vector = (
+  tt,
+  (
+    (h.caps.some_entries, h.caps.most_entries),
+    (
+      (h.caps.some_elements, h.caps.most_elements),
+      (
+        (h.some_conns, h.most_conns),
+        (vector, disposition-within declared form.keep),
+      ),
+    ),
+  ),
+)
+form-within declared (kind.List headers locks how) form h is vector = (
+  tt,
+  (
+    (h.caps.some_entries, h.caps.most_entries),
+    (
+      (h.caps.some_elements, h.caps.most_elements),
+      (
+        (h.some_conns, h.most_conns),
+        (
+          vector,
+          (
+            (disposition-within declared form.keep).0,
+            ((is.0, is.1), ((omega arith, is.2), references-within declared how)),
+          ),
+        ),
+      ),
+    ),
+  ),
+)
+form-within declared kind.Lock form h is vector = (
+  tt,
+  (
+    (h.caps.some_entries, h.caps.most_entries),
+    (
+      (h.caps.some_elements, h.caps.most_elements),
+      (
+        (h.some_conns, h.most_conns),
+        disposition-within declared form.keep,
+      ),
+    ),
+  ),
+)
+
+vector-told : (k : Kind) (vector : ℕ) → IsVectorOf k vector → IsVectorTold k vector
+vector-told kind.Cache vector h = tt
+vector-told (kind.List headers locks how) vector h = tt
+vector-told kind.Lock vector h = h
+
+abbrev with_prefs : StrForm → List Set → StrForm
+with_prefs form prefs = record form { prefs = prefs }
+
+same_tokens : (k : Kind) (form : StrForm) (prefs : List Set)
+    → form_tokens k (with_prefs form prefs) ≡ form_tokens k form
+same_tokens kind.Cache form prefs = refl
+same_tokens (kind.List headers locks how) form prefs = refl
+same_tokens kind.Lock form prefs = refl
+
+room-left : (count most : ℕ) → count < most → nat_le most count ≡ false
+room-left count most h = grind (arith, nat_tests)
+
+no_names : AreNames []
+no_names = (λ k d low. absurd (omega arith), λ j k d before low. absurd (omega arith))
+
+form-adds : (facilities : List Set) (front : List StrForm) (form : StrForm) (back : List StrForm) (count : ℕ)
+    → HaveNames (λ (f : StrForm). f.name) (front ++ form ∷ back) → length front < 16 → IsForm form
+    → LeadsOne (policy facilities front []) count (form_line form)
+    (policy facilities (front ++ with_prefs form [] ∷ []) [])
+form-adds facilities front form back count names few h =
+    let bare : StrForm = with_prefs form [] in
+    let script = policy facilities front [] in
+    let after = policy facilities (front ++ bare ∷ []) [] in
+    let declared = declared_in script in
+    let tokens = form_tokens form.kind form in
+    let row = form-row form.kind form in
+    let within = form-within declared form.kind form h h.kind h.vector in
+    let named = name_of_element (λ (f : StrForm). f.name) front form back names in
+    let name = name-good form.name named.0 in
+    let told = words-said declared tokens no_names row.plain within in
+    let fine = words-good declared tokens no_names row.plain within in
+    let words = codes "STRUCTURE" ∷ name_word form.name ∷ plain_words [] [] tokens in
+    let good : AreGood words = (refl, refl, (name.some, name.solid_all, fine.0)) in
+    let short : length (line_of words) ≤ 8192 = omega (
+      arith,
+      name.short,
+      fine.1,
+      row.short,
+      length-append (32 ∷ name_word form.name) (spaced (plain_words [] [] tokens)),
+      length-append (codes "STRUCTURE") (spaced (name_word form.name ∷ plain_words [] [] tokens)),
+    ) in
+    let full : nat_le 16 (length front) ≡ false = room-left (length front) 16 few in
+    let fresh = fresh_name (λ (f : StrForm). f.name) front form back names in
+    line-adds script after count words good short
+    (record {
+      early = refl;
+      declaration = Structure bare;
+      declares = record {
+        whole = (refl, vector-told form.kind form.vector h.vector);
+        spelled = (
+          refl,
+          (
+            (name-said form.name named, named.0.1),
+            subst
+                (λ (ts : List Token). Spells Names declared ts (plain_words [] [] tokens) [])
+                (sym (same_tokens form.kind form [])) told,
+          ),
+        );
+      };
+      not_full = rw full refl;
+      once = not_false (list_any
+          (λ (other : StrForm). same_word (name_word other.name) (name_word form.name)) front) fresh;
+      within = refl;
+      same = refl;
+    })
+
+-- ---- units set aside
+
+own_units : (pref : Set) → (cond (pref.cf.0 == pref.cf.0) pref.units 0) ≡ pref.units
+own_units pref = let same : (pref.cf.0 == pref.cf.0) ≡ true = grind (arith, nat_tests) in rw same refl
+
+pub units-append : (xs ys : List Set) (cf : CfId) → units_of (xs ++ ys) cf ≡ units_of xs cf + units_of ys cf
+units-append xs ys cf = sum_by-append (λ (pref : Set). cond (pref.cf.0 == cf.0) pref.units 0) xs ys
+
+units-first : (pref : Set) (rest : List Set) → units_of (pref ∷ rest) pref.cf ≡ pref.units + units_of rest pref.cf
+units-first pref rest =
+    sum_by-cons (λ (p : Set). cond (p.cf.0 == pref.cf.0) p.units 0) pref rest
+    ∙ ap (λ (n : ℕ). n + units_of rest pref.cf) (own_units pref)
+
+pub prefs-append : (xs ys : List StrForm) (cf : CfId)
+    → units_of (all_prefs (xs ++ ys)) cf ≡ units_of (all_prefs xs) cf + units_of (all_prefs ys) cf
+prefs-append xs ys cf =
+    ap (λ (prefs : List Set). units_of prefs cf) (flat_map-append (λ (form : StrForm). form.prefs) xs ys)
+    ∙ units-append (all_prefs xs) (all_prefs ys) cf
+
+-- one more stays within what all take
+room-for : (front : List StrForm) (form : StrForm) (back : List StrForm) (done : List Set) (pref : Set)
+    (rest : List Set) (units : ℕ)
+    → done ++ pref ∷ rest ≡ form.prefs → units_of (all_prefs (front ++ form ∷ back)) pref.cf ≤ units
+    → units_of (all_prefs (front ++ with_prefs form done ∷ [])) pref.cf + pref.units ≤ units
+room-for front form back done pref rest units e most =
+    let cf = pref.cf in
+    let all = prefs-append front (form ∷ back) cf in
+    let some = prefs-append front (with_prefs form done ∷ []) cf in
+    let parts = units-append form.prefs (all_prefs back) cf in
+    let here : units_of form.prefs cf ≡ units_of done cf + units_of (pref ∷ rest) cf =
+    ap (λ (prefs : List Set). units_of prefs cf) (sym e) ∙ units-append done (pref ∷ rest) cf in
+    let one = units-first pref rest in
+    let last = units-append done [] cf in
+    omega (arith, all, some, parts, here, one, last, most)
+
+slice_seam : (front : List StrForm) (form : StrForm) → slice_get (front ++ form ∷ []) (length front) ≡ Some form
+slice_seam front form =
+    slice_get-get_or (front ++ form ∷ []) (length front) form (omega (arith, length-append front (form ∷ [])))
+    ∙ ap Some (get_or-append_seam front form [] form)
+
+pref-adds : (facilities : List Set) (front : List StrForm) (form : StrForm) (back : List StrForm) (done : List Set)
+    (pref : Set)
+    (rest : List Set) (count : ℕ) → HaveNames (λ (f : StrForm). f.name) (front ++ form ∷ back)
+    → IsStructureIn facilities form
+    → done ++ pref ∷ rest ≡ form.prefs
+    → units_of (all_prefs (front ++ form ∷ back)) pref.cf ≤ facility_units facilities pref.cf
+    → LeadsOne (policy facilities (front ++ with_prefs form done ∷ []) []) count (pref_line form pref)
+    (policy facilities (front ++ with_prefs form (done ++ pref ∷ []) ∷ []) [])
+pref-adds facilities front form back done pref rest count names h e room =
+    let now : StrForm = with_prefs form done in
+    let more : StrForm = with_prefs form (done ++ pref ∷ []) in
+    let structures = front ++ now ∷ [] in
+    let script = policy facilities structures [] in
+    let after = policy facilities (front ++ more ∷ []) [] in
+    let on : StrNo = record { 0 = length front } in
+    let named = name_of_element (λ (f : StrForm). f.name) front form back names in
+    let prefs : AreFacilities (done ++ pref ∷ rest) = subst AreFacilities (sym e) (h.formed.prefs, h.formed.apart) in
+    let is : IsPref pref = element IsPref done pref rest prefs.0 in
+    let known : is_declared facilities pref.cf ≡ true =
+    element (λ (p : Set). is_declared facilities p.cf ≡ true) done pref rest
+    (subst (All (λ (p : Set). is_declared facilities p.cf ≡ true)) (sym e) h.declared) in
+    let name = name-good form.name named.0 in
+    let cf = facility-good pref.cf is.0.1 in
+    let units = number-good pref.units (omega (arith, is.2)) in
+    let words = codes "PREF" ∷ name_word form.name ∷ facility_word pref.cf ∷ decimal pref.units ∷ [] in
+    let good : AreGood words =
+    (refl, refl, (name.some, name.solid_all, (cf.some, cf.solid_all, (units.some, units.solid_all, tt)))) in
+    let short : length (line_of words) ≤ 8192 = omega (
+      arith,
+      name.short,
+      cf.short,
+      units.short,
+      length-append (32 ∷ decimal pref.units) [],
+      length-append (32 ∷ facility_word pref.cf) (spaced (decimal pref.units ∷ [])),
+      length-append (32 ∷ name_word form.name) (spaced (facility_word pref.cf ∷ decimal pref.units ∷ [])),
+      length-append (codes "PREF") (spaced (name_word form.name ∷ facility_word pref.cf ∷ decimal pref.units ∷ [])),
+    ) in
+    let fresh = fresh_name (λ (f : StrForm). f.name) front form back names in
+    let is_it : StrForm → Bool = λ other. same_word (name_word other.name) (name_word form.name) in
+    let numbered : ℕ → StrNo = λ place. (record { 0 = place }) in
+    let place : structure_of structures (name_word form.name) ≡ Some on =
+    ap (option_map numbered) (position-seam is_it front now [] fresh (same_word-refl (name_word form.name))) in
+    let here = slice_seam front now in
+    let once : has_pref structures on pref.cf ≡ false =
+    ap (λ (o : Option StrForm). option_map_or (λ (f : StrForm). is_declared f.prefs pref.cf) o false) here
+    ∙ fresh_cf done pref rest prefs in
+    let set : with_pref structures on pref ≡ front ++ more ∷ [] =
+    ap (λ (o : Option StrForm). option_map_or
+    (λ (f : StrForm). slice_set structures on.0 (record f { prefs = f.prefs ++ pref ∷ [] })) o structures) here
+    ∙ set-append_seam front now [] more in
+    let enough = room-for front form back done pref rest (facility_units facilities pref.cf) e room in
+    let within : nat_lt (facility_units facilities pref.cf) (units_of (all_prefs structures) pref.cf + pref.units)
+    ≡ false =
+    at_most (facility_units facilities pref.cf) (units_of (all_prefs structures) pref.cf + pref.units) enough in
+    line-adds script after count words good short
+    (record {
+      early = refl;
+      declaration = Pref on pref;
+      declares = record {
+        whole = tt;
+        spelled = (
+          refl,
+          (
+            (name-said form.name named, place),
+            (
+              (facility-said pref.cf is.0, known),
+              (number-said 1 1000000 pref.units (lit< tt) is.1 is.2, refl),
+            ),
+          ),
+        );
+      };
+      not_full = refl;
+      once = not_false (has_pref structures on pref.cf) once;
+      within = not_false _ within;
+      same = ap (λ (forms : List StrForm). policy facilities forms []) (sym set);
+    })
+  where
+    at_most : (m n : ℕ) → n ≤ m → nat_lt m n ≡ false
+    at_most m n h = grind (arith, nat_tests)
+
+-- ---- structures, with where their instances may stand
+
+structure-adds : (facilities : List Set) (front : List StrForm) (form : StrForm) (back : List StrForm) (count : ℕ)
+    → HaveNames (λ (f : StrForm). f.name) (front ++ form ∷ back) → length front < 16 → IsStructureIn facilities form
+    → ((cf : CfId) → units_of (all_prefs (front ++ form ∷ back)) cf ≤ facility_units facilities cf)
+    → Leads (policy facilities front []) count (structure_lines form) (policy facilities (front ++ form ∷ []) [])
+structure-adds facilities front form back count names few h room =
+    let state : List Set → Script = λ done. policy facilities (front ++ with_prefs form done ∷ []) [] in
+    leads-one (policy facilities front []) (state []) (policy facilities (front ++ form ∷ []) []) count (form_line form)
+    (map (pref_line form) form.prefs) (form-adds facilities front form back count names few h.formed)
+    (leads-each state (pref_line form) form.prefs (count + 1)
+    (λ done pref rest n e at. pref-adds facilities front form back done pref rest n names h e (room pref.cf))
+    [] form.prefs (count + 1) refl (omega arith))
+
+pub structures-add : (facilities : List Set) (structures : List StrForm) (count : ℕ)
+    → AreNames (map (λ (form : StrForm). form.name) structures) → length structures ≤ 16
+    → All (IsStructureIn facilities) structures
+    → ((cf : CfId) → units_of (all_prefs structures) cf ≤ facility_units facilities cf)
+    → Leads (policy facilities [] []) count (flat_map structure_lines structures) (policy facilities structures [])
+structures-add facilities structures count names few forms room =
+    let named = structures-named structures names in
+    leads-blocks (λ (front : List StrForm). policy facilities front []) structure_lines structures
+    (λ front form back n e.
+    structure-adds facilities front form back n (subst (HaveNames (λ (f : StrForm). f.name)) (sym e) named)
+    (omega (arith, few, ap length e, length-append front (form ∷ back)))
+    (element (IsStructureIn facilities) front form back (subst (All (IsStructureIn facilities)) (sym e) forms))
+    (λ cf. subst (λ (fs : List StrForm). units_of (all_prefs fs) cf ≤ facility_units facilities cf) (sym e) (room cf)))
+    [] structures count refl
+
+-- ---- connectors
+
+connector-adds : (facilities : List Set) (structures : List StrForm) (front : List Name16) (name : Name16)
+    (back : List Name16)
+    (count : ℕ) → HaveNames (λ (n : Name16). n) (front ++ name ∷ back) → length front < 32
+    → LeadsOne (policy facilities structures front) count (connector_line name)
+    (policy facilities structures (front ++ name ∷ []))
+connector-adds facilities structures front name back count names few =
+    let named = name_of_element (λ (n : Name16). n) front name back names in
+    let word = name-good name named.0 in
+    let words = codes "CONNECTOR" ∷ name_word name ∷ [] in
+    let good : AreGood words = (refl, refl, (word.some, word.solid_all, tt)) in
+    let short : length (line_of words) ≤ 8192 = omega (
+      arith,
+      word.short,
+      length-append (32 ∷ name_word name) [],
+      length-append (codes "CONNECTOR") (spaced (name_word name ∷ [])),
+    ) in
+    let full : nat_le 32 (length front) ≡ false = room-left (length front) 32 few in
+    let fresh = fresh_name (λ (n : Name16). n) front name back names in
+    line-adds (policy facilities structures front)
+    (policy facilities structures (front ++ name ∷ [])) count words good short
+    (record {
+      early = refl;
+      declaration = Connector name;
+      declares = record { whole = tt; spelled = (refl, ((name-said name named, named.0.1), refl)) };
+      not_full = rw full refl;
+      once = not_false (list_any (λ (other : Name16). same_word (name_word other) (name_word name)) front) fresh;
+      within = refl;
+      same = refl;
+    })
+
+pub connectors-add : (facilities : List Set) (structures : List StrForm) (connectors : List Name16) (count : ℕ)
+    → AreNames connectors → length connectors ≤ 32
+    → Leads (policy facilities structures []) count (map connector_line connectors)
+    (policy facilities structures connectors)
+connectors-add facilities structures connectors count names few =
+    let named = connectors-named connectors names in
+    leads-each (λ (front : List Name16). policy facilities structures front) connector_line connectors count
+    (λ front name back n e at.
+    connector-adds facilities structures front name back n (subst (HaveNames (λ (n : Name16). n)) (sym e) named)
+    (omega (arith, few, ap length e, length-append front (name ∷ back))))
+    [] connectors count refl (omega arith)

@@ -1,0 +1,146 @@
+-- A line that writes storage class 1 out says the same without it.
+use Rattle.std.proofs.Common.{◌≡◌, ℕ, ◌≤◌, ◌==◌, Bool, true, false, cond, List, [], ◌++◌, Option, Some, None, codes, refl, arith, unwrap_or}
+use Rattle.std.proofs.lemmas.Bool.Decides.{nat_tests}
+use Rattle.cf_types.specs.declared.numbers.ConnId.{ConnId}
+use Rattle.cf_types.specs.declared.forms.Kind.{Kind}
+use Rattle.cf_types.specs.declared.cache_commands.CacheCmd.{CacheCmd}
+use Rattle.cf_types.specs.declared.cache_commands.CacheCmd.TheVariants as cache
+use Rattle.engine_api.specs.declared.asks.Ask.TheVariants.{Shell, Content}
+use Rattle.plex_spell.specs.Tokens.{Declared, Token}
+use Rattle.plex_spell.specs.Fields.{option_tokens, flag_tokens, name_tokens, number_tokens, short_tokens}
+use Rattle.plex_spell.specs.CacheWords.{class_tokens, cache_tokens, IsGiven}
+use Rattle.plex_plain.specs.PlainWords.{class_told, storage_told}
+use Rattle.plex_plain.specs.Ranges.{AreWithin}
+use Rattle.plex_plain.proofs.Within.{within-front, within-back, within-append}
+use Rattle.plex_script.specs.declared.scripts.AnyAsk.TheVariants as any
+use Rattle.plex_script.specs.declared.scripts.Act.{Act}
+use Rattle.plex_script.specs.declared.scripts.Act.TheVariants.{Call, Test, TestWord, Post, Take, Events}
+use Rattle.plex_script.specs.LineWords.{act_tokens, MayDo}
+use Rattle.plex_script.specs.Printed.{class_in}
+
+-- ---- which storage class is told
+
+told-class : (stg : ℕ) → stg ≡ unwrap_or (class_told stg) 1
+told-class stg = at_test (stg == 1) refl
+  where
+    at_test : (b : Bool) → (stg == 1) ≡ b → stg ≡ unwrap_or (cond b None (Some stg)) 1
+    at_test true e = grind (arith, nat_tests)
+    at_test false e = refl
+
+given-told : (cmd : CacheCmd) → IsGiven (storage_told cmd) cmd
+given-told (cache.Read name index old stg) = told-class stg
+given-told (cache.Write name index body class adj old stg when_reg) = told-class stg
+given-told (cache.CrossInval name) = refl
+given-told cache.RegList = refl
+given-told (cache.Castout name) = refl
+given-told (cache.Unlock name) = refl
+given-told (cache.CoClass class) = refl
+given-told cache.CoStats = refl
+given-told (cache.DirInfo name) = refl
+given-told (cache.Delete name) = refl
+given-told (cache.StgStats stg) = refl
+
+pub may-told : (by : ConnId) (kind : Kind) (given : Option ℕ) (act : Act) (retry : ℕ) → MayDo by kind given act retry
+    → MayDo by kind (class_in act) act retry
+may-told by kind given (Call (any.Cache (Shell cmd))) retry h = (h.0, (h.1.0, refl))
+may-told by kind given (Call (any.Cache (Content cmd))) retry h = (h.0, (h.1.0, given-told cmd))
+may-told by kind given (Call (any.List (Shell cmd))) retry h = (h.0, (h.1.0, refl))
+may-told by kind given (Call (any.List (Content cmd))) retry h = (h.0, (h.1.0, h.1.1, refl))
+may-told by kind given (Call (any.Lock (Shell cmd))) retry h = (h.0, (h.1.0, refl))
+may-told by kind given (Call (any.Lock (Content cmd))) retry h = (h.0, (h.1.0, refl))
+may-told by kind given (Test index) retry h = (h.0, h.1, refl, h.3)
+may-told by kind given (TestWord word) retry h = (h.0, h.1, refl, h.3)
+may-told by kind given Post retry h = (h.0, refl, h.2)
+may-told by kind given Take retry h = (h.0, refl, h.2)
+may-told by kind given Events retry h = (h.0, refl, h.2)
+
+-- ---- the words of it
+
+abbrev storage : Option ℕ → List Token
+storage given = option_tokens (codes "STG") number_tokens given
+
+class-small : (declared : Declared) (given : Option ℕ) (stg : ℕ) → stg ≡ unwrap_or given 1
+    → AreWithin declared (storage given)
+    → stg ≤ 4294967295
+class-small declared None stg e h = omega (arith, e)
+class-small declared (Some n) stg e h = omega (arith, e, h.1.0.1)
+
+storage-within : (declared : Declared) (given : Option ℕ) (stg : ℕ) → stg ≡ unwrap_or given 1
+    → AreWithin declared (storage given)
+    → AreWithin declared (storage (class_told stg))
+storage-within declared given stg e h = at_test (stg == 1)
+  where
+    small : stg ≤ 4294967295
+    small = class-small declared given stg e h
+
+    at_test : (b : Bool) → AreWithin declared (storage (cond b None (Some stg)))
+    at_test true = tt
+    at_test false = (tt, ((omega arith, small), tt))
+
+-- a part behind others, and before others
+behind-part : (declared : Declared) (front one other : List Token) → (AreWithin declared one → AreWithin declared other)
+    → AreWithin declared (front ++ one) → AreWithin declared (front ++ other)
+behind-part declared front one other f h =
+    within-append declared front other (within-front declared front one h) (f (within-back declared front one h))
+
+before-part : (declared : Declared) (back one other : List Token) → (AreWithin declared one → AreWithin declared other)
+    → AreWithin declared (one ++ back) → AreWithin declared (other ++ back)
+before-part declared back one other f h =
+    within-append declared other back (f (within-front declared one back h)) (within-back declared one back h)
+
+cache-told : (declared : Declared) (given : Option ℕ) (cmd : CacheCmd) → IsGiven given cmd
+    → AreWithin declared (cache_tokens given cmd) → AreWithin declared (cache_tokens (storage_told cmd) cmd)
+cache-told declared given (cache.Read name index old stg) e h = (
+  h.0,
+  (
+    h.1.0,
+    (
+      h.1.1.0,
+      behind-part declared (option_tokens (codes "OLD") name_tokens old) _ _
+          (before-part declared [] (storage given) (storage (class_told stg))
+          (storage-within declared given stg e)) h.1.1.1,
+    ),
+  ),
+)
+cache-told declared given (cache.Write name index body class adj old stg when_reg) e h = (
+  h.0,
+  (
+    h.1.0,
+    (
+      h.1.1.0,
+      (
+        h.1.1.1.0,
+        behind-part declared (class_tokens class) _ _
+            (behind-part declared (option_tokens (codes "ADJ") short_tokens adj) _ _
+            (behind-part declared (option_tokens (codes "OLD") name_tokens old) _ _
+            (before-part declared (flag_tokens (codes "WHENREG") when_reg ++ []) (storage given)
+            (storage (class_told stg))
+            (storage-within declared given stg e)))) h.1.1.1.1,
+      ),
+    ),
+  ),
+)
+cache-told declared given (cache.CrossInval name) e h = h
+cache-told declared given cache.RegList e h = h
+cache-told declared given (cache.Castout name) e h = h
+cache-told declared given (cache.Unlock name) e h = h
+cache-told declared given (cache.CoClass class) e h = h
+cache-told declared given cache.CoStats e h = h
+cache-told declared given (cache.DirInfo name) e h = h
+cache-told declared given (cache.Delete name) e h = h
+cache-told declared given (cache.StgStats stg) e h = h
+
+pub act-told : (declared : Declared) (by : ConnId) (kind : Kind) (given : Option ℕ) (act : Act) (retry : ℕ)
+    → MayDo by kind given act retry → AreWithin declared (act_tokens given act)
+    → AreWithin declared (act_tokens (class_in act) act)
+act-told declared by kind given (Call (any.Cache (Shell cmd))) retry may h = h
+act-told declared by kind given (Call (any.Cache (Content cmd))) retry may h = cache-told declared given cmd may.1.1 h
+act-told declared by kind given (Call (any.List (Shell cmd))) retry may h = h
+act-told declared by kind given (Call (any.List (Content cmd))) retry may h = h
+act-told declared by kind given (Call (any.Lock (Shell cmd))) retry may h = h
+act-told declared by kind given (Call (any.Lock (Content cmd))) retry may h = h
+act-told declared by kind given (Test index) retry may h = h
+act-told declared by kind given (TestWord word) retry may h = h
+act-told declared by kind given Post retry may h = h
+act-told declared by kind given Take retry may h = h
+act-told declared by kind given Events retry may h = h
