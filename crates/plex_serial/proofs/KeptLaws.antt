@@ -3,43 +3,21 @@ use Rattle.std.proofs.Common.{◌≡◌, ◌≢◌, ℕ, zero, suc, ◌+◌, ◌
 use Rattle.std.proofs.lemmas.List.Sums.{fold_push}
 use Rattle.std.proofs.lemmas.Bool.Decides.{nat_tests}
 use Rattle.cf_types.specs.declared.forms.StrForm.{StrForm}
-use Rattle.cf_types.specs.Forms.{IsForm}
 use Rattle.cf_types.specs.declared.numbers.ConnId.{ConnId}
-use Rattle.cf_types.specs.declared.refusals.Refusal.{Refusal}
 use Rattle.engine_api.specs.declared.asks.Ask.{Ask}
-use Rattle.engine_api.specs.declared.asks.Ask.TheVariants as ask
 use Rattle.engine_api.specs.declared.asks.Reply.{Reply}
 use Rattle.engine_api.specs.declared.asks.What.TheVariants as what
 use Rattle.engine_api.specs.declared.histories.Entry.{Entry}
-use Rattle.engine_api.specs.Meaning.{Meaning, Held}
-use Rattle.engine_api.specs.Shell.{shell_cause, content_cause}
-use Rattle.engine_api.specs.Machine.{Machine, Answered, refusing, step}
+use Rattle.engine_api.specs.Meaning.{Meaning}
+use Rattle.engine_api.specs.Machine.{Machine, Answered, step}
 use Rattle.engine_api.specs.History.{Call, own, next, next_entry, replay}
 use Rattle.engine_api.specs.Told.{told}
 use Rattle.engine_api.proofs.HistoryLaws.{replay-push, own-next_same, own-next_other, next_call}
-use Rattle.plex_shell.specs.Shelled.{Shelled}
-use Rattle.plex_shell.specs.Verdicts.{refused_or, verdict}
-use Rattle.plex_shell.specs.declared.verdicts.Verdict.{Verdict}
-use Rattle.plex_shell.specs.declared.verdicts.Verdict.TheVariants.{Refuse, Content, Act}
-use Rattle.plex_serial.specs.Structures.{link_after_call, is_linked_in, machine_of, AreOf, IsKept, with_link}
+use Rattle.plex_serial.specs.Structures.{link_after_call, is_linked_in, IsKept, with_link}
+use Rattle.struct_machine.specs.Standing.{Standing, opened}
 use Rattle.plex_serial.proofs.Tables.{get-set_same, get-set_other}
 
-cause_of : (cause : Option Refusal) (other : Verdict) (refusal : Refusal) → ((r : Refusal) → other ≡ Refuse r → ⊥) → refused_or cause other ≡ Refuse refusal
-    → cause ≡ Some refusal
-cause_of None other refusal apart e = absurd (apart refusal e)
-cause_of (Some cause) other refusal apart e = cc
-
 module _ {C R I S : Type 0} (meaning : Meaning C R I S) (form : StrForm) where
-  -- a call that the shell refuses
-  pub refused_step : (machine : Machine S) (by : ConnId) (asked : Ask C) (refusal : Refusal) → verdict form machine.shell by asked ≡ Refuse refusal
-      → step meaning form machine by asked ≡ refusing machine refusal
-  refused_step machine by (ask.Shell command) refusal e =
-      let cause : shell_cause form machine.shell by command ≡ Some refusal =
-      cause_of (shell_cause form machine.shell by command) Act refusal (λ r same. cc) e in rw cause refl
-  refused_step machine by (ask.Content command) refusal e =
-      let cause : content_cause machine.shell by ≡ Some refusal =
-      cause_of (content_cause machine.shell by) Content refusal (λ r same. cc) e in rw cause refl
-
   -- ---- links
 
   linked_none : (n i : ℕ) → i < n → slice_get (replicate n false) i ≡ Some false
@@ -59,33 +37,28 @@ module _ {C R I S : Type 0} (meaning : Meaning C R I S) (form : StrForm) where
 
   -- ---- the whole
 
-  pub kept_start : (shelled : Shelled) (held : Held S) (links : List Bool) → IsForm form → AreOf form shelled held
-      → machine_of shelled held ≡ replay meaning form [] → links ≡ replicate 33 false → IsKept meaning form shelled held [] links
-  kept_start shelled held links formed of_form replays none =
+  pub kept_start : (links : List Bool) → links ≡ replicate 33 false → IsKept meaning (opened meaning form) [] links
+  kept_start links none =
       record {
-        formed = formed;
-        of_form = of_form;
-        replays = replays;
+        replays = refl;
         linked = λ conn within. rw none (linked_none 33 conn.0 (omega (arith, within)));
       }
 
-  pub kept_called : (shelled shelled' : Shelled) (held held' : Held S) (entries : List (Entry C R)) (links links' : List Bool) (by : ConnId)
-      (asked : Ask C) (reply : Reply R) → IsKept meaning form shelled held entries links → by.0 ≤ 32
-      → record { reply = reply; machine = machine_of shelled' held' } ≡ step meaning form (machine_of shelled held) by asked
-      → AreOf form shelled' held'
+  kept_called : (machine machine' : Machine S) (entries : List (Entry C R)) (links links' : List Bool) (by : ConnId) (asked : Ask C)
+      (reply : Reply R) → IsKept meaning (record { form = form; machine = machine }) entries links → by.0 ≤ 32
+      → record { reply = reply; machine = machine' } ≡ step meaning form machine by asked
       → links' ≡ with_link by (told (length entries + 1) asked reply).linked links
-      → IsKept meaning form shelled' held' (entries ++ record { no = length entries + 1; by = by; what = what.Call asked; reply = reply } ∷ []) links'
-  kept_called shelled shelled' held held' entries links links' by asked reply kept within steps of_form notes =
+      → IsKept meaning (record { form = form; machine = machine' })
+      (entries ++ record { no = length entries + 1; by = by; what = what.Call asked; reply = reply } ∷ []) links'
+  kept_called machine machine' entries links links' by asked reply kept within steps notes =
       let replies : reply ≡ (step meaning form (replay meaning form entries) by asked).reply =
       ap (λ (a : Answered R S). a.reply) steps ∙ ap (λ (m : Machine S). (step meaning form m by asked).reply) kept.replays in
-      let machines : machine_of shelled' held' ≡ (step meaning form (replay meaning form entries) by asked).machine =
+      let machines : machine' ≡ (step meaning form (replay meaning form entries) by asked).machine =
       ap (λ (a : Answered R S). a.machine) steps ∙ ap (λ (m : Machine S). (step meaning form m by asked).machine) kept.replays in
       let same : next meaning form entries by asked ≡ entries ++ record { no = length entries + 1; by = by; what = what.Call asked; reply = reply } ∷ [] =
       ap (λ (r : Reply R). (let added : Entry C R = record { no = length entries + 1; by = by; what = what.Call asked; reply = r } in entries ++ added ∷ [])) (sym replies) in
-      subst (λ (h : List (Entry C R)). IsKept meaning form shelled' held' h links') same
+      subst (λ (h : List (Entry C R)). IsKept meaning (record { form = form; machine = machine' }) h links') same
       (record {
-        formed = kept.formed;
-        of_form = of_form;
         replays = machines ∙ sym (replay-push meaning form entries (next_entry meaning form entries by asked));
         linked = λ conn small. linked conn small (by.0 == conn.0) refl replies;
       })
@@ -109,3 +82,15 @@ module _ {C R I S : Type 0} (meaning : Meaning C R I S) (form : StrForm) where
           let away : conn.0 ≢ by.0 = λ e. (let same : by.0 == conn.0 ≡ true = grind (arith, nat_tests) in cc) in
           rw notes (noted_other links by conn (told (length entries + 1) asked reply).linked away) ∙ kept.linked conn small
           ∙ ap (λ (t : List (Call C R)). Some (fold link_after_call false t)) (sym (own-next_other meaning form entries by conn asked apart))
+
+-- a machine that keeps its form
+pub kept_after : {C R I S : Type 0} (meaning : Meaning C R I S) (standing standing' : Standing S) (entries : List (Entry C R))
+    (links links' : List Bool) (by : ConnId) (asked : Ask C) (reply : Reply R) → IsKept meaning standing entries links → by.0 ≤ 32
+    → standing'.form ≡ standing.form
+    → record { reply = reply; machine = standing'.machine } ≡ step meaning standing.form standing.machine by asked
+    → links' ≡ with_link by (told (length entries + 1) asked reply).linked links
+    → IsKept meaning standing' (entries ++ record { no = length entries + 1; by = by; what = what.Call asked; reply = reply } ∷ []) links'
+kept_after {C} {R} meaning standing standing' entries links links' by asked reply kept within same steps notes =
+    let added : Entry C R = record { no = length entries + 1; by = by; what = what.Call asked; reply = reply } in
+    subst (λ (form : StrForm). IsKept meaning (record { form = form; machine = standing'.machine }) (entries ++ added ∷ []) links') (sym same)
+    (kept_called meaning standing.form standing.machine standing'.machine entries links links' by asked reply kept within steps notes)

@@ -9,7 +9,6 @@ pub mod Lines
 pub mod Closings
 pub mod Departures
 pub mod SerialLaw
-pub mod DeedLaws
 pub mod KeptLaws
 pub mod LinkLaws
 pub mod BoardLaws

@@ -1,5 +1,5 @@
 -- What a command's deeds name, and what they do.
-use Rattle.std.proofs.Common.{◌≡◌, ◌≤◌, Bool, true, false, Option, None, Some, IfSome, refl, arith, is_some, cond}
+use Rattle.std.proofs.Common.{◌≡◌, Bool, true, false, Option, None, Some, IfSome, refl, arith, is_some, cond}
 use Rattle.cf_types.specs.declared.forms.StrForm.{StrForm}
 use Rattle.cf_types.specs.declared.numbers.CfId.{CfId}
 use Rattle.cf_types.specs.declared.numbers.ConnId.{ConnId}
@@ -10,14 +10,12 @@ use Rattle.cf_types.specs.Connections.{state_of}
 use Rattle.cf_types.specs.Mailboxes.{next_event, owed_event}
 use Rattle.cf_types.specs.Forms.{IsCaller}
 use Rattle.engine_api.specs.declared.deeds.Deeds.{Deeds}
-use Rattle.engine_api.specs.declared.asks.Ask.{Ask}
-use Rattle.engine_api.specs.declared.asks.Ask.TheVariants as ask
-use Rattle.engine_api.specs.Asking.{MayCommand, MayAsk}
+use Rattle.engine_api.specs.Asking.{MayCommand}
 use Rattle.engine_api.specs.Shapes.{shape_of}
 use Rattle.engine_api.specs.Meaning.{Meaning}
 use Rattle.engine_api.specs.Machine.{with_deeds, with_back_of}
 use Rattle.engine_api.specs.Shell.{Shell, Leaver, Acted, shell_done, leaver, take_event, respond}
-use Rattle.plex_serial.specs.Structures.{state_with_deeds, taken_back}
+use Rattle.struct_machine.specs.Kept.{state_with_deeds, taken_back}
 
 -- who departs is a caller
 pub leaver_caller : (shell : Shell) (by : ConnId) (command : ShellCmd) (who : Leaver) → MayCommand by command → leaver shell by command ≡ Some who
@@ -89,27 +87,3 @@ deeds_same meaning form deeds state = by_drop deeds.drop_all deeds.make deeds.ba
     by_drop true make back = refl
     by_drop false (Some cf) back = refl
     by_drop false None back = by_back back
-
--- who asks is a caller
-command_caller : (by : ConnId) (command : ShellCmd) → MayCommand by command → by.0 ≤ 32
-command_caller by (cmd.Connect keep) may = may.1
-command_caller by cmd.Disconnect may = may.1
-command_caller by cmd.Fail may = may.1
-command_caller by cmd.Next may = may
-command_caller by cmd.Respond may = may
-command_caller by (cmd.RebuildStart caps) may = may.0
-command_caller by cmd.RebuildStop may = may
-command_caller by cmd.RebuildConnect may = may.1
-command_caller by (cmd.Copy n) may = may.0.1
-command_caller by cmd.RebuildComplete may = may.1
-command_caller by (cmd.ForceConn other) may = omega (arith, may.0)
-command_caller by cmd.ForceStr may = omega (arith, may)
-command_caller by (cmd.LoseConn other cf) may = omega (arith, may.0)
-command_caller by (cmd.RestoreConn other cf) may = omega (arith, may.0)
-command_caller by (cmd.Vary cf off) may = omega (arith, may.0)
-command_caller by cmd.DuplexStart may = omega (arith, may)
-command_caller by cmd.DuplexStop may = omega (arith, may)
-
-pub asker_caller : {C : Type 0} (by : ConnId) (asked : Ask C) → MayAsk by asked → by.0 ≤ 32
-asker_caller by (ask.Shell command) may = command_caller by command may
-asker_caller by (ask.Content command) may = may.1

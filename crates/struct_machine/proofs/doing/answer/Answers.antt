@@ -1,7 +1,7 @@
 use Rattle.std.proofs.Common.{sym}
-use Rattle.plex_serial.specs.Structures.{machine_of}
-use Rattle.plex_serial.proofs.KeptLaws.{refused_step}
-use Rattle.plex_serial.proofs.structure.answer.Goals as goal
+use Rattle.struct_machine.specs.Kept.{machine_of}
+use Rattle.struct_machine.proofs.RefusalLaws.{refused_step}
+use Rattle.struct_machine.proofs.doing.answer.Goals as goal
 
 pub returns-in-Refuse-clause-ok : goal.returns-in-Refuse-clause-ok
 returns-in-Refuse-clause-ok g c =

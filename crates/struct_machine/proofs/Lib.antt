@@ -1,0 +1,4 @@
+pub mod AskerLaws
+pub mod ChangeLaws
+pub mod DeedLaws
+pub mod RefusalLaws

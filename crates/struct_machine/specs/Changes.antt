@@ -1,0 +1,27 @@
+-- Which vector bits a call may have changed.
+use Rattle.std.specs.Prelude.{◌≡◌, ℕ, Bool, false, ◌||◌, List, All, is_some}
+use Rattle.cf_types.specs.declared.effects.BitChange.{BitChange}
+use Rattle.cf_types.specs.declared.numbers.ConnId.{ConnId}
+use Rattle.cf_types.specs.Gains.{Bits, is_for}
+use Rattle.engine_api.specs.declared.deeds.Deeds.{Deeds}
+
+-- all of them, or those that are named
+pub record ChangeList : Type 0 where
+  pub all : Bool
+  pub bits : List BitChange
+
+-- the bit is none of them
+pub record IsUntouched (changed : ChangeList) (conn : ConnId) (index : ℕ) : Type 0 where
+  pub not_all : changed.all ≡ false
+  pub unnamed : All (λ change. is_for conn index change ≡ false) changed.bits
+
+-- a bit that is none of them stands as before
+abbrev pub Covers : ChangeList → Bits → Bits → Type 0
+Covers changed before after =
+    (conn : ConnId) (index : ℕ) → IsUntouched changed conn index → after conn index ≡ before conn index
+
+-- a command does something to the instances, or takes a connection up again
+abbrev pub has_deeds : Deeds → Bool
+has_deeds deeds =
+    is_some deeds.back || is_some deeds.make || is_some deeds.second || is_some deeds.drop_at || deeds.restart
+    || deeds.switch || deeds.drop_fresh || deeds.drop_all

@@ -1,0 +1,18 @@
+-- A structure as its machine keeps it: its form, its shell and its content.
+use Rattle.std.specs.Prelude.{ℕ, Bool}
+use Rattle.cf_types.specs.declared.forms.StrForm.{StrForm}
+use Rattle.cf_types.specs.declared.numbers.ConnId.{ConnId}
+use Rattle.engine_api.specs.Meaning.{Meaning}
+use Rattle.engine_api.specs.Machine.{Machine, opening}
+
+pub record Standing (S : Type 0) : Type 0 where
+  pub form : StrForm
+  pub machine : Machine S
+
+-- before the first call
+abbrev pub opened : {C R I S : Type 0} → Meaning C R I S → StrForm → Standing S
+opened meaning form = record { form = form; machine = opening meaning form }
+
+-- the bit of a connector's vector
+abbrev pub stands_at : {C R I S : Type 0} → Meaning C R I S → Machine S → ConnId → ℕ → Bool
+stands_at meaning machine conn index = meaning.stands machine.content conn index
