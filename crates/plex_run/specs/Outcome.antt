@@ -8,6 +8,7 @@ use Rattle.plex_script.specs.declared.scripts.Script.{Script}
 use Rattle.plex_script.specs.Scripts.{IsScript, IsFault}
 use Rattle.plex_serial.specs.Serial.{serial_run}
 use Rattle.plex_serial.specs.Headline.{ShowsHistories}
+use Rattle.plex_valid.specs.Valid.{ShowsFresh}
 use Rattle.plex_report.specs.Report.{report}
 use Rattle.plex_reading.specs.Readings.{Reading, IsReading, IsTheReading, report_of}
 use Rattle.plex_run.specs.Written.{Gains, GainsPrefix}
@@ -87,12 +88,13 @@ WritesFull held held_now text =
     (script : Script) × (name : Name16) × IsServed text script × (full_in_run script ≡ Some name)
     × Appends held held_now (full_line (Some name) ++ serial_report script)
 
--- what was written shows histories: each is legal and holds each caller's calls once and in their order, and each test tells what stood at
--- a numbered point of it
+-- what was written shows histories: each is legal and holds each caller's calls once and in their order; each test tells what stood at a
+-- numbered point of it; and a test of a cache that tells VALID tells a fresh copy at that point
 abbrev pub WritesHistories : Option (List ℕ) → Option (List ℕ) → List ℕ → Type 0
 WritesHistories held held_now text =
     (script : Script) × (let run = serial_run journal_limit script in
     IsServed text script × ShowsHistories journal_limit script run.histories run.transcripts
+    × ShowsFresh script run.histories run.transcripts
     × Appends held held_now (full_line (full_in_run script) ++ report script run.histories run.transcripts))
 
 -- the report was written of histories and transcripts that each caller's work was done in, and of no others could it have been

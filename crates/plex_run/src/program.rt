@@ -16,6 +16,7 @@ use plex_reading::only_reading;
 use plex_report::render;
 use plex_script::{ReadFault, Script, never_both, one_script, read, well_formed};
 use plex_serial::{one_run, serial};
+use plex_valid::valid_is_fresh;
 use std::alloc::Global;
 
 /// The greatest length of a script, in bytes.
@@ -171,6 +172,7 @@ fn judged<K: Sink>(alloc: Global, text: &[u8], sink: &mut K) -> u8
     }
     well_formed(text, &script);
     one_run(JOURNAL_LIMIT, &script);
+    valid_is_fresh();
     only_reading();
     reported(alloc, &script, sink)
 }
@@ -248,7 +250,8 @@ pub fn run<S: Source, K: Sink>(alloc: Global, words: &[String], source: &mut S, 
     ensures full { result ≡ 8 → IfSome (S.left source.old)
         (WritesFull (K.held sink.old) (K.held sink.new)) }
     // That report shows a legal history of each structure, each caller's calls in them once and in
-    // their order, and tests that tell what stood at a numbered point.
+    // their order, and tests that tell what stood at a numbered point; where a cache's test tells
+    // VALID, the connector's copy was fresh there.
     ensures headline { (result ≡ 0) ⊎ (result ≡ 8) → IfSome (S.left source.old)
         (WritesHistories (K.held sink.old) (K.held sink.new)) }
     // And no other legal histories, with transcripts that follow the script, have that report.

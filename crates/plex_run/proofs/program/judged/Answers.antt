@@ -1,5 +1,5 @@
 use Rattle.std.proofs.Common.{inl, inr, sym, ◌∙◌}
-use Rattle.plex_run.specs.Outcome.{IsServed}
+use Rattle.plex_run.specs.Outcome.{IsServed, journal_limit}
 use Rattle.plex_run.proofs.RunnableLaws.{runnable}
 use Rattle.plex_run.proofs.ReadingLaws.{reading_written}
 use Rattle.plex_run.proofs.OutcomeLaws.{fault_exactly, told_fault, not_yet_exactly, served_exactly, full_written}
@@ -23,6 +23,14 @@ one_run-requires g c =
 pub reported-requires : goal.reported-requires
 reported-requires g c =
     runnable c.in-Ok.script c.well_formed-2.ensures (sym c.not_yet.ensures ∙ c.in_default.is)
+
+pub returns-clause-headline : goal.returns-clause-headline
+returns-clause-headline g c = λ is.
+    let script = c.in-Ok.script in
+    let served : IsServed c.args.text.now script =
+    record { says = c.in-Ok.ensures.script; built = sym c.not_yet.ensures ∙ c.in_default.is } in
+    let shows = c.one_run.ensures in
+    (script, (served, shows, c.valid_is_fresh.ensures journal_limit script _ _ shows, (c.reported.ensures.whole is).1))
 
 pub returns-clause-full : goal.returns-clause-full
 returns-clause-full g c = λ eight.
