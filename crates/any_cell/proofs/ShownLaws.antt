@@ -1,0 +1,109 @@
+-- What holds of passes and calls by the type of their structure holds of them as they are shown.
+use Rattle.std.proofs.Common.{◌≡◌, ℕ, ◌<◌, ◌≤◌, ◌==◌, true, List, length, map, get_or, All, refl, sym, ap, subst, ◌∙◌, arith}
+use Rattle.std.proofs.lemmas.Bool.Decides.{nat_tests}
+use Rattle.std.proofs.lemmas.Simd.{map-map}
+use Rattle.std.proofs.lemmas.List.{length-map, get_or-map}
+use Rattle.std.specs.List.{range_with_len}
+use Rattle.std.proofs.lemmas.List.FromFn.{length-range_with_len}
+use Rattle.std.proofs.lemmas.List.Elements.{All-map, All-weaker}
+use Rattle.cf_types.specs.declared.numbers.ConnId.{ConnId}
+use Rattle.engine_api.specs.declared.asks.Ask.{Ask}
+use Rattle.engine_api.specs.declared.histories.Entry.{Entry}
+use Rattle.engine_api.specs.Meaning.{Meaning}
+use Rattle.engine_api.specs.History.{Call, calls, own}
+use Rattle.lock_core.proofs.MapLaws.{map-filtered}
+use Rattle.plex_script.specs.declared.scripts.AnyAsk.{AnyAsk}
+use Rattle.plex_script.specs.Heard.{AnyCall, any_call, own_calls}
+use Rattle.vec_words.specs.declared.logged.Sight.{Sight}
+use Rattle.vec_words.specs.Tokens.{WordTable, PassSeen, new_pass}
+use Rattle.struct_cell.specs.declared.inside.CellKey.{CellKey}
+use Rattle.struct_cell.specs.Cells.{About, answered}
+use Rattle.struct_cell.specs.Telling.{IsTold}
+use Rattle.any_cell.specs.Types.{StrType}
+use Rattle.any_cell.specs.Passes.{PassShown, call_by, heard_by, shown_as, unused_pass}
+use Rattle.any_cell.specs.Cells.{CellShown, keyed_as, IsPassOf}
+
+-- a vector of so many has room for so many
+pub room_for : {X : Type 0} (of : ℕ → X) (n : ℕ) (items : List X) (len cap : ℕ) → (len ≡ length items) × (len ≤ cap)
+    → items ≡ map of (range_with_len 0 n) → n ≤ cap
+room_for of n items len cap ok are =
+    let count : length items ≡ n = ap length are ∙ length-map (range_with_len 0 n) of ∙ length-range_with_len 0 n in
+    omega (arith, count, ok.0, ok.1)
+
+module _ {C R : Type 0} (str_type : StrType) (of : Ask C → AnyAsk) where
+  -- passes that have seen nothing
+  pub shown_new : (other : StrType) (words : WordTable) (owners : List ℕ) (passes : List (PassSeen (About C R)))
+      → other ≡ str_type → passes ≡ map (new_pass words) owners
+      → map (shown_as str_type of) passes ≡ map (unused_pass other words) owners
+  shown_new other words owners passes type_is are =
+      rw (type_is, are) (map-map (shown_as str_type of) (new_pass words) owners)
+
+  heard_same : (owner : ConnId) (call : Call C R) → call.by.0 == owner.0 ≡ true
+      → any_call of (call_by owner (answered call)) ≡ any_call of call
+  heard_same owner call is =
+      let same : call.by.0 ≡ owner.0 = grind (arith, nat_tests) in
+      ap (λ (n : ℕ). any_call of (call_by (record { 0 = n }) (answered call))) (sym same)
+
+  -- a caller's own calls, as it heard of them
+  heard_own : (history : List (Entry C R)) (owner : ConnId)
+      → heard_by of owner (map answered (own history owner)) ≡ own_calls (map (any_call of) (calls history)) owner
+  heard_own history owner =
+      map-map (λ (it : ℕ × About C R). any_call of (call_by owner it)) answered (own history owner)
+      ∙ map-filtered (λ (call : Call C R). any_call of (call_by owner (answered call))) (any_call of)
+      (λ (call : Call C R). call.by.0 == owner.0) (λ (call : AnyCall). call.by.0 == owner.0)
+      (heard_same owner) (λ call. refl) (calls history)
+
+  module _ {L : Type 0} (shown : CellShown L) (key : CellKey C R L) (list : List PassShown)
+      (passes : List (PassSeen (About C R))) (shown_is : shown ≡ keyed_as str_type key)
+      (list_is : list ≡ map (shown_as str_type of) passes) where
+    -- all of them, where each of them as it is seen
+    each_shown : (P : PassShown → Type 0) → All (λ (pass : PassSeen (About C R)). P (shown_as str_type of pass)) passes
+        → All P list
+    each_shown P all = subst (All P) (sym list_is) (All-map P (shown_as str_type of) passes all)
+
+    pub shown_tables : All (IsPassOf shown) list → All (λ (pass : PassSeen (About C R)). pass.table ≡ key.words) passes
+    shown_tables all k d below =
+        let P : PassShown → Type 0 = IsPassOf (keyed_as str_type key) in
+        let listed : All (IsPassOf shown) (map (shown_as str_type of) passes) =
+        subst (All (IsPassOf shown)) list_is all in
+        let all' : All P (map (shown_as str_type of) passes) =
+        subst (λ (s : CellShown L). All (IsPassOf s) (map (shown_as str_type of) passes)) shown_is listed in
+        let below' : k < length (map (shown_as str_type of) passes) =
+        subst (λ (n : ℕ). k < n) (sym (length-map passes (shown_as str_type of))) below in
+        let each : P (get_or (map (shown_as str_type of) passes) k (shown_as str_type of d)) =
+        all' k (shown_as str_type of d) below' in
+        (subst P (get_or-map (shown_as str_type of) passes k d (shown_as str_type of d) below) each).1
+
+    pub shown_callers : (all : List (Call C R)) → All (λ (call : Call C R). call.by.0 ≤ key.callers) all
+        → All (λ (call : AnyCall). call.by.0 ≤ shown.callers) (map (any_call of) all)
+    shown_callers all callers =
+        subst (λ (s : CellShown L). All (λ (call : AnyCall). call.by.0 ≤ s.callers) (map (any_call of) all))
+        (sym shown_is) (All-map (λ (call : AnyCall). call.by.0 ≤ key.callers) (any_call of) all callers)
+
+    pub shown_mine : (history : List (Entry C R))
+        → All (λ (pass : PassSeen (About C R)). pass.mine ≡ map answered (own history (record { 0 = pass.owner })))
+        passes
+        → All (λ (pass : PassShown). pass.calls ≡ own_calls (map (any_call of) (calls history)) pass.owner) list
+    shown_mine history mine =
+        each_shown (λ (pass : PassShown). pass.calls ≡ own_calls (map (any_call of) (calls history)) pass.owner)
+        (All-weaker
+        (λ (pass : PassSeen (About C R)). pass.mine ≡ map answered (own history (record { 0 = pass.owner })))
+        (λ (pass : PassSeen (About C R)). heard_by of (record { 0 = pass.owner }) pass.mine
+        ≡ own_calls (map (any_call of) (calls history)) (record { 0 = pass.owner }))
+        (λ pass is. ap (heard_by of (record { 0 = pass.owner })) is ∙ heard_own history (record { 0 = pass.owner }))
+        passes mine)
+
+    pub shown_tests : {I S : Type 0} (meaning : Meaning C R I S) (history : List (Entry C R))
+        → All (λ (pass : PassSeen (About C R)). All (IsTold meaning key.form history pass.owner) pass.tests) passes
+        → All (λ (pass : PassShown). All
+        (λ (test : Sight). IsTold meaning shown.form history pass.owner.0 test) pass.tests) list
+    shown_tests meaning history told =
+        each_shown
+        (λ (pass : PassShown). All (λ (test : Sight). IsTold meaning shown.form history pass.owner.0 test) pass.tests)
+        (subst (λ (s : CellShown L). All (λ (pass : PassSeen (About C R)). All
+        (λ (test : Sight). IsTold meaning s.form history pass.owner test) pass.tests) passes)
+        (sym shown_is) told)
+
+    pub shown_known : (most : ℕ) → All (λ (pass : PassSeen (About C R)). pass.known ≤ most) passes
+        → All (λ (pass : PassShown). pass.known ≤ most) list
+    shown_known most known = each_shown (λ (pass : PassShown). pass.known ≤ most) known

@@ -1,0 +1,68 @@
+-- What contracts see of a cell, what goes with it, and what its history says of its callers.
+use Rattle.std.specs.Prelude.{◌≡◌, ℕ}
+use Rattle.cf_types.specs.declared.forms.StrForm.{StrForm}
+use Rattle.cf_types.specs.declared.numbers.ConnId.{ConnId}
+use Rattle.cf_link.specs.declared.links.Links.{Links}
+use Rattle.engine_api.specs.History.{IsLegal}
+use Rattle.cache_model.specs.Meaning.{cache_meaning}
+use Rattle.list_model.specs.Meaning.{list_meaning}
+use Rattle.lock_model.specs.Meaning.{lock_meaning}
+use Rattle.plex_script.specs.declared.scripts.AnyAsk.{AnyAsk}
+use Rattle.plex_script.specs.declared.asks.AnyHistory.{AnyHistory}
+use Rattle.plex_script.specs.declared.asks.AnyHistory.TheVariants as history
+use Rattle.vec_words.specs.declared.logged.Sight.{Sight}
+use Rattle.vec_words.specs.Tokens.{WordTable}
+use Rattle.struct_cell.specs.declared.inside.CellKey.{CellKey}
+use Rattle.struct_cell.specs.Telling.{IsTold}
+use Rattle.any_cell.specs.declared.any_cell.AnyCell.{AnyCell}
+use Rattle.any_cell.specs.declared.any_cell.AnyCell.TheVariants as cell
+use Rattle.any_cell.specs.Types.{StrType, OfCache, OfList, OfLock, type_of_ask}
+use Rattle.any_cell.specs.Passes.{PassShown, NoteShown}
+
+-- a cell: the type of its structure, and what of it never changes
+pub record CellShown (L : Type 0) : Type 0 where
+  pub str_type : StrType
+  pub form : StrForm
+  pub callers : ℕ
+  pub limit : ℕ
+  pub words : WordTable
+  pub links : Links L
+
+abbrev pub keyed_as : {C R L : Type 0} → StrType → CellKey C R L → CellShown L
+keyed_as str_type key = record {
+  str_type = str_type;
+  form = key.form;
+  callers = key.callers;
+  limit = key.limit;
+  words = key.words;
+  links = key.links;
+}
+
+abbrev pub cell_shown : {L : Type 0} → AnyCell L → CellShown L
+cell_shown (cell.Cache key) = keyed_as OfCache key
+cell_shown (cell.List key) = keyed_as OfList key
+cell_shown (cell.Lock key) = keyed_as OfLock key
+
+-- ---- what goes with a cell
+
+abbrev pub IsPassOf : {L : Type 0} → CellShown L → PassShown → Type 0
+IsPassOf cell pass = (pass.str_type ≡ cell.str_type) × (pass.words ≡ cell.words)
+
+abbrev pub IsNoteOf : {L : Type 0} → CellShown L → NoteShown → Type 0
+IsNoteOf cell note = (note.str_type ≡ cell.str_type) × (note.words ≡ cell.words)
+
+abbrev pub IsAskOf : {L : Type 0} → CellShown L → AnyAsk → Type 0
+IsAskOf cell asked = type_of_ask asked ≡ cell.str_type
+
+-- ---- what a history says
+
+abbrev pub IsAnyLegal : StrForm → AnyHistory → Type 0
+IsAnyLegal form (history.Cache entries) = IsLegal cache_meaning form entries
+IsAnyLegal form (history.List entries) = IsLegal list_meaning form entries
+IsAnyLegal form (history.Lock entries) = IsLegal lock_meaning form entries
+
+-- a caller's test tells what stood at a numbered point that isn't before anything its caller had seen complete
+abbrev pub IsAnyTold : StrForm → AnyHistory → ConnId → Sight → Type 0
+IsAnyTold form (history.Cache entries) owner test = IsTold cache_meaning form entries owner.0 test
+IsAnyTold form (history.List entries) owner test = IsTold list_meaning form entries owner.0 test
+IsAnyTold form (history.Lock entries) owner test = IsTold lock_meaning form entries owner.0 test

@@ -1,0 +1,8 @@
+/// The links of one structure to the four facilities.
+#[derive(Drop, Debug)]
+pub struct Links<L> {
+    pub one: L,
+    pub two: L,
+    pub three: L,
+    pub four: L,
+}

@@ -1,0 +1,69 @@
+-- The bits of a word that is made of bits.
+use Rattle.std.proofs.Common.{rules, ◌≡◌, ℕ, zero, suc, ◌+◌, ◌-◌, ◌*◌, ◌%◌, ◌^◌, ◌<◌, ◌≤◌, ◌==◌, Fits, w32, Bool, true, false, refl, sym, ap, ◌∙◌, subst, arith, inl, inr, pow-suc, pow_mono}
+use Rattle.std.specs.Prelude.{if◌then◌else◌}
+use Rattle.std.specs.Int.{bit_at}
+use Rattle.std.proofs.lemmas.Bool.{cases_lt}
+use Rattle.std.proofs.lemmas.Nat.Bits.{bit_at_cat_low, bit_at_cat_high}
+use Rattle.vec_words.specs.Logged.{bit_in}
+use Rattle.struct_cell.specs.Words.{word_from, whole_word}
+
+abbrev one_if : Bool → ℕ
+one_if b = if b then 1 else 0
+
+pub word-small : (f : ℕ → Bool) (n : ℕ) → word_from f n < 2 ^ n
+word-small f zero = omega arith
+word-small f (suc n) = top (f n) (2 ^ n) (word_from f n) (2 ^ suc n) (word-small f n) (pow-suc 2 n)
+  where
+    top : (b : Bool) (p w q : ℕ) → w < p → q ≡ p * 2 → one_if b * p + w < q
+    top true p w q less is = omega (arith, less, is)
+    top false p w q less is = omega (arith, less, is)
+
+one_bit : (b : Bool) → bit_at (one_if b) 0 ≡ one_if b
+one_bit true = refl
+one_bit false = refl
+
+bit-word : (f : ℕ → Bool) (n k : ℕ) → k < n → bit_at (word_from f n) k ≡ one_if (f k)
+bit-word f zero k less = absurd (omega arith)
+bit-word f (suc n) k less =
+    elim (cases_lt k n) [
+      | inl low ↦ bit_at_cat_low (one_if (f n)) n (word_from f n) k low ∙ bit-word f n k low
+      | inr high ↦
+          let is : n ≡ k = omega arith in
+          subst (λ j. bit_at (one_if (f n) * 2 ^ n + word_from f n) j ≡ one_if (f j)) is
+          (let z : n - n ≡ 0 = omega arith in bit_at_cat_high (one_if (f n)) n (word_from f n) n (word-small f n) (omega arith) ∙ ap (bit_at (one_if (f n))) z ∙ one_bit (f n))
+    ]
+
+tells : (b : Bool) (v : ℕ) → v ≡ one_if b → (v == 1) ≡ b
+tells true v is = subst (λ k. (k == 1) ≡ true) (sym is) refl
+tells false v is = subst (λ k. (k == 1) ≡ false) (sym is) refl
+
+pub word_bits : (f : ℕ → Bool) (n k : ℕ) → n ≤ 32 → k < n → bit_in (word_from f n) k ≡ f k
+word_bits f n k most less =
+    let is : k % 32 ≡ k = omega arith in
+    subst (λ j. (bit_at (word_from f n) j == 1) ≡ f k) (sym is) (tells (f k) (bit_at (word_from f n) k) (bit-word f n k less))
+
+pub word-fits : (f : ℕ → Bool) (k found : ℕ) → k < 32 → found ≡ word_from f k → Fits w32 (found + 1 * 2 ^ k % 4294967296)
+word-fits f k found less is =
+    let low : found < 2 ^ k = subst (λ w. w < 2 ^ k) (sym is) (word-small f k) in
+    let most : 2 ^ k ≤ 2147483648 = pow_mono {i = k} {j = 31} (omega arith) in
+    fits (2 ^ k) found low most
+  where
+    fits : (p found : ℕ) → found < p → p ≤ 2147483648 → Fits w32 (found + 1 * p % 4294967296)
+    fits p found low most = let same : 1 * p % 4294967296 ≡ p = omega arith in let sum : found + 1 * p % 4294967296 < 4294967296 = omega (arith, same, low, most) in search rules
+
+-- the word that a loop over its 32 bits ends with
+pub whole : (f : ℕ → Bool) (k found : ℕ) → k ≡ 32 → found ≡ word_from f k → found ≡ whole_word f
+unfolding whole_word
+whole f k found all is = subst (λ n. found ≡ word_from f n) all is
+
+-- each bit of a word
+pub whole_bit : (f : ℕ → Bool) (index : ℕ) → bit_in (whole_word f) index ≡ f (index % 32)
+unfolding whole_word
+whole_bit f index =
+    let small : index % 32 < 32 = omega arith in
+    let same : index % 32 % 32 ≡ index % 32 = omega arith in
+    subst (λ j. (bit_at (word_from f 32) j == 1) ≡ f (index % 32)) same (word_bits f 32 (index % 32) (omega arith) small)
+
+pub whole-small : (f : ℕ → Bool) → whole_word f < 2 ^ 32
+unfolding whole_word
+whole-small f = word-small f 32

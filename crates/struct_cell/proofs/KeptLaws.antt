@@ -1,0 +1,190 @@
+-- What a cell keeps: at its start, and from one call to the next.
+use Rattle.std.proofs.Common.{◌≡◌, ℕ, ◌+◌, ◌/◌, ◌<◌, ◌≤◌, ◌&&◌, Bool, true, false, nat_lt, List, [], ◌∷◌, ◌++◌, length, map, All, refl, sym, ap, subst, ◌∙◌, arith}
+use Rattle.std.proofs.lemmas.Bool.Decides.{nat_tests}
+use Rattle.std.proofs.lemmas.List.{map-append}
+use Rattle.std.proofs.lemmas.List.Elements.{All-nil, All-push}
+use Rattle.cf_types.specs.declared.forms.StrForm.{StrForm}
+use Rattle.cf_types.specs.declared.numbers.ConnId.{ConnId}
+use Rattle.cf_link.specs.declared.links.Links.{Links}
+use Rattle.engine_api.specs.declared.asks.Ask.{Ask}
+use Rattle.engine_api.specs.declared.asks.Reply.{Reply}
+use Rattle.engine_api.specs.declared.asks.What.TheVariants as what
+use Rattle.engine_api.specs.declared.histories.Entry.{Entry}
+use Rattle.engine_api.specs.Meaning.{Meaning}
+use Rattle.engine_api.specs.Machine.{Machine, Answered, opening, step}
+use Rattle.engine_api.specs.History.{Call, calls, next, next_entry, next_reply, replay}
+use Rattle.engine_api.specs.Shapes.{shape_of}
+use Rattle.engine_api.proofs.HistoryLaws.{calls-next, next_call, legal_none, legal_next, replay-push}
+use Rattle.struct_machine.specs.Standing.{Standing, stands_at}
+use Rattle.vec_words.specs.declared.logged.Logged.{Logged}
+use Rattle.vec_words.specs.declared.logged.Logged.TheVariants.{Committed}
+use Rattle.vec_words.specs.declared.stores.Place.{Place}
+use Rattle.vec_words.specs.Logged.{commits_of, count_of, bit_in}
+use Rattle.vec_words.specs.Stores.{StoresEach, IsSpared}
+use Rattle.vec_words.specs.Tokens.{WordTable, SeatSeen}
+use Rattle.vec_words.proofs.Commits.{commits-commit}
+use Rattle.vec_words.proofs.Logs.{count-push}
+use Rattle.vec_words.proofs.StoreLaws.{stores-commits}
+use Rattle.struct_cell.specs.declared.inside.CellKey.{CellKey}
+use Rattle.struct_cell.specs.Cells.{About, commit_of, IsCell, Shows}
+use Rattle.struct_cell.specs.Touches.{TouchedWords, IsOfTable}
+use Rattle.struct_cell.proofs.PointLaws.{numbered_none, numbered_next, length-next}
+use Rattle.struct_cell.specs.Words.{words_in}
+use Rattle.struct_cell.proofs.ShownLaws.{shows_next}
+
+zero_bit : (index : ℕ) → bit_in 0 index ≡ false
+zero_bit index = grind (arith, nat_tests)
+
+none_shown : (b : Bool) → false ≡ (b && false)
+none_shown true = refl
+none_shown false = refl
+
+-- the journal with a call
+abbrev pub entered : {C R : Type 0} → List (Entry C R) → ConnId → Ask C → Reply R → List (Entry C R)
+entered journal by ask reply = journal ++ record { no = length journal + 1; by = by; what = what.Call ask; reply = reply } ∷ []
+
+module _ {C R I S L : Type 0} (meaning : Meaning C R I S) where
+  -- a cell begins so
+  pub cell_start : (key : CellKey C R L) (standing : Standing S) (touched : TouchedWords) (links : Links L) (seat : SeatSeen (About C R)) (journal : List (Entry C R))
+      → key ≡ record { form = standing.form; callers = seat.table.conns; limit = key.limit; words = seat.table; links = links }
+      → standing.machine ≡ opening meaning standing.form
+      → ((conn : ConnId) (index : ℕ) → meaning.stands (meaning.empty (shape_of standing.form)) conn index ≡ false)
+      → (touched.conns ≡ seat.table.conns) × (touched.len ≡ seat.table.len)
+      → seat.table.len ≡ standing.form.vector → seat.number ≡ 0 → seat.log ≡ [] → journal ≡ []
+      → IsCell meaning key key.limit standing touched journal links seat
+  cell_start key standing touched links seat journal key_is machine_is clear touches len idle log none =
+      let form_is : key.form ≡ standing.form = ap (λ (k : CellKey C R L). k.form) key_is in
+      let callers_are : key.callers ≡ seat.table.conns = ap (λ (k : CellKey C R L). k.callers) key_is in
+      let words_are : key.words ≡ seat.table = ap (λ (k : CellKey C R L). k.words) key_is in
+      let links_are : key.links ≡ links = ap (λ (k : CellKey C R L). k.links) key_is in
+      subst (λ (j : List (Entry C R)). IsCell meaning key key.limit standing touched j links seat) (sym none) (record {
+        form = sym form_is;
+        limit_is = refl;
+        links_are = sym links_are;
+        table = sym words_are;
+        touches = (touches.0 ∙ sym callers_are, touches.1 ∙ len ∙ ap (λ (f : StrForm). f.vector) (sym form_is));
+        conns = ap (λ (w : WordTable). w.conns) words_are ∙ sym callers_are;
+        len = ap (λ (w : WordTable). w.len) words_are ∙ len ∙ ap (λ (f : StrForm). f.vector) (sym form_is);
+        idle = idle;
+        commits = ap commits_of log;
+        count = ap count_of log;
+        callers = All-nil (λ (call : Call C R). call.by.0 ≤ key.callers);
+        most = omega arith;
+        legal = legal_none meaning key.form;
+        numbered = numbered_none;
+        machine = machine_is ∙ ap (opening meaning) (sym form_is);
+        bits = λ n index conn some most below.
+            subst (λ (l : List (Logged (About C R))). Shows meaning key.form key.callers l []) (sym log)
+            (λ n index conn some most below. zero_bit index ∙ none_shown (nat_lt index key.form.vector)
+            ∙ ap (λ (b : Bool). nat_lt index key.form.vector && b)
+            (sym (ap (λ (f : StrForm). meaning.stands (meaning.empty (shape_of f)) conn index) form_is ∙ clear conn index)))
+            n index conn some most below;
+      })
+
+  -- a call keeps it
+  pub cell_called : (key : CellKey C R L) (limit : ℕ) (standing standing' : Standing S) (touched touched' : TouchedWords) (journal : List (Entry C R))
+      (links : Links L) (seat begun stored seat' : SeatSeen (About C R)) (bits : ℕ → ℕ → ℕ) (by : ConnId) (ask : Ask C) (reply : Reply R)
+      → IsCell meaning key limit standing touched journal links seat
+      → record { reply = reply; machine = standing'.machine } ≡ step meaning standing.form standing.machine by ask
+      → standing'.form ≡ standing.form → IsOfTable touched touched' → by.0 ≤ key.callers → length journal < limit
+      → ((conn : ConnId) (index : ℕ) → 0 < conn.0 → conn.0 ≤ touched'.conns → index < touched'.len → IsSpared touched'.places conn.0 (index / 32)
+      → stands_at meaning standing'.machine conn index ≡ stands_at meaning standing.machine conn index)
+      → begun ≡ record seat { number = length journal + 1 }
+      → StoresEach key.words.conns key.words.len bits touched'.places begun stored
+      → ((conn word : ℕ) → bits conn word ≡ words_in meaning standing'.form standing'.machine conn word)
+      → seat' ≡ record stored { number = 0; log = stored.log ++ Committed stored.number by.0 (ask, reply) ∷ [] }
+      → IsCell meaning key limit standing' touched' (entered journal by ask reply) links seat'
+  cell_called key limit standing standing' touched touched' journal links seat begun stored seat' bits by ask reply cell steps form_is same_table within few kept begun_is each are seat_is =
+      let form = key.form in
+      let number_of = length journal + 1 in
+      let history = next meaning form journal by ask in
+      let about : About C R = (ask, reply) in
+      let at_journal : step meaning standing.form standing.machine by ask ≡ step meaning form (replay meaning form journal) by ask =
+      ap (λ (f : StrForm). step meaning f standing.machine by ask) cell.form ∙ ap (λ (m : Machine S). step meaning form m by ask) cell.machine in
+      let replies : reply ≡ next_reply meaning form journal by ask = ap (λ (a : Answered R S). a.reply) (steps ∙ at_journal) in
+      let machine_is : standing'.machine ≡ replay meaning form history =
+      ap (λ (a : Answered R S). a.machine) (steps ∙ at_journal) ∙ sym (replay-push meaning form journal (next_entry meaning form journal by ask)) in
+      let journal_is : history ≡ entered journal by ask reply =
+      ap (λ (r : Reply R). entered journal by ask r) (sym replies) in
+      let begun_log : begun.log ≡ seat.log = ap (λ (s : SeatSeen (About C R)). s.log) begun_is in
+      let begun_number : begun.number ≡ number_of = ap (λ (s : SeatSeen (About C R)). s.number) begun_is in
+      let begun_table : begun.table ≡ seat.table = ap (λ (s : SeatSeen (About C R)). s.table) begun_is in
+      let stored_number : stored.number ≡ number_of = ap (λ (s : SeatSeen (About C R)). s.number) each.seat ∙ begun_number in
+      let stored_table : stored.table ≡ seat.table = ap (λ (s : SeatSeen (About C R)). s.table) each.seat ∙ begun_table in
+      let log_is : seat'.log ≡ stored.log ++ Committed number_of by.0 about ∷ [] =
+      ap (λ (s : SeatSeen (About C R)). s.log) seat_is ∙ ap (λ (n : ℕ). stored.log ++ Committed n by.0 about ∷ []) stored_number in
+      let call : Call C R = next_call meaning form journal by ask in
+      let here : List (Call C R) = calls journal ++ call ∷ [] in
+      subst (λ (j : List (Entry C R)). IsCell meaning key limit standing' touched' j links seat') journal_is (record {
+        form = form_is ∙ cell.form;
+        limit_is = cell.limit_is;
+        links_are = cell.links_are;
+        table = ap (λ (s : SeatSeen (About C R)). s.table) seat_is ∙ stored_table ∙ cell.table;
+        touches = (same_table.0 ∙ cell.touches.0, same_table.1 ∙ cell.touches.1);
+        conns = cell.conns;
+        len = cell.len;
+        idle = ap (λ (s : SeatSeen (About C R)). s.number) seat_is;
+        commits = ap commits_of log_is ∙ commits-commit stored.log number_of by.0 about
+            ∙ ap (λ (cs : List _). cs ++ record { number = number_of; caller = by.0; about = about } ∷ [])
+            (stores-commits key.words.conns key.words.len bits touched'.places begun stored each ∙ ap commits_of begun_log ∙ cell.commits)
+            ∙ ap (λ (r : Reply R). map commit_of (calls journal) ++ record { number = number_of; caller = by.0; about = (ask, r) } ∷ []) replies
+            ∙ sym (ap (map commit_of) (calls-next meaning form journal by ask) ∙ map-append commit_of (calls journal) (call ∷ []));
+        count = ap count_of log_is ∙ count-push stored.log (Committed number_of by.0 about) ∙ sym (length-next meaning form journal by ask);
+        callers = subst (All (λ (c : Call C R). c.by.0 ≤ key.callers)) (sym (calls-next meaning form journal by ask))
+            (All-push (λ (c : Call C R). c.by.0 ≤ key.callers) (calls journal) call cell.callers within);
+        most = (
+            let all : length history ≡ length journal + 1 = length-next meaning form journal by ask in
+            let limit_is : limit ≡ key.limit = cell.limit_is in
+            omega (arith, all, few, limit_is));
+        legal = legal_next meaning form journal by ask cell.legal;
+        numbered = numbered_next meaning form journal by ask cell.numbered;
+        machine = machine_is;
+        bits = subst (λ (l : List (Logged (About C R))). Shows meaning form key.callers l history) (sym log_is)
+            (shows_next meaning form key.callers journal by ask standing'.machine touched'.places bits seat begun stored by.0 about
+            cell.bits cell.numbered begun_log begun_number
+            (subst (λ (n : ℕ). StoresEach n form.vector bits touched'.places begun stored) cell.conns
+            (subst (λ (n : ℕ). StoresEach key.words.conns n bits touched'.places begun stored) cell.len each))
+            (λ conn word. are conn word ∙ ap (λ (f : StrForm). words_in meaning f standing'.machine conn word) (form_is ∙ cell.form))
+            machine_is
+            (λ conn index some most inside spared.
+            kept conn index some (subst (λ (n : ℕ). conn.0 ≤ n) (sym (same_table.0 ∙ cell.touches.0)) most)
+            (subst (λ (n : ℕ). index < n) (sym (same_table.1 ∙ cell.touches.1)) inside) spared
+            ∙ ap (λ (m : Machine S). meaning.stands m.content conn index) cell.machine));
+      })
+
+  -- so does a step that leaves the seat as it was
+  pub cell_same : (key : CellKey C R L) (limit : ℕ) (standing : Standing S) (touched : TouchedWords) (journal : List (Entry C R)) (links : Links L)
+      (seat seat' : SeatSeen (About C R)) → IsCell meaning key limit standing touched journal links seat → seat' ≡ seat
+      → IsCell meaning key limit standing touched journal links seat'
+  cell_same key limit standing touched journal links seat seat' cell same =
+      subst (IsCell meaning key limit standing touched journal links) (sym same) cell
+
+  -- the same, by other names for what is the same
+  pub cell_answered : (key : CellKey C R L) (limit : ℕ) (standing standing' : Standing S) (touched touched' : TouchedWords) (journal journal' : List (Entry C R))
+      (links : Links L) (seat learned begun stored seat' : SeatSeen (About C R)) (vectors : WordTable) (named : List Place) (count owner : ℕ)
+      (by : ConnId) (ask : Ask C) (reply : Reply R)
+      → IsCell meaning key limit standing touched journal links seat
+      → record { reply = reply; machine = standing'.machine } ≡ step meaning standing.form standing.machine by ask
+      → standing'.form ≡ standing.form → IsOfTable touched touched' → length journal < limit
+      → ((conn : ConnId) (index : ℕ) → 0 < conn.0 → conn.0 ≤ touched'.conns → index < touched'.len → IsSpared touched'.places conn.0 (index / 32)
+      → stands_at meaning standing'.machine conn index ≡ stands_at meaning standing.machine conn index)
+      → vectors ≡ key.words → named ≡ touched'.places → learned ≡ seat → count ≡ length journal + 1 → by.0 ≡ owner → owner ≤ vectors.conns
+      → begun ≡ record learned { number = count }
+      → StoresEach vectors.conns vectors.len (words_in meaning standing'.form standing'.machine) named begun stored
+      → seat' ≡ record stored { number = 0; log = stored.log ++ Committed stored.number owner (ask, reply) ∷ [] }
+      → journal' ≡ journal ++ record { no = count; by = by; what = what.Call ask; reply = reply } ∷ []
+      → IsCell meaning key limit standing' touched' journal' links seat'
+  cell_answered key limit standing standing' touched touched' journal journal' links seat learned begun stored seat' vectors named count owner by ask reply
+      cell steps form_is same_table few kept vectors_are named_are learned_is count_is by_is most begun_is each seat_is journal_is =
+      let within : by.0 ≤ key.callers =
+      subst (λ (n : ℕ). n ≤ key.callers) (sym by_is) (subst (λ (n : ℕ). owner ≤ n) (ap (λ (w : WordTable). w.conns) vectors_are ∙ cell.conns) most) in
+      let begun_seat : begun ≡ record seat { number = length journal + 1 } =
+      begun_is ∙ ap (λ (n : ℕ). record learned { number = n }) count_is ∙ ap (λ (s : SeatSeen (About C R)). record s { number = length journal + 1 }) learned_is in
+      let stores : StoresEach key.words.conns key.words.len (words_in meaning standing'.form standing'.machine) touched'.places begun stored =
+      subst (λ (w : WordTable). StoresEach w.conns w.len (words_in meaning standing'.form standing'.machine) touched'.places begun stored) vectors_are
+      (subst (λ (ps : List Place). StoresEach vectors.conns vectors.len (words_in meaning standing'.form standing'.machine) ps begun stored) named_are each) in
+      subst (λ (j : List (Entry C R)). IsCell meaning key limit standing' touched' j links seat')
+      (ap (λ (n : ℕ). (let added : Entry C R = record { no = n; by = by; what = what.Call ask; reply = reply } in journal ++ added ∷ [])) (sym count_is) ∙ sym journal_is)
+      (cell_called key limit standing standing' touched touched' journal links seat begun stored seat' (words_in meaning standing'.form standing'.machine)
+      by ask reply cell steps form_is same_table within few kept begun_seat stores (λ conn word. refl)
+      (seat_is ∙ ap (λ (n : ℕ). record stored { number = 0; log = stored.log ++ Committed stored.number n (ask, reply) ∷ [] }) (sym by_is)))

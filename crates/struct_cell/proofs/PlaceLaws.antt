@@ -1,0 +1,94 @@
+-- Words that places name, and bits whose words they are.
+use Rattle.std.proofs.Common.{◌≡◌, ℕ, ◌+◌, ◌/◌, ◌<◌, ◌≤◌, Bool, true, false, List, [], ◌∷◌, ◌++◌, take, length, get_or, Some, refl, sym, ap, subst, ◌∙◌, arith, inl, inr}
+use Rattle.std.proofs.lemmas.Bool.{cases_lt}
+use Rattle.std.specs.Prelude.{All, Contains, ◌⊎◌}
+use Rattle.std.proofs.lemmas.List.Elements.{All-pop, All-push, All-contains}
+use Rattle.std.proofs.lemmas.List.{take_more, get_or_default, get_or-take, length-take-le}
+use Rattle.std.proofs.lemmas.Bool.Decides.{nat_tests}
+use Rattle.cf_types.specs.declared.effects.BitChange.{BitChange}
+use Rattle.cf_types.specs.declared.numbers.ConnId.{ConnId}
+use Rattle.cf_types.specs.Gains.{is_for}
+use Rattle.vec_words.specs.declared.stores.Place.{Place}
+use Rattle.vec_words.specs.Stores.{IsAt, IsSpared, AreDistinct}
+use Rattle.std.proofs.lemmas.List.Quantifiers.{all_pairs_push}
+
+-- no place of a list and one more
+pub spared-front : (places : List Place) (place : Place) (conn word : ℕ) → IsSpared (places ++ place ∷ []) conn word → IsSpared places conn word
+spared-front places place conn word spared = (All-pop (λ p. ¬ IsAt conn word p) (places ++ place ∷ []) places (Some place) refl spared).0
+
+pub spared-last : (places : List Place) (place : Place) (conn word : ℕ) → IsSpared (places ++ place ∷ []) conn word → ¬ IsAt conn word place
+spared-last places place conn word spared = (All-pop (λ p. ¬ IsAt conn word p) (places ++ place ∷ []) places (Some place) refl spared).1
+
+-- a bit whose word isn't this one is another bit
+pub bit-apart : (change : BitChange) (conn : ConnId) (index : ℕ) → ¬ IsAt conn.0 (index / 32) (record { conn = change.conn; word = change.index / 32 })
+    → is_for conn index change ≡ false
+bit-apart change conn index apart = by_same (is_for conn index change) refl
+  where
+    by_same : (b : Bool) → is_for conn index change ≡ b → is_for conn index change ≡ false
+    by_same true same =
+        let conns : change.conn.0 ≡ conn.0 = grind (arith, nat_tests) in
+        let indices : change.index ≡ index = grind (arith, nat_tests) in
+        absurd (apart (conns, ap (λ (i : ℕ). i / 32) indices))
+    by_same false other = other
+
+-- nor is a bit that the vectors don't have one that they have
+pub bit-past : (change : BitChange) (conns len : ℕ) (conn : ConnId) (index : ℕ) → (change.conn.0 ≡ 0) ⊎ ((conns < change.conn.0) ⊎ (len ≤ change.index))
+    → 0 < conn.0 → conn.0 ≤ conns → index < len → is_for conn index change ≡ false
+bit-past change conns len conn index past some most below = grind (arith, nat_tests)
+
+-- one change more
+pub none-named : (d : BitChange) (changes : List BitChange) (i : ℕ) (conn : ConnId) (index : ℕ) → i < length changes
+    → All (λ c. is_for conn index c ≡ false) (take i changes) → is_for conn index (get_or changes i d) ≡ false
+    → All (λ c. is_for conn index c ≡ false) (take (i + 1) changes)
+none-named d changes i conn index within all here =
+    let P : BitChange → Type 0 = λ c. is_for conn index c ≡ false in
+    subst (All P) (sym (take_more changes i d within)) (All-push P (take i changes) (get_or changes i d) all here)
+
+-- a place that is named already
+pub bit-named : (named : List Place) (change : BitChange) (place : Place) (conn : ConnId) (index : ℕ) → place ≡ record { conn = change.conn; word = change.index / 32 }
+    → Contains named place → IsSpared named conn.0 (index / 32) → is_for conn index change ≡ false
+bit-named named change place conn index is has spared =
+    bit-apart change conn index (subst (λ p. ¬ IsAt conn.0 (index / 32) p) is (All-contains (λ p. ¬ IsAt conn.0 (index / 32) p) named place spared has))
+
+-- the words of one connector's vector, one more
+pub words-more : (places now : List Place) (conn n : ℕ) → ((other word : ℕ) → IsSpared now other word → IsSpared places other word)
+    → (IsSpared now conn n → ⊥) → ((word : ℕ) → word < n → IsSpared places conn word → ⊥)
+    → (word : ℕ) → word < n + 1 → IsSpared now conn word → ⊥
+words-more places now conn n others here before word less spared =
+    elim (cases_lt word n) [
+      | inl low ↦ before word low (others conn word spared)
+      | inr high ↦ let same : word ≡ n = omega arith in here (subst (λ w. IsSpared now conn w) same spared)
+    ]
+
+-- the vectors of connectors, one more
+pub vectors-more : (places now : List Place) (words n : ℕ) → ((conn word : ℕ) → IsSpared now conn word → IsSpared places conn word)
+    → ((word : ℕ) → word < words → IsSpared now (n + 1) word → ⊥)
+    → ((conn word : ℕ) → 0 < conn → conn ≤ n → word < words → IsSpared places conn word → ⊥)
+    → (conn word : ℕ) → 0 < conn → conn ≤ n + 1 → word < words → IsSpared now conn word → ⊥
+vectors-more places now words n others here before conn word some most below spared =
+    elim (cases_lt conn (n + 1)) [
+      | inl low ↦ before conn word some (omega arith) below (others conn word spared)
+      | inr high ↦ let same : conn ≡ n + 1 = omega arith in here word below (subst (λ c. IsSpared now c word) same spared)
+    ]
+
+-- one place more, that is none of the others
+pub distinct-push : (places : List Place) (place : Place) → AreDistinct places → (Contains places place → ⊥) → AreDistinct (places ++ place ∷ [])
+distinct-push places place distinct apart =
+    all_pairs_push (λ (one other : Place). ¬ IsAt other.conn.0 other.word one) places place distinct
+    (λ k d less is. apart (k, less, get_or_default places k place d less ∙ same (get_or places k d) is))
+  where
+    same : (other : Place) → IsAt place.conn.0 place.word other → other ≡ place
+    same other is = λ j. record { conn = record { 0 = is.0 j }; word = is.1 j }
+
+-- a place that is among others isn't spared by them
+pub contains-spared : (places : List Place) (place : Place) → Contains places place → IsSpared places place.conn.0 place.word → ⊥
+contains-spared places place has spared = All-contains (λ p. ¬ IsAt place.conn.0 place.word p) places place spared has (refl, refl)
+
+-- each of distinct places is spared by those before it
+pub spared-before : (places : List Place) (i : ℕ) (d : Place) → i < length places → AreDistinct places
+    → IsSpared (take i places) (get_or places i d).conn.0 (get_or places i d).word
+spared-before places i d within distinct k e below is =
+    let short : length (take i places) ≡ i = length-take-le i places (omega arith) in
+    let before : k < i = omega (arith, short, below) in
+    let there : get_or (take i places) k e ≡ get_or places k d = get_or-take i places k e before ∙ get_or_default places k e d (omega arith) in
+    distinct k i d before within (subst (IsAt (get_or places i d).conn.0 (get_or places i d).word) there is)

@@ -1,0 +1,104 @@
+-- What the words show after one more call.
+use Rattle.std.proofs.Common.{◌≡◌, ℕ, ◌+◌, ◌*◌, ◌/◌, ◌%◌, ◌<◌, ◌≤◌, inl, inr, Bool, true, false, nat_lt, List, [], ◌∷◌, ◌++◌, length, take, refl, sym, ap, subst, ◌∙◌, arith, take_all}
+use Rattle.std.proofs.lemmas.Bool.{cases_lt}
+use Rattle.std.proofs.lemmas.Bool.Decides.{nat_tests}
+use Rattle.std.proofs.lemmas.List.{take-append-le}
+use Rattle.cf_types.specs.declared.forms.StrForm.{StrForm}
+use Rattle.cf_types.specs.declared.numbers.ConnId.{ConnId}
+use Rattle.engine_api.specs.declared.asks.Ask.{Ask}
+use Rattle.engine_api.specs.declared.histories.Entry.{Entry}
+use Rattle.engine_api.specs.Meaning.{Meaning}
+use Rattle.engine_api.specs.Machine.{Machine}
+use Rattle.engine_api.specs.History.{next, next_entry, replay, last_call_below}
+use Rattle.vec_world.specs.Log.{bits_at}
+use Rattle.vec_words.specs.declared.logged.Logged.{Logged}
+use Rattle.vec_words.specs.declared.logged.Logged.TheVariants.{Committed}
+use Rattle.vec_words.specs.declared.stores.Place.{Place}
+use Rattle.vec_words.specs.Logged.{steps_of, word_number, bit_in}
+use Rattle.vec_words.specs.Stores.{StoresEach, IsSpared}
+use Rattle.vec_words.specs.Tokens.{SeatSeen}
+use Rattle.vec_words.proofs.Logs.{bits-commit}
+use Rattle.vec_words.proofs.StoreLaws.{stores-below, stores-from}
+use Rattle.struct_cell.specs.Words.{shown_in, words_in}
+use Rattle.struct_cell.specs.Cells.{About, IsNumbered, Shows, shown_after, shown_below}
+use Rattle.struct_cell.proofs.Binary.{whole_bit}
+use Rattle.struct_cell.proofs.PointLaws.{last_below-next, last_below-past, length-next}
+
+module _ {C R I S : Type 0} (meaning : Meaning C R I S) (form : StrForm) where
+  -- ---- histories
+
+  -- up to the next call's number nothing is different
+  shown-old : (history : List (Entry C R)) (by : ConnId) (ask : Ask C) (n : ℕ) (conn : ConnId) (index : ℕ) → IsNumbered history → n ≤ length history + 1
+      → shown_below meaning form (next meaning form history by ask) n conn index ≡ shown_below meaning form history n conn index
+  shown-old history by ask n conn index was low =
+      ap (λ (h : List (Entry C R)). shown_after meaning form h conn index)
+      (ap (λ (k : ℕ). take k (next meaning form history by ask)) (last_below-next meaning form history by ask n low)
+      ∙ take-append-le (last_call_below history n) history (next_entry meaning form history by ask ∷ []) (was.below n))
+
+  shown-end : (history : List (Entry C R)) (n : ℕ) (conn : ConnId) (index : ℕ) → IsNumbered history → length history < n
+      → shown_below meaning form history n conn index ≡ shown_after meaning form history conn index
+  shown-end history n conn index was past =
+      ap (λ (h : List (Entry C R)). shown_after meaning form h conn index)
+      (ap (λ (k : ℕ). take k history) (was.ended n past) ∙ take_all (length history) history (omega arith))
+
+  shown-new : (history : List (Entry C R)) (by : ConnId) (ask : Ask C) (n : ℕ) (conn : ConnId) (index : ℕ) → length history + 1 < n
+      → shown_below meaning form (next meaning form history by ask) n conn index ≡ shown_after meaning form (next meaning form history by ask) conn index
+  shown-new history by ask n conn index past =
+      let all : length (next meaning form history by ask) ≡ length history + 1 = length-next meaning form history by ask in
+      ap (λ (h : List (Entry C R)). shown_after meaning form h conn index)
+      (ap (λ (k : ℕ). take k (next meaning form history by ask)) (last_below-past meaning form history by ask n past)
+      ∙ take_all (length history + 1) (next meaning form history by ask) (omega (arith, all)))
+
+  -- ---- words
+
+  bit_of_word : (machine : Machine S) (conn : ConnId) (index : ℕ) → bit_in (words_in meaning form machine conn.0 (index / 32)) index ≡ shown_in meaning form machine conn index
+  bit_of_word machine conn index =
+      let same : 32 * (index / 32) + index % 32 ≡ index = omega arith in
+      whole_bit (λ k. shown_in meaning form machine conn (32 * (index / 32) + k)) index
+      ∙ ap (λ (i : ℕ). shown_in meaning form machine conn i) same
+
+  masked : (one other : Machine S) (conn : ConnId) (index : ℕ)
+      → (index < form.vector → meaning.stands one.content conn index ≡ meaning.stands other.content conn index)
+      → shown_in meaning form one conn index ≡ shown_in meaning form other conn index
+  masked one other conn index same = by_end (nat_lt index form.vector) refl
+    where
+      by_end : (b : Bool) → nat_lt index form.vector ≡ b → shown_in meaning form one conn index ≡ shown_in meaning form other conn index
+      by_end true is = let below : index < form.vector = grind (arith, nat_tests) in rw is (same below)
+      by_end false is = rw is refl
+
+  -- a call's stores, and its commit
+  pub shows_next : (conns : ℕ) (history : List (Entry C R)) (by : ConnId) (ask : Ask C) (machine : Machine S) (named : List Place)
+      (bits : ℕ → ℕ → ℕ) (before begun stored : SeatSeen (About C R)) (caller : ℕ) (about : About C R)
+      → Shows meaning form conns before.log history → IsNumbered history
+      → begun.log ≡ before.log → begun.number ≡ length history + 1
+      → StoresEach conns form.vector bits named begun stored
+      → ((conn word : ℕ) → bits conn word ≡ words_in meaning form machine conn word)
+      → machine ≡ replay meaning form (next meaning form history by ask)
+      → ((conn : ConnId) (index : ℕ) → 0 < conn.0 → conn.0 ≤ conns → index < form.vector → IsSpared named conn.0 (index / 32)
+      → meaning.stands machine.content conn index ≡ meaning.stands (replay meaning form history).content conn index)
+      → Shows meaning form conns (stored.log ++ Committed (length history + 1) caller about ∷ []) (next meaning form history by ask)
+  shows_next conns history by ask machine named bits before begun stored caller about shows was same_log number each are machine_is kept n index conn some most below =
+      let number_of = length history + 1 in
+      let w = word_number form.vector conn.0 (index / 32) in
+      let after : shown_after meaning form (next meaning form history by ask) conn index ≡ shown_in meaning form machine conn index =
+      ap (λ (m : Machine S). shown_in meaning form m conn index) (sym machine_is) in
+      ap (λ (b : ℕ). bit_in b index) (bits-commit stored.log number_of caller about w n)
+      ∙ elim (cases_lt n number_of) [
+        | inl low ↦
+            ap (λ (b : ℕ). bit_in b index)
+            (stores-below conns form.vector bits named begun stored w n each (subst (λ (k : ℕ). n < k) (sym number) low)
+            ∙ ap (λ (l : List (Logged (About C R))). bits_at (steps_of l) w n) same_log)
+            ∙ shows n index conn some most below
+            ∙ sym (shown-old history by ask (n + 1) conn index was (omega (arith, low)))
+        | inr high ↦
+            stores-from conns form.vector bits named begun stored conn.0 (index / 32) n
+            (λ (b : ℕ). bit_in b index ≡ shown_in meaning form machine conn index)
+            each some below (subst (λ (k : ℕ). k ≤ n) (sym number) high)
+            (ap (λ (b : ℕ). bit_in b index) (are conn.0 (index / 32)) ∙ bit_of_word machine conn index)
+            (λ spared. ap (λ (l : List (Logged (About C R))). bit_in (bits_at (steps_of l) w n) index) same_log
+            ∙ shows n index conn some most below
+            ∙ shown-end history (n + 1) conn index was (omega (arith, high))
+            ∙ sym (masked machine (replay meaning form history) conn index (λ inside. kept conn index some most inside spared)))
+            ∙ sym after
+            ∙ sym (shown-new history by ask (n + 1) conn index (omega (arith, high)))
+      ]

@@ -1,0 +1,31 @@
+use Rattle.std.proofs.Common.{rules, ap, sym, ◌∙◌}
+use Rattle.struct_cell.proofs.ToldLaws.{closed_callers, closed_mine, closed_known, closed_tests, same_tables, same_shown}
+use Rattle.struct_cell.proofs.cell.Cell.close.Goals as goal
+
+pub learn_all-requires-clause-passes : goal.learn_all-requires-clause-passes
+learn_all-requires-clause-passes g c =
+    same_tables c.args.self.words c.self.inside.vectors c.args.passes.items c.as_mut_slice.result.now
+    (ap (λ k. k.words) (sym c.self.view_is) ∙ c.self.invariant.0) (search rules) c.requires.passes
+
+pub returns-clause-callers : goal.returns-clause-callers
+returns-clause-callers g c =
+    closed_callers g.E.Engine.meaning c.self.inside.lock.key c.args.self _ _ _ c.end-inside.result.journal.items c.from_vec.result _ _
+    c.args.passes.items c.end-inside.ensures c.self.view_is c.from_vec.ensures
+
+pub returns-clause-mine : goal.returns-clause-mine
+returns-clause-mine g c =
+    closed_mine g.E.Engine.meaning c.self.inside.lock.key c.args.self _ _ _ c.end-inside.result.journal.items c.from_vec.result _ _
+    c.args.passes.items c.end-inside.ensures c.self.view_is c.from_vec.ensures
+    (same_shown c.end-inside.result.seat c.args.passes.items c.as_mut_slice.result.now (search rules) c.learn_all.ensures.shown)
+
+pub returns-clause-known : goal.returns-clause-known
+returns-clause-known g c =
+    closed_known g.E.Engine.meaning c.self.inside.lock.key c.args.self _ _ _ c.end-inside.result.journal.items c.from_vec.result _ _
+    c.args.passes.items c.end-inside.ensures c.self.view_is c.from_vec.ensures
+    (same_shown c.end-inside.result.seat c.args.passes.items c.as_mut_slice.result.now (search rules) c.learn_all.ensures.shown)
+
+pub returns-clause-tests : goal.returns-clause-tests
+returns-clause-tests g c =
+    closed_tests g.E.Engine.meaning c.self.inside.lock.key c.args.self _ _ _ c.end-inside.result.journal.items c.from_vec.result _ _
+    c.args.passes.items c.end-inside.ensures c.self.view_is c.from_vec.ensures c.requires.passes
+    (same_shown c.end-inside.result.seat c.args.passes.items c.as_mut_slice.result.now (search rules) c.learn_all.ensures.shown)

@@ -1,0 +1,7 @@
+use Rattle.std.proofs.Common.{◌≡◌, ◌+◌, ◌*◌}
+use Rattle.struct_cell.specs.Words.{word_from, shown_in}
+use Rattle.struct_cell.proofs.words.word_of.Given as goal
+
+abbrev pub invariant-loop-k : goal.invariant-loop-k
+invariant-loop-k g l = (l.vector ≡ l.machine.form.vector)
+    × (l.bits ≡ word_from (λ k. shown_in g.E.Engine.meaning l.machine.form l.machine.machine l.fn.conn (32 * l.word + k)) l.k)

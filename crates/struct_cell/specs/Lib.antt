@@ -1,0 +1,5 @@
+pub mod Words
+pub mod Touches
+pub mod Cells
+pub mod Telling
+pub mod Calls

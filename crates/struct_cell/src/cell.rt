@@ -1,0 +1,246 @@
+//! The cell.
+ghost use Rattle.std.specs.Prelude.{◌≡◌, ◌+◌, ◌<◌, ◌≤◌, ◌++◌, ◌≢◌, ℕ, [], ◌∷◌, IsTrue, IfOk, IfErr, IfSome, Err, None, All, length, map, max, is_some};
+ghost use Rattle.std.specs.List.{range_with_len};
+ghost use Rattle.cf_types.specs.Forms.{IsForm};
+ghost use Rattle.engine_api.specs.Asking.{MayAsk, IsBuilt};
+ghost use Rattle.engine_api.specs.History.{calls, own, replay, IsLegal};
+ghost use Rattle.vec_words.specs.Logged.{count_of};
+ghost use Rattle.vec_words.specs.Tokens.{new_pass, learned_pass};
+ghost use Rattle.struct_cell.specs.Cells.{answered, IsCell};
+ghost use Rattle.struct_cell.specs.Calls.{IsAnswered, IsLater};
+ghost use Rattle.struct_cell.specs.Telling.{IsTold};
+ghost use Rattle.struct_cell.specs.declared.refused.CallRefused.TheVariants as refused;
+
+use crate::closed::Closed;
+use crate::inside::{CellFact, Inside, reserve_entry};
+use crate::refused::CallRefused;
+use crate::touched::Touched;
+use crate::words::store_words;
+use cf_link::{Link, Links};
+use cf_turn::KeyLock;
+use cf_types::StrForm;
+use engine_api::{Ask, Engine, Entry, History, Reply, Told, What};
+use std::alloc::Global;
+use std::marker::Model;
+use std::sync::Wait;
+use struct_machine::{Changed, Machine};
+use vec_words::{EngineSeat, Pass, Vectors};
+
+/// A structure that threads share by `&`. Contracts see what never changes.
+#[derive(Drop)]
+pub struct Cell<E: Engine, L: Link> {
+    lock: KeyLock<CellFact<E, L>>,
+    vectors: Vectors<(Ask<E::Cmd>, Reply<E::Reply>)>,
+}
+
+impl<E: Engine, L: Link> Model for Cell<E, L> {
+    ghost use Rattle.std.specs.Prelude.{◌≡◌, ◌≤◌};
+    ghost use Rattle.cf_types.specs.Forms.{IsForm};
+    ghost use Rattle.struct_cell.specs.declared.inside.CellKey.{CellKey};
+
+    ghost Value = { CellKey E.Cmd E.Reply L };
+
+    ghost view = { λ c. c.lock.key };
+
+    ghost invariant = { λ c. (c.lock.key.words ≡ c.vectors) × (c.lock.key.limit ≤ 4294967000)
+        × (c.lock.key.callers ≤ 32) × IsForm c.lock.key.form };
+}
+
+impl<E: Engine, L: Link> Cell<E, L> {
+    /// A cell of a structure without calls yet, with a pass for each caller from the operator, 0, on.
+    /// Its journal has at most `limit` entries. Where there is no memory the links come back.
+    pub fn start(
+        alloc: Global,
+        form: StrForm,
+        callers: u8,
+        limit: u32,
+        links: Links<L>,
+    ) -> Result<(Cell<E, L>, Vec<Pass<(Ask<E::Cmd>, Reply<E::Reply>)>>), Links<L>>
+        requires formed { IsForm form }
+        requires kind { IsTrue (E.is_kind form.kind) }
+        requires callers { callers ≤ 32 }
+        requires limit { (1 ≤ limit) × (limit ≤ 4294967000) }
+        ensures cell { IfOk result (λ r. r.0 ≡ record {
+          form = form;
+          callers = callers;
+          limit = limit;
+          words = r.0.words;
+          links = links;
+        }) }
+        ensures words { IfOk result (λ r. (r.0.words.conns ≡ callers)
+            × (r.0.words.len ≡ form.vector)) }
+        ensures passes { IfOk result (λ r. r.1.items ≡ map (new_pass r.0.words)
+            (range_with_len 0 (callers + 1))) }
+        ensures handed_back { IfErr result (λ back. back ≡ links) }
+    {
+        let len = form.vector;
+        let Ok(machine) = Machine::start(alloc, form) else {
+            return Err(links);
+        };
+        let Ok(touched) = Touched::none(alloc, callers, len) else {
+            return Err(links);
+        };
+        let Ok((vectors, seat, passes)) = Vectors::start(alloc, callers, len) else {
+            return Err(links);
+        };
+        let inside = Inside {
+            limit,
+            machine,
+            changed: Changed::none(alloc),
+            touched,
+            journal: Vec::new(alloc),
+            links,
+            seat,
+        };
+        match KeyLock::new(alloc, inside) {
+            Ok(lock) => Ok((Cell { lock, vectors }, passes)),
+            Err(Inside { links, .. }) => Err(links),
+        }
+    }
+
+    /// A call of the pass's owner. It waits for its turn; then it is judged and done at once, it stands
+    /// in the journal, and each word of a vector in which it changed a bit is stored, before its number
+    /// is published.
+    ///
+    /// # Errors
+    ///
+    /// `JournalFull` where the journal has `limit` entries; `NoMemory`, before anything was changed. In
+    /// both cases nothing happened to the structure.
+    pub fn call(
+        &self,
+        rt: &impl Wait,
+        alloc: Global,
+        pass: &mut Pass<(Ask<E::Cmd>, Reply<E::Reply>)>,
+        ask: Ask<E::Cmd>,
+    ) -> Result<Told, CallRefused>
+        requires pass { pass.old.table ≡ self.now.words }
+        requires may { MayAsk (record { 0 = pass.old.owner }) ask }
+        requires built { IsBuilt ask }
+        ensures later { IfOk result (λ told. pass.old.known < told.no) }
+        ensures answered { IfOk result (λ told. IsAnswered ask told pass.old pass.new) }
+        ensures refused { IfErr result (λ _. IsLater pass.old pass.new) }
+        ensures no_memory { IfErr result (λ refusal. refusal ≡ refused.NoMemory
+            → pass.new ≡ pass.old) }
+        ensures full { IfErr result (λ refusal. refusal ≢ refused.NoMemory
+            → (refusal ≡ refused.JournalFull self.now.limit) × (self.now.limit ≤ pass.new.known)) }
+    {
+        let (mut inside, ticket) = self.lock.take(rt);
+        let answer = self.answer(alloc, &mut inside, pass, ask);
+        self.lock.give(ticket, inside);
+        answer
+    }
+
+    // The call, under the lock.
+    fn answer(
+        &self,
+        alloc: Global,
+        inside: &mut Inside<E, L>,
+        pass: &mut Pass<(Ask<E::Cmd>, Reply<E::Reply>)>,
+        ask: Ask<E::Cmd>,
+    ) -> Result<Told, CallRefused>
+        requires cell { IsCell E.meaning self.now inside.old.limit inside.old.machine
+            inside.old.touched inside.old.journal.items inside.old.links inside.old.seat }
+        requires pass { pass.old.table ≡ self.now.words }
+        requires may { MayAsk (record { 0 = pass.old.owner }) ask }
+        requires built { IsBuilt ask }
+        ensures cell { IsCell E.meaning self.now inside.new.limit inside.new.machine
+            inside.new.touched inside.new.journal.items inside.new.links inside.new.seat }
+        ensures later { IfOk result (λ told. pass.old.known < told.no) }
+        ensures answered { IfOk result (λ told. IsAnswered ask told pass.old pass.new) }
+        ensures refused { IfErr result (λ _. IsLater pass.old pass.new) }
+        ensures no_memory { IfErr result (λ refusal. refusal ≡ refused.NoMemory
+            → pass.new ≡ pass.old) }
+        ensures full { IfErr result (λ refusal. refusal ≢ refused.NoMemory
+            → (refusal ≡ refused.JournalFull self.now.limit) × (self.now.limit ≤ pass.new.known)) }
+    {
+        let count = inside.journal.len();
+        if count >= inside.limit as usize {
+            return Err(self.journal_full(&mut inside.seat, pass, inside.limit));
+        }
+        reserve_entry(&mut inside.journal)?;
+        let by = pass.owner();
+        let reply = inside.machine.answer(alloc, by, &ask, &mut inside.changed)?;
+        inside.touched.note(&inside.changed);
+        let no = count as u32 + 1;
+        self.vectors.learn(&mut inside.seat, pass);
+        self.vectors.begin(&mut inside.seat, no);
+        let words = inside.touched.places();
+        store_words(&self.vectors, &mut inside.seat, &inside.machine, words);
+        self.vectors
+            .commit_call(&mut inside.seat, pass, &ask, &reply);
+        let told = Told::of(no, &ask, &reply);
+        inside.journal.push_reserved(Entry {
+            no,
+            by,
+            what: What::Call(ask),
+            reply,
+        });
+        Ok(told)
+    }
+
+    // Why a call isn't made where the journal is full. The pass learns how many entries it has.
+    fn journal_full(
+        &self,
+        seat: &mut EngineSeat<(Ask<E::Cmd>, Reply<E::Reply>)>,
+        pass: &mut Pass<(Ask<E::Cmd>, Reply<E::Reply>)>,
+        limit: u32,
+    ) -> CallRefused
+        requires seat { seat.old.table ≡ self.now.words }
+        requires pass { pass.old.table ≡ self.now.words }
+        ensures limit { result ≡ refused.JournalFull limit }
+        ensures seat { seat.new ≡ seat.old }
+        ensures pass { pass.new ≡ learned_pass (count_of seat.old.log) pass.old }
+    {
+        self.vectors.learn(seat, pass);
+        CallRefused::JournalFull { limit }
+    }
+
+    /// The words, for tests without the lock.
+    pub fn vectors(&self) -> &Vectors<(Ask<E::Cmd>, Reply<E::Reply>)>
+        ensures { result.now ≡ self.now.words }
+    {
+        &self.vectors
+    }
+
+    /// Ends the cell. Of its history each pass has its owner's calls, and it says what the pass's tests
+    /// answered. It may wait for a turn, and takes no memory.
+    pub fn close(
+        self,
+        rt: &impl Wait,
+        passes: Vec<Pass<(Ask<E::Cmd>, Reply<E::Reply>)>>,
+    ) -> Closed<E, L>
+        requires passes { All (λ pass. pass.table ≡ self.words) passes.items }
+        ensures legal { IsLegal E.meaning self.form result.history }
+        ensures most { length result.history ≤ self.limit }
+        ensures callers { All (λ call. call.by.0 ≤ self.callers) (calls result.history) }
+        ensures mine { All (λ pass. pass.mine ≡ map answered (own result.history
+            (record { 0 = pass.owner }))) passes.items }
+        ensures tests { All (λ pass. All (IsTold E.meaning self.form result.history pass.owner)
+            pass.tests) passes.items }
+        ensures known { All (λ pass. pass.known ≤ length result.history) passes.items }
+        ensures links { result.links ≡ self.links }
+        ensures first { is_some result.first ≡ is_some
+            (replay E.meaning self.form result.history).shell.instances.primary }
+        ensures content { IfSome result.first (λ engine. (E.held engine).state
+            ≡ (replay E.meaning self.form result.history).content) }
+        ensures no_other { (result.second ≡ None) × (result.fresh ≡ None) }
+    {
+        let Cell { lock, vectors } = self;
+        let mut inside = lock.end(rt);
+        let mut passes = passes;
+        vectors.learn_all(&mut inside.seat, passes.as_mut_slice());
+        let Inside {
+            machine,
+            journal,
+            links,
+            ..
+        } = inside;
+        Closed {
+            history: History::from_vec(journal),
+            links,
+            first: machine.into_engine(),
+            second: None,
+            fresh: None,
+        }
+    }
+}

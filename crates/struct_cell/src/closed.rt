@@ -1,0 +1,21 @@
+use cf_link::Links;
+use engine_api::{Engine, History};
+
+/// What is left of a cell that is closed.
+#[derive(Drop)]
+pub struct Closed<E: Engine, L> {
+    /// The structure's journal.
+    pub history: History<E::Cmd, E::Reply>,
+
+    /// The links, as the cell got them.
+    pub links: Links<L>,
+
+    /// The content of the primary, where one stands.
+    pub first: Option<E>,
+
+    /// That of the secondary.
+    pub second: Option<E>,
+
+    /// That of a rebuild's new instance.
+    pub fresh: Option<E>,
+}

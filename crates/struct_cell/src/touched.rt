@@ -1,0 +1,183 @@
+ghost use Rattle.std.specs.Prelude.{◌≡◌, ◌/◌, ◌<◌, ◌≤◌, ℕ, [], true, false, IfOk, OnOk, All};
+ghost use Rattle.cf_types.specs.Gains.{is_for};
+ghost use Rattle.cf_types.specs.declared.numbers.ConnId.{ConnId};
+ghost use Rattle.struct_machine.specs.Changes.{IsUntouched};
+ghost use Rattle.struct_cell.specs.Touches.{IsOfTable, IsEvery};
+ghost use Rattle.vec_words.specs.Logged.{words_of};
+ghost use Rattle.vec_words.specs.Stores.{IsWithin, IsSpared, AreDistinct};
+
+use cf_types::{BitChange, ConnId, NoMemory};
+use std::alloc::Global;
+use std::marker::Model;
+use struct_machine::Changed;
+use vec_words::Place;
+
+/// The words of vectors in which a call may have changed a bit: those that are named, or every word.
+#[derive(Drop)]
+pub(crate) struct Touched {
+    conns: u8,
+    len: u32,
+    every: Vec<Place>,
+    named: Vec<Place>,
+    all: bool,
+}
+
+impl Model for Touched {
+    ghost use Rattle.std.specs.Prelude.{◌≤◌, All, if◌then◌else◌};
+    ghost use Rattle.struct_cell.specs.Touches.{TouchedWords, IsEvery};
+    ghost use Rattle.vec_words.specs.Stores.{IsWithin, AreDistinct};
+
+    ghost Value = { TouchedWords };
+
+    ghost view = { λ t. record { conns = t.conns; len = t.len; places = if t.all then t.every.items else t.named.items } };
+
+    ghost invariant = { λ t. All (IsWithin t.conns t.len) t.named.items × AreDistinct t.named.items
+        × All (IsWithin t.conns t.len) t.every.items × AreDistinct t.every.items
+        × IsEvery t.conns t.len t.every.items };
+}
+
+impl Touched {
+    /// No word, of vectors of `len` bits for connectors 1 to `conns`.
+    pub(crate) fn none(alloc: Global, conns: u8, len: u32) -> Result<Touched, NoMemory>
+        requires { len ≤ 1024 }
+        ensures { IfOk result (λ touched.
+            touched ≡ record { conns = conns; len = len; places = [] }) }
+    {
+        let every = every_word(alloc, conns, len)?;
+        let named = Vec::with_capacity(alloc, every.len())?;
+        Ok(Touched {
+            conns,
+            len,
+            every,
+            named,
+            all: false,
+        })
+    }
+
+    /// The words of the bits that a call may have changed. It takes no memory: where there is no room
+    /// for all that are named, it is every word.
+    pub(crate) fn note(&mut self, changed: &Changed)
+        ensures table { IsOfTable self.old self.new }
+        ensures spared { (conn : ConnId) (index : ℕ) → 0 < conn.0 → conn.0 ≤ self.new.conns
+            → index < self.new.len → IsSpared self.new.places conn.0 (index / 32)
+            → IsUntouched changed.now conn index }
+    {
+        self.named.clear();
+        if changed.is_all() {
+            self.all = true;
+            return;
+        }
+        self.all = !name_all(&mut self.named, self.conns, self.len, changed.bits());
+    }
+
+    /// The words.
+    pub(crate) fn places(&self) -> &[Place]
+        ensures places { result.now ≡ self.now.places }
+        ensures within { All (IsWithin self.now.conns self.now.len) result.now }
+        ensures distinct { AreDistinct result.now }
+    {
+        if self.all {
+            self.every.as_slice()
+        } else {
+            self.named.as_slice()
+        }
+    }
+}
+
+// The words of these bits, behind others. False where there is no room for all of them. Bits past the
+// vectors have no word.
+fn name_all(named: &mut Vec<Place>, conns: u8, len: u32, bits: &[BitChange]) -> bool
+    requires within { All (IsWithin conns len) named.old.items }
+    requires distinct { AreDistinct named.old.items }
+    ensures within { All (IsWithin conns len) named.new.items }
+    ensures distinct { AreDistinct named.new.items }
+    ensures spared { result ≡ true → (conn : ConnId) (index : ℕ) → 0 < conn.0 → conn.0 ≤ conns
+        → index < len → IsSpared named.new.items conn.0 (index / 32)
+        → All (λ change. is_for conn index change ≡ false) bits.now }
+{
+    for change in bits {
+        if !name_one(named, conns, len, change) {
+            return false;
+        }
+    }
+    true
+}
+
+// The word of a bit. False where there is no room for it.
+fn name_one(named: &mut Vec<Place>, conns: u8, len: u32, change: &BitChange) -> bool
+    requires within { All (IsWithin conns len) named.old.items }
+    requires distinct { AreDistinct named.old.items }
+    ensures within { All (IsWithin conns len) named.new.items }
+    ensures distinct { AreDistinct named.new.items }
+    ensures others { (conn word : ℕ) → IsSpared named.new.items conn word
+        → IsSpared named.old.items conn word }
+    ensures spared { result ≡ true → (conn : ConnId) (index : ℕ) → 0 < conn.0 → conn.0 ≤ conns
+        → index < len → IsSpared named.new.items conn.0 (index / 32)
+        → is_for conn index change.now ≡ false }
+{
+    if change.conn.0 == 0 || change.conn.0 > conns || change.index >= len {
+        return true;
+    }
+    let place = Place {
+        conn: change.conn,
+        word: change.index / 32,
+    };
+    if named.contains(&place) {
+        return true;
+    }
+    if named.len() == named.capacity() {
+        return false;
+    }
+    named.push_reserved(place);
+    true
+}
+
+// Every word of vectors of `len` bits for connectors 1 to `conns`.
+fn every_word(alloc: Global, conns: u8, len: u32) -> Result<Vec<Place>, NoMemory>
+    requires { len ≤ 1024 }
+    ensures within { IfOk result (λ places. All (IsWithin conns len) places.items) }
+    ensures distinct { IfOk result (λ places. AreDistinct places.items) }
+    ensures every { IfOk result (λ places. IsEvery conns len places.items) }
+{
+    let mut places = Vec::new(alloc);
+    for before in 0..conns {
+        put_words(&mut places, conns, len, ConnId(before + 1))?;
+    }
+    Ok(places)
+}
+
+// The words of one connector's vector, behind others.
+fn put_words(places: &mut Vec<Place>, conns: u8, len: u32, conn: ConnId) -> Result<(), NoMemory>
+    requires conn { (0 < conn.0) × (conn.0 ≤ conns) }
+    requires len { len ≤ 1024 }
+    requires within { All (IsWithin conns len) places.old.items }
+    requires distinct { AreDistinct places.old.items }
+    ensures within { OnOk result (All (IsWithin conns len) places.new.items) }
+    ensures distinct { OnOk result (AreDistinct places.new.items) }
+    ensures others { OnOk result ((other word : ℕ) → IsSpared places.new.items other word
+        → IsSpared places.old.items other word) }
+    ensures here { OnOk result ((word : ℕ) → word < words_of len
+        → IsSpared places.new.items conn.0 word → ⊥) }
+{
+    for word in 0..(len + 31) / 32 {
+        put_word(places, conns, len, Place { conn, word })?;
+    }
+    Ok(())
+}
+
+// A word behind others, unless it is one of them.
+fn put_word(places: &mut Vec<Place>, conns: u8, len: u32, place: Place) -> Result<(), NoMemory>
+    requires place { IsWithin conns len place }
+    requires within { All (IsWithin conns len) places.old.items }
+    requires distinct { AreDistinct places.old.items }
+    ensures within { OnOk result (All (IsWithin conns len) places.new.items) }
+    ensures distinct { OnOk result (AreDistinct places.new.items) }
+    ensures others { OnOk result ((other word : ℕ) → IsSpared places.new.items other word
+        → IsSpared places.old.items other word) }
+    ensures here { OnOk result (IsSpared places.new.items place.conn.0 place.word → ⊥) }
+{
+    if !places.contains(&place) {
+        places.push(place)?;
+    }
+    Ok(())
+}

@@ -1,0 +1,83 @@
+ghost use Rattle.std.specs.Prelude.{◌≡◌, ◌*◌, ◌+◌, ◌^◌, ◌<◌, ◌≤◌, ◌++◌, ◌∷◌, [], ℕ, All};
+ghost use Rattle.cf_types.specs.Forms.{IsCaller};
+ghost use Rattle.vec_world.specs.Log.{HasStore};
+ghost use Rattle.vec_words.specs.Logged.{steps_of, word_number};
+ghost use Rattle.vec_words.specs.Stores.{IsWithin, AreDistinct, StoresEach, store_of};
+ghost use Rattle.struct_cell.specs.Words.{whole_word, shown_in, words_in};
+
+use cf_types::ConnId;
+use engine_api::Engine;
+use struct_machine::Machine;
+use vec_words::{EngineSeat, Place, Vectors};
+
+/// Stores each of these words, as the machine's vectors have it now, under the number in flight.
+pub(crate) fn store_words<E: Engine, D>(
+    vectors: &Vectors<D>,
+    seat: &mut EngineSeat<D>,
+    machine: &Machine<E>,
+    places: &[Place],
+)
+    requires table { seat.old.table ≡ vectors.now }
+    requires begun { 0 < seat.old.number }
+    requires conns { vectors.now.conns ≤ 32 }
+    requires len { vectors.now.len ≤ 1024 }
+    requires within { All (IsWithin vectors.now.conns vectors.now.len) places.now }
+    requires distinct { AreDistinct places.now }
+    requires fresh { (word : ℕ) → ¬ HasStore (steps_of seat.old.log) word seat.old.number }
+    ensures { StoresEach vectors.now.conns vectors.now.len
+        (words_in E.meaning machine.now.form machine.now.machine) places.now seat.old seat.new }
+{
+    for place in places {
+        store_one(vectors, seat, machine, place);
+    }
+}
+
+// Stores one word.
+fn store_one<E: Engine, D>(
+    vectors: &Vectors<D>,
+    seat: &mut EngineSeat<D>,
+    machine: &Machine<E>,
+    place: &Place,
+)
+    requires table { seat.old.table ≡ vectors.now }
+    requires begun { 0 < seat.old.number }
+    requires conns { vectors.now.conns ≤ 32 }
+    requires len { vectors.now.len ≤ 1024 }
+    requires within { IsWithin vectors.now.conns vectors.now.len place.now }
+    requires once { ¬ HasStore (steps_of seat.old.log)
+        (word_number vectors.now.len place.now.conn.0 place.now.word) seat.old.number }
+    ensures { seat.new ≡ record seat.old {
+      log = seat.old.log ++ store_of vectors.now.len
+          (words_in E.meaning machine.now.form machine.now.machine) seat.old.number place.now ∷ [];
+    } }
+{
+    let bits = word_of(machine, place.conn, place.word);
+    vectors.store_word(seat, place.conn, place.word, bits);
+}
+
+/// The 32 bits of a word of a connector's vector, the least index lowest. Past the vector's end they
+/// are 0.
+fn word_of<E: Engine>(machine: &Machine<E>, conn: ConnId, word: u32) -> u32
+    requires conn { IsCaller conn }
+    requires word { word < 2 ^ 27 }
+    ensures { result ≡ whole_word (λ k. shown_in E.meaning machine.now.form machine.now.machine
+        conn (32 * word + k)) }
+{
+    let vector = machine.form().vector;
+    let mut bits: u32 = 0;
+    for k in 0..32u32 {
+        if is_shown(machine, vector, conn, 32 * word + k) {
+            bits += 1 << k;
+        }
+    }
+    bits
+}
+
+// The bit of an index, where the vector has it.
+fn is_shown<E: Engine>(machine: &Machine<E>, vector: u32, conn: ConnId, index: u32) -> bool
+    requires conn { IsCaller conn }
+    requires vector { vector ≡ machine.now.form.vector }
+    ensures { result ≡ shown_in E.meaning machine.now.form machine.now.machine conn index }
+{
+    index < vector && machine.stands(conn, index)
+}
