@@ -30,7 +30,8 @@ bit-word f (suc n) k less =
       | inr high ↦
           let is : n ≡ k = omega arith in
           subst (λ j. bit_at (one_if (f n) * 2 ^ n + word_from f n) j ≡ one_if (f j)) is
-          (let z : n - n ≡ 0 = omega arith in bit_at_cat_high (one_if (f n)) n (word_from f n) n (word-small f n) (omega arith) ∙ ap (bit_at (one_if (f n))) z ∙ one_bit (f n))
+          (let z : n - n ≡ 0 = omega arith in bit_at_cat_high (one_if (f n)) n (word_from f n) n (word-small f n)
+          (omega arith) ∙ ap (bit_at (one_if (f n))) z ∙ one_bit (f n))
     ]
 
 tells : (b : Bool) (v : ℕ) → v ≡ one_if b → (v == 1) ≡ b
@@ -40,9 +41,11 @@ tells false v is = subst (λ k. (k == 1) ≡ false) (sym is) refl
 pub word_bits : (f : ℕ → Bool) (n k : ℕ) → n ≤ 32 → k < n → bit_in (word_from f n) k ≡ f k
 word_bits f n k most less =
     let is : k % 32 ≡ k = omega arith in
-    subst (λ j. (bit_at (word_from f n) j == 1) ≡ f k) (sym is) (tells (f k) (bit_at (word_from f n) k) (bit-word f n k less))
+    subst (λ j. (bit_at (word_from f n) j == 1) ≡ f k) (sym is)
+    (tells (f k) (bit_at (word_from f n) k) (bit-word f n k less))
 
-pub word-fits : (f : ℕ → Bool) (k found : ℕ) → k < 32 → found ≡ word_from f k → Fits w32 (found + 1 * 2 ^ k % 4294967296)
+pub word-fits : (f : ℕ → Bool) (k found : ℕ) → k < 32 → found ≡ word_from f k
+    → Fits w32 (found + 1 * 2 ^ k % 4294967296)
 word-fits f k found less is =
     let low : found < 2 ^ k = subst (λ w. w < 2 ^ k) (sym is) (word-small f k) in
     let most : 2 ^ k ≤ 2147483648 = pow_mono {i = k} {j = 31} (omega arith) in
@@ -62,7 +65,8 @@ unfolding whole_word
 whole_bit f index =
     let small : index % 32 < 32 = omega arith in
     let same : index % 32 % 32 ≡ index % 32 = omega arith in
-    subst (λ j. (bit_at (word_from f 32) j == 1) ≡ f (index % 32)) same (word_bits f 32 (index % 32) (omega arith) small)
+    subst (λ j. (bit_at (word_from f 32) j == 1) ≡ f (index % 32)) same
+    (word_bits f 32 (index % 32) (omega arith) small)
 
 pub whole-small : (f : ℕ → Bool) → whole_word f < 2 ^ 32
 unfolding whole_word

@@ -41,12 +41,15 @@ none_shown false = refl
 
 -- the journal with a call
 abbrev pub entered : {C R : Type 0} → List (Entry C R) → ConnId → Ask C → Reply R → List (Entry C R)
-entered journal by ask reply = journal ++ record { no = length journal + 1; by = by; what = what.Call ask; reply = reply } ∷ []
+entered journal by ask reply = journal ++ record
+    { no = length journal + 1; by = by; what = what.Call ask; reply = reply } ∷ []
 
 module _ {C R I S L : Type 0} (meaning : Meaning C R I S) where
   -- a cell begins so
-  pub cell_start : (key : CellKey C R L) (standing : Standing S) (touched : TouchedWords) (links : Links L) (seat : SeatSeen (About C R)) (journal : List (Entry C R))
-      → key ≡ record { form = standing.form; callers = seat.table.conns; limit = key.limit; words = seat.table; links = links }
+  pub cell_start : (key : CellKey C R L) (standing : Standing S) (touched : TouchedWords) (links : Links L)
+      (seat : SeatSeen (About C R)) (journal : List (Entry C R))
+      → key ≡ record
+      { form = standing.form; callers = seat.table.conns; limit = key.limit; words = seat.table; links = links }
       → standing.machine ≡ opening meaning standing.form
       → ((conn : ConnId) (index : ℕ) → meaning.stands (meaning.empty (shape_of standing.form)) conn index ≡ false)
       → (touched.conns ≡ seat.table.conns) × (touched.len ≡ seat.table.len)
@@ -77,17 +80,21 @@ module _ {C R I S L : Type 0} (meaning : Meaning C R I S) where
             subst (λ (l : List (Logged (About C R))). Shows meaning key.form key.callers l []) (sym log)
             (λ n index conn some most below. zero_bit index ∙ none_shown (nat_lt index key.form.vector)
             ∙ ap (λ (b : Bool). nat_lt index key.form.vector && b)
-            (sym (ap (λ (f : StrForm). meaning.stands (meaning.empty (shape_of f)) conn index) form_is ∙ clear conn index)))
+            (sym (ap (λ (f : StrForm). meaning.stands (meaning.empty (shape_of f)) conn index) form_is
+            ∙ clear conn index)))
             n index conn some most below;
       })
 
   -- a call keeps it
-  pub cell_called : (key : CellKey C R L) (limit : ℕ) (standing standing' : Standing S) (touched touched' : TouchedWords) (journal : List (Entry C R))
-      (links : Links L) (seat begun stored seat' : SeatSeen (About C R)) (bits : ℕ → ℕ → ℕ) (by : ConnId) (ask : Ask C) (reply : Reply R)
+  pub cell_called : (key : CellKey C R L) (limit : ℕ) (standing standing' : Standing S)
+      (touched touched' : TouchedWords) (journal : List (Entry C R))
+      (links : Links L) (seat begun stored seat' : SeatSeen (About C R)) (bits : ℕ → ℕ → ℕ) (by : ConnId)
+      (ask : Ask C) (reply : Reply R)
       → IsCell meaning key limit standing touched journal links seat
       → record { reply = reply; machine = standing'.machine } ≡ step meaning standing.form standing.machine by ask
       → standing'.form ≡ standing.form → IsOfTable touched touched' → by.0 ≤ key.callers → length journal < limit
-      → ((conn : ConnId) (index : ℕ) → 0 < conn.0 → conn.0 ≤ touched'.conns → index < touched'.len → IsSpared touched'.places conn.0 (index / 32)
+      → ((conn : ConnId) (index : ℕ) → 0 < conn.0 → conn.0 ≤ touched'.conns → index < touched'.len
+      → IsSpared touched'.places conn.0 (index / 32)
       → stands_at meaning standing'.machine conn index ≡ stands_at meaning standing.machine conn index)
       → begun ≡ record seat { number = length journal + 1 }
       → StoresEach key.words.conns key.words.len bits touched'.places begun stored
@@ -99,20 +106,27 @@ module _ {C R I S L : Type 0} (meaning : Meaning C R I S) where
       let number_of = length journal + 1 in
       let history = next meaning form journal by ask in
       let about : About C R = (ask, reply) in
-      let at_journal : step meaning standing.form standing.machine by ask ≡ step meaning form (replay meaning form journal) by ask =
-      ap (λ (f : StrForm). step meaning f standing.machine by ask) cell.form ∙ ap (λ (m : Machine S). step meaning form m by ask) cell.machine in
-      let replies : reply ≡ next_reply meaning form journal by ask = ap (λ (a : Answered R S). a.reply) (steps ∙ at_journal) in
+      let at_journal : step meaning standing.form standing.machine by ask ≡ step meaning form
+      (replay meaning form journal) by ask =
+      ap (λ (f : StrForm). step meaning f standing.machine by ask) cell.form
+      ∙ ap (λ (m : Machine S). step meaning form m by ask) cell.machine in
+      let replies : reply ≡ next_reply meaning form journal by ask = ap (λ (a : Answered R S). a.reply)
+      (steps ∙ at_journal) in
       let machine_is : standing'.machine ≡ replay meaning form history =
-      ap (λ (a : Answered R S). a.machine) (steps ∙ at_journal) ∙ sym (replay-push meaning form journal (next_entry meaning form journal by ask)) in
+      ap (λ (a : Answered R S). a.machine) (steps ∙ at_journal)
+      ∙ sym (replay-push meaning form journal (next_entry meaning form journal by ask)) in
       let journal_is : history ≡ entered journal by ask reply =
       ap (λ (r : Reply R). entered journal by ask r) (sym replies) in
       let begun_log : begun.log ≡ seat.log = ap (λ (s : SeatSeen (About C R)). s.log) begun_is in
       let begun_number : begun.number ≡ number_of = ap (λ (s : SeatSeen (About C R)). s.number) begun_is in
       let begun_table : begun.table ≡ seat.table = ap (λ (s : SeatSeen (About C R)). s.table) begun_is in
-      let stored_number : stored.number ≡ number_of = ap (λ (s : SeatSeen (About C R)). s.number) each.seat ∙ begun_number in
-      let stored_table : stored.table ≡ seat.table = ap (λ (s : SeatSeen (About C R)). s.table) each.seat ∙ begun_table in
+      let stored_number : stored.number ≡ number_of = ap (λ (s : SeatSeen (About C R)). s.number) each.seat
+      ∙ begun_number in
+      let stored_table : stored.table ≡ seat.table = ap (λ (s : SeatSeen (About C R)). s.table) each.seat
+      ∙ begun_table in
       let log_is : seat'.log ≡ stored.log ++ Committed number_of by.0 about ∷ [] =
-      ap (λ (s : SeatSeen (About C R)). s.log) seat_is ∙ ap (λ (n : ℕ). stored.log ++ Committed n by.0 about ∷ []) stored_number in
+      ap (λ (s : SeatSeen (About C R)). s.log) seat_is
+      ∙ ap (λ (n : ℕ). stored.log ++ Committed n by.0 about ∷ []) stored_number in
       let call : Call C R = next_call meaning form journal by ask in
       let here : List (Call C R) = calls journal ++ call ∷ [] in
       subst (λ (j : List (Entry C R)). IsCell meaning key limit standing' touched' j links seat') journal_is (record {
@@ -126,10 +140,14 @@ module _ {C R I S L : Type 0} (meaning : Meaning C R I S) where
         idle = ap (λ (s : SeatSeen (About C R)). s.number) seat_is;
         commits = ap commits_of log_is ∙ commits-commit stored.log number_of by.0 about
             ∙ ap (λ (cs : List _). cs ++ record { number = number_of; caller = by.0; about = about } ∷ [])
-            (stores-commits key.words.conns key.words.len bits touched'.places begun stored each ∙ ap commits_of begun_log ∙ cell.commits)
-            ∙ ap (λ (r : Reply R). map commit_of (calls journal) ++ record { number = number_of; caller = by.0; about = (ask, r) } ∷ []) replies
-            ∙ sym (ap (map commit_of) (calls-next meaning form journal by ask) ∙ map-append commit_of (calls journal) (call ∷ []));
-        count = ap count_of log_is ∙ count-push stored.log (Committed number_of by.0 about) ∙ sym (length-next meaning form journal by ask);
+            (stores-commits key.words.conns key.words.len bits touched'.places begun stored each
+            ∙ ap commits_of begun_log ∙ cell.commits)
+            ∙ ap (λ (r : Reply R). map commit_of (calls journal) ++ record
+            { number = number_of; caller = by.0; about = (ask, r) } ∷ []) replies
+            ∙ sym (ap (map commit_of) (calls-next meaning form journal by ask)
+            ∙ map-append commit_of (calls journal) (call ∷ []));
+        count = ap count_of log_is ∙ count-push stored.log (Committed number_of by.0 about)
+            ∙ sym (length-next meaning form journal by ask);
         callers = subst (All (λ (c : Call C R). c.by.0 ≤ key.callers)) (sym (calls-next meaning form journal by ask))
             (All-push (λ (c : Call C R). c.by.0 ≤ key.callers) (calls journal) call cell.callers within);
         most = (
@@ -144,7 +162,8 @@ module _ {C R I S L : Type 0} (meaning : Meaning C R I S) where
             cell.bits cell.numbered begun_log begun_number
             (subst (λ (n : ℕ). StoresEach n form.vector bits touched'.places begun stored) cell.conns
             (subst (λ (n : ℕ). StoresEach key.words.conns n bits touched'.places begun stored) cell.len each))
-            (λ conn word. are conn word ∙ ap (λ (f : StrForm). words_in meaning f standing'.machine conn word) (form_is ∙ cell.form))
+            (λ conn word. are conn word
+            ∙ ap (λ (f : StrForm). words_in meaning f standing'.machine conn word) (form_is ∙ cell.form))
             machine_is
             (λ conn index some most inside spared.
             kept conn index some (subst (λ (n : ℕ). conn.0 ≤ n) (sym (same_table.0 ∙ cell.touches.0)) most)
@@ -153,22 +172,27 @@ module _ {C R I S L : Type 0} (meaning : Meaning C R I S) where
       })
 
   -- so does a step that leaves the seat as it was
-  pub cell_same : (key : CellKey C R L) (limit : ℕ) (standing : Standing S) (touched : TouchedWords) (journal : List (Entry C R)) (links : Links L)
+  pub cell_same : (key : CellKey C R L) (limit : ℕ) (standing : Standing S) (touched : TouchedWords)
+      (journal : List (Entry C R)) (links : Links L)
       (seat seat' : SeatSeen (About C R)) → IsCell meaning key limit standing touched journal links seat → seat' ≡ seat
       → IsCell meaning key limit standing touched journal links seat'
   cell_same key limit standing touched journal links seat seat' cell same =
       subst (IsCell meaning key limit standing touched journal links) (sym same) cell
 
   -- the same, by other names for what is the same
-  pub cell_answered : (key : CellKey C R L) (limit : ℕ) (standing standing' : Standing S) (touched touched' : TouchedWords) (journal journal' : List (Entry C R))
-      (links : Links L) (seat learned begun stored seat' : SeatSeen (About C R)) (vectors : WordTable) (named : List Place) (count owner : ℕ)
+  pub cell_answered : (key : CellKey C R L) (limit : ℕ) (standing standing' : Standing S)
+      (touched touched' : TouchedWords) (journal journal' : List (Entry C R))
+      (links : Links L) (seat learned begun stored seat' : SeatSeen (About C R)) (vectors : WordTable)
+      (named : List Place) (count owner : ℕ)
       (by : ConnId) (ask : Ask C) (reply : Reply R)
       → IsCell meaning key limit standing touched journal links seat
       → record { reply = reply; machine = standing'.machine } ≡ step meaning standing.form standing.machine by ask
       → standing'.form ≡ standing.form → IsOfTable touched touched' → length journal < limit
-      → ((conn : ConnId) (index : ℕ) → 0 < conn.0 → conn.0 ≤ touched'.conns → index < touched'.len → IsSpared touched'.places conn.0 (index / 32)
+      → ((conn : ConnId) (index : ℕ) → 0 < conn.0 → conn.0 ≤ touched'.conns → index < touched'.len
+      → IsSpared touched'.places conn.0 (index / 32)
       → stands_at meaning standing'.machine conn index ≡ stands_at meaning standing.machine conn index)
-      → vectors ≡ key.words → named ≡ touched'.places → learned ≡ seat → count ≡ length journal + 1 → by.0 ≡ owner → owner ≤ vectors.conns
+      → vectors ≡ key.words → named ≡ touched'.places → learned ≡ seat → count ≡ length journal + 1 → by.0 ≡ owner
+      → owner ≤ vectors.conns
       → begun ≡ record learned { number = count }
       → StoresEach vectors.conns vectors.len (words_in meaning standing'.form standing'.machine) named begun stored
       → seat' ≡ record stored { number = 0; log = stored.log ++ Committed stored.number owner (ask, reply) ∷ [] }
@@ -177,14 +201,24 @@ module _ {C R I S L : Type 0} (meaning : Meaning C R I S) where
   cell_answered key limit standing standing' touched touched' journal journal' links seat learned begun stored seat' vectors named count owner by ask reply
       cell steps form_is same_table few kept vectors_are named_are learned_is count_is by_is most begun_is each seat_is journal_is =
       let within : by.0 ≤ key.callers =
-      subst (λ (n : ℕ). n ≤ key.callers) (sym by_is) (subst (λ (n : ℕ). owner ≤ n) (ap (λ (w : WordTable). w.conns) vectors_are ∙ cell.conns) most) in
+      subst (λ (n : ℕ). n ≤ key.callers) (sym by_is)
+      (subst (λ (n : ℕ). owner ≤ n) (ap (λ (w : WordTable). w.conns) vectors_are ∙ cell.conns) most) in
       let begun_seat : begun ≡ record seat { number = length journal + 1 } =
-      begun_is ∙ ap (λ (n : ℕ). record learned { number = n }) count_is ∙ ap (λ (s : SeatSeen (About C R)). record s { number = length journal + 1 }) learned_is in
-      let stores : StoresEach key.words.conns key.words.len (words_in meaning standing'.form standing'.machine) touched'.places begun stored =
-      subst (λ (w : WordTable). StoresEach w.conns w.len (words_in meaning standing'.form standing'.machine) touched'.places begun stored) vectors_are
-      (subst (λ (ps : List Place). StoresEach vectors.conns vectors.len (words_in meaning standing'.form standing'.machine) ps begun stored) named_are each) in
+      begun_is ∙ ap (λ (n : ℕ). record learned { number = n }) count_is
+      ∙ ap (λ (s : SeatSeen (About C R)). record s { number = length journal + 1 }) learned_is in
+      let stores : StoresEach key.words.conns key.words.len
+      (words_in meaning standing'.form standing'.machine) touched'.places begun stored =
+      subst (λ (w : WordTable). StoresEach w.conns w.len
+      (words_in meaning standing'.form standing'.machine) touched'.places begun stored) vectors_are
+      (subst (λ (ps : List Place). StoresEach vectors.conns vectors.len
+      (words_in meaning standing'.form standing'.machine) ps begun stored) named_are each) in
       subst (λ (j : List (Entry C R)). IsCell meaning key limit standing' touched' j links seat')
-      (ap (λ (n : ℕ). (let added : Entry C R = record { no = n; by = by; what = what.Call ask; reply = reply } in journal ++ added ∷ [])) (sym count_is) ∙ sym journal_is)
-      (cell_called key limit standing standing' touched touched' journal links seat begun stored seat' (words_in meaning standing'.form standing'.machine)
+      (ap (λ (n : ℕ).
+      (let added : Entry C R = record { no = n; by = by; what = what.Call ask; reply = reply } in journal ++ added ∷
+      [])) (sym count_is) ∙ sym journal_is)
+      (cell_called key limit standing standing' touched touched' journal links seat begun stored seat'
+      (words_in meaning standing'.form standing'.machine)
       by ask reply cell steps form_is same_table within few kept begun_seat stores (λ conn word. refl)
-      (seat_is ∙ ap (λ (n : ℕ). record stored { number = 0; log = stored.log ++ Committed stored.number n (ask, reply) ∷ [] }) (sym by_is)))
+      (seat_is
+      ∙ ap (λ (n : ℕ). record stored { number = 0; log = stored.log ++ Committed stored.number n (ask, reply) ∷ [] })
+      (sym by_is)))

@@ -13,14 +13,19 @@ use Rattle.vec_words.specs.Stores.{IsAt, IsSpared, AreDistinct}
 use Rattle.std.proofs.lemmas.List.Quantifiers.{all_pairs_push}
 
 -- no place of a list and one more
-pub spared-front : (places : List Place) (place : Place) (conn word : ℕ) → IsSpared (places ++ place ∷ []) conn word → IsSpared places conn word
-spared-front places place conn word spared = (All-pop (λ p. ¬ IsAt conn word p) (places ++ place ∷ []) places (Some place) refl spared).0
+pub spared-front : (places : List Place) (place : Place) (conn word : ℕ) → IsSpared (places ++ place ∷ []) conn word
+    → IsSpared places conn word
+spared-front places place conn word spared =
+    (All-pop (λ p. ¬ IsAt conn word p) (places ++ place ∷ []) places (Some place) refl spared).0
 
-pub spared-last : (places : List Place) (place : Place) (conn word : ℕ) → IsSpared (places ++ place ∷ []) conn word → ¬ IsAt conn word place
-spared-last places place conn word spared = (All-pop (λ p. ¬ IsAt conn word p) (places ++ place ∷ []) places (Some place) refl spared).1
+pub spared-last : (places : List Place) (place : Place) (conn word : ℕ) → IsSpared (places ++ place ∷ []) conn word
+    → ¬ IsAt conn word place
+spared-last places place conn word spared =
+    (All-pop (λ p. ¬ IsAt conn word p) (places ++ place ∷ []) places (Some place) refl spared).1
 
 -- a bit whose word isn't this one is another bit
-pub bit-apart : (change : BitChange) (conn : ConnId) (index : ℕ) → ¬ IsAt conn.0 (index / 32) (record { conn = change.conn; word = change.index / 32 })
+pub bit-apart : (change : BitChange) (conn : ConnId) (index : ℕ)
+    → ¬ IsAt conn.0 (index / 32) (record { conn = change.conn; word = change.index / 32 })
     → is_for conn index change ≡ false
 bit-apart change conn index apart = by_same (is_for conn index change) refl
   where
@@ -32,7 +37,8 @@ bit-apart change conn index apart = by_same (is_for conn index change) refl
     by_same false other = other
 
 -- nor is a bit that the vectors don't have one that they have
-pub bit-past : (change : BitChange) (conns len : ℕ) (conn : ConnId) (index : ℕ) → (change.conn.0 ≡ 0) ⊎ ((conns < change.conn.0) ⊎ (len ≤ change.index))
+pub bit-past : (change : BitChange) (conns len : ℕ) (conn : ConnId) (index : ℕ)
+    → (change.conn.0 ≡ 0) ⊎ ((conns < change.conn.0) ⊎ (len ≤ change.index))
     → 0 < conn.0 → conn.0 ≤ conns → index < len → is_for conn index change ≡ false
 bit-past change conns len conn index past some most below = grind (arith, nat_tests)
 
@@ -45,13 +51,17 @@ none-named d changes i conn index within all here =
     subst (All P) (sym (take_more changes i d within)) (All-push P (take i changes) (get_or changes i d) all here)
 
 -- a place that is named already
-pub bit-named : (named : List Place) (change : BitChange) (place : Place) (conn : ConnId) (index : ℕ) → place ≡ record { conn = change.conn; word = change.index / 32 }
+pub bit-named : (named : List Place) (change : BitChange) (place : Place) (conn : ConnId) (index : ℕ)
+    → place ≡ record { conn = change.conn; word = change.index / 32 }
     → Contains named place → IsSpared named conn.0 (index / 32) → is_for conn index change ≡ false
 bit-named named change place conn index is has spared =
-    bit-apart change conn index (subst (λ p. ¬ IsAt conn.0 (index / 32) p) is (All-contains (λ p. ¬ IsAt conn.0 (index / 32) p) named place spared has))
+    bit-apart change conn index
+    (subst (λ p. ¬ IsAt conn.0 (index / 32) p) is
+    (All-contains (λ p. ¬ IsAt conn.0 (index / 32) p) named place spared has))
 
 -- the words of one connector's vector, one more
-pub words-more : (places now : List Place) (conn n : ℕ) → ((other word : ℕ) → IsSpared now other word → IsSpared places other word)
+pub words-more : (places now : List Place) (conn n : ℕ)
+    → ((other word : ℕ) → IsSpared now other word → IsSpared places other word)
     → (IsSpared now conn n → ⊥) → ((word : ℕ) → word < n → IsSpared places conn word → ⊥)
     → (word : ℕ) → word < n + 1 → IsSpared now conn word → ⊥
 words-more places now conn n others here before word less spared =
@@ -61,18 +71,21 @@ words-more places now conn n others here before word less spared =
     ]
 
 -- the vectors of connectors, one more
-pub vectors-more : (places now : List Place) (words n : ℕ) → ((conn word : ℕ) → IsSpared now conn word → IsSpared places conn word)
+pub vectors-more : (places now : List Place) (words n : ℕ)
+    → ((conn word : ℕ) → IsSpared now conn word → IsSpared places conn word)
     → ((word : ℕ) → word < words → IsSpared now (n + 1) word → ⊥)
     → ((conn word : ℕ) → 0 < conn → conn ≤ n → word < words → IsSpared places conn word → ⊥)
     → (conn word : ℕ) → 0 < conn → conn ≤ n + 1 → word < words → IsSpared now conn word → ⊥
 vectors-more places now words n others here before conn word some most below spared =
     elim (cases_lt conn (n + 1)) [
       | inl low ↦ before conn word some (omega arith) below (others conn word spared)
-      | inr high ↦ let same : conn ≡ n + 1 = omega arith in here word below (subst (λ c. IsSpared now c word) same spared)
+      | inr high ↦ let same : conn ≡ n + 1 = omega arith in here word below
+          (subst (λ c. IsSpared now c word) same spared)
     ]
 
 -- one place more, that is none of the others
-pub distinct-push : (places : List Place) (place : Place) → AreDistinct places → (Contains places place → ⊥) → AreDistinct (places ++ place ∷ [])
+pub distinct-push : (places : List Place) (place : Place) → AreDistinct places → (Contains places place → ⊥)
+    → AreDistinct (places ++ place ∷ [])
 distinct-push places place distinct apart =
     all_pairs_push (λ (one other : Place). ¬ IsAt other.conn.0 other.word one) places place distinct
     (λ k d less is. apart (k, less, get_or_default places k place d less ∙ same (get_or places k d) is))
@@ -81,8 +94,10 @@ distinct-push places place distinct apart =
     same other is = λ j. record { conn = record { 0 = is.0 j }; word = is.1 j }
 
 -- a place that is among others isn't spared by them
-pub contains-spared : (places : List Place) (place : Place) → Contains places place → IsSpared places place.conn.0 place.word → ⊥
-contains-spared places place has spared = All-contains (λ p. ¬ IsAt place.conn.0 place.word p) places place spared has (refl, refl)
+pub contains-spared : (places : List Place) (place : Place) → Contains places place
+    → IsSpared places place.conn.0 place.word → ⊥
+contains-spared places place has spared = All-contains
+    (λ p. ¬ IsAt place.conn.0 place.word p) places place spared has (refl, refl)
 
 -- each of distinct places is spared by those before it
 pub spared-before : (places : List Place) (i : ℕ) (d : Place) → i < length places → AreDistinct places
@@ -90,5 +105,6 @@ pub spared-before : (places : List Place) (i : ℕ) (d : Place) → i < length p
 spared-before places i d within distinct k e below is =
     let short : length (take i places) ≡ i = length-take-le i places (omega arith) in
     let before : k < i = omega (arith, short, below) in
-    let there : get_or (take i places) k e ≡ get_or places k d = get_or-take i places k e before ∙ get_or_default places k e d (omega arith) in
+    let there : get_or (take i places) k e ≡ get_or places k d = get_or-take i places k e before
+    ∙ get_or_default places k e d (omega arith) in
     distinct k i d before within (subst (IsAt (get_or places i d).conn.0 (get_or places i d).word) there is)

@@ -18,7 +18,8 @@ use Rattle.struct_cell.specs.Cells.{IsNumbered}
 -- the calls below a number, with one more call
 module _ {C R : Type 0} where
   below_push : (n : ℕ) (all : List (Call C R)) (call : Call C R) (b : Bool) → nat_lt call.no n ≡ b
-      → filter (λ (c : Call C R). nat_lt c.no n) (all ++ call ∷ []) ≡ filter (λ (c : Call C R). nat_lt c.no n) all ++ (if b then call ∷ [] else [])
+      → filter (λ (c : Call C R). nat_lt c.no n) (all ++ call ∷ []) ≡ filter (λ (c : Call C R). nat_lt c.no n) all ++
+      (if b then call ∷ [] else [])
   below_push n all call true is = filter-append (λ (c : Call C R). nat_lt c.no n) all (call ∷ []) ∙ rw is refl
   below_push n all call false is = filter-append (λ (c : Call C R). nat_lt c.no n) all (call ∷ []) ∙ rw is refl
 
@@ -40,7 +41,8 @@ module _ {C R : Type 0} where
       at_start n point = let none = no_point n point in omega (arith, none)
 
 module _ {C R I S : Type 0} (meaning : Meaning C R I S) (form : StrForm) where
-  pub length-next : (history : List (Entry C R)) (by : ConnId) (ask : Ask C) → length (next meaning form history by ask) ≡ length history + 1
+  pub length-next : (history : List (Entry C R)) (by : ConnId) (ask : Ask C)
+      → length (next meaning form history by ask) ≡ length history + 1
   length-next history by ask = length-append history (next_entry meaning form history by ask ∷ [])
 
   -- up to its number the next call is none
@@ -50,7 +52,8 @@ module _ {C R I S : Type 0} (meaning : Meaning C R I S) (form : StrForm) where
       let call : Call C R = next_call meaning form history by ask in
       let is : nat_lt call.no n ≡ false = grind (arith, nat_tests) in
       ap (fold last_number 0)
-      (ap (filter (λ (c : Call C R). nat_lt c.no n)) (calls-next meaning form history by ask) ∙ below_push n (calls history) call false is
+      (ap (filter (λ (c : Call C R). nat_lt c.no n)) (calls-next meaning form history by ask)
+      ∙ below_push n (calls history) call false is
       ∙ append-nil (filter (λ (c : Call C R). nat_lt c.no n) (calls history)))
 
   -- past it, it is the last
@@ -60,23 +63,27 @@ module _ {C R I S : Type 0} (meaning : Meaning C R I S) (form : StrForm) where
       let call : Call C R = next_call meaning form history by ask in
       let is : nat_lt call.no n ≡ true = grind (arith, nat_tests) in
       ap (fold last_number 0)
-      (ap (filter (λ (c : Call C R). nat_lt c.no n)) (calls-next meaning form history by ask) ∙ below_push n (calls history) call true is)
+      (ap (filter (λ (c : Call C R). nat_lt c.no n)) (calls-next meaning form history by ask)
+      ∙ below_push n (calls history) call true is)
       ∙ fold_push last_number 0 (filter (λ (c : Call C R). nat_lt c.no n) (calls history)) call
 
   -- a point is one of before, or the next call
-  pub point_cases : (history : List (Entry C R)) (by : ConnId) (ask : Ask C) (n : ℕ) → IsPoint (next meaning form history by ask) n
+  pub point_cases : (history : List (Entry C R)) (by : ConnId) (ask : Ask C) (n : ℕ)
+      → IsPoint (next meaning form history by ask) n
       → IsPoint history n ⊎ (length history + 1 ≡ n)
   point_cases history by ask n (inl none) = inl (inl none)
   point_cases history by ask n (inr there) =
       let all : numbers (next meaning form history by ask) ≡ numbers history ++ (length history + 1) ∷ [] =
       ap (map (λ (call : Call C R). call.no)) (calls-next meaning form history by ask)
       ∙ map-append (λ (call : Call C R). call.no) (calls history) (next_call meaning form history by ask ∷ []) in
-      elim (Contains-push_cases (numbers history) (length history + 1) n (subst (λ (ns : List ℕ). Contains ns n) all there)) [
+      elim (Contains-push_cases (numbers history) (length history + 1) n
+      (subst (λ (ns : List ℕ). Contains ns n) all there)) [
         | inl old ↦ inl (inr old)
         | inr new ↦ inr new
       ]
 
-  pub numbered_next : (history : List (Entry C R)) (by : ConnId) (ask : Ask C) → IsNumbered history → IsNumbered (next meaning form history by ask)
+  pub numbered_next : (history : List (Entry C R)) (by : ConnId) (ask : Ask C) → IsNumbered history
+      → IsNumbered (next meaning form history by ask)
   numbered_next history by ask was =
       record {
         within = λ n point. subst (λ (m : ℕ). n ≤ m) (sym (length-next history by ask)) (
@@ -84,7 +91,8 @@ module _ {C R I S : Type 0} (meaning : Meaning C R I S) (form : StrForm) where
               | inl old ↦ let few = was.within n old in omega (arith, few)
               | inr new ↦ omega (arith, new)
             ]);
-        below = λ n. subst (λ (m : ℕ). last_call_below (next meaning form history by ask) n ≤ m) (sym (length-next history by ask)) (
+        below = λ n. subst (λ (m : ℕ). last_call_below (next meaning form history by ask) n ≤ m)
+            (sym (length-next history by ask)) (
             elim (cases_lt n (length history + 2)) [
               | inl low ↦
                   let same = last_below-next history by ask n (omega (arith, low)) in
@@ -96,7 +104,8 @@ module _ {C R I S : Type 0} (meaning : Meaning C R I S) (form : StrForm) where
             let behind : length history + 1 < n = subst (λ (m : ℕ). m < n) (length-next history by ask) past in
             last_below-past history by ask n behind ∙ sym (length-next history by ask));
         points = λ n point. elim (point_cases history by ask n point) [
-          | inl old ↦ let few = was.within n old in last_below-next history by ask (n + 1) (omega (arith, few)) ∙ was.points n old
+          | inl old ↦ let few = was.within n old in last_below-next history by ask (n + 1) (omega (arith, few))
+              ∙ was.points n old
           | inr new ↦ last_below-past history by ask (n + 1) (omega (arith, new)) ∙ new
         ];
       }

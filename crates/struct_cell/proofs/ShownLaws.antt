@@ -28,8 +28,10 @@ module _ {C R I S : Type 0} (meaning : Meaning C R I S) (form : StrForm) where
   -- ---- histories
 
   -- up to the next call's number nothing is different
-  shown-old : (history : List (Entry C R)) (by : ConnId) (ask : Ask C) (n : ℕ) (conn : ConnId) (index : ℕ) → IsNumbered history → n ≤ length history + 1
-      → shown_below meaning form (next meaning form history by ask) n conn index ≡ shown_below meaning form history n conn index
+  shown-old : (history : List (Entry C R)) (by : ConnId) (ask : Ask C) (n : ℕ) (conn : ConnId) (index : ℕ)
+      → IsNumbered history → n ≤ length history + 1
+      → shown_below meaning form
+      (next meaning form history by ask) n conn index ≡ shown_below meaning form history n conn index
   shown-old history by ask n conn index was low =
       ap (λ (h : List (Entry C R)). shown_after meaning form h conn index)
       (ap (λ (k : ℕ). take k (next meaning form history by ask)) (last_below-next meaning form history by ask n low)
@@ -41,17 +43,21 @@ module _ {C R I S : Type 0} (meaning : Meaning C R I S) (form : StrForm) where
       ap (λ (h : List (Entry C R)). shown_after meaning form h conn index)
       (ap (λ (k : ℕ). take k history) (was.ended n past) ∙ take_all (length history) history (omega arith))
 
-  shown-new : (history : List (Entry C R)) (by : ConnId) (ask : Ask C) (n : ℕ) (conn : ConnId) (index : ℕ) → length history + 1 < n
-      → shown_below meaning form (next meaning form history by ask) n conn index ≡ shown_after meaning form (next meaning form history by ask) conn index
+  shown-new : (history : List (Entry C R)) (by : ConnId) (ask : Ask C) (n : ℕ) (conn : ConnId) (index : ℕ)
+      → length history + 1 < n
+      → shown_below meaning form (next meaning form history by ask) n conn index ≡ shown_after meaning form
+      (next meaning form history by ask) conn index
   shown-new history by ask n conn index past =
-      let all : length (next meaning form history by ask) ≡ length history + 1 = length-next meaning form history by ask in
+      let all : length
+      (next meaning form history by ask) ≡ length history + 1 = length-next meaning form history by ask in
       ap (λ (h : List (Entry C R)). shown_after meaning form h conn index)
       (ap (λ (k : ℕ). take k (next meaning form history by ask)) (last_below-past meaning form history by ask n past)
       ∙ take_all (length history + 1) (next meaning form history by ask) (omega (arith, all)))
 
   -- ---- words
 
-  bit_of_word : (machine : Machine S) (conn : ConnId) (index : ℕ) → bit_in (words_in meaning form machine conn.0 (index / 32)) index ≡ shown_in meaning form machine conn index
+  bit_of_word : (machine : Machine S) (conn : ConnId) (index : ℕ)
+      → bit_in (words_in meaning form machine conn.0 (index / 32)) index ≡ shown_in meaning form machine conn index
   bit_of_word machine conn index =
       let same : 32 * (index / 32) + index % 32 ≡ index = omega arith in
       whole_bit (λ k. shown_in meaning form machine conn (32 * (index / 32) + k)) index
@@ -62,25 +68,30 @@ module _ {C R I S : Type 0} (meaning : Meaning C R I S) (form : StrForm) where
       → shown_in meaning form one conn index ≡ shown_in meaning form other conn index
   masked one other conn index same = by_end (nat_lt index form.vector) refl
     where
-      by_end : (b : Bool) → nat_lt index form.vector ≡ b → shown_in meaning form one conn index ≡ shown_in meaning form other conn index
+      by_end : (b : Bool) → nat_lt index form.vector ≡ b
+          → shown_in meaning form one conn index ≡ shown_in meaning form other conn index
       by_end true is = let below : index < form.vector = grind (arith, nat_tests) in rw is (same below)
       by_end false is = rw is refl
 
   -- a call's stores, and its commit
-  pub shows_next : (conns : ℕ) (history : List (Entry C R)) (by : ConnId) (ask : Ask C) (machine : Machine S) (named : List Place)
+  pub shows_next : (conns : ℕ) (history : List (Entry C R)) (by : ConnId) (ask : Ask C) (machine : Machine S)
+      (named : List Place)
       (bits : ℕ → ℕ → ℕ) (before begun stored : SeatSeen (About C R)) (caller : ℕ) (about : About C R)
       → Shows meaning form conns before.log history → IsNumbered history
       → begun.log ≡ before.log → begun.number ≡ length history + 1
       → StoresEach conns form.vector bits named begun stored
       → ((conn word : ℕ) → bits conn word ≡ words_in meaning form machine conn word)
       → machine ≡ replay meaning form (next meaning form history by ask)
-      → ((conn : ConnId) (index : ℕ) → 0 < conn.0 → conn.0 ≤ conns → index < form.vector → IsSpared named conn.0 (index / 32)
+      → ((conn : ConnId) (index : ℕ) → 0 < conn.0 → conn.0 ≤ conns → index < form.vector
+      → IsSpared named conn.0 (index / 32)
       → meaning.stands machine.content conn index ≡ meaning.stands (replay meaning form history).content conn index)
-      → Shows meaning form conns (stored.log ++ Committed (length history + 1) caller about ∷ []) (next meaning form history by ask)
+      → Shows meaning form conns (stored.log ++ Committed (length history + 1) caller about ∷ [])
+      (next meaning form history by ask)
   shows_next conns history by ask machine named bits before begun stored caller about shows was same_log number each are machine_is kept n index conn some most below =
       let number_of = length history + 1 in
       let w = word_number form.vector conn.0 (index / 32) in
-      let after : shown_after meaning form (next meaning form history by ask) conn index ≡ shown_in meaning form machine conn index =
+      let after : shown_after meaning form
+      (next meaning form history by ask) conn index ≡ shown_in meaning form machine conn index =
       ap (λ (m : Machine S). shown_in meaning form m conn index) (sym machine_is) in
       ap (λ (b : ℕ). bit_in b index) (bits-commit stored.log number_of caller about w n)
       ∙ elim (cases_lt n number_of) [
@@ -98,7 +109,8 @@ module _ {C R I S : Type 0} (meaning : Meaning C R I S) (form : StrForm) where
             (λ spared. ap (λ (l : List (Logged (About C R))). bit_in (bits_at (steps_of l) w n) index) same_log
             ∙ shows n index conn some most below
             ∙ shown-end history (n + 1) conn index was (omega (arith, high))
-            ∙ sym (masked machine (replay meaning form history) conn index (λ inside. kept conn index some most inside spared)))
+            ∙ sym (masked machine (replay meaning form history) conn index
+            (λ inside. kept conn index some most inside spared)))
             ∙ sym after
             ∙ sym (shown-new history by ask (n + 1) conn index (omega (arith, high)))
       ]

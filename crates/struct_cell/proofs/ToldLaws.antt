@@ -27,29 +27,38 @@ use Rattle.struct_cell.specs.Telling.{IsTold}
 module _ {C R : Type 0} where
   -- a call's number is among the numbers
   contains_number : (all : List (Call C R)) → All (λ call. Contains (map (λ (c : Call C R). c.no) all) call.no) all
-  contains_number all k d below =
-      (k, subst (λ (n : ℕ). k < n) (sym (length-map all (λ (c : Call C R). c.no))) below, get_or-map (λ (c : Call C R). c.no) all k d (get_or all k d).no below)
+  contains_number all k d below = (
+    k,
+    subst (λ (n : ℕ). k < n) (sym (length-map all (λ (c : Call C R). c.no))) below,
+    get_or-map
+        (λ (c : Call C R). c.no) all k d (get_or all k d).no below,
+  )
 
   -- the calls of one caller among commits are those of the history
-  own_calls : (owner : ℕ) (all : List (Call C R)) → calls_in owner (map commit_of all) ≡ map answered (filter (λ call. call.by.0 == owner) all)
+  own_calls : (owner : ℕ) (all : List (Call C R))
+      → calls_in owner (map commit_of all) ≡ map answered (filter (λ call. call.by.0 == owner) all)
   own_calls owner [] = refl
   own_calls owner (call ∷ all) = by_owner (call.by.0 == owner) refl (own_calls owner all)
     where
       by_owner : (b : Bool) → call.by.0 == owner ≡ b
           → calls_in owner (map commit_of all) ≡ map answered (filter (λ (c : Call C R). c.by.0 == owner) all)
-          → calls_in owner (map commit_of (call ∷ all)) ≡ map answered (filter (λ (c : Call C R). c.by.0 == owner) (call ∷ all))
+          → calls_in owner (map commit_of (call ∷ all)) ≡ map answered
+          (filter (λ (c : Call C R). c.by.0 == owner) (call ∷ all))
       by_owner true is rest = rw is (ap (λ (more : List (ℕ × About C R)). answered call ∷ more) rest)
       by_owner false is rest = rw is rest
 
-module _ {C R I S L : Type 0} (meaning : Meaning C R I S) (key : CellKey C R L) (limit : ℕ) (standing : Standing S) (touched : TouchedWords)
-    (journal : List (Entry C R)) (links : Links L) (seat : SeatSeen (About C R)) (cell : IsCell meaning key limit standing touched journal links seat) where
+module _ {C R I S L : Type 0} (meaning : Meaning C R I S) (key : CellKey C R L) (limit : ℕ) (standing : Standing S)
+    (touched : TouchedWords)
+    (journal : List (Entry C R)) (links : Links L) (seat : SeatSeen (About C R))
+    (cell : IsCell meaning key limit standing touched journal links seat) where
   -- a number that was issued is a point of the journal
   pub issued_point : (n : ℕ) → IsIssued seat.log seat.number n → IsPoint journal n
   issued_point n (inl none) = inl none
   issued_point n (inr (inl done)) =
       inr (committed-all (λ (k : ℕ). Contains (numbers journal) k) seat.log n
       (subst (All (λ c. Contains (numbers journal) c.number)) (sym cell.commits)
-      (All-map (λ c. Contains (numbers journal) c.number) commit_of (calls journal) (contains_number (calls journal)))) done)
+      (All-map (λ c. Contains (numbers journal) c.number) commit_of (calls journal)
+      (contains_number (calls journal)))) done)
   issued_point n (inr (inr flying)) = inl (flying ∙ cell.idle)
 
   pub issued_within : (n : ℕ) → IsIssued seat.log seat.number n → n ≤ length journal
@@ -59,7 +68,8 @@ module _ {C R I S L : Type 0} (meaning : Meaning C R I S) (key : CellKey C R L) 
       → shown_after meaning key.form h conn index ≡ stands_after meaning key.form h conn index
   shown_is h conn index below = let is : nat_lt index key.form.vector ≡ true = grind (arith, nat_tests) in rw is refl
 
-  shown_none : (h : List (Entry C R)) (conn : ConnId) (index : ℕ) → key.form.vector ≤ index → shown_after meaning key.form h conn index ≡ false
+  shown_none : (h : List (Entry C R)) (conn : ConnId) (index : ℕ) → key.form.vector ≤ index
+      → shown_after meaning key.form h conn index ≡ false
   shown_none h conn index past = let is : nat_lt index key.form.vector ≡ false = grind (arith, nat_tests) in rw is refl
 
   pub told : (owner : ℕ) (test : Sight) → owner ≤ key.callers → IsHonest seat.log seat.number key.words.len owner test
@@ -67,12 +77,17 @@ module _ {C R I S L : Type 0} (meaning : Meaning C R I S) (key : CellKey C R L) 
   told owner test most honest =
       let conn : ConnId = record { 0 = owner } in
       let point : IsPoint journal test.at = issued_point test.at honest.issued in
-      let bits_of : ℕ → ℕ → Bool = λ len n. bit_in (bits_at (steps_of seat.log) (word_number len owner (test.index / 32)) n) test.index in
-      let within : test.index / 32 < words_of key.form.vector = subst (λ (n : ℕ). test.index / 32 < words_of n) cell.len honest.within in
+      let bits_of : ℕ → ℕ
+      → Bool = λ len n. bit_in
+      (bits_at (steps_of seat.log) (word_number len owner (test.index / 32)) n) test.index in
+      let within : test.index / 32 < words_of key.form.vector = subst
+      (λ (n : ℕ). test.index / 32 < words_of n) cell.len honest.within in
       let at_number : (n : ℕ) → bits_of key.words.len n ≡ shown_below meaning key.form journal (n + 1) conn test.index =
       λ n. ap (λ (len : ℕ). bits_of len n) cell.len ∙ cell.bits n test.index conn honest.connector most within in
-      let here : shown_below meaning key.form journal (test.at + 1) conn test.index ≡ shown_after meaning key.form (take test.at journal) conn test.index =
-      ap (λ (k : ℕ). shown_after meaning key.form (take k journal) conn test.index) (cell.numbered.points test.at point) in
+      let here : shown_below meaning key.form journal (test.at + 1) conn test.index ≡ shown_after meaning key.form
+      (take test.at journal) conn test.index =
+      ap (λ (k : ℕ). shown_after meaning key.form (take k journal) conn test.index)
+      (cell.numbered.points test.at point) in
       let before : test.sure < test.at → shown_below meaning key.form journal (test.at - 1 + 1) conn test.index
       ≡ shown_after meaning key.form (take (last_call_below journal test.at) journal) conn test.index =
       λ later. (let same : test.at - 1 + 1 ≡ test.at = omega (arith, later) in
@@ -103,33 +118,45 @@ module _ {C R I S L : Type 0} (meaning : Meaning C R I S) (key : CellKey C R L) 
   pub tests_told : (pass : PassSeen (About C R)) → pass.table ≡ key.words → IsShown seat pass
       → All (IsTold meaning key.form journal pass.owner) pass.tests
   tests_told pass table shown =
-      let most : pass.owner ≤ key.callers = subst (λ (n : ℕ). pass.owner ≤ n) (ap (λ w. w.conns) table ∙ cell.conns) shown.owner in
+      let most : pass.owner ≤ key.callers = subst (λ (n : ℕ). pass.owner ≤ n)
+      (ap (λ w. w.conns) table ∙ cell.conns) shown.owner in
       All-weaker (IsHonest seat.log seat.number pass.table.len pass.owner) (IsTold meaning key.form journal pass.owner)
-      (λ test honest. told pass.owner test most (subst (λ w. IsHonest seat.log seat.number w.len pass.owner test) table honest)) pass.tests shown.tests
+      (λ test honest. told pass.owner test most
+      (subst (λ w. IsHonest seat.log seat.number w.len pass.owner test) table honest)) pass.tests shown.tests
 
-  pub mine_own : (pass : PassSeen (About C R)) → IsShown seat pass → pass.mine ≡ map answered (own journal (record { 0 = pass.owner }))
+  pub mine_own : (pass : PassSeen (About C R)) → IsShown seat pass
+      → pass.mine ≡ map answered (own journal (record { 0 = pass.owner }))
   mine_own pass shown = shown.mine ∙ ap (calls_in pass.owner) cell.commits ∙ own_calls pass.owner (calls journal)
 
 -- ---- a cell that is closed
 
-module _ {C R I S L : Type 0} (meaning : Meaning C R I S) (key seen : CellKey C R L) (limit : ℕ) (standing : Standing S) (touched : TouchedWords)
-    (journal history : List (Entry C R)) (links : Links L) (seat : SeatSeen (About C R)) (passes : List (PassSeen (About C R)))
-    (cell : IsCell meaning key limit standing touched journal links seat) (key_is : key ≡ seen) (history_is : history ≡ journal) where
+module _ {C R I S L : Type 0} (meaning : Meaning C R I S) (key seen : CellKey C R L) (limit : ℕ)
+    (standing : Standing S) (touched : TouchedWords)
+    (journal history : List (Entry C R)) (links : Links L) (seat : SeatSeen (About C R))
+    (passes : List (PassSeen (About C R)))
+    (cell : IsCell meaning key limit standing touched journal links seat) (key_is : key ≡ seen)
+    (history_is : history ≡ journal) where
   pub closed_callers : All (λ (call : Call C R). call.by.0 ≤ seen.callers) (calls history)
   closed_callers =
       subst (λ (k : CellKey C R L). All (λ (call : Call C R). call.by.0 ≤ k.callers) (calls history)) key_is
-      (subst (λ (h : List (Entry C R)). All (λ (call : Call C R). call.by.0 ≤ key.callers) (calls h)) (sym history_is) cell.callers)
+      (subst (λ (h : List (Entry C R)). All (λ (call : Call C R). call.by.0 ≤ key.callers) (calls h))
+      (sym history_is) cell.callers)
 
   pub closed_mine : All (IsShown seat) passes
       → All (λ (pass : PassSeen (About C R)). pass.mine ≡ map answered (own history (record { 0 = pass.owner }))) passes
   closed_mine shown =
-      subst (λ (h : List (Entry C R)). All (λ (pass : PassSeen (About C R)). pass.mine ≡ map answered (own h (record { 0 = pass.owner }))) passes) (sym history_is)
-      (All-weaker (IsShown seat) (λ (pass : PassSeen (About C R)). pass.mine ≡ map answered (own journal (record { 0 = pass.owner })))
+      subst (λ (h : List (Entry C R)). All
+      (λ (pass : PassSeen (About C R)). pass.mine ≡ map answered (own h (record { 0 = pass.owner }))) passes)
+      (sym history_is)
+      (All-weaker (IsShown seat)
+      (λ (pass : PassSeen (About C R)). pass.mine ≡ map answered (own journal (record { 0 = pass.owner })))
       (λ pass it. mine_own meaning key limit standing touched journal links seat cell pass it) passes shown)
 
-  pub closed_known : All (IsShown seat) passes → All (λ (pass : PassSeen (About C R)). pass.known ≤ length history) passes
+  pub closed_known : All (IsShown seat) passes
+      → All (λ (pass : PassSeen (About C R)). pass.known ≤ length history) passes
   closed_known shown =
-      subst (λ (h : List (Entry C R)). All (λ (pass : PassSeen (About C R)). pass.known ≤ length h) passes) (sym history_is)
+      subst (λ (h : List (Entry C R)). All (λ (pass : PassSeen (About C R)). pass.known ≤ length h) passes)
+      (sym history_is)
       (All-weaker (IsShown seat) (λ (pass : PassSeen (About C R)). pass.known ≤ length journal)
       (λ pass it. issued_within meaning key limit standing touched journal links seat cell pass.known it.known) passes shown)
 
@@ -143,7 +170,8 @@ module _ {C R I S L : Type 0} (meaning : Meaning C R I S) (key seen : CellKey C 
       (tests_told meaning key limit standing touched journal links seat cell pass table (shown k d below)))
 
 -- the passes' table, by another name
-pub same_tables : {D : Type 0} (words other : WordTable) (passes same : List (PassSeen D)) → words ≡ other → same ≡ passes
+pub same_tables : {D : Type 0} (words other : WordTable) (passes same : List (PassSeen D)) → words ≡ other
+    → same ≡ passes
     → All (λ (pass : PassSeen D). pass.table ≡ words) passes → All (λ (pass : PassSeen D). pass.table ≡ other) same
 same_tables {D} words other passes same is list_is all =
     subst (λ (ps : List (PassSeen D)). All (λ (pass : PassSeen D). pass.table ≡ other) ps) (sym list_is)
@@ -158,5 +186,6 @@ vector_small form is = by_kind form.kind is.vector
     by_kind (kind.List headers locks refs) it = it.1
     by_kind kind.Lock it = omega (arith, it)
 
-pub same_shown : {D : Type 0} (seat : SeatSeen D) (passes same : List (PassSeen D)) → same ≡ passes → All (IsShown seat) same → All (IsShown seat) passes
+pub same_shown : {D : Type 0} (seat : SeatSeen D) (passes same : List (PassSeen D)) → same ≡ passes
+    → All (IsShown seat) same → All (IsShown seat) passes
 same_shown seat passes same is all = subst (All (IsShown seat)) is all

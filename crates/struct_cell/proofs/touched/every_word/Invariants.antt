@@ -7,5 +7,6 @@ abbrev pub invariant-loop-before : goal.invariant-loop-before
 invariant-loop-before l = record {
   within : All (IsWithin l.fn.conns l.fn.len) l.places.items;
   distinct : AreDistinct l.places.items;
-  every : (conn word : ℕ) → 0 < conn → conn ≤ l.before → word < words_of l.fn.len → IsSpared l.places.items conn word → ⊥;
+  every : (conn word : ℕ) → 0 < conn → conn ≤ l.before → word < words_of l.fn.len → IsSpared l.places.items conn word
+      → ⊥;
 }

@@ -9,5 +9,6 @@ invariant-loop-change l = record {
   within : All (IsWithin l.fn.conns l.fn.len) l.named.items;
   distinct : AreDistinct l.named.items;
   spared : (conn : ConnId) (index : ℕ) → 0 < conn.0 → conn.0 ≤ l.fn.conns → index < l.fn.len
-      → IsSpared l.named.items conn.0 (index / 32) → All (λ change. is_for conn index change ≡ false) (take l.change-index l.bits);
+      → IsSpared l.named.items conn.0 (index / 32)
+      → All (λ change. is_for conn index change ≡ false) (take l.change-index l.bits);
 }

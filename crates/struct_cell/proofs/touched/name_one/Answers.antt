@@ -9,4 +9,5 @@ returns-then-contains-clause-spared c _ conn index some most below spared =
 
 pub returns-clause-others : goal.returns-clause-others
 returns-clause-others c conn word spared =
-    spared-front c.args.named.now.items _ conn word (subst (λ ps. IsSpared ps conn word) c.push_reserved.ensures.items spared)
+    spared-front c.args.named.now.items _ conn word
+    (subst (λ ps. IsSpared ps conn word) c.push_reserved.ensures.items spared)

@@ -7,11 +7,13 @@ use Rattle.struct_cell.proofs.words.store_words.Goals as goal
 
 pub loop-place-init : goal.loop-place-init
 loop-place-init g c =
-    each-nil c.args.vectors.now.conns c.args.vectors.now.len (words_in g.E.Engine.meaning c.args.machine.now.form c.args.machine.now.machine) c.args.seat.now
+    each-nil c.args.vectors.now.conns c.args.vectors.now.len
+    (words_in g.E.Engine.meaning c.args.machine.now.form c.args.machine.now.machine) c.args.seat.now
 
 pub store_one-requires-clause-once : goal.store_one-requires-clause-once
 store_one-requires-clause-once g c κs within =
-    each-once c.args.vectors.now.conns c.args.vectors.now.len (words_in g.E.Engine.meaning c.args.machine.now.form c.args.machine.now.machine)
+    each-once c.args.vectors.now.conns c.args.vectors.now.len
+    (words_in g.E.Engine.meaning c.args.machine.now.form c.args.machine.now.machine)
     c.args.seat.now c.loop-place.seat (take c.loop-place.place-index c.args.places.now) _
     (c.requires.within c.loop-place.place-index _ c.loop-place-test.true)
     (spared-before c.args.places.now c.loop-place.place-index _ c.loop-place-test.true c.requires.distinct)
@@ -19,7 +21,8 @@ store_one-requires-clause-once g c κs within =
 
 pub loop-place-preserved : goal.loop-place-preserved
 loop-place-preserved g c =
-    each-step c.args.vectors.now.conns c.args.vectors.now.len (words_in g.E.Engine.meaning c.args.machine.now.form c.args.machine.now.machine)
+    each-step c.args.vectors.now.conns c.args.vectors.now.len
+    (words_in g.E.Engine.meaning c.args.machine.now.form c.args.machine.now.machine)
     c.args.seat.now c.loop-place.seat c.store_one.new.seat c.args.places.now c.loop-place.place-index _ true
     (slice_get-get_or c.args.places.now c.loop-place.place-index _ c.loop-place-test.true)
     (c.requires.within c.loop-place.place-index _ c.loop-place-test.true)

@@ -21,7 +21,8 @@ returns-clause-cell g c =
     c.self.inside.vectors c.places-words.result.now (c.len-count.result + 1) c.args.pass.now.owner
     c.owner-by.result c.args.ask c.in_ok-reply.reply
     c.requires.cell c.in_ok-reply.ensures.ok c.answer.ensures.form c.note.ensures.table (search rules)
-    (λ conn index some most inside spared. c.in_ok-reply.ensures.bits conn index (c.note.ensures.spared conn index some most inside spared))
+    (λ conn index some most inside spared. c.in_ok-reply.ensures.bits conn index
+    (c.note.ensures.spared conn index some most inside spared))
     (sym c.self.invariant.0 ∙ ap (λ k. k.words) c.self.view_is)
     c.places-words.ensures.places c.learn.ensures.seat (search rules) (search rules) c.learn.ensures.owner
     c.begin.ensures.seat c.store_words.ensures (search rules) (search rules)
