@@ -19,7 +19,7 @@ use Rattle.vec_words.specs.Tokens.{WordTable, PassSeen, new_pass}
 use Rattle.struct_cell.specs.declared.inside.CellKey.{CellKey}
 use Rattle.struct_cell.specs.Cells.{About, answered}
 use Rattle.struct_cell.specs.Telling.{IsTold}
-use Rattle.any_cell.specs.Types.{StrType}
+use Rattle.any_model.specs.Types.{StrType}
 use Rattle.any_cell.specs.Passes.{PassShown, call_by, heard_by, shown_as, unused_pass}
 use Rattle.any_cell.specs.Cells.{CellShown, keyed_as, IsPassOf}
 

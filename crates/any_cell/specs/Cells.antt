@@ -3,7 +3,6 @@ use Rattle.std.specs.Prelude.{◌≡◌, ℕ}
 use Rattle.cf_types.specs.declared.forms.StrForm.{StrForm}
 use Rattle.cf_types.specs.declared.numbers.ConnId.{ConnId}
 use Rattle.cf_link.specs.declared.links.Links.{Links}
-use Rattle.engine_api.specs.History.{IsLegal}
 use Rattle.cache_model.specs.Meaning.{cache_meaning}
 use Rattle.list_model.specs.Meaning.{list_meaning}
 use Rattle.lock_model.specs.Meaning.{lock_meaning}
@@ -16,7 +15,7 @@ use Rattle.struct_cell.specs.declared.inside.CellKey.{CellKey}
 use Rattle.struct_cell.specs.Telling.{IsTold}
 use Rattle.any_cell.specs.declared.any_cell.AnyCell.{AnyCell}
 use Rattle.any_cell.specs.declared.any_cell.AnyCell.TheVariants as cell
-use Rattle.any_cell.specs.Types.{StrType, OfCache, OfList, OfLock, type_of_ask}
+use Rattle.any_model.specs.Types.{StrType, OfCache, OfList, OfLock, type_of_ask}
 use Rattle.any_cell.specs.Passes.{PassShown, NoteShown}
 
 -- a cell: the type of its structure, and what of it never changes
@@ -55,11 +54,6 @@ abbrev pub IsAskOf : {L : Type 0} → CellShown L → AnyAsk → Type 0
 IsAskOf cell asked = type_of_ask asked ≡ cell.str_type
 
 -- ---- what a history says
-
-abbrev pub IsAnyLegal : StrForm → AnyHistory → Type 0
-IsAnyLegal form (history.Cache entries) = IsLegal cache_meaning form entries
-IsAnyLegal form (history.List entries) = IsLegal list_meaning form entries
-IsAnyLegal form (history.Lock entries) = IsLegal lock_meaning form entries
 
 -- a caller's test tells what stood at a numbered point that isn't before anything its caller had seen complete
 abbrev pub IsAnyTold : StrForm → AnyHistory → ConnId → Sight → Type 0

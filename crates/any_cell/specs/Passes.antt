@@ -4,7 +4,6 @@ use Rattle.std.specs.Vec.{vec_capacity}
 use Rattle.cf_types.specs.declared.numbers.ConnId.{ConnId}
 use Rattle.engine_api.specs.declared.asks.Ask.{Ask}
 use Rattle.engine_api.specs.declared.told.Told.{Told}
-use Rattle.engine_api.specs.Asking.{MayAsk, IsBuilt}
 use Rattle.engine_api.specs.History.{Call}
 use Rattle.plex_script.specs.declared.scripts.AnyAsk.{AnyAsk}
 use Rattle.plex_script.specs.declared.scripts.AnyAsk.TheVariants as ask
@@ -18,7 +17,7 @@ use Rattle.any_cell.specs.declared.any_pass.AnyPasses.{AnyPasses}
 use Rattle.any_cell.specs.declared.any_pass.AnyPasses.TheVariants as passes
 use Rattle.any_cell.specs.declared.any_note.AnyNote.{AnyNote}
 use Rattle.any_cell.specs.declared.any_note.AnyNote.TheVariants as note
-use Rattle.any_cell.specs.Types.{StrType, OfCache, OfList, OfLock}
+use Rattle.any_model.specs.Types.{StrType, OfCache, OfList, OfLock}
 
 -- a pass: the type of its structure, its words, its owner, the number that it knows, the number that it saw complete,
 -- its owner's answered calls with what was told of each, and its tests
@@ -119,9 +118,3 @@ pub record IsLater (before after : PassShown) : Type 0 where
 -- what a pass tells
 abbrev pub note_of : PassShown → NoteShown
 note_of pass = record { str_type = pass.str_type; words = pass.words; known = pass.known; sure = pass.sure }
-
--- a caller may ask this, and its command is built
-abbrev pub MayAskAny : ConnId → AnyAsk → Type 0
-MayAskAny by (ask.Cache asked) = MayAsk by asked × IsBuilt asked
-MayAskAny by (ask.List asked) = MayAsk by asked × IsBuilt asked
-MayAskAny by (ask.Lock asked) = MayAsk by asked × IsBuilt asked

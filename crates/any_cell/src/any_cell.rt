@@ -5,9 +5,10 @@ ghost use Rattle.cf_types.specs.Forms.{IsForm};
 ghost use Rattle.plex_script.specs.Heard.{any_calls, any_length, own_calls};
 ghost use Rattle.struct_cell.specs.declared.refused.CallRefused.TheVariants as refused;
 ghost use Rattle.vec_words.specs.Logged.{words_of, indices_of, sight};
-ghost use Rattle.any_cell.specs.Types.{type_of_kind, type_of_history};
-ghost use Rattle.any_cell.specs.Passes.{MayAskAny, IsLater, pass_shown, passes_shown, type_of_passes, room_of, note_shown, note_of, unused_pass, with_call};
-ghost use Rattle.any_cell.specs.Cells.{IsPassOf, IsNoteOf, IsAskOf, IsAnyLegal, IsAnyTold, cell_shown};
+ghost use Rattle.any_model.specs.Kinds.{MayAskAny, IsAnyLegal};
+ghost use Rattle.any_model.specs.Types.{type_of_kind, type_of_history};
+ghost use Rattle.any_cell.specs.Passes.{IsLater, pass_shown, passes_shown, type_of_passes, room_of, note_shown, note_of, unused_pass, with_call};
+ghost use Rattle.any_cell.specs.Cells.{IsPassOf, IsNoteOf, IsAskOf, IsAnyTold, cell_shown};
 
 use crate::any_note::AnyNote;
 use crate::any_pass::{AnyPass, AnyPasses};

@@ -1,5 +1,5 @@
 //! The passes of a structure of whatever type.
-ghost use Rattle.std.specs.Prelude.{◌≡◌, ◌<◌, ◌++◌, ◌∷◌, [], IfSome, IfNone, length};
+ghost use Rattle.std.specs.Prelude.{◌≡◌, ◌<◌, ◌≤◌, ◌++◌, ◌∷◌, [], IfSome, IfNone, length};
 ghost use Rattle.any_cell.specs.Passes.{pass_shown, passes_shown, type_of_passes, room_of};
 
 use cf_types::{CacheCmd, CacheReply, ListCmd, ListReply, LockCmd, LockReply};
@@ -12,6 +12,21 @@ pub enum AnyPass {
     Cache(Pass<(Ask<CacheCmd>, Reply<CacheReply>)>),
     List(Pass<(Ask<ListCmd>, Reply<ListReply>)>),
     Lock(Pass<(Ask<LockCmd>, Reply<LockReply>)>),
+}
+
+impl AnyPass {
+    /// The greatest number of a call that the pass has seen complete. It is at most the number that the
+    /// pass knows.
+    pub fn sure(&self) -> u32
+        ensures sure { result ≡ (pass_shown self.now).sure }
+        ensures ordered { result ≤ (pass_shown self.now).known }
+    {
+        match self {
+            AnyPass::Cache(pass) => pass.sure(),
+            AnyPass::List(pass) => pass.sure(),
+            AnyPass::Lock(pass) => pass.sure(),
+        }
+    }
 }
 
 /// Passes of one structure.

@@ -1,8 +1,8 @@
 -- The callers of a script have words of their own.
-use Rattle.std.proofs.Common.{◌≡◌, ◌≢◌, ℕ, zero, suc, ◌+◌, ◌-◌, ◌≤◌, ◌<◌, ◌==◌, ◌&&◌, ◌^◌, ◌⊎◌, inl, inr, Bool, true, false, not, cond, List, [], ◌∷◌, ◌++◌, length, Option, Some, None, codes, replicate, get_or, slice_get, refl, sym, ap, subst, ◌∙◌, arith}
+use Rattle.std.proofs.Common.{◌≡◌, ◌≢◌, ℕ, zero, suc, ◌+◌, ◌-◌, ◌≤◌, ◌<◌, ◌==◌, inl, inr, Bool, true, false, not, cond, List, [], ◌∷◌, ◌++◌, length, Option, Some, None, codes, replicate, get_or, slice_get, refl, sym, ap, subst, ◌∙◌, arith}
 use Rattle.std.specs.Bool.{MatchBool}
 use Rattle.std.specs.Option.{MatchOption}
-use Rattle.std.specs.List.{list_all, list_any, take_while}
+use Rattle.std.specs.List.{list_all, list_any}
 use Rattle.std.proofs.lemmas.Bool.{and_parts, and_from}
 use Rattle.std.proofs.lemmas.Bool.Decides.{nat_tests}
 use Rattle.std.proofs.lemmas.List.Folds.{list_any_at}
@@ -15,8 +15,8 @@ use Rattle.cf_types.specs.Term.{padded, unpadded, term_byte}
 use Rattle.engine_api.proofs.Pushed.{pushed_cases}
 use Rattle.plex_spell.specs.declared.rigour.Rigour.TheVariants.{Names}
 use Rattle.plex_spell.specs.Words.{same_word, words_of, lines_of}
-use Rattle.plex_spell.specs.Tokens.{is_name, is_capital, is_term, reserved_words, name_word, structure_of}
-use Rattle.plex_spell.proofs.Choices.{word-same, same_word-of}
+use Rattle.plex_spell.specs.Tokens.{is_name, is_capital, reserved_words, name_word, structure_of}
+use Rattle.plex_spell.proofs.Choices.{same_word-of}
 use Rattle.plex_spell.proofs.PlaceLaws.{Words}
 use Rattle.plex_spell.proofs.TextLaws.{characters-term}
 use Rattle.plex_spell.proofs.WordLaws.{term-name}

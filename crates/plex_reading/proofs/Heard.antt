@@ -1,5 +1,5 @@
 -- The calls of a legal history are heard under their numbers.
-use Rattle.std.proofs.Common.{◌≡◌, ℕ, zero, suc, ◌+◌, ◌≤◌, ◌<◌, ◌==◌, nat_le, Bool, true, false, List, [], ◌∷◌, ◌++◌, length, map, filter, find, cond, Option, Some, None, refl, sym, ap, subst, ◌∙◌, arith, append_assoc, append-nil, length-append}
+use Rattle.std.proofs.Common.{◌≡◌, ℕ, zero, suc, ◌+◌, ◌≤◌, ◌<◌, ◌==◌, nat_le, Bool, true, false, List, [], ◌∷◌, ◌++◌, length, map, filter, cond, Some, None, refl, sym, ap, subst, ◌∙◌, arith, append_assoc, length-append}
 use Rattle.std.specs.Option.{option_or}
 use Rattle.std.proofs.lemmas.Bool.Decides.{nat_tests}
 use Rattle.std.proofs.lemmas.List.Folds.{find-append}
@@ -10,10 +10,10 @@ use Rattle.engine_api.specs.declared.asks.What.{What}
 use Rattle.engine_api.specs.declared.asks.What.TheVariants as what
 use Rattle.engine_api.specs.declared.histories.Entry.{Entry}
 use Rattle.engine_api.specs.Meaning.{Meaning}
-use Rattle.engine_api.specs.History.{Call, call_told, calls, numbers, next_entry, IsNextAs, Continues}
+use Rattle.engine_api.specs.History.{calls, numbers, IsNextAs, Continues}
 use Rattle.plex_script.specs.Heard.{AnyCall, heard}
-use Rattle.plex_serial.specs.Kinds.{numbers_from}
-use Rattle.plex_serial.proofs.KindLaws.{numbers_from-suc}
+use Rattle.any_model.specs.Kinds.{numbers_from}
+use Rattle.any_model.proofs.KindLaws.{numbers_from-suc}
 
 -- each of these is the call with its number
 abbrev pub AreHeard : List AnyCall → List AnyCall → Type 0

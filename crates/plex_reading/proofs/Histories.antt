@@ -1,9 +1,9 @@
 -- The lines of legal histories, in which each caller asks what the script says, fix them.
-use Rattle.std.proofs.Common.{◌≡◌, ℕ, zero, suc, ◌+◌, ◌≤◌, ◌<◌, ◌==◌, ◌^◌, Bool, true, List, [], ◌∷◌, ◌++◌, length, map, filter, codes, Option, Some, None, inl, inr, slice_get, refl, sym, ap, subst, ◌∙◌, arith, append_assoc, append-nil, length-append}
+use Rattle.std.proofs.Common.{◌≡◌, ℕ, zero, suc, ◌+◌, ◌≤◌, ◌<◌, ◌==◌, ◌^◌, Bool, true, List, [], ◌∷◌, ◌++◌, length, map, codes, Option, Some, inl, inr, slice_get, refl, sym, ap, subst, ◌∙◌, arith, append_assoc}
 use Rattle.std.specs.List.{AllByRecursion, Contains, slice_index_or}
 use Rattle.std.specs.Prelude.{All}
 use Rattle.std.proofs.lemmas.Bool.Decides.{nat_tests}
-use Rattle.std.proofs.lemmas.List.{map-append, length-map}
+use Rattle.std.proofs.lemmas.List.{map-append}
 use Rattle.std.proofs.lemmas.List.Elements.{filter-append, recursion_from_All}
 use Rattle.std.proofs.lemmas.Simd.{map-map}
 use Rattle.cf_types.specs.declared.forms.Kind.{Kind}
@@ -31,12 +31,12 @@ use Rattle.plex_script.specs.declared.scripts.AnyAsk.TheVariants as ask
 use Rattle.plex_script.specs.declared.scripts.Script.{Script}
 use Rattle.plex_script.specs.Heard.{AnyCall, any_call, any_calls, any_length, own_calls}
 use Rattle.plex_script.specs.Follows.{lines_of}
-use Rattle.plex_serial.specs.Headline.{IsHistoryOf}
-use Rattle.plex_serial.specs.Kinds.{IsOfKind, IsAnyLegal, AnyTells, numbers_from}
+use Rattle.serial_model.specs.Headline.{IsHistoryOf}
+use Rattle.any_model.specs.Kinds.{IsOfKind, IsAnyLegal, AnyTells, numbers_from}
 use Rattle.plex_report.specs.Naming.{structure_name}
 use Rattle.plex_report.specs.CommandWords.{cache_words, list_words, lock_words}
 use Rattle.plex_report.specs.ReplyWords.{cache_reply_words, list_reply_words, lock_reply_words}
-use Rattle.plex_report.specs.Lines.{entry_line, entry_lines, history_lines, heading}
+use Rattle.plex_report.specs.Lines.{entry_line, entry_lines, history_lines}
 use Rattle.plex_report.specs.Report.{lines_each}
 use Rattle.plex_reading.proofs.Cuts.{text_of, same_heading}
 use Rattle.plex_reading.proofs.Callers.{AreApart}

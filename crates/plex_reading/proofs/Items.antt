@@ -1,8 +1,7 @@
 -- The lines of a transcript that follows its script fix it, over histories that are known.
-use Rattle.std.proofs.Common.{◌≡◌, ℕ, zero, suc, ◌+◌, ◌*◌, ◌/◌, ◌%◌, ◌≤◌, ◌<◌, ◌==◌, ◌^◌, nat_lt, Bool, true, false, not, List, [], ◌∷◌, ◌++◌, length, map, codes, get_or, Option, Some, None, unwrap_or, slice_get, refl, sym, ap, subst, ◌∙◌, arith, append_assoc}
+use Rattle.std.proofs.Common.{◌≡◌, ℕ, zero, suc, ◌+◌, ◌*◌, ◌/◌, ◌%◌, ◌≤◌, ◌<◌, ◌==◌, ◌^◌, nat_lt, Bool, true, false, not, List, [], ◌∷◌, ◌++◌, map, codes, get_or, Option, Some, None, unwrap_or, slice_get, refl, sym, ap, subst, ◌∙◌, arith, append_assoc}
 use Rattle.std.specs.Bool.{MatchBool}
 use Rattle.std.specs.Fmt.{decimal}
-use Rattle.std.specs.List.{list_all}
 use Rattle.std.proofs.Math.Nat.{pow-suc}
 use Rattle.std.proofs.lemmas.Bool.{and_from}
 use Rattle.std.proofs.lemmas.Bool.Decides.{nat_tests}
@@ -14,7 +13,6 @@ use Rattle.cf_types.specs.declared.numbers.ConnId.{ConnId}
 use Rattle.cf_types.specs.declared.numbers.StrNo.{StrNo}
 use Rattle.cf_types.specs.declared.shell_commands.ShellCmd.TheVariants as cmd
 use Rattle.engine_api.specs.declared.told.Told.{Told}
-use Rattle.plex_spell.specs.Words.{line_of}
 use Rattle.plex_script.specs.declared.agents.Step.{Step}
 use Rattle.plex_script.specs.declared.agents.Step.TheVariants as step
 use Rattle.plex_script.specs.declared.asks.AnyHistory.{AnyHistory}
@@ -25,11 +23,11 @@ use Rattle.plex_script.specs.declared.scripts.Line.{Line}
 use Rattle.plex_script.specs.declared.scripts.Script.{Script}
 use Rattle.plex_script.specs.declared.transcripts.Shown.{Shown}
 use Rattle.plex_script.specs.declared.transcripts.Shown.TheVariants as shown
-use Rattle.plex_script.specs.Agent.{first_step, step_after, asked_by, common, call_of}
+use Rattle.plex_script.specs.Agent.{first_step, step_after, asked_by, common}
 use Rattle.plex_script.specs.Causes.{kind_of}
 use Rattle.plex_script.specs.Heard.{AnyCall, heard, calls_on, length_on}
 use Rattle.plex_script.specs.Follows.{IsHeard, Runs, ShowsTest, ShowsWord, ShowsAct, ShowsLines, ShowsClosing, ShowsClosings, Follows, lines_of, is_linked_by}
-use Rattle.plex_serial.specs.Headline.{place_of}
+use Rattle.serial_model.specs.Headline.{place_of}
 use Rattle.plex_report.specs.Naming.{structure_word}
 use Rattle.plex_report.specs.Lines.{shown_line, bit_word, binary_digits}
 use Rattle.plex_report.proofs.Digits.{digits_end, digits_next}

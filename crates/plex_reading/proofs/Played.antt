@@ -1,7 +1,6 @@
 -- A transcript that follows a script tells, for each structure, that the caller's calls there are its works.
-use Rattle.std.proofs.Common.{◌≡◌, ℕ, ◌+◌, ◌*◌, ◌<◌, ◌==◌, Bool, true, false, List, [], ◌∷◌, ◌++◌, length, map, filter, cond, Option, Some, None, inl, inr, ◌⊎◌, suc, slice_get, refl, sym, ap, subst, ◌∙◌, arith, append_assoc, append-nil, nat_lt}
+use Rattle.std.proofs.Common.{◌≡◌, ℕ, ◌+◌, ◌*◌, ◌<◌, ◌==◌, Bool, true, false, List, [], ◌∷◌, ◌++◌, map, filter, cond, Option, Some, None, inl, inr, ◌⊎◌, suc, slice_get, refl, sym, ap, subst, ◌∙◌, arith, append_assoc, append-nil, nat_lt}
 use Rattle.std.specs.Bool.{MatchBool}
-use Rattle.std.specs.List.{filter_map}
 use Rattle.std.proofs.lemmas.Bool.Decides.{nat_tests}
 use Rattle.std.proofs.lemmas.List.Elements.{filter_map-append}
 use Rattle.cf_types.specs.declared.forms.Kind.{Kind}
@@ -21,9 +20,9 @@ use Rattle.plex_script.specs.declared.scripts.Script.{Script}
 use Rattle.plex_script.specs.declared.transcripts.Shown.{Shown}
 use Rattle.plex_script.specs.declared.transcripts.Shown.TheVariants as shown
 use Rattle.plex_script.specs.Agent.{first_step, step_after, asked_by, common, call_of}
-use Rattle.plex_script.specs.Heard.{AnyCall, heard, own_calls, calls_on}
+use Rattle.plex_script.specs.Heard.{AnyCall, heard, calls_on}
 use Rattle.plex_script.specs.Follows.{IsHeard, Runs, ShowsTest, ShowsWord, ShowsAct, ShowsLines, ShowsClosing, ShowsClosings, Follows, lines_of, number_on, numbers_on, is_linked_by}
-use Rattle.plex_serial.proofs.Closings.{runs_elsewhere}
+use Rattle.serial_model.proofs.Closings.{runs_elsewhere}
 use Rattle.plex_reading.proofs.Heard.{AreHeard, heard_front, heard_back}
 use Rattle.plex_reading.proofs.Works.{Work, work_of, closing, works, Consumes, Plays}
 

@@ -1,12 +1,9 @@
 -- A report can be read in one way.
-use Rattle.std.proofs.Common.{◌≡◌, ℕ, zero, suc, ◌+◌, ◌*◌, ◌≤◌, ◌<◌, ◌==◌, ◌&&◌, ◌^◌, ◌⊎◌, inl, inr, Bool, true, false, List, [], ◌∷◌, ◌++◌, length, map, take, Option, Some, None, slice_get, get_or, refl, sym, ap, subst, ◌∙◌, arith, append_assoc, length-append, nat_lt}
-use Rattle.std.specs.Bool.{MatchBool}
-use Rattle.std.specs.Prelude.{Contains, codes}
+use Rattle.std.proofs.Common.{◌≡◌, ℕ, zero, suc, ◌+◌, ◌*◌, ◌≤◌, ◌<◌, ◌==◌, ◌&&◌, ◌^◌, List, [], ◌∷◌, ◌++◌, length, map, Option, Some, None, slice_get, get_or, refl, sym, ap, subst, ◌∙◌, arith, append_assoc, length-append, nat_lt}
+use Rattle.std.specs.Prelude.{codes}
 use Rattle.std.proofs.lemmas.List.{length-map}
 use Rattle.std.proofs.lemmas.Option.{slice_get-get_or, slice_get_within}
-use Rattle.std.proofs.lemmas.Bool.Decides.{nat_tests}
 use Rattle.cf_types.specs.declared.forms.StrForm.{StrForm}
-use Rattle.cf_types.specs.declared.numbers.ConnId.{ConnId}
 use Rattle.cf_types.specs.declared.numbers.StrNo.{StrNo}
 use Rattle.plex_script.specs.declared.asks.AnyHistory.{AnyHistory}
 use Rattle.plex_script.specs.declared.asks.AnyHistory.TheVariants as history
@@ -16,12 +13,11 @@ use Rattle.plex_script.specs.declared.transcripts.AgentEnd.TheVariants as ended
 use Rattle.plex_script.specs.declared.transcripts.Shown.{Shown}
 use Rattle.plex_script.specs.declared.transcripts.Shown.TheVariants as shown
 use Rattle.plex_script.specs.declared.transcripts.Transcript.{Transcript}
-use Rattle.plex_script.specs.Scripts.{IsScript}
 use Rattle.plex_script.specs.Heard.{AnyCall, any_calls, any_length, heard, own_calls, calls_on, length_on}
-use Rattle.plex_script.specs.Follows.{Follows, IsNote, ShowsClosings, lines_of, numbers_on, surest_on}
-use Rattle.plex_serial.specs.Headline.{ShowsHistories, IsHistoryOf, EndsRight, TestsTell, TellsOf, TellsBit, TellsWord, place_of}
-use Rattle.plex_serial.specs.Kinds.{IsAnyLegal, AnyTells, numbers_from}
-use Rattle.plex_serial.proofs.WordLaws.{word_below}
+use Rattle.plex_script.specs.Follows.{Follows, numbers_on}
+use Rattle.serial_model.specs.Headline.{IsHistoryOf, EndsRight, place_of}
+use Rattle.any_model.specs.Kinds.{numbers_from}
+use Rattle.any_model.proofs.WordLaws.{word_below}
 use Rattle.plex_report.specs.Naming.{caller_name}
 use Rattle.plex_report.specs.CommandWords.{cache_words, list_words, lock_words}
 use Rattle.plex_report.specs.ReplyWords.{cache_reply_words, list_reply_words, lock_reply_words}
@@ -29,11 +25,11 @@ use Rattle.plex_plain.specs.PolicyLines.{facility_line, connector_line}
 use Rattle.plex_report.specs.Lines.{entry_line, history_lines, transcript_lines, shown_line}
 use Rattle.plex_report.specs.Report.{by_number, lines_each, structures_lines, histories_lines, transcripts_lines, report_lines}
 use Rattle.plex_reading.specs.Readings.{Reading, IsReading, IsOnlyReading, report_of}
-use Rattle.plex_reading.proofs.Cuts.{text_of, text-append, text-long, same_behind, same_heading}
+use Rattle.plex_reading.proofs.Cuts.{text_of, text-long, same_behind, same_heading}
 use Rattle.plex_reading.proofs.Callers.{AreApart, names_apart}
 use Rattle.plex_reading.proofs.Heard.{AreHeard, heard_each, heard_own, heard_within}
 use Rattle.plex_reading.proofs.Played.{own_plays}
-use Rattle.plex_reading.proofs.Histories.{IsRight, AreRight, AreShort, IsPlayedAt, histories_same, any_counted, legal_point}
+use Rattle.plex_reading.proofs.Histories.{AreRight, AreShort, IsPlayedAt, histories_same, any_counted, legal_point}
 use Rattle.plex_reading.proofs.Items.{IsBounded, AreBounded, follows_same}
 
 -- ---- how long histories are

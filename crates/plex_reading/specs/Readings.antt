@@ -5,7 +5,7 @@ use Rattle.plex_script.specs.declared.scripts.Script.{Script}
 use Rattle.plex_script.specs.declared.transcripts.AgentEnd.TheVariants as ended
 use Rattle.plex_script.specs.declared.transcripts.Transcript.{Transcript}
 use Rattle.plex_script.specs.Scripts.{IsScript}
-use Rattle.plex_serial.specs.Headline.{ShowsHistories}
+use Rattle.serial_model.specs.Headline.{ShowsHistories}
 use Rattle.plex_report.specs.Report.{report}
 
 pub record Reading : Type 0 where

@@ -14,7 +14,7 @@ use Rattle.plex_script.specs.declared.transcripts.Shown.{Shown}
 use Rattle.plex_script.specs.declared.transcripts.Shown.TheVariants as shown
 use Rattle.plex_script.specs.declared.transcripts.Transcript.{Transcript}
 use Rattle.plex_script.specs.Follows.{surest_on}
-use Rattle.plex_serial.specs.Headline.{ShowsHistories, TellsBit, TellsOf, place_of}
+use Rattle.serial_model.specs.Headline.{ShowsHistories, TellsBit, TellsOf, place_of}
 use Rattle.plex_valid.specs.Valid.{BitTellsFresh, TellsFreshBy, ShowsFresh}
 
 bit_fresh : (form : StrForm) (entries : CacheHistory) (conn : ConnId) (on : StrNo) (before : List Shown)

@@ -2,7 +2,7 @@ ghost use Rattle.std.specs.Prelude.{ℕ, List};
 ghost use Rattle.plex_script.specs.declared.asks.AnyHistory.{AnyHistory};
 ghost use Rattle.plex_script.specs.declared.scripts.Script.{Script};
 ghost use Rattle.plex_script.specs.declared.transcripts.Transcript.{Transcript};
-ghost use Rattle.plex_serial.specs.Headline.{ShowsHistories};
+ghost use Rattle.serial_model.specs.Headline.{ShowsHistories};
 ghost use Rattle.plex_valid.specs.Valid.{ShowsFresh};
 
 /// Whatever histories and transcripts a run shows, each test of a cache that tells VALID tells a

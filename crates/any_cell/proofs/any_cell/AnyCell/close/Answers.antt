@@ -4,7 +4,7 @@ use Rattle.list_model.specs.Meaning.{list_meaning}
 use Rattle.lock_model.specs.Meaning.{lock_meaning}
 use Rattle.engine_api.specs.History.{calls}
 use Rattle.plex_script.specs.declared.scripts.AnyAsk.TheVariants as ask
-use Rattle.any_cell.specs.Types.{OfCache, OfList, OfLock}
+use Rattle.any_model.specs.Types.{OfCache, OfList, OfLock}
 use Rattle.any_cell.specs.Passes.{passes_shown}
 use Rattle.any_cell.specs.Cells.{cell_shown}
 use Rattle.any_cell.proofs.ShownLaws.{shown_tables, shown_callers, shown_mine, shown_tests, shown_known}

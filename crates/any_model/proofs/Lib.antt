@@ -1,0 +1,5 @@
+pub mod TypeLaws
+pub mod KindLaws
+pub mod Histories
+pub mod WordLaws
+pub mod HistoryLaws

@@ -1,0 +1,10 @@
+pub mod Fronts
+pub mod Tables
+pub mod Steps
+pub mod Items
+pub mod Changes
+pub mod Callers
+pub mod Lines
+pub mod Closings
+pub mod Departures
+pub mod SerialLaw

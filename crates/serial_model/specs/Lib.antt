@@ -1,0 +1,4 @@
+pub mod Numbers
+pub mod Serial
+pub mod Headline
+pub mod Runnable
