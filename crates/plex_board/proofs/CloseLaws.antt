@@ -1,0 +1,63 @@
+-- What is known when a board is closed.
+use Rattle.std.proofs.Common.{◌≡◌, ◌+◌, List, length, map, sym, ap, subst, ◌∙◌, arith}
+use Rattle.std.specs.Prelude.{All}
+use Rattle.std.specs.List.{range_with_len}
+use Rattle.std.proofs.lemmas.List.{length-map}
+use Rattle.std.proofs.lemmas.List.FromFn.{length-range_with_len}
+use Rattle.plex_script.specs.declared.asks.AnyHistory.{AnyHistory}
+use Rattle.desk_model.specs.Desks.{DeskShown, no_pass}
+use Rattle.desk_model.specs.Boards.{BoardShown, IsDeskOf, AreClosed}
+use Rattle.plex_board.specs.declared.rest.Rest.{Rest}
+use Rattle.plex_board.specs.Rests.{HomeShown, homes_shown, AllFit, gathered, AreHomes, AreEmpty, AreEnded, IsReady}
+use Rattle.plex_board.proofs.HomeLaws.{desks-fit, homes-gathered, accounts-at, count-of-homes, count-of-histories}
+use Rattle.plex_board.proofs.OpenLaws.{homes-fewer}
+
+module _ {L : Type 0} (board : BoardShown L) (desks : List DeskShown) (homes : List HomeShown)
+    (of : All (IsDeskOf board) desks)
+    (owners : map (λ (desk : DeskShown). desk.owner.0) desks ≡ range_with_len 0 (board.callers + 1))
+    (are : AreHomes (board.callers + 1) board.cells homes) where
+  roomy : AreHomes (length desks) board.cells homes
+  roomy =
+      let count : length desks ≡ board.callers + 1 =
+      sym (length-map desks (λ (desk : DeskShown). desk.owner.0)) ∙ ap length owners
+      ∙ length-range_with_len 0 (board.callers + 1) in
+      homes-fewer (board.callers + 1) (length desks) board.cells homes (omega (arith, count)) are
+
+  pub close-fits : AllFit desks homes
+  close-fits = desks-fit board.cells desks homes roomy of
+
+  pub close-homes : AreHomes 0 board.cells (gathered desks homes)
+  close-homes = homes-gathered board.cells desks homes roomy of
+
+  pub close-says : AreEmpty homes → (histories : List AnyHistory)
+      → AreEnded board.cells (gathered desks homes) histories
+      → AreClosed board desks histories
+  close-says empty histories ended = record {
+    structures = count-of-histories board.cells (gathered desks homes) histories ended;
+    closed = λ on cell entries at its.
+        accounts-at board.cells desks homes histories on.0 cell entries no_pass
+        (count-of-homes (board.callers + 1) board.cells homes are) empty of ended at its;
+  }
+
+-- ---- what was ready under the lock
+
+module _ {L : Type 0} (board seen : BoardShown L) (rest key : Rest L) (same : board ≡ seen)
+    (is : IsReady seen.cells seen.callers key) (kept : rest ≡ key) where
+  pub ready-homes : AreHomes (board.callers + 1) board.cells (homes_shown rest.homes.items)
+  ready-homes =
+      subst (λ (r : Rest L). AreHomes (board.callers + 1) board.cells (homes_shown r.homes.items)) (sym kept)
+      (subst (λ (b : BoardShown L). AreHomes (b.callers + 1) b.cells (homes_shown key.homes.items)) (sym same) is.homes)
+
+  pub ready-empty : AreEmpty (homes_shown rest.homes.items)
+  ready-empty = subst (λ (r : Rest L). AreEmpty (homes_shown r.homes.items)) (sym kept) is.empty
+
+pub homes-seen : {L : Type 0} (board seen : BoardShown L) (homes after : List HomeShown) → board ≡ seen
+    → AreHomes 0 board.cells homes → after ≡ homes → AreHomes 0 seen.cells after
+homes-seen {L} board seen homes after same are is =
+    subst (AreHomes 0 seen.cells) (sym is) (subst (λ (b : BoardShown L). AreHomes 0 b.cells homes) same are)
+
+pub ended-seen : {L : Type 0} (board seen : BoardShown L) (homes after : List HomeShown) (histories : List AnyHistory)
+    → board ≡ seen → after ≡ homes → AreEnded seen.cells after histories → AreEnded board.cells homes histories
+ended-seen {L} board seen homes after histories same is are =
+    subst (λ (hs : List HomeShown). AreEnded board.cells hs histories) is
+    (subst (λ (b : BoardShown L). AreEnded b.cells after histories) (sym same) are)

@@ -1,0 +1,194 @@
+-- The homes of a board's structures, as passes come home.
+use Rattle.std.proofs.Common.{◌≡◌, ℕ, suc, zero, ◌<◌, List, [], ◌∷◌, ◌++◌, length, get_or, map, refl, sym, ap, subst, ◌∙◌, arith, append_assoc}
+use Rattle.std.specs.Prelude.{All, slice_get, Some}
+use Rattle.std.proofs.lemmas.List.{length-append, append-nil}
+use Rattle.std.proofs.lemmas.List.Elements.{All-push, All-nil, All-cons, All-head, All-tail}
+use Rattle.std.proofs.lemmas.Option.{slice_get_within}
+use Rattle.cf_types.specs.declared.numbers.ConnId.{ConnId}
+use Rattle.plex_script.specs.declared.asks.AnyHistory.{AnyHistory}
+use Rattle.any_model.specs.Types.{OfCache}
+use Rattle.any_cell.specs.Passes.{PassShown}
+use Rattle.any_cell.specs.Cells.{CellShown, IsPassOf}
+use Rattle.desk_model.specs.Desks.{DeskShown, fixed_of}
+use Rattle.desk_model.specs.Boards.{IsClosed, IsAccount, fixed_at}
+use Rattle.plex_board.specs.Rests.{each_with, HomeShown, home_with, Fits, gathered, AllFit, IsHomeOf, AreHomes, AreEnded, ArePasses}
+use Rattle.plex_board.proofs.RowLaws.{each_with-length}
+
+-- a home has what it had, and then each desk's pass
+row-at : (passes : List PassShown) (homes : List HomeShown) (x : ℕ) (p : PassShown) (d : HomeShown)
+    → x < length passes → x < length homes
+    → (get_or (each_with home_with passes homes) x d).passes ≡ (get_or homes x d).passes ++ get_or passes x p ∷ []
+row-at [] homes x p d low below = absurd (omega (arith, low))
+row-at (pass ∷ passes) [] x p d low below = absurd (omega (arith, below))
+row-at (pass ∷ passes) (home ∷ homes) zero p d low below = refl
+row-at (pass ∷ passes) (home ∷ homes) (suc x) p d low below =
+    row-at passes homes x p d (omega (arith, low)) (omega (arith, below))
+
+each-of-map : {A B : Type 0} (P : B → Type 0) (f : A → B) (xs : List A) → All P (map f xs) → All (λ x. P (f x)) xs
+each-of-map P f [] all = All-nil (λ x. P (f x))
+each-of-map P f (x ∷ xs) all =
+    All-cons (λ x. P (f x)) x xs (All-head P (f x) (map f xs) all)
+    (each-of-map P f xs (All-tail P (f x) (map f xs) all))
+
+module _ {L : Type 0} where
+  -- ---- a desk's passes
+
+  pub desk-passes : (cells : List (CellShown L)) (passes : List PassShown) (owner : ConnId)
+      → map fixed_of passes ≡ map (λ cell. fixed_at cell owner) cells → ArePasses cells passes
+  desk-passes [] [] owner same = tt
+  desk-passes [] (pass ∷ passes) owner same = absurd (cc)
+  desk-passes (cell ∷ cells) [] owner same = absurd (cc)
+  desk-passes (cell ∷ cells) (pass ∷ passes) owner same =
+      let one : fixed_of pass ≡ fixed_at cell owner = cc in
+      let rest : map fixed_of passes ≡ map (λ (c : CellShown L). fixed_at c owner) cells = cc in
+      ((ap (λ f. f.str_type) one, ap (λ f. f.words) one), desk-passes cells passes owner rest)
+
+  -- ---- a pass more in each home
+
+  one_home : (more : ℕ) (cell : CellShown L) (home : HomeShown) (pass : PassShown) → IsHomeOf (suc more) cell home
+      → IsPassOf cell pass → IsHomeOf more cell (home_with pass home)
+  one_home more cell home pass is of = record {
+    type_is = is.type_is;
+    passes = All-push (IsPassOf cell) home.passes pass is.passes of;
+    room = simp length-append (omega (arith, is.room));
+  }
+
+  pub homes-row : (more : ℕ) (cells : List (CellShown L)) (homes : List HomeShown) (passes : List PassShown)
+      → AreHomes (suc more) cells homes → ArePasses cells passes
+      → AreHomes more cells (each_with home_with passes homes)
+  homes-row more [] [] [] are of = tt
+  homes-row more [] [] (pass ∷ passes) are of = absurd of
+  homes-row more [] (home ∷ homes) passes are of = absurd are
+  homes-row more (cell ∷ cells) [] passes are of = absurd are
+  homes-row more (cell ∷ cells) (home ∷ homes) [] are of = absurd of
+  homes-row more (cell ∷ cells) (home ∷ homes) (pass ∷ passes) are of =
+      (one_home more cell home pass are.0 of.0, homes-row more cells homes passes are.1 of.1)
+
+  pub row-fits : (more : ℕ) (cells : List (CellShown L)) (homes : List HomeShown) (passes : List PassShown)
+      → AreHomes (suc more) cells homes → ArePasses cells passes → Fits passes homes
+  row-fits more [] [] [] are of = tt
+  row-fits more [] [] (pass ∷ passes) are of = absurd of
+  row-fits more [] (home ∷ homes) passes are of = absurd are
+  row-fits more (cell ∷ cells) [] passes are of = absurd are
+  row-fits more (cell ∷ cells) (home ∷ homes) [] are of = absurd of
+  row-fits more (cell ∷ cells) (home ∷ homes) (pass ∷ passes) are of =
+      let room : length home.passes < home.room = omega (arith, are.0.room) in
+      (of.0.0 ∙ sym are.0.type_is, room, row-fits more cells homes passes are.1 of.1)
+
+  pub count-of-homes : (more : ℕ) (cells : List (CellShown L)) (homes : List HomeShown) → AreHomes more cells homes
+      → length homes ≡ length cells
+  count-of-homes more [] [] are = refl
+  count-of-homes more [] (home ∷ homes) are = absurd are
+  count-of-homes more (cell ∷ cells) [] are = absurd are
+  count-of-homes more (cell ∷ cells) (home ∷ homes) are = ap (λ n. suc n) (count-of-homes more cells homes are.1)
+
+  pub count-of-passes : (cells : List (CellShown L)) (passes : List PassShown) → ArePasses cells passes
+      → length passes ≡ length cells
+  count-of-passes [] [] are = refl
+  count-of-passes [] (pass ∷ passes) are = absurd are
+  count-of-passes (cell ∷ cells) [] are = absurd are
+  count-of-passes (cell ∷ cells) (pass ∷ passes) are = ap (λ n. suc n) (count-of-passes cells passes are.1)
+
+  -- ---- the passes of all desks come home
+
+  pub desks-fit : (cells : List (CellShown L)) (desks : List DeskShown) (homes : List HomeShown)
+      → AreHomes (length desks) cells homes
+      → All (λ (desk : DeskShown). map fixed_of desk.passes ≡ map (λ cell. fixed_at cell desk.owner) cells) desks
+      → AllFit desks homes
+  desks-fit cells [] homes are of = tt
+  desks-fit cells (desk ∷ desks) homes are of =
+      let P : DeskShown → Type 0 =
+      λ desk. map fixed_of desk.passes ≡ map (λ (cell : CellShown L). fixed_at cell desk.owner) cells in
+      let passes : ArePasses cells desk.passes =
+      desk-passes cells desk.passes desk.owner (All-head P desk desks of) in (
+        row-fits (length desks) cells homes desk.passes are passes,
+        desks-fit cells desks (each_with home_with desk.passes homes)
+            (homes-row (length desks) cells homes desk.passes are passes) (All-tail P desk desks of),
+      )
+
+  pub homes-gathered : (cells : List (CellShown L)) (desks : List DeskShown) (homes : List HomeShown)
+      → AreHomes (length desks) cells homes
+      → All (λ (desk : DeskShown). map fixed_of desk.passes ≡ map (λ cell. fixed_at cell desk.owner) cells) desks
+      → AreHomes 0 cells (gathered desks homes)
+  homes-gathered cells [] homes are of = are
+  homes-gathered cells (desk ∷ desks) homes are of =
+      let P : DeskShown → Type 0 =
+      λ desk. map fixed_of desk.passes ≡ map (λ (cell : CellShown L). fixed_at cell desk.owner) cells in
+      let passes : ArePasses cells desk.passes =
+      desk-passes cells desk.passes desk.owner (All-head P desk desks of) in
+      homes-gathered cells desks (each_with home_with desk.passes homes)
+      (homes-row (length desks) cells homes desk.passes are passes) (All-tail P desk desks of)
+
+  gathered-at : (cells : List (CellShown L)) (desks : List DeskShown) (homes : List HomeShown) (x : ℕ)
+      (p : PassShown) (d : HomeShown)
+      → x < length cells → length homes ≡ length cells
+      → All (λ (desk : DeskShown). map fixed_of desk.passes ≡ map (λ cell. fixed_at cell desk.owner) cells) desks
+      → (get_or (gathered desks homes) x d).passes
+      ≡ (get_or homes x d).passes ++ map (λ (desk : DeskShown). get_or desk.passes x p) desks
+  gathered-at cells [] homes x p d below same of = sym (append-nil _)
+  gathered-at cells (desk ∷ desks) homes x p d below same of =
+      let P : DeskShown → Type 0 =
+      λ desk. map fixed_of desk.passes ≡ map (λ (cell : CellShown L). fixed_at cell desk.owner) cells in
+      let count : length desk.passes ≡ length cells =
+      count-of-passes cells desk.passes (desk-passes cells desk.passes desk.owner (All-head P desk desks of)) in
+      let row : List HomeShown = each_with home_with desk.passes homes in
+      let size : length row ≡ length cells = each_with-length home_with desk.passes homes (count ∙ sym same) ∙ same in
+      let low : x < length desk.passes = omega (arith, count, below) in
+      let high : x < length homes = omega (arith, same, below) in
+      gathered-at cells desks row x p d below size (All-tail P desk desks of)
+      ∙ ap (λ front. front ++ map (λ (desk : DeskShown). get_or desk.passes x p) desks)
+      (row-at desk.passes homes x p d low high)
+      ∙ append_assoc (get_or homes x d).passes (get_or desk.passes x p ∷ [])
+      (map (λ (desk : DeskShown). get_or desk.passes x p) desks)
+
+  -- ---- what the histories say
+
+  ended-at : (cells : List (CellShown L)) (homes : List HomeShown) (histories : List AnyHistory) (x : ℕ)
+      (cell : CellShown L) (entries : AnyHistory) (d : HomeShown)
+      → AreEnded cells homes histories → slice_get cells x ≡ Some cell → slice_get histories x ≡ Some entries
+      → IsClosed cell entries × All (IsAccount cell entries) (get_or homes x d).passes
+  ended-at [] homes histories x cell entries d are at its = absurd (cc)
+  ended-at (one ∷ cells) [] histories x cell entries d are at its = absurd are
+  ended-at (one ∷ cells) (home ∷ homes) [] x cell entries d are at its = absurd are
+  ended-at (one ∷ cells) (home ∷ homes) (first ∷ histories) zero cell entries d are at its =
+      let same : one ≡ cell = cc in
+      let same' : first ≡ entries = cc in
+      let P : CellShown L → AnyHistory → Type 0 =
+      λ c e. IsClosed c e × All (IsAccount c e) home.passes in
+      subst (λ c. P c entries) same (subst (λ e. P one e) same' (are.0, are.1))
+  ended-at (one ∷ cells) (home ∷ homes) (first ∷ histories) (suc x) cell entries d are at its =
+      ended-at cells homes histories x cell entries d are.2 at its
+
+  pub count-of-histories : (cells : List (CellShown L)) (homes : List HomeShown) (histories : List AnyHistory)
+      → AreEnded cells homes histories → length histories ≡ length cells
+  count-of-histories [] [] [] are = refl
+  count-of-histories [] [] (first ∷ histories) are = absurd are
+  count-of-histories [] (home ∷ homes) histories are = absurd are
+  count-of-histories (cell ∷ cells) [] histories are = absurd are
+  count-of-histories (cell ∷ cells) (home ∷ homes) [] are = absurd are
+  count-of-histories (cell ∷ cells) (home ∷ homes) (first ∷ histories) are =
+      ap (λ n. suc n) (count-of-histories cells homes histories are.2)
+
+  -- what is said of the passes that came home is said of the desks
+  pub accounts-at : (cells : List (CellShown L)) (desks : List DeskShown) (homes : List HomeShown)
+      (histories : List AnyHistory) (x : ℕ) (cell : CellShown L) (entries : AnyHistory) (p : PassShown)
+      → length homes ≡ length cells → All (λ (home : HomeShown). home.passes ≡ []) homes
+      → All (λ (desk : DeskShown). map fixed_of desk.passes ≡ map (λ cell. fixed_at cell desk.owner) cells) desks
+      → AreEnded cells (gathered desks homes) histories
+      → slice_get cells x ≡ Some cell → slice_get histories x ≡ Some entries
+      → IsClosed cell entries × All (λ (desk : DeskShown). IsAccount cell entries (get_or desk.passes x p)) desks
+  accounts-at cells desks homes histories x cell entries p same empty of are at its =
+      let d : HomeShown = record { str_type = OfCache; passes = []; room = 0 } in
+      let below : x < length cells = slice_get_within cells x cell at in
+      let lower : x < length homes = omega (arith, same, below) in
+      let none : (get_or homes x d).passes ≡ [] = empty x d lower in
+      let here : (get_or (gathered desks homes) x d).passes
+      ≡ map (λ (desk : DeskShown). get_or desk.passes x p) desks =
+      gathered-at cells desks homes x p d below same of
+      ∙ ap (λ front. front ++ map (λ (desk : DeskShown). get_or desk.passes x p) desks) none in
+      let said : IsClosed cell entries × All (IsAccount cell entries) (get_or (gathered desks homes) x d).passes =
+      ended-at cells (gathered desks homes) histories x cell entries d are at its in (
+        said.0,
+        each-of-map (IsAccount cell entries) (λ (desk : DeskShown). get_or desk.passes x p) desks
+            (subst (All (IsAccount cell entries)) here said.1),
+      )

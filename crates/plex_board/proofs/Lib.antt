@@ -1,0 +1,10 @@
+pub mod RowLaws
+pub mod HomeLaws
+pub mod OpenLaws
+pub mod PlaceLaws
+pub mod PutLaws
+pub mod CloseLaws
+pub mod TrayLaws
+pub mod EndLaws
+pub mod DealLaws
+pub mod StartLaws

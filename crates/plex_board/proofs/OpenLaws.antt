@@ -1,0 +1,141 @@
+-- What is known as structures are made one after the other.
+use Rattle.std.proofs.Common.{◌≡◌, ℕ, ◌≤◌, List, [], ◌∷◌, ◌++◌, length, map, refl, sym, ap, subst, ◌∙◌, arith, append_assoc}
+use Rattle.std.specs.Prelude.{All}
+use Rattle.std.proofs.lemmas.List.{map-append}
+use Rattle.std.proofs.lemmas.List.Elements.{All-push, All-nil, All-map}
+use Rattle.cf_types.specs.declared.forms.StrForm.{StrForm}
+use Rattle.cf_link.specs.declared.links.Links.{Links}
+use Rattle.plex_script.specs.declared.asks.AnyHistory.{AnyHistory}
+use Rattle.any_cell.specs.declared.any_pass.AnyPasses.{AnyPasses}
+use Rattle.any_model.specs.Types.{StrType, type_of_kind}
+use Rattle.any_cell.specs.Passes.{PassShown, unused_pass, passes_shown, type_of_passes, room_of}
+use Rattle.any_cell.specs.Cells.{CellShown, IsPassOf}
+use Rattle.vec_words.specs.Tokens.{WordTable}
+use Rattle.plex_board.proofs.DealLaws.{all-left}
+use Rattle.plex_station.proofs.StationLaws.{unused-of_cell}
+use Rattle.desk_model.specs.Desks.{DeskShown}
+use Rattle.desk_model.specs.Boards.{IsClosed, IsAccount, IsStarted}
+use Rattle.plex_board.specs.Rests.{each_with, HomeShown, home_shown, homes_shown, IsHomeOf, AreHomes, AreEmpty, AreEnded}
+use Rattle.plex_board.specs.Openings.{desk_with, desk_at}
+
+-- a caller that has seen nothing hasn't called
+pub unused-calls : (str_type : StrType) (words : WordTable) (passes : List PassShown) (owners : List ℕ)
+    → passes ≡ map (unused_pass str_type words) owners → All (λ (pass : PassShown). pass.calls ≡ []) passes
+unused-calls str_type words passes owners are =
+    subst (All (λ (pass : PassShown). pass.calls ≡ [])) (sym are)
+    (All-map (λ (pass : PassShown). pass.calls ≡ []) (unused_pass str_type words) owners (λ k d below. refl))
+
+module _ {L : Type 0} where
+  -- each desk with its pass to one structure more
+  pub desks-column : (cells : List (CellShown L)) (cell : CellShown L) (owners : List ℕ)
+      → each_with desk_with (map (unused_pass cell.str_type cell.words) owners) (map (desk_at cells) owners)
+      ≡ map (desk_at (cells ++ cell ∷ [])) owners
+  desks-column cells cell [] = refl
+  desks-column cells cell (owner ∷ owners) =
+      let passes : (desk_at cells owner).passes ++ unused_pass cell.str_type cell.words owner ∷ []
+      ≡ (desk_at (cells ++ cell ∷ []) owner).passes =
+      sym (map-append (λ (c : CellShown L). unused_pass c.str_type c.words owner) cells (cell ∷ [])) in
+      let one : desk_with (unused_pass cell.str_type cell.words owner) (desk_at cells owner)
+      ≡ desk_at (cells ++ cell ∷ []) owner =
+      ap (λ (p : List PassShown). let d : DeskShown = record { owner = record { 0 = owner }; passes = p } in d) passes in
+      cc (desks-column cells cell owners)
+
+  pub homes-push : (more : ℕ) (cells : List (CellShown L)) (cell : CellShown L) (homes : List HomeShown)
+      (home : HomeShown) → AreHomes more cells homes → IsHomeOf more cell home → AreHomes more (cells ++ cell ∷ []) (homes ++ home ∷ [])
+  homes-push more [] cell [] home are is = (is, tt)
+  homes-push more [] cell (first ∷ homes) home are is = absurd are
+  homes-push more (one ∷ cells) cell [] home are is = absurd are
+  homes-push more (one ∷ cells) cell (first ∷ homes) home are is =
+      (are.0, homes-push more cells cell homes home are.1 is)
+
+  -- the homes have room for fewer too
+  pub homes-fewer : (more fewer : ℕ) (cells : List (CellShown L)) (homes : List HomeShown) → fewer ≤ more
+      → AreHomes more cells homes → AreHomes fewer cells homes
+  homes-fewer more fewer [] [] less are = tt
+  homes-fewer more fewer [] (home ∷ homes) less are = absurd are
+  homes-fewer more fewer (cell ∷ cells) [] less are = absurd are
+  homes-fewer more fewer (cell ∷ cells) (home ∷ homes) less are = (
+    record { type_is = are.0.type_is; passes = are.0.passes; room = omega (arith, are.0.room, less) },
+    homes-fewer more fewer cells homes less are.1,
+  )
+
+  -- the cell of a new station
+  pub started-cell : (cell : CellShown L) (form : StrForm) (callers limit : ℕ) (links : Links L)
+      → cell ≡ record {
+        str_type = type_of_kind form.kind;
+        form = form;
+        callers = callers;
+        limit = limit;
+        words = cell.words;
+        links = links;
+      } → (cell.words.conns ≡ callers) × (cell.words.len ≡ form.vector) → IsStarted callers limit cell
+  started-cell cell form callers limit links is words =
+      let form_is : cell.form ≡ form = ap (λ (c : CellShown L). c.form) is in
+      record {
+        type_is = ap (λ (c : CellShown L). c.str_type) is ∙ sym (ap (λ (f : StrForm). type_of_kind f.kind) form_is);
+        callers_is = ap (λ (c : CellShown L). c.callers) is;
+        limit_is = ap (λ (c : CellShown L). c.limit) is;
+        conns_is = words.0;
+        len_is = words.1 ∙ sym (ap (λ (f : StrForm). f.vector) form_is);
+      }
+
+  -- those of a new cell's passes that are left are of the cell
+  pub left-of_cell : (cell : CellShown L) (passes left : List PassShown) (owners : List ℕ)
+      → passes ≡ map (unused_pass cell.str_type cell.words) owners
+      → (gone : List PassShown) × (passes ≡ left ++ gone) → All (IsPassOf cell) left
+  left-of_cell cell passes left owners are parts =
+      all-left (IsPassOf cell) passes left parts.0 parts.1 (unused-of_cell cell passes owners are)
+
+  -- ---- one structure more
+
+  module _ (cells more : List (CellShown L)) (cell : CellShown L) (more_is : more ≡ cells ++ cell ∷ []) where
+    pub more-started : (callers limit : ℕ) → All (IsStarted callers limit) cells → IsStarted callers limit cell
+        → All (IsStarted callers limit) more
+    more-started callers limit all is =
+        subst (All (IsStarted callers limit)) (sym more_is) (All-push (IsStarted callers limit) cells cell all is)
+
+    pub more-desks : (owners : List ℕ) (passes : List PassShown) (desks after : List DeskShown)
+        → desks ≡ map (desk_at cells) owners → passes ≡ map (unused_pass cell.str_type cell.words) owners
+        → after ≡ each_with desk_with passes desks → after ≡ map (desk_at more) owners
+    more-desks owners passes desks after are unused is =
+        is ∙ ap (λ (ps : List PassShown). each_with desk_with ps desks) unused
+        ∙ ap (each_with desk_with (map (unused_pass cell.str_type cell.words) owners)) are
+        ∙ desks-column cells cell owners
+        ∙ ap (λ (cs : List (CellShown L)). map (desk_at cs) owners) (sym more_is)
+
+    module _ (homes after : List AnyPasses) (home : AnyPasses) (after_is : after ≡ homes ++ home ∷ []) where
+      shown-push : homes_shown after ≡ homes_shown homes ++ home_shown home ∷ []
+      shown-push = ap homes_shown after_is ∙ map-append home_shown homes (home ∷ [])
+
+      pub more-homes : (n : ℕ) → AreHomes n cells (homes_shown homes) → IsHomeOf n cell (home_shown home)
+          → AreHomes n more (homes_shown after)
+      more-homes n are is =
+          subst (λ (hs : List HomeShown). AreHomes n more hs) (sym shown-push)
+          (subst (λ (cs : List (CellShown L)). AreHomes n cs (homes_shown homes ++ home_shown home ∷ [])) (sym more_is)
+          (homes-push n cells cell (homes_shown homes) (home_shown home) are is))
+
+      pub more-empty : AreEmpty (homes_shown homes) → passes_shown home ≡ [] → AreEmpty (homes_shown after)
+      more-empty all none =
+          subst AreEmpty (sym shown-push)
+          (All-push (λ (h : HomeShown). h.passes ≡ []) (homes_shown homes) (home_shown home) all none)
+
+  -- a home without passes
+  pub empty-home : (n : ℕ) (cell : CellShown L) (home : AnyPasses) → type_of_passes home ≡ cell.str_type
+      → passes_shown home ≡ [] → n ≤ room_of home → IsHomeOf n cell (home_shown home)
+  empty-home n cell home is none room =
+      let count : length (passes_shown home) ≡ 0 = ap length none in
+      record {
+        type_is = is;
+        passes = subst (All (IsPassOf cell)) (sym none) (All-nil (IsPassOf cell));
+        room = omega (arith, count, room);
+      }
+
+  -- a history more, whatever the rest will be
+  pub ended-step : (cells left : List (CellShown L)) (homes at : List HomeShown) (histories : List AnyHistory)
+      (cell : CellShown L) (home : HomeShown) (entries : AnyHistory)
+      → ((rest : List AnyHistory) → AreEnded (cell ∷ left) (home ∷ at) rest → AreEnded cells homes (histories ++ rest))
+      → IsClosed cell entries → All (IsAccount cell entries) home.passes
+      → (rest : List AnyHistory) → AreEnded left at rest → AreEnded cells homes ((histories ++ entries ∷ []) ++ rest)
+  ended-step cells left homes at histories cell home entries so closed account rest are =
+      subst (AreEnded cells homes) (sym (append_assoc histories (entries ∷ []) rest))
+      (so (entries ∷ rest) (closed, account, are))

@@ -1,0 +1,110 @@
+-- What is known where a call of a board is a call of one of its stations, with one of a desk's places.
+use Rattle.std.proofs.Common.{◌≡◌, ◌≢◌, ℕ, ◌<◌, ◌≤◌, length, get_or, set, refl, sym, ap, subst, ◌∙◌, arith, get_or-set_same}
+use Rattle.std.specs.Prelude.{Some, None, Ok, Err, Option, Result, slice_get, IfOk, IfErr, IfSome}
+use Rattle.std.proofs.Math.Seq.{map-set_same}
+use Rattle.std.proofs.lemmas.Option.{slice_get_read, get_or_from_slice_get}
+use Rattle.cf_types.specs.declared.numbers.StrNo.{StrNo}
+use Rattle.engine_api.specs.declared.told.Told.{Told}
+use Rattle.plex_script.specs.declared.scripts.AnyAsk.{AnyAsk}
+use Rattle.struct_cell.specs.declared.refused.CallRefused.{CallRefused}
+use Rattle.struct_cell.specs.declared.refused.CallRefused.TheVariants as refused
+use Rattle.any_cell.specs.Passes.{PassShown, NoteShown, IsLater, with_call}
+use Rattle.desk_model.specs.Notes.{with_any_note}
+use Rattle.any_cell.specs.Cells.{CellShown, IsPassOf}
+use Rattle.desk_model.specs.Desks.{DeskShown, fixed_of, no_pass, pass_at}
+use Rattle.desk_model.specs.Boards.{BoardShown, cell_on, IsDeskOf}
+use Rattle.desk_model.proofs.DeskLaws.{desk-length, desk-pass_is, desk-pass_owner}
+
+-- the station's cell and the place's pass are those on a structure
+pub record IsPlace {L : Type 0} (board : BoardShown L) (desk : DeskShown) (on : StrNo) (station : CellShown L)
+    (place : PassShown) : Type 0 where
+  pub cell_is : cell_on board on ≡ Some station
+  pub pass_is : pass_at desk on ≡ place
+  pub of_cell : IsPassOf station place
+  pub owner_is : place.owner ≡ desk.owner
+
+module _ {L : Type 0} where
+  pub cell-is : (board seen : BoardShown L) (on : StrNo) (k : ℕ) (station : CellShown L)
+      → board ≡ seen → on.0 < length board.cells → k ≡ on.0 → station ≡ get_or seen.cells k station
+      → cell_on board on ≡ Some station
+  cell-is board seen on k station same below at is =
+      let is' : station ≡ get_or board.cells on.0 station =
+      is ∙ ap (λ (n : ℕ). get_or seen.cells n station) at
+      ∙ ap (λ (b : BoardShown L). get_or b.cells on.0 station) (sym same) in
+      slice_get_read board.cells (length board.cells) on.0 station refl below is'
+
+  pub place-is : (board seen : BoardShown L) (desk has : DeskShown) (on : StrNo) (k j : ℕ)
+      (station : CellShown L) (place : PassShown)
+      → board ≡ seen → desk ≡ has → IsDeskOf board desk → on.0 < length board.cells → k ≡ on.0 → j ≡ on.0
+      → station ≡ get_or seen.cells k station → place ≡ get_or has.passes j place
+      → IsPlace board desk on station place
+  place-is board seen desk has on k j station place same same' of below at at' is is' =
+      let cell : cell_on board on ≡ Some station = cell-is board seen on k station same below at is in
+      let here : place ≡ get_or desk.passes on.0 place =
+      is' ∙ ap (λ (n : ℕ). get_or has.passes n place) at'
+      ∙ ap (λ (d : DeskShown). get_or d.passes on.0 place) (sym same') in
+      let lower : on.0 < length desk.passes = omega (arith, desk-length board desk of, below) in
+      let there : slice_get desk.passes on.0 ≡ Some place =
+      slice_get_read desk.passes (length desk.passes) on.0 place refl lower here in
+      let pass : pass_at desk on ≡ place = get_or_from_slice_get desk.passes on.0 place no_pass there in
+      record {
+        cell_is = cell;
+        pass_is = pass;
+        of_cell = subst (IsPassOf station) pass (desk-pass_is board desk on station of cell);
+        owner_is = subst (λ (p : PassShown). p.owner ≡ desk.owner) pass (desk-pass_owner board desk on station of cell);
+      }
+
+  -- what is known of the cell is known on the structure
+  pub some-cell : (P : CellShown L → Type 0) (board : BoardShown L) (on : StrNo) (station : CellShown L)
+      → cell_on board on ≡ Some station → P station → IfSome (cell_on board on) P
+  some-cell P board on station is p = subst (λ (o : Option (CellShown L)). IfSome o P) (sym is) p
+
+  pub cell-some : (P : CellShown L → Type 0) (board : BoardShown L) (on : StrNo) (station : CellShown L)
+      → cell_on board on ≡ Some station → IfSome (cell_on board on) P → P station
+  cell-some P board on station is p = subst (λ (o : Option (CellShown L)). IfSome o P) is p
+
+  -- the desk stays the board's where the place keeps what is fixed
+  pub changed-of_board : (board : BoardShown L) (desk has : DeskShown) (j : ℕ) (place after : PassShown)
+      → desk ≡ has → IsDeskOf board desk → place ≡ get_or has.passes j place → fixed_of after ≡ fixed_of place
+      → IsDeskOf board (record { owner = has.owner; passes = set has.passes j after })
+  changed-of_board board desk has j place after same of is fixed =
+      map-set_same fixed_of has.passes j after place (fixed ∙ ap fixed_of is)
+      ∙ subst (IsDeskOf board) same of
+
+  -- the pass that stands there afterwards
+  pub changed-at : (board : BoardShown L) (desk has : DeskShown) (on : StrNo) (j : ℕ) (after : PassShown)
+      → desk ≡ has → IsDeskOf board desk → on.0 < length board.cells → j ≡ on.0
+      → pass_at (record { owner = has.owner; passes = set has.passes j after }) on ≡ after
+  changed-at board desk has on j after same of below at =
+      let lower : on.0 < length desk.passes = omega (arith, desk-length board desk of, below) in
+      let lower' : on.0 < length has.passes = subst (λ (d : DeskShown). on.0 < length d.passes) same lower in
+      subst (λ (n : ℕ). get_or (set has.passes n after) on.0 no_pass ≡ after) (sym at)
+      (get_or-set_same has.passes on.0 after no_pass lower')
+
+  -- why a call isn't made, as the board tells it
+  pub full-on : (board : BoardShown L) (on : StrNo) (station : CellShown L) (after : DeskShown) (place : PassShown)
+      (answer : Result Told CallRefused)
+      → cell_on board on ≡ Some station → pass_at after on ≡ place
+      → IfErr answer (λ refusal. refusal ≢ refused.NoMemory
+      → (refusal ≡ refused.JournalFull station.limit) × (station.limit ≤ place.known))
+      → IfErr answer (λ refusal. refusal ≢ refused.NoMemory
+      → IfSome (cell_on board on) (λ cell. (refusal ≡ refused.JournalFull cell.limit)
+      × (cell.limit ≤ (pass_at after on).known)))
+  full-on board on station after place (Ok told) is at full = full
+  full-on board on station after place (Err refusal) is at full =
+      λ other. some-cell (λ (cell : CellShown L). (refusal ≡ refused.JournalFull cell.limit)
+      × (cell.limit ≤ (pass_at after on).known)) board on station is
+      (subst (λ (p : PassShown). (refusal ≡ refused.JournalFull station.limit) × (station.limit ≤ p.known))
+      (sym at) (full other))
+
+-- a call keeps what is fixed, made or not
+pub call-fixed : (answer : Result Told CallRefused) (asked : AnyAsk) (before after : PassShown)
+    → IfOk answer (λ told. after ≡ with_call asked told before) → IfErr answer (λ _. IsLater before after)
+    → fixed_of after ≡ fixed_of before
+call-fixed (Ok told) asked before after made unmade = ap fixed_of made
+call-fixed (Err refusal) asked before after made unmade = ap fixed_of unmade.same
+
+-- so does what a note tells
+pub noted-fixed : (note : Option NoteShown) (pass : PassShown) → fixed_of (with_any_note note pass) ≡ fixed_of pass
+noted-fixed None pass = refl
+noted-fixed (Some note) pass = refl

@@ -1,0 +1,103 @@
+-- What is known as a board's structures are made in the order of the script.
+use Rattle.std.proofs.Common.{◌≡◌, ℕ, Vec, ◌+◌, ◌<◌, List, arith, [], ◌∷◌, ◌++◌, length, get_or, map, take, sym, ap, subst, ◌∙◌, append_assoc}
+use Rattle.std.specs.Prelude.{All, Result, Ok, Err, IfOk}
+use Rattle.std.specs.List.{flat_map, range_with_len}
+use Rattle.std.proofs.lemmas.List.{take_more, length-map, length-append}
+use Rattle.std.proofs.lemmas.List.Elements.{All-get_or}
+use Rattle.cf_types.specs.declared.forms.StrForm.{StrForm}
+use Rattle.cf_types.specs.Forms.{IsForm}
+use Rattle.any_cell.specs.Cells.{CellShown}
+use Rattle.desk_model.specs.Desks.{DeskShown}
+use Rattle.desk_model.specs.Boards.{BoardShown, IsStarted, four_of, links_of, new_desk}
+use Rattle.plex_board.specs.Openings.{desk_at}
+
+-- four links more are those of one structure more
+pub links-regroup : {X : Type 0} (front four left rest all : List X) → front ++ left ≡ all → left ≡ four ++ rest
+    → (front ++ four) ++ rest ≡ all
+links-regroup {X} front four left rest all is parts =
+    append_assoc front four rest ∙ ap (λ (xs : List X). front ++ xs) (sym parts) ∙ is
+
+-- one form more
+pub forms-more : {X : Type 0} (forms : List X) (i : ℕ) (form : X) (made after : List X) → i < length forms
+    → form ≡ get_or forms i form → made ≡ take i forms → after ≡ made ++ form ∷ [] → after ≡ take (i + 1) forms
+forms-more {X} forms i form made after below is are more =
+    more ∙ ap (λ (xs : List X). xs ++ form ∷ []) are ∙ ap (λ (x : X). take i forms ++ x ∷ []) is
+    ∙ sym (take_more forms i form below)
+
+-- the new desks are those of the board
+pub desks-opened : {L : Type 0} (board : BoardShown L) (cells : List (CellShown L)) (callers : ℕ) (spare : List L)
+    (owners : List ℕ) (desks : List DeskShown)
+    → board ≡ record { cells = cells; callers = callers; spare = spare } → desks ≡ map (desk_at cells) owners
+    → desks ≡ map (new_desk board) owners
+desks-opened {L} board cells callers spare owners desks is are =
+    subst (λ (b : BoardShown L). desks ≡ map (new_desk b) owners) (sym is) are
+
+-- a form of the policy
+pub item-formed : (forms items : List StrForm) (i : ℕ) (form : StrForm) → items ≡ forms → All IsForm forms
+    → i < length items → form ≡ get_or items i form → IsForm form
+item-formed forms items i form same all below is =
+    subst IsForm (sym is) (All-get_or IsForm items i form below (subst (All IsForm) (sym same) all))
+
+pub links-more : {X : Type 0} (front four left rest all after : List X) → after ≡ front ++ four → front ++ left ≡ all
+    → left ≡ four ++ rest → after ++ rest ≡ all
+links-more {X} front four left rest all after more is parts =
+    ap (λ (xs : List X). xs ++ rest) more ∙ links-regroup front four left rest all is parts
+
+-- the board of these parts
+abbrev pub opened : {L : Type 0} → List (CellShown L) → ℕ → List L → BoardShown L
+opened cells callers spare = record { cells = cells; callers = callers; spare = spare }
+
+module _ {L : Type 0} where
+  -- before the first structure
+  pub start-none : (cells : List (CellShown L)) (left all : List L) → cells ≡ [] → left ≡ all
+      → (map (λ (cell : CellShown L). cell.form) cells ≡ []) × (length cells ≡ 0)
+      × (flat_map (λ (cell : CellShown L). four_of cell.links) cells ++ left ≡ all)
+  start-none cells left all none same = (
+    ap (λ (cs : List (CellShown L)). map (λ (cell : CellShown L). cell.form) cs) none,
+    ap length none,
+    ap (λ (cs : List (CellShown L)). flat_map (λ (cell : CellShown L). four_of cell.links) cs ++ left) none ∙ same,
+  )
+
+  pub count-more : (cells more : List (CellShown L)) (form : StrForm) (i : ℕ)
+      → map (λ (cell : CellShown L). cell.form) more ≡ map (λ (cell : CellShown L). cell.form) cells ++ form ∷ []
+      → length cells ≡ i → length more ≡ i + 1
+  count-more cells more form i is at =
+      let f : CellShown L → StrForm = λ cell. cell.form in
+      let count : length more ≡ length cells + 1 =
+      sym (length-map more f) ∙ ap length is ∙ length-append (map f cells) (form ∷ [])
+      ∙ ap (λ (n : ℕ). n + 1) (length-map cells f) in
+      omega (arith, count, at)
+
+  -- ---- the board that was opened
+
+  module _ {V E : Type 0} (cells : List (CellShown L)) (callers : ℕ) (spare : List L) where
+    pub opened-forms : (answer : Result (BoardShown L × V) E) (forms : List StrForm)
+        → map (λ (cell : CellShown L). cell.form) cells ≡ forms → IfOk answer (λ r. r.0 ≡ opened cells callers spare)
+        → IfOk answer (λ r. map (λ cell. cell.form) r.0.cells ≡ forms)
+    opened-forms (Ok r) forms are is =
+        ap (λ (b : BoardShown L). map (λ (cell : CellShown L). cell.form) b.cells) is ∙ are
+    opened-forms (Err e) forms are is = tt
+
+    pub opened-cells : (answer : Result (BoardShown L × V) E) (n limit : ℕ) → callers ≡ n
+        → All (IsStarted callers limit) cells → IfOk answer (λ r. r.0 ≡ opened cells callers spare)
+        → IfOk answer (λ r. All (IsStarted n limit) r.0.cells)
+    opened-cells (Ok r) n limit same are is =
+        subst (λ (b : BoardShown L). All (IsStarted n limit) b.cells) (sym is)
+        (subst (λ (m : ℕ). All (IsStarted m limit) cells) same are)
+    opened-cells (Err e) n limit same are is = tt
+
+    pub opened-links : (answer : Result (BoardShown L × V) E) (all : List L)
+        → flat_map (λ (cell : CellShown L). four_of cell.links) cells ++ spare ≡ all
+        → IfOk answer (λ r. r.0 ≡ opened cells callers spare) → IfOk answer (λ r. links_of r.0 ≡ all)
+    opened-links (Ok r) all are is = ap (λ (b : BoardShown L). links_of b) is ∙ are
+    opened-links (Err e) all are is = tt
+
+  pub opened-desks : {E Z : Type 0} (cells : List (CellShown L)) (callers : ℕ) (spare : List L)
+      (answer : Result (BoardShown L × Vec DeskShown Z) E) (n : ℕ) → callers ≡ n
+      → IfOk answer (λ r. r.0 ≡ record { cells = cells; callers = callers; spare = spare })
+      → IfOk answer (λ r. r.1.items ≡ map (desk_at cells) (range_with_len 0 (callers + 1)))
+      → IfOk answer (λ r. r.1.items ≡ map (new_desk r.0) (range_with_len 0 (n + 1)))
+  opened-desks cells callers spare (Ok r) n same is are =
+      desks-opened r.0 cells callers spare (range_with_len 0 (n + 1)) r.1.items is
+      (are ∙ ap (λ (m : ℕ). map (desk_at cells) (range_with_len 0 (m + 1))) same)
+  opened-desks cells callers spare (Err e) n same is are = tt

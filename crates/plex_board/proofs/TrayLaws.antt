@@ -1,0 +1,91 @@
+-- What is known of a tray whose slot on a structure is read or written.
+use Rattle.std.proofs.Common.{◌≡◌, ℕ, zero, suc, ◌<◌, List, [], ◌∷◌, length, get_or, set, map, replicate, refl, sym, ap, subst, ◌∙◌, arith, ◌⊎◌, inl, inr}
+use Rattle.std.specs.Prelude.{Some, None, Option, slice_get, IfSome, option_map}
+use Rattle.std.proofs.lemmas.List.{length-set, length-map, length-replicate, map-set}
+use Rattle.std.proofs.Math.Seq.{map-set_same}
+use Rattle.std.proofs.lemmas.Option.{slice_get_read, slice_get-map, slice_get_within}
+use Rattle.cf_types.specs.declared.numbers.StrNo.{StrNo}
+use Rattle.any_cell.specs.declared.any_note.AnyNote.{AnyNote}
+use Rattle.any_cell.specs.Passes.{NoteShown, note_shown}
+use Rattle.any_cell.specs.Cells.{CellShown, IsNoteOf}
+use Rattle.desk_model.specs.Boards.{BoardShown, cell_on, IsTrayOf, no_notes}
+
+-- an element after one was written: the written one, or what was there
+element-after : {X : Type 0} (xs : List X) (i x : ℕ) (v w : X) → slice_get (set xs i v) x ≡ Some w
+    → ((w ≡ v) × (x ≡ i)) ⊎ (slice_get xs x ≡ Some w)
+element-after [] i x v w at = inr at
+element-after (y ∷ xs) zero zero v w at = inl (ap (λ o. elim o [ None ↦ v | Some z ↦ z ]) (sym at), refl)
+element-after (y ∷ xs) zero (suc x) v w at = inr at
+element-after (y ∷ xs) (suc i) zero v w at = inr at
+element-after {X} (y ∷ xs) (suc i) (suc x) v w at =
+    elim (element-after xs i x v w at) [ inl e ↦ inl (e.0, ap suc e.1) | inr e ↦ inr e ]
+
+none-in : {X : Type 0} (n x : ℕ) (v : X) → slice_get (replicate n None) x ≡ Some (Some v) → ⊥
+none-in zero x v at = cc
+none-in (suc n) zero v at = cc
+none-in (suc n) (suc x) v at = none-in n x v at
+
+module _ {L : Type 0} (board : BoardShown L) where
+  pub no_notes-of_board : IsTrayOf board (no_notes board)
+  no_notes-of_board = record {
+    slots = length-replicate (length board.cells) None;
+    notes = λ x cell note at is. absurd (none-in (length board.cells) x note is);
+  }
+
+  module _ (tray : List (Option NoteShown)) (on : StrNo) (cell : CellShown L) (of : IsTrayOf board tray)
+      (cell_is : cell_on board on ≡ Some cell) where
+    -- the tray stays the board's where a note of the cell comes in
+    pub tray-set : (note : NoteShown) → IsNoteOf cell note → IsTrayOf board (set tray on.0 (Some note))
+    tray-set note is = record {
+      slots = length-set tray on.0 (Some note) ∙ of.slots;
+      notes = λ x other n at its.
+          elim (element-after tray on.0 x (Some note) (Some n) its) [
+            | inl e ↦
+                let same : n ≡ note = cc in
+                let cell' : cell ≡ other = let o : Some cell ≡ Some other = sym cell_is ∙ sym (ap (slice_get board.cells) e.1) ∙ at in cc in
+                subst (λ (m : NoteShown). IsNoteOf other m) (sym same) (subst (λ (c : CellShown L). IsNoteOf c note) cell' is)
+            | inr e ↦ of.notes x other n at e
+          ];
+    }
+
+    module _ (slots : List (Option AnyNote)) (tray_is : tray ≡ map (option_map note_shown) slots) where
+      pub slot-there : on.0 < length slots
+      slot-there =
+          let below : on.0 < length board.cells = slice_get_within board.cells on.0 cell cell_is in
+          let same : length tray ≡ length slots = ap length tray_is ∙ length-map slots (option_map note_shown) in
+          omega (arith, below, same, of.slots)
+
+      -- the note in the slot is one of the cell
+      pub slot-is : (j : ℕ) (slot : Option AnyNote) → j ≡ on.0 → slot ≡ get_or slots j slot
+          → IfSome slot (λ note. IsNoteOf cell (note_shown note))
+      slot-is j slot at is =
+          let is' : slot ≡ get_or slots on.0 slot = is ∙ ap (λ (n : ℕ). get_or slots n slot) at in
+          let here : slice_get slots on.0 ≡ Some slot =
+          slice_get_read slots (length slots) on.0 slot refl slot-there is' in
+          let shown : slice_get tray on.0 ≡ Some (option_map note_shown slot) =
+          ap (λ (t : List (Option NoteShown)). slice_get t on.0) tray_is
+          ∙ slice_get-map (option_map note_shown) slots on.0 ∙ ap (option_map (option_map note_shown)) here in
+          noted slot shown
+        where
+          noted : (s : Option AnyNote) → slice_get tray on.0 ≡ Some (option_map note_shown s)
+              → IfSome s (λ note. IsNoteOf cell (note_shown note))
+          noted None is = tt
+          noted (Some note) is = of.notes on.0 cell (note_shown note) cell_is is
+
+-- ---- the tray whose slot was written
+
+module _ (slots : List (Option AnyNote)) (tray : List (Option NoteShown)) (on : StrNo) (j : ℕ)
+    (tray_is : tray ≡ map (option_map note_shown) slots) (at : j ≡ on.0) where
+  pub tray-after : (slot : Option AnyNote) (note : NoteShown) → option_map note_shown slot ≡ Some note
+      → map (option_map note_shown) (set slots j slot) ≡ set tray on.0 (Some note)
+  tray-after slot note is =
+      map-set (option_map note_shown) slots j slot
+      ∙ ap (λ (t : List (Option NoteShown)). set t j (option_map note_shown slot)) (sym tray_is)
+      ∙ ap (λ (n : ℕ). set tray n (option_map note_shown slot)) at
+      ∙ ap (λ (o : Option NoteShown). set tray on.0 o) is
+
+  pub tray-same : (slot after : Option AnyNote) → slot ≡ get_or slots j slot
+      → option_map note_shown after ≡ option_map note_shown slot
+      → map (option_map note_shown) (set slots j after) ≡ tray
+  tray-same slot after is same =
+      map-set_same (option_map note_shown) slots j after slot (same ∙ ap (option_map note_shown) is) ∙ sym tray_is

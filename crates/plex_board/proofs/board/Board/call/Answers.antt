@@ -1,0 +1,38 @@
+use Rattle.std.proofs.Common.{set, sym, subst}
+use Rattle.any_cell.specs.Cells.{IsAskOf}
+use Rattle.any_model.specs.Kinds.{MayAskAny}
+use Rattle.plex_board.proofs.PlaceLaws.{place-is, cell-is, cell-some, changed-of_board, changed-at, full-on, call-fixed}
+use Rattle.plex_board.proofs.board.Board.call.Goals as goal
+
+pub call-requires-clause-place : goal.call-requires-clause-place
+call-requires-clause-place g c κs within =
+    (place-is _ _ _ _ c.args.on _ _ _ _ (sym c.self.view_is) (sym c.desk.view_is) c.requires.desk c.requires.place
+    c.from.ensures c.from-2.ensures c.index.ensures c.index_mut.ensures.value).of_cell
+
+pub call-requires-clause-ask : goal.call-requires-clause-ask
+call-requires-clause-ask g c κs within =
+    cell-some (λ cell. IsAskOf cell c.args.ask) c.args.self.now c.args.on c.index.result.now
+    (cell-is c.args.self.now _ c.args.on _ _ (sym c.self.view_is) c.requires.place c.from.ensures c.index.ensures)
+    c.requires.ask
+
+pub call-requires-clause-may : goal.call-requires-clause-may
+call-requires-clause-may g c κs within =
+    subst (λ owner. MayAskAny owner c.args.ask)
+    (sym (place-is _ _ _ _ c.args.on _ _ _ _ (sym c.self.view_is) (sym c.desk.view_is) c.requires.desk c.requires.place
+    c.from.ensures c.from-2.ensures c.index.ensures c.index_mut.ensures.value).owner_is) c.requires.may
+
+pub returns-clause-full : goal.returns-clause-full
+returns-clause-full g c =
+    full-on c.args.self.now c.args.on c.index.result.now
+    (record { owner = c.desk.inside.owner; passes = set c.desk.inside.places.items c.from-2.result c.call.new.place })
+    c.call.new.place c.call.result
+    (cell-is c.args.self.now _ c.args.on _ _ (sym c.self.view_is) c.requires.place c.from.ensures c.index.ensures)
+    (changed-at c.args.self.now c.args.desk.now _ c.args.on _ _ (sym c.desk.view_is) c.requires.desk
+    c.requires.place c.from-2.ensures)
+    c.call.ensures.full
+
+pub returns-clause-of_board : goal.returns-clause-of_board
+returns-clause-of_board g c =
+    changed-of_board c.args.self.now c.args.desk.now _ _ _ _ (sym c.desk.view_is) c.requires.desk
+    c.index_mut.ensures.value
+    (call-fixed c.call.result c.args.ask _ _ c.call.ensures.answered c.call.ensures.refused)

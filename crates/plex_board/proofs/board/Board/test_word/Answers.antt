@@ -1,0 +1,28 @@
+use Rattle.std.proofs.Common.{◌<◌, sym, subst, ap}
+use Rattle.vec_words.specs.Logged.{words_of}
+use Rattle.desk_model.specs.Desks.{fixed_of}
+use Rattle.plex_board.proofs.PlaceLaws.{place-is, cell-is, cell-some, changed-of_board}
+use Rattle.plex_board.proofs.board.Board.test_word.Goals as goal
+
+pub test_word-requires-clause-place : goal.test_word-requires-clause-place
+test_word-requires-clause-place g c κs within =
+    (place-is _ _ _ _ c.args.on _ _ _ _ (sym c.self.view_is) (sym c.desk.view_is) c.requires.desk c.requires.place
+    c.from.ensures c.from-2.ensures c.index.ensures c.index_mut.ensures.value).of_cell
+
+pub test_word-requires-clause-caller : goal.test_word-requires-clause-caller
+test_word-requires-clause-caller g c κs within =
+    subst (λ owner. 0 < owner.0)
+    (sym (place-is _ _ _ _ c.args.on _ _ _ _ (sym c.self.view_is) (sym c.desk.view_is) c.requires.desk c.requires.place
+    c.from.ensures c.from-2.ensures c.index.ensures c.index_mut.ensures.value).owner_is) c.requires.caller
+
+pub test_word-requires-clause-word : goal.test_word-requires-clause-word
+test_word-requires-clause-word g c κs within =
+    cell-some (λ cell. c.args.word < words_of cell.words.len) c.args.self.now c.args.on c.index.result.now
+    (cell-is c.args.self.now _ c.args.on _ _ (sym c.self.view_is) c.requires.place c.from.ensures c.index.ensures)
+    c.requires.word
+
+pub returns-clause-of_board : goal.returns-clause-of_board
+returns-clause-of_board g c =
+    changed-of_board c.args.self.now c.args.desk.now _ _ _ _ (sym c.desk.view_is) c.requires.desk
+    c.index_mut.ensures.value
+    (ap fixed_of c.test_word.ensures.place)

@@ -1,0 +1,37 @@
+use Rattle.std.proofs.Common.{length, sym, ap, ◌∙◌, arith}
+use Rattle.std.proofs.lemmas.List.{length-append}
+use Rattle.plex_board.proofs.EndLaws.{taken-first, none-left, all-accounts, end-homes, end-ended, end-links, end-count, end-done}
+use Rattle.plex_board.proofs.ending.end.Goals as goal
+
+pub loop-station-preserved : goal.loop-station-preserved
+loop-station-preserved g c =
+    let before = c.loop-station.invariant in
+    let left = c.in-Some.ensures.steps.0 in
+    let at = taken-first _ _ _ _ c.next-in-loop-station.ensures.items c.unwrap-home.ensures in
+    let said = c.close-history.ensures in
+    let count = end-count _ _ _ _ _ _ left at in
+    record {
+      homes = end-homes _ _ _ _ _ _ left at before.homes;
+      ended =
+          end-ended _ _ _ _ _ _ left at _ _ _ _ _ c.push_reserved.ensures.items before.ended
+          (record { history_type = said.history_type; legal = said.legal; most = said.most; callers = said.callers })
+          (all-accounts _ _ _ said.mine said.tests said.known);
+      links = end-links _ _ _ _ _ _ left at _ _ _ _ c.push_four.ensures.items said.links before.links;
+      history_room =
+          omega (arith, count, before.history_room, c.push_reserved.ensures.len, c.push_reserved.ensures.capacity);
+      link_room =
+          omega (
+            arith,
+            count,
+            before.link_room,
+            c.push_four.ensures.capacity,
+            c.push_four.new.links.ok.0,
+            c.loop-station.links.ok.0,
+            simp length-append at (ap length c.push_four.ensures.items),
+          );
+    }
+
+pub returns-clause-histories : goal.returns-clause-histories
+returns-clause-histories g c =
+    let none = none-left _ (sym c.loop-station.station-iterator.rest.ok.0 ∙ c.in-None.ensures.steps.0) in
+    end-done _ _ _ _ _ none c.loop-station.invariant.homes c.loop-station.invariant.ended

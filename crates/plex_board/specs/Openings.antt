@@ -1,0 +1,40 @@
+-- A board as its structures are made, one after the other.
+use Rattle.std.specs.Prelude.{◌≡◌, ℕ, ◌+◌, ◌≤◌, List, [], ◌∷◌, ◌++◌, map, All}
+use Rattle.std.specs.List.{range_with_len}
+use Rattle.std.specs.Vec.{vec_capacity}
+use Rattle.any_cell.specs.Passes.{PassShown}
+use Rattle.any_cell.specs.Cells.{CellShown}
+use Rattle.plex_board.specs.declared.rest.Rest.{Rest}
+use Rattle.plex_board.specs.declared.opening.Opening.{Opening}
+use Rattle.desk_model.specs.Desks.{DeskShown}
+use Rattle.desk_model.specs.Boards.{IsStarted, new_desk}
+use Rattle.plex_board.specs.Rests.{AreHomes, AreEmpty, homes_shown}
+
+-- the desk of a caller that has seen nothing of these structures
+abbrev pub desk_at : {L : Type 0} → List (CellShown L) → ℕ → DeskShown
+desk_at cells owner = new_desk (record { cells = cells; callers = 0; spare = [] }) owner
+
+-- a desk without passes
+abbrev pub bare_desk : ℕ → DeskShown
+bare_desk owner = record { owner = record { 0 = owner }; passes = [] }
+
+abbrev pub desk_with : PassShown → DeskShown → DeskShown
+desk_with pass desk = record desk { passes = desk.passes ++ pass ∷ [] }
+
+-- what the end will need is there, for 16 structures with 64 links
+pub record IsBegun {L : Type 0} (callers : ℕ) (cells : List (CellShown L)) (rest : Rest L) : Type 0 where
+  pub homes : AreHomes (callers + 1) cells (homes_shown rest.homes.items)
+  pub empty : AreEmpty (homes_shown rest.homes.items)
+  pub homes_room : 16 ≤ vec_capacity rest.homes
+  pub no_histories : rest.histories.items ≡ []
+  pub history_room : 16 ≤ vec_capacity rest.histories
+  pub no_links : rest.links.items ≡ []
+  pub link_room : 64 ≤ vec_capacity rest.links
+  pub no_spare : rest.spare.items ≡ []
+  pub spare_room : 64 ≤ vec_capacity rest.spare
+
+pub record IsOpening {L : Type 0} (callers limit : ℕ) (opening : Opening L) : Type 0 where
+  pub started : All (IsStarted callers limit) opening.stations.items
+  pub stations_room : 16 ≤ vec_capacity opening.stations
+  pub desks : opening.desks.items ≡ map (desk_at opening.stations.items) (range_with_len 0 (callers + 1))
+  pub begun : IsBegun callers opening.stations.items opening.rest

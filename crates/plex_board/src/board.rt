@@ -1,0 +1,312 @@
+//! The board.
+ghost use Rattle.std.specs.Prelude.{◌≡◌, ◌≢◌, ◌+◌, ◌<◌, ◌≤◌, ◌++◌, ◌∷◌, [], IfOk, IfErr, IfSome, All, length, map, slice_set, Some};
+ghost use Rattle.std.specs.Vec.{vec_len};
+ghost use Rattle.std.specs.List.{range_with_len};
+ghost use Rattle.struct_cell.specs.declared.refused.CallRefused.TheVariants as refused;
+ghost use Rattle.vec_words.specs.Logged.{words_of, indices_of, sight};
+ghost use Rattle.any_model.specs.Types.{type_of_kind};
+ghost use Rattle.any_model.specs.Kinds.{MayAskAny};
+ghost use Rattle.any_cell.specs.Passes.{note_of, with_call};
+ghost use Rattle.any_cell.specs.Cells.{IsAskOf};
+ghost use Rattle.desk_model.specs.Notes.{with_note, with_any_note};
+ghost use Rattle.desk_model.specs.Desks.{pass_at, with_pass, IsLaterOn};
+ghost use Rattle.plex_board.specs.Rests.{IsReady};
+ghost use Rattle.desk_model.specs.Boards.{IsPolicy, IsStarted, IsDeskOf, IsTrayOf, AreClosed, cell_on, links_of, new_desk, no_notes, note_in};
+
+use crate::desk::Desk;
+use crate::ending::{end, gather};
+use crate::opening::{Opening, next_four};
+use crate::rest::Rest;
+use crate::tray::Tray;
+use cf_link::Link;
+use cf_turn::KeyLock;
+use cf_types::{Kind, NoMemory, StrNo};
+use engine_api::Told;
+use plex_script::{AnyAsk, AnyHistory, Script};
+use plex_station::Station;
+use std::alloc::Global;
+use std::marker::Model;
+use std::sync::Wait;
+use struct_cell::CallRefused;
+use vec_words::{Tested, TestedWord};
+
+/// The structures of a script, which threads share by `&`. Contracts see what of them never changes.
+#[derive(Drop)]
+pub struct Board<L: Link> {
+    stations: Vec<Station<L>>,
+    callers: u8,
+    rest: KeyLock<Rest<L>>,
+}
+
+impl<L: Link> Model for Board<L> {
+    ghost use Rattle.desk_model.specs.Boards.{BoardShown};
+    ghost use Rattle.plex_board.specs.Rests.{IsReady};
+
+    ghost Value = { BoardShown L };
+
+    ghost view = { λ b. record {
+      cells = b.stations.items;
+      callers = b.callers;
+      spare = b.rest.key.spare.items;
+    } };
+
+    ghost invariant = { λ b. IsReady b.stations.items b.callers b.rest.key };
+}
+
+impl<L: Link> Board<L> {
+    /// The structures of a script without calls yet, and a desk for each caller from the operator, 0,
+    /// on. Each journal has at most `limit` entries. Structure `s`, from 0 in the order of the script,
+    /// has the links `4 * s` to `4 * s + 3`, one to each facility.
+    ///
+    /// # Errors
+    ///
+    /// Where there is no memory the links come back, in their order.
+    pub fn start(
+        rt: &impl Wait,
+        alloc: Global,
+        script: &Script,
+        limit: u32,
+        links: Vec<L>,
+    ) -> Result<(Board<L>, Vec<Desk>), Vec<L>>
+        requires policy { IsPolicy script.now }
+        requires limit { (1 ≤ limit) × (limit ≤ 4294967000) }
+        requires links { vec_len links ≡ 64 }
+        ensures forms { IfOk result (λ r. map (λ cell. cell.form) r.0.cells
+            ≡ script.now.structures) }
+        ensures cells { IfOk result (λ r. All
+            (IsStarted (length script.now.connectors) limit) r.0.cells) }
+        ensures callers { IfOk result (λ r. r.0.callers ≡ length script.now.connectors) }
+        ensures links { IfOk result (λ r. links_of r.0 ≡ links.items) }
+        ensures desks { IfOk result (λ r. r.1.items
+            ≡ map (new_desk r.0) (range_with_len 0 (length script.now.connectors + 1))) }
+        ensures handed_back { IfErr result (λ back. back.items ≡ links.items) }
+    {
+        let callers = script.connectors.items().len() as u8;
+        let Ok(mut opening) = Opening::new(alloc, callers) else {
+            return Err(links);
+        };
+        let mut left = links.into_iter();
+        for form in script.structures.items() {
+            let four = next_four(&mut left);
+            match opening.add(rt, alloc, form, callers, limit, four) {
+                Ok(()) => {}
+                Err(four) => return Err(opening.give_up(rt, callers, four, left)),
+            }
+        }
+        opening.open(rt, alloc, callers, limit, left)
+    }
+
+    // A board of these structures.
+    pub(crate) fn of(stations: Vec<Station<L>>, callers: u8, rest: KeyLock<Rest<L>>) -> Board<L>
+        requires { IsReady stations.items callers rest.key }
+        ensures { result ≡ record {
+          cells = stations.items;
+          callers = callers;
+          spare = rest.key.spare.items;
+        } }
+    {
+        Board {
+            stations,
+            callers,
+            rest,
+        }
+    }
+
+    /// How many structures there are.
+    pub fn structures(&self) -> u8
+        ensures { result ≡ length self.now.cells }
+    {
+        self.stations.len() as u8
+    }
+
+    /// The kind of a structure.
+    pub fn kind(&self, on: StrNo) -> Kind
+        requires { on.0 < length self.now.cells }
+        ensures form { IfSome (cell_on self.now on) (λ cell. result ≡ cell.form.kind) }
+        ensures str_type { IfSome (cell_on self.now on)
+            (λ cell. cell.str_type ≡ type_of_kind result) }
+    {
+        self.stations[usize::from(on.0)].kind()
+    }
+
+    /// How many bits each connector's vector has at a structure.
+    pub fn vector(&self, on: StrNo) -> u32
+        requires { on.0 < length self.now.cells }
+        ensures form { IfSome (cell_on self.now on) (λ cell. result ≡ cell.form.vector) }
+        ensures len { IfSome (cell_on self.now on) (λ cell. cell.words.len ≡ result) }
+    {
+        self.stations[usize::from(on.0)].vector()
+    }
+
+    /// A call of the desk's owner to a structure. It waits for its turn; then it is judged and done at
+    /// once, it stands in the journal, and the words of the vectors show what it did.
+    ///
+    /// # Errors
+    ///
+    /// `JournalFull` where the journal has `limit` entries; `NoMemory`, before anything was changed. In
+    /// both cases nothing happened to the structure.
+    pub fn call(
+        &self,
+        rt: &impl Wait,
+        alloc: Global,
+        desk: &mut Desk,
+        on: StrNo,
+        ask: AnyAsk,
+    ) -> Result<Told, CallRefused>
+        requires desk { IsDeskOf self.now desk.old }
+        requires place { on.0 < length self.now.cells }
+        requires ask { IfSome (cell_on self.now on) (λ cell. IsAskOf cell ask) }
+        requires may { MayAskAny desk.old.owner ask }
+        ensures later { IfOk result (λ told. (pass_at desk.old on).known < told.no) }
+        ensures answered { IfOk result (λ told. desk.new
+            ≡ with_pass on (with_call ask told (pass_at desk.old on)) desk.old) }
+        ensures refused { IfErr result (λ _. IsLaterOn on desk.old desk.new) }
+        ensures full { IfErr result (λ refusal. refusal ≢ refused.NoMemory
+            → IfSome (cell_on self.now on) (λ cell. (refusal ≡ refused.JournalFull cell.limit)
+            × (cell.limit ≤ (pass_at desk.new on).known))) }
+        ensures of_board { IsDeskOf self.now desk.new }
+    {
+        self.stations[usize::from(on.0)].call(rt, alloc, &mut desk.places[usize::from(on.0)], ask)
+    }
+
+    /// Tests a bit of the owner's vector at a structure: no lock, no memory, no waiting (IXLVECTR
+    /// TESTLOCALCACHE and TESTLISTSTATE). The operator has no vectors.
+    pub fn test(&self, desk: &mut Desk, on: StrNo, index: u32) -> Tested
+        requires desk { IsDeskOf self.now desk.old }
+        requires place { on.0 < length self.now.cells }
+        requires caller { 0 < desk.old.owner.0 }
+        requires index { IfSome (cell_on self.now on) (λ cell. index < cell.words.len) }
+        ensures later { (pass_at desk.old on).known ≤ result.at }
+        ensures tested { (let pass = pass_at desk.old on in desk.new ≡ with_pass on (record pass {
+          known = result.at;
+          tests = pass.tests
+              ++ record { index = index; bit = result.bit; at = result.at; sure = pass.sure } ∷ [];
+        }) desk.old) }
+        ensures of_board { IsDeskOf self.now desk.new }
+    {
+        self.stations[usize::from(on.0)].test(&mut desk.places[usize::from(on.0)], index)
+    }
+
+    /// Tests the 32 bits of a word of the owner's vector at a structure.
+    pub fn test_word(&self, desk: &mut Desk, on: StrNo, word: u32) -> TestedWord
+        requires desk { IsDeskOf self.now desk.old }
+        requires place { on.0 < length self.now.cells }
+        requires caller { 0 < desk.old.owner.0 }
+        requires word { IfSome (cell_on self.now on) (λ cell. word < words_of cell.words.len) }
+        ensures later { (pass_at desk.old on).known ≤ result.at }
+        ensures tested { (let pass = pass_at desk.old on in desk.new ≡ with_pass on (record pass {
+          known = result.at;
+          tests = pass.tests ++ map (sight result.bits result.at pass.sure) (indices_of word);
+        }) desk.old) }
+        ensures of_board { IsDeskOf self.now desk.new }
+    {
+        self.stations[usize::from(on.0)].test_word(&mut desk.places[usize::from(on.0)], word)
+    }
+
+    /// Puts a note of what the owner has seen of a structure into the structure's box, in place of the
+    /// one there. It answers the number of a call that the owner has seen complete.
+    pub fn post(&self, rt: &impl Wait, desk: &mut Desk, on: StrNo) -> u32
+        requires desk { IsDeskOf self.now desk.old }
+        requires place { on.0 < length self.now.cells }
+        ensures desk { desk.new ≡ desk.old }
+        ensures sure { result ≡ (pass_at desk.old on).sure }
+        ensures ordered { result ≤ (pass_at desk.old on).known }
+    {
+        self.stations[usize::from(on.0)].post(rt, &mut desk.places[usize::from(on.0)])
+    }
+
+    /// Tells the owner the note in a structure's box. It answers the number of a call that the owner has
+    /// now seen complete.
+    pub fn take(&self, rt: &impl Wait, desk: &mut Desk, on: StrNo) -> u32
+        requires desk { IsDeskOf self.now desk.old }
+        requires place { on.0 < length self.now.cells }
+        ensures later { IsLaterOn on desk.old desk.new }
+        ensures sure { result ≡ (pass_at desk.new on).sure }
+        ensures ordered { result ≤ (pass_at desk.new on).known }
+        ensures of_board { IsDeskOf self.now desk.new }
+    {
+        self.stations[usize::from(on.0)].take(rt, &mut desk.places[usize::from(on.0)])
+    }
+
+    /// A tray without notes.
+    pub fn new_tray(&self, alloc: Global) -> Result<Tray, NoMemory>
+        ensures notes { IfOk result (λ tray. tray ≡ no_notes self.now) }
+        ensures of_board { IfOk result (IsTrayOf self.now) }
+    {
+        let mut slots = Vec::new(alloc);
+        for _ in 0..self.stations.len() {
+            slots.push(None)?;
+        }
+        Ok(Tray { slots })
+    }
+
+    /// Puts a note of what the owner has seen of a structure into a tray, in place of the one there.
+    pub fn post_in(&self, desk: &mut Desk, tray: &mut Tray, on: StrNo) -> u32
+        requires desk { IsDeskOf self.now desk.old }
+        requires tray { IsTrayOf self.now tray.old }
+        requires place { on.0 < length self.now.cells }
+        ensures desk { desk.new ≡ desk.old }
+        ensures tray { tray.new
+            ≡ slice_set tray.old on.0 (Some (note_of (pass_at desk.old on))) }
+        ensures sure { result ≡ (pass_at desk.old on).sure }
+        ensures ordered { result ≤ (pass_at desk.old on).known }
+        ensures of_board { IsTrayOf self.now tray.new }
+    {
+        self.stations[usize::from(on.0)].post_in(
+            &mut desk.places[usize::from(on.0)],
+            &mut tray.slots[usize::from(on.0)],
+        )
+    }
+
+    /// Tells the owner the note of a structure in a tray, if there is one.
+    pub fn take_in(&self, desk: &mut Desk, tray: &mut Tray, on: StrNo) -> u32
+        requires desk { IsDeskOf self.now desk.old }
+        requires tray { IsTrayOf self.now tray.old }
+        requires place { on.0 < length self.now.cells }
+        ensures desk { desk.new ≡ with_pass on
+            (with_any_note (note_in tray.old on) (pass_at desk.old on)) desk.old }
+        ensures tray { tray.new ≡ tray.old }
+        ensures sure { result ≡ (pass_at desk.new on).sure }
+        ensures ordered { result ≤ (pass_at desk.new on).known }
+        ensures of_board { IsDeskOf self.now desk.new }
+    {
+        self.stations[usize::from(on.0)].take_in(
+            &mut desk.places[usize::from(on.0)],
+            &mut tray.slots[usize::from(on.0)],
+        )
+    }
+
+    /// Tells one desk's owner what another's has seen of a structure, from hand to hand: no lock. It
+    /// answers the number of a call that the first has now seen complete.
+    pub fn hear(&self, desk: &mut Desk, from: &mut Desk, on: StrNo) -> u32
+        requires desk { IsDeskOf self.now desk.old }
+        requires from { IsDeskOf self.now from.old }
+        requires place { on.0 < length self.now.cells }
+        ensures desk { desk.new ≡ with_pass on
+            (with_note (note_of (pass_at from.old on)) (pass_at desk.old on)) desk.old }
+        ensures from { from.new ≡ from.old }
+        ensures sure { result ≡ (pass_at desk.new on).sure }
+        ensures ordered { result ≤ (pass_at desk.new on).known }
+        ensures of_board { IsDeskOf self.now desk.new }
+    {
+        self.stations[usize::from(on.0)].hear(
+            &mut desk.places[usize::from(on.0)],
+            &mut from.places[usize::from(on.0)],
+        )
+    }
+
+    /// Ends the board: the history of each structure, and the links as they came. It may wait for turns,
+    /// and takes no memory.
+    pub fn close(self, rt: &impl Wait, desks: Vec<Desk>) -> (Vec<AnyHistory>, Vec<L>)
+        requires desks { All (IsDeskOf self) desks.items }
+        requires owners { map (λ desk. desk.owner.0) desks.items
+            ≡ range_with_len 0 (self.callers + 1) }
+        ensures histories { AreClosed self desks.items result.0.items }
+        ensures links { result.1.items ≡ links_of self }
+    {
+        let Board { stations, rest, .. } = self;
+        let mut rest = rest.end(rt);
+        gather(&mut rest.homes, desks);
+        end(rt, stations, rest)
+    }
+}

@@ -1,0 +1,228 @@
+//! How a board begins.
+ghost use Rattle.std.specs.Prelude.{◌≡◌, ◌+◌, ◌*◌, ◌<◌, ◌≤◌, ◌++◌, ◌∷◌, [], ℕ, IfOk, IfErr, OnOk, OnErr, All, List, length, map};
+ghost use Rattle.std.specs.List.{flat_map, range_with_len};
+ghost use Rattle.std.specs.Vec.{vec_len};
+ghost use Rattle.std.specs.Vec.Iter.{into_iter_items, into_iter_len};
+ghost use Rattle.cf_types.specs.Forms.{IsForm};
+ghost use Rattle.any_cell.specs.Passes.{PassShown, passes_shown, type_of_passes, room_of};
+ghost use Rattle.desk_model.specs.Boards.{four_of};
+ghost use Rattle.plex_board.specs.Rests.{each_with};
+ghost use Rattle.plex_board.specs.Openings.{IsOpening, IsBegun, bare_desk, desk_at, desk_with};
+
+use crate::board::Board;
+use crate::desk::Desk;
+use crate::ending::{end, push_four, push_left};
+use crate::rest::Rest;
+use any_cell::AnyPasses;
+use cf_link::{Link, Links};
+use cf_turn::KeyLock;
+use cf_types::{ConnId, NoMemory, StrForm};
+use plex_shell::copy_form;
+use plex_station::{Place, Station};
+use std::alloc::Global;
+use std::mem::drop;
+use std::sync::Wait;
+use std::vec::IntoIter;
+
+// How many structures and links there are at most.
+const STRUCTURES: usize = 16;
+
+const LINKS: usize = 64;
+
+/// A board as its structures are made, one after the other.
+#[derive(Drop)]
+pub(crate) struct Opening<L: Link> {
+    pub(crate) stations: Vec<Station<L>>,
+    pub(crate) rest: Rest<L>,
+    pub(crate) desks: Vec<Desk>,
+}
+
+impl<L: Link> Opening<L> {
+    /// All memory that doesn't need links, and desks without places.
+    pub(crate) fn new(alloc: Global, callers: u8) -> Result<Opening<L>, NoMemory>
+        requires { callers ≤ 32 }
+        ensures opening { IfOk result (λ opening. (limit : ℕ) → IsOpening callers limit opening) }
+        ensures none { IfOk result (λ opening. opening.stations.items ≡ []) }
+    {
+        Ok(Opening {
+            stations: Vec::with_capacity(alloc, STRUCTURES)?,
+            rest: Rest {
+                homes: Vec::with_capacity(alloc, STRUCTURES)?,
+                histories: Vec::with_capacity(alloc, STRUCTURES)?,
+                links: Vec::with_capacity(alloc, LINKS)?,
+                spare: Vec::with_capacity(alloc, LINKS)?,
+            },
+            desks: new_desks(alloc, callers)?,
+        })
+    }
+
+    /// Makes a structure of this form, and deals its passes to the desks.
+    ///
+    /// # Errors
+    ///
+    /// Where there is no memory the links come back. Desks may then have places at no structure.
+    pub(crate) fn add(
+        &mut self,
+        rt: &impl Wait,
+        alloc: Global,
+        form: &StrForm,
+        callers: u8,
+        limit: u32,
+        links: Links<L>,
+    ) -> Result<(), Links<L>>
+        requires formed { IsForm form.now }
+        requires callers { callers ≤ 32 }
+        requires limit { (1 ≤ limit) × (limit ≤ 4294967000) }
+        requires opening { IsOpening callers limit self.old }
+        requires few { length self.old.stations.items < 16 }
+        ensures opening { OnOk result (IsOpening callers limit self.new) }
+        ensures forms { OnOk result (map (λ cell. cell.form) self.new.stations.items
+            ≡ map (λ cell. cell.form) self.old.stations.items ++ form.now ∷ []) }
+        ensures links { OnOk result (flat_map (λ cell. four_of cell.links) self.new.stations.items
+            ≡ flat_map (λ cell. four_of cell.links) self.old.stations.items ++ four_of links) }
+        ensures handed_back { IfErr result (λ back. back ≡ links) }
+        ensures same { OnErr result (self.new.stations.items ≡ self.old.stations.items) }
+        ensures begun { OnErr result (IsBegun callers self.new.stations.items self.new.rest) }
+    {
+        let Ok(form) = copy_form(alloc, form) else {
+            return Err(links);
+        };
+        let (station, mut home) = Station::start(rt, alloc, form, callers, limit, links)?;
+        match deal(&mut self.desks, &mut home) {
+            Ok(()) => {
+                self.stations.push_reserved(station);
+                self.rest.homes.push_reserved(home);
+                Ok(())
+            }
+            Err(NoMemory) => {
+                let (history, links) = station.close(rt, home);
+                drop(history);
+                Err(links)
+            }
+        }
+    }
+
+    /// Ends the structures made so far. All links come back: theirs, these four, and those left.
+    pub(crate) fn give_up(
+        self,
+        rt: &impl Wait,
+        callers: u8,
+        four: Links<L>,
+        left: IntoIter<L>,
+    ) -> Vec<L>
+        requires begun { IsBegun callers self.stations.items self.rest }
+        requires links { 4 * length self.stations.items + 4 + into_iter_len left ≤ 64 }
+        ensures { result.items ≡ flat_map (λ cell. four_of cell.links) self.stations.items
+            ++ four_of four ++ into_iter_items left }
+    {
+        let Opening {
+            stations,
+            mut rest,
+            desks,
+        } = self;
+        drop(desks);
+        push_four(&mut rest.spare, four);
+        push_left(&mut rest.spare, left);
+        end(rt, stations, rest).1
+    }
+
+    /// The board, whose spare links are those left.
+    ///
+    /// # Errors
+    ///
+    /// Where there is no memory all links come back.
+    pub(crate) fn open(
+        self,
+        rt: &impl Wait,
+        alloc: Global,
+        callers: u8,
+        limit: u32,
+        left: IntoIter<L>,
+    ) -> Result<(Board<L>, Vec<Desk>), Vec<L>>
+        requires callers { callers ≤ 32 }
+        requires opening { IsOpening callers limit self }
+        requires few { length self.stations.items ≤ 16 }
+        requires links { 4 * length self.stations.items + into_iter_len left ≤ 64 }
+        ensures board { IfOk result (λ r. r.0 ≡ record {
+          cells = self.stations.items;
+          callers = callers;
+          spare = into_iter_items left;
+        }) }
+        ensures desks { IfOk result (λ r. r.1.items
+            ≡ map (desk_at self.stations.items) (range_with_len 0 (callers + 1))) }
+        ensures handed_back { IfErr result (λ back. back.items
+            ≡ flat_map (λ cell. four_of cell.links) self.stations.items
+            ++ into_iter_items left) }
+    {
+        let Opening {
+            stations,
+            mut rest,
+            desks,
+        } = self;
+        push_left(&mut rest.spare, left);
+        match KeyLock::new(alloc, rest) {
+            Ok(rest) => Ok((Board::of(stations, callers, rest), desks)),
+            Err(rest) => {
+                drop(desks);
+                Err(end(rt, stations, rest).1)
+            }
+        }
+    }
+}
+
+// A desk without places for each caller from the operator, 0, on.
+fn new_desks(alloc: Global, callers: u8) -> Result<Vec<Desk>, NoMemory>
+    requires { callers ≤ 32 }
+    ensures { IfOk result (λ desks. desks.items
+        ≡ map bare_desk (range_with_len 0 (callers + 1))) }
+{
+    let mut desks = Vec::new(alloc);
+    for owner in 0..callers + 1 {
+        desks.push(bare_desk(alloc, owner))?;
+    }
+    Ok(desks)
+}
+
+// A desk without places.
+fn bare_desk(alloc: Global, owner: u8) -> Desk
+    ensures { result ≡ bare_desk owner }
+{
+    Desk {
+        owner: ConnId(owner),
+        places: Vec::new(alloc),
+    }
+}
+
+// Each desk gets its caller's pass, the last first.
+fn deal(desks: &mut Vec<Desk>, home: &mut AnyPasses) -> Result<(), NoMemory>
+    requires count { length (passes_shown home.old) ≡ vec_len desks.old }
+    requires unused { All (λ pass. pass.calls ≡ []) (passes_shown home.old) }
+    ensures desks { OnOk result (desks.new.items
+        ≡ each_with desk_with (passes_shown home.old) desks.old.items) }
+    ensures empty { OnOk result (passes_shown home.new ≡ []) }
+    ensures left { (gone : List PassShown) × (passes_shown home.old
+        ≡ passes_shown home.new ++ gone) }
+    ensures str_type { type_of_passes home.new ≡ type_of_passes home.old }
+    ensures room { room_of home.new ≡ room_of home.old }
+{
+    let mut owner = desks.len();
+    while let Some(pass) = home.pop() {
+        owner -= 1;
+        desks[owner].places.push(Place::new(pass))?;
+    }
+    Ok(())
+}
+
+/// The links of the next structure.
+pub(crate) fn next_four<L>(left: &mut IntoIter<L>) -> Links<L>
+    requires { 4 ≤ into_iter_len left.old }
+    ensures items { into_iter_items left.old ≡ four_of result ++ into_iter_items left.new }
+    ensures len { into_iter_len left.new + 4 ≡ into_iter_len left.old }
+{
+    Links {
+        one: left.next().unwrap(),
+        two: left.next().unwrap(),
+        three: left.next().unwrap(),
+        four: left.next().unwrap(),
+    }
+}
