@@ -1,0 +1,125 @@
+-- The calls of a line, put together from its steps.
+use Rattle.std.proofs.Common.{◌≡◌, ◌≢◌, ℕ, suc, ◌<◌, ◌≤◌, List, [], ◌∷◌, ◌++◌, length, map, Option, refl, sym, ap, subst, ◌∙◌, append-nil, append_assoc, arith}
+use Rattle.std.specs.Prelude.{IfSome}
+use Rattle.std.proofs.lemmas.List.{set-set}
+use Rattle.cf_types.specs.declared.forms.Kind.{Kind}
+use Rattle.cf_types.specs.declared.numbers.StrNo.{StrNo}
+use Rattle.struct_cell.specs.declared.refused.CallRefused.{CallRefused}
+use Rattle.struct_cell.specs.declared.refused.CallRefused.TheVariants as refused
+use Rattle.plex_script.specs.declared.agents.Step.{Step}
+use Rattle.plex_script.specs.declared.agents.Step.TheVariants as step
+use Rattle.plex_script.specs.declared.scripts.AnyAsk.{AnyAsk}
+use Rattle.plex_script.specs.declared.transcripts.AgentEnd.{AgentEnd}
+use Rattle.plex_script.specs.declared.transcripts.AgentEnd.TheVariants as ended
+use Rattle.plex_script.specs.declared.transcripts.Shown.{Shown}
+use Rattle.plex_script.specs.Agent.{most_asks, step_after}
+use Rattle.any_cell.specs.Passes.{PassShown, with_call}
+use Rattle.any_cell.specs.Cells.{CellShown}
+use Rattle.desk_model.specs.Desks.{DeskShown, pass_at, with_pass, IsLaterOn}
+use Rattle.desk_model.specs.Boards.{BoardShown, IsDeskOf, cell_on}
+use Rattle.desk_model.proofs.DeskLaws.{pass_at-with_pass_same, with_pass-pass_at, desk-length}
+use Rattle.desk_model.specs.Turns.{AtWork, Asks, Steps, EndsAt, Halts, call_item}
+use Rattle.plex_agent.specs.Calls.{IsReady, IsAsked, at_work, end_of}
+use Rattle.plex_agent.proofs.StepLaws.{asks_some, fewer_asks, ready_after}
+use Rattle.plex_agent.proofs.CellLaws.{some_is, cell_there}
+
+with_pass_twice : (on : StrNo) (first second : PassShown) (desk : DeskShown)
+    → with_pass on second (with_pass on first desk) ≡ with_pass on second desk
+with_pass_twice on first second desk =
+    ap (λ (passes : List PassShown). let d : DeskShown = record desk { passes = passes } in d)
+    (set-set desk.passes on.0 first second)
+
+module _ (limit : ℕ) (kind : Kind) (line : Option AnyAsk) (on : StrNo) where
+  -- a step, and the steps behind it
+  pub asks_more : (now next : Step) (before between after : AtWork) → on.0 < length before.desk.passes
+      → IsAsked kind line on now next before between → Asks limit kind line on next between after
+      → Asks limit kind line on now before after
+  asks_more now next before between after there one rest =
+      let told = one.told in
+      let passes : pass_at between.desk on ≡ with_call one.asked told (pass_at before.desk on) =
+      ap (λ (d : DeskShown). pass_at d on) one.desk ∙ pass_at-with_pass_same before.desk on _ there in
+      let twice : with_pass on rest.pass between.desk ≡ with_pass on rest.pass before.desk =
+      ap (with_pass on rest.pass) one.desk ∙ with_pass_twice on _ rest.pass before.desk in
+      record {
+        tolds = told ∷ rest.tolds;
+        last = rest.last;
+        pass = rest.pass;
+        steps = (
+          one.asked,
+          one.asks,
+          one.later,
+          subst (λ (pass : PassShown). Steps kind line (step_after now told) pass rest.tolds rest.last rest.pass) passes
+              (subst (λ (at : Step). Steps kind line at (pass_at between.desk on) rest.tolds rest.last rest.pass)
+              one.next_is rest.steps),
+        );
+        items = rest.items ∙ ap (λ (items : List Shown). items ++ map (call_item on) rest.tolds) one.items
+            ∙ append_assoc before.shown.items (call_item on told ∷ []) (map (call_item on) rest.tolds);
+        ends = subst (λ (d : DeskShown). EndsAt limit kind line on rest.last d after.desk after.shown.end)
+            twice rest.ends;
+      }
+
+  -- no step was made
+  pub asks_end : (now : Step) (before after : AtWork)
+      → EndsAt limit kind line on now before.desk after.desk after.shown.end
+      → after.shown.items ≡ before.shown.items → Asks limit kind line on now before after
+  asks_end now before after ends same =
+      record {
+        tolds = [];
+        last = now;
+        pass = pass_at before.desk on;
+        steps = (refl, refl);
+        items = same ∙ sym (append-nil before.shown.items);
+        ends = subst (λ (d : DeskShown). EndsAt limit kind line on now d after.desk after.shown.end)
+            (sym (with_pass-pass_at before.desk on)) ends;
+      }
+
+  -- the call wasn't made
+  pub asks_refused : (now : Step) (refusal : CallRefused) (end : AgentEnd) (before : AtWork) (after : DeskShown)
+      (items : List Shown) → IsReady line now → now ≢ step.Rest → IsLaterOn on before.desk after
+      → (pass_at after on).sure ≤ (pass_at after on).known
+      → (refusal ≢ refused.NoMemory → limit ≤ (pass_at after on).known) → items ≡ before.shown.items
+      → end ≡ end_of on refusal
+      → Asks limit kind line on now before (at_work after items end)
+  asks_refused now refusal end before after items ready goes later ordered full same ends =
+      subst (λ (end : AgentEnd). Asks limit kind line on now before (at_work after items end)) (sym ends)
+      (by_refusal refusal full)
+    where
+      halts : Halts kind line on now before.desk after
+      halts =
+          let some = asks_some kind line now ready goes in
+          record { asked = some.0; next = some.1; later = later; ordered = ordered }
+
+      by_refusal : (refusal : CallRefused) → (refusal ≢ refused.NoMemory → limit ≤ (pass_at after on).known)
+          → Asks limit kind line on now before (at_work after items (end_of on refusal))
+      by_refusal (refused.JournalFull most) full =
+          asks_end now before (at_work after items (ended.JournalFull on)) (refl, halts, full (λ is. cc)) same
+      by_refusal refused.NoMemory full = asks_end now before (at_work after items ended.NoMemory) halts same
+
+-- ---- a step of a line at a board's structure
+
+module _ {L : Type 0} (board : BoardShown L) (on : StrNo) where
+  pub pass_there : (desk : DeskShown) → IsDeskOf board desk → on.0 < length board.cells → on.0 < length desk.passes
+  pass_there desk of below = omega (arith, desk-length board desk of, below)
+
+  module _ (line : Option AnyAsk) (now next : Step) (before after : AtWork) (there : on.0 < length board.cells)
+      (asked : IfSome (cell_on board on) (λ cell. IsAsked cell.form.kind line on now next before after)) where
+    asked_here : IsAsked (cell_there board on there).0.form.kind line on now next before after
+    asked_here =
+        let cell = cell_there board on there in
+        some_is (λ (cell : CellShown L). IsAsked cell.form.kind line on now next before after) (cell_on board on)
+        cell.0 cell.1 asked
+
+    pub asked_fewer : now ≢ step.Rest → most_asks next < most_asks now
+    asked_fewer goes =
+        let here = asked_here in
+        let fewer : suc (most_asks (step_after now here.told)) ≤ most_asks now = fewer_asks now here.told goes in
+        let same : most_asks next ≡ most_asks (step_after now here.told) = ap most_asks here.next_is in
+        omega (arith, fewer, same)
+
+    pub asked_ready : IsReady line now → IsReady line next
+    asked_ready ready =
+        let here = asked_here in
+        subst (IsReady line) (sym here.next_is) (ready_after line now here.told ready)
+
+    pub asked_owner : after.desk.owner ≡ before.desk.owner
+    asked_owner = ap (λ (d : DeskShown). d.owner) (asked_here).desk

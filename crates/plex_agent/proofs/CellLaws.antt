@@ -1,0 +1,51 @@
+-- The cell of a structure that is there.
+use Rattle.std.proofs.Common.{◌≡◌, ℕ, ◌<◌, List, [], ◌∷◌, length, get_or, Some, None, Option, refl, sym, subst, ◌∙◌, slice_get, arith}
+use Rattle.std.specs.Prelude.{IfSome}
+use Rattle.std.proofs.lemmas.Option.{slice_get-get_or}
+use Rattle.cf_types.specs.declared.forms.Kind.{Kind}
+use Rattle.cf_types.specs.declared.numbers.ConnId.{ConnId}
+use Rattle.cf_types.specs.declared.numbers.StrNo.{StrNo}
+use Rattle.plex_script.specs.declared.agents.Step.{Step}
+use Rattle.plex_script.specs.declared.scripts.AnyAsk.{AnyAsk}
+use Rattle.plex_script.specs.Agent.{asked_by}
+use Rattle.any_model.specs.Types.{type_of_kind}
+use Rattle.any_model.specs.Kinds.{MayAskAny}
+use Rattle.any_cell.specs.Cells.{CellShown, IsAskOf}
+use Rattle.desk_model.specs.Boards.{BoardShown, cell_on}
+use Rattle.plex_agent.specs.Calls.{IsAskable}
+use Rattle.plex_agent.proofs.StepLaws.{may_ask}
+
+pub some_is : {X : Type 0} (P : X → Type 0) (o : Option X) (x : X) → o ≡ Some x → IfSome o P → P x
+some_is P o x is all = subst (λ o. IfSome o P) is all
+
+pub if_each : {X : Type 0} (P : X → Type 0) (o : Option X) → ((x : X) → o ≡ Some x → P x) → IfSome o P
+if_each P None each = tt
+if_each P (Some x) each = each x refl
+
+missing : {X : Type 0} (xs : List X) (n : ℕ) → n < length xs → slice_get xs n ≡ None → ⊥
+missing [] n within nowhere = absurd (omega (arith, within))
+missing (x ∷ xs) n within nowhere =
+    let none : Some (get_or (x ∷ xs) n x) ≡ None = sym (slice_get-get_or (x ∷ xs) n x within) ∙ nowhere in absurd cc
+
+module _ {L : Type 0} (board : BoardShown L) (on : StrNo) where
+  pub cell_there : on.0 < length board.cells → (cell : CellShown L) × (cell_on board on ≡ Some cell)
+  cell_there below = by_cell (cell_on board on) refl
+    where
+      by_cell : (o : Option (CellShown L)) → cell_on board on ≡ o
+          → (cell : CellShown L) × (cell_on board on ≡ Some cell)
+      by_cell (Some cell) is = (cell, is)
+      by_cell None is = absurd (missing board.cells on.0 below is)
+
+  module _ (kind : Kind) (line : Option AnyAsk) (by : ConnId) (now : Step) (asked : AnyAsk)
+      (type_is : IfSome (cell_on board on) (λ cell. cell.str_type ≡ type_of_kind kind))
+      (may : IfSome (cell_on board on) (IsAskable line by)) (asks : Some asked ≡ asked_by kind line now) where
+    pub ask_fits : IfSome (cell_on board on) (λ cell. IsAskOf cell asked)
+    ask_fits =
+        if_each (λ (cell : CellShown L). IsAskOf cell asked) (cell_on board on) (λ cell is.
+        (may_ask cell kind line by now asked (some_is _ _ cell is type_is) (some_is _ _ cell is may) asks).0)
+
+    pub may_ask_there : on.0 < length board.cells → MayAskAny by asked
+    may_ask_there below =
+        let there = cell_there below in
+        (may_ask there.0 kind line by now asked (some_is _ _ there.0 there.1 type_is)
+        (some_is _ _ there.0 there.1 may) asks).1

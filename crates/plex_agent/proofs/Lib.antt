@@ -1,0 +1,5 @@
+pub mod StepLaws
+pub mod CellLaws
+pub mod AskLaws
+pub mod CallerLaws
+pub mod LineLaws

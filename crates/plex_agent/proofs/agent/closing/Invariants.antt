@@ -1,0 +1,14 @@
+use Rattle.std.proofs.Common.{◌≡◌, drop}
+use Rattle.desk_model.specs.Boards.{IsDeskOf}
+use Rattle.desk_model.specs.Turns.{AtWork}
+use Rattle.desk_model.specs.Callers.{DepartsEach}
+use Rattle.plex_agent.proofs.agent.closing.Given as goal
+
+abbrev pub invariant-loop-number : goal.invariant-loop-number
+invariant-loop-number g l = record {
+  of_board : IsDeskOf l.board l.desk;
+  owner : l.desk.owner ≡ l.fn.desk.owner;
+  rest : (after : AtWork)
+      → DepartsEach l.number (drop l.number l.board.cells) (record { desk = l.desk; shown = l.shown }) after
+      → DepartsEach 0 l.board.cells (record { desk = l.fn.desk; shown = l.fn.shown }) after;
+}

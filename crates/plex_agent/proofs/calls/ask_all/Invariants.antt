@@ -1,0 +1,24 @@
+use Rattle.std.proofs.Common.{◌≡◌, Some}
+use Rattle.std.specs.Option.{option_copied}
+use Rattle.plex_script.specs.declared.transcripts.AgentEnd.TheVariants as ended
+use Rattle.plex_script.specs.Agent.{most_asks}
+use Rattle.any_cell.specs.Cells.{CellShown}
+use Rattle.desk_model.specs.Boards.{IsDeskOf, cell_on}
+use Rattle.desk_model.specs.Turns.{AtWork, Asks}
+use Rattle.plex_agent.specs.Calls.{IsReady, at_work}
+use Rattle.plex_agent.proofs.calls.ask_all.Given as goal
+
+abbrev pub invariant-loop-alloc : goal.invariant-loop-alloc
+invariant-loop-alloc g l = record {
+  of_board : IsDeskOf l.board l.desk;
+  owner : l.desk.owner ≡ l.fn.desk.owner;
+  ready : IsReady (option_copied l.line) l.now;
+  rest : (cell : CellShown g.row.L.Denot) → cell_on l.board l.on ≡ Some cell → (after : AtWork)
+      → Asks cell.limit cell.form.kind (option_copied l.line) l.on l.now
+      (at_work l.desk l.items.items ended.Done) after
+      → Asks cell.limit cell.form.kind (option_copied l.line) l.on l.fn.first
+      (at_work l.fn.desk l.fn.items.items ended.Done) after;
+}
+
+abbrev pub decreases-loop-alloc : goal.decreases-loop-alloc
+decreases-loop-alloc g l = most_asks l.now

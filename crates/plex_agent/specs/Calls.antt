@@ -1,0 +1,53 @@
+-- What the calls of a line owe, and what one of them does.
+use Rattle.std.specs.Prelude.{◌≡◌, ◌<◌, List, [], ◌∷◌, ◌++◌, Option, None, Some, IfSome}
+use Rattle.cf_types.specs.declared.forms.Kind.{Kind}
+use Rattle.cf_types.specs.declared.numbers.ConnId.{ConnId}
+use Rattle.cf_types.specs.declared.numbers.StrNo.{StrNo}
+use Rattle.cf_types.specs.Forms.{IsCaller}
+use Rattle.engine_api.specs.declared.told.Told.{Told}
+use Rattle.struct_cell.specs.declared.refused.CallRefused.{CallRefused}
+use Rattle.struct_cell.specs.declared.refused.CallRefused.TheVariants as refused
+use Rattle.plex_script.specs.declared.agents.Step.{Step}
+use Rattle.plex_script.specs.declared.agents.Step.TheVariants as step
+use Rattle.plex_script.specs.declared.scripts.AnyAsk.{AnyAsk}
+use Rattle.plex_script.specs.declared.transcripts.AgentEnd.{AgentEnd}
+use Rattle.plex_script.specs.declared.transcripts.AgentEnd.TheVariants as ended
+use Rattle.plex_script.specs.declared.transcripts.Shown.{Shown}
+use Rattle.plex_script.specs.Agent.{step_after, asked_by}
+use Rattle.any_model.specs.Kinds.{MayAskAny}
+use Rattle.any_cell.specs.Passes.{with_call}
+use Rattle.any_cell.specs.Cells.{CellShown, IsAskOf}
+use Rattle.desk_model.specs.Desks.{DeskShown, pass_at, with_pass}
+use Rattle.desk_model.specs.Turns.{AtWork, call_item}
+
+abbrev pub at_work : DeskShown → List Shown → AgentEnd → AtWork
+at_work desk items end = record { desk = desk; shown = record { items = items; end = end } }
+
+-- its caller may ask what the line asks of such a structure, and the common commands of an event round
+pub record IsAskable {L : Type 0} (line : Option AnyAsk) (by : ConnId) (cell : CellShown L) : Type 0 where
+  pub caller : IsCaller by
+  pub call : IfSome line (λ asked. IsAskOf cell asked × MayAskAny by asked)
+
+-- where the line has no call, no step asks it
+abbrev pub IsReady : Option AnyAsk → Step → Type 0
+IsReady (Some asked) now = Unit {0}
+IsReady None (step.Call asks) = ⊥
+IsReady None (step.Next left behind) = behind ≡ None
+IsReady None (step.Respond left behind) = behind ≡ None
+IsReady None step.Rest = Unit {0}
+
+-- what a step asks was asked, and shown by its number; the step behind it
+pub record IsAsked (kind : Kind) (line : Option AnyAsk) (on : StrNo) (now next : Step) (before after : AtWork)
+    : Type 0 where
+  pub asked : AnyAsk
+  pub told : Told
+  pub asks : asked_by kind line now ≡ Some asked
+  pub later : (pass_at before.desk on).known < told.no
+  pub next_is : next ≡ step_after now told
+  pub desk : after.desk ≡ with_pass on (with_call asked told (pass_at before.desk on)) before.desk
+  pub items : after.shown.items ≡ before.shown.items ++ call_item on told ∷ []
+
+-- how a caller's work ends where its call wasn't made
+abbrev pub end_of : StrNo → CallRefused → AgentEnd
+end_of on (refused.JournalFull limit) = ended.JournalFull on
+end_of on refused.NoMemory = ended.NoMemory

@@ -1,0 +1,111 @@
+//! The calls of a line.
+ghost use Rattle.std.specs.Prelude.{◌≡◌, ◌≢◌, ◌<◌, ◌≤◌, ◌↔◌, IsTrue, IfSome, IfOk, IfErr, length};
+ghost use Rattle.std.specs.Option.{option_copied};
+ghost use Rattle.struct_cell.specs.declared.refused.CallRefused.TheVariants as refused;
+ghost use Rattle.plex_script.specs.declared.agents.Step.TheVariants as step;
+ghost use Rattle.plex_script.specs.declared.transcripts.AgentEnd.TheVariants as ended;
+ghost use Rattle.desk_model.specs.Desks.{pass_at, IsLaterOn};
+ghost use Rattle.desk_model.specs.Boards.{IsDeskOf, cell_on};
+ghost use Rattle.desk_model.specs.Turns.{Asks};
+ghost use Rattle.plex_agent.specs.Calls.{IsAskable, IsReady, IsAsked, at_work, end_of};
+
+use crate::items::reserve_item;
+use cf_link::Link;
+use cf_types::StrNo;
+use plex_board::{Board, Desk};
+use plex_script::{AgentEnd, AnyAsk, Shown, Step};
+use std::alloc::Global;
+use std::sync::Wait;
+use struct_cell::CallRefused;
+
+// Whether anything is left to ask.
+fn asks(now: Step) -> bool
+    ensures { IsTrue result ↔ now ≢ step.Rest }
+{
+    !matches!(now, Step::Rest)
+}
+
+// How a caller's work ends where its call to a structure wasn't made.
+fn end_of(on: StrNo, refusal: CallRefused) -> AgentEnd
+    ensures { result ≡ end_of on refusal }
+{
+    match refusal {
+        CallRefused::JournalFull { .. } => AgentEnd::JournalFull { on },
+        CallRefused::NoMemory => AgentEnd::NoMemory,
+    }
+}
+
+// The call of a step, shown by its number; the step behind it. Where there is no memory for the item or
+// for the copy of the line's call, the call isn't made.
+fn ask_step<L: Link>(
+    rt: &impl Wait,
+    alloc: Global,
+    board: &Board<L>,
+    on: StrNo,
+    line: Option<&AnyAsk>,
+    now: Step,
+    desk: &mut Desk,
+    items: &mut Vec<Shown>,
+) -> Result<Step, CallRefused>
+    requires desk { IsDeskOf board.now desk.old }
+    requires place { on.0 < length board.now.cells }
+    requires may { IfSome (cell_on board.now on)
+        (IsAskable (option_copied line) desk.old.owner) }
+    requires ready { IsReady (option_copied line) now }
+    requires goes { now ≢ step.Rest }
+    ensures asked { IfOk result (λ next. IfSome (cell_on board.now on)
+        (λ cell. IsAsked cell.form.kind (option_copied line.entry) on now next
+        (at_work desk.old items.old.items ended.Done)
+        (at_work desk.new items.new.items ended.Done))) }
+    ensures refused { IfErr result (λ _. IsLaterOn on desk.old desk.new) }
+    ensures full { IfErr result (λ refusal. refusal ≢ refused.NoMemory
+        → IfSome (cell_on board.now on) (λ cell. cell.limit ≤ (pass_at desk.new on).known)) }
+    ensures items { IfErr result (λ _. items.new.items ≡ items.old.items) }
+    ensures of_board { IsDeskOf board.now desk.new }
+{
+    let kind = board.kind(on);
+    reserve_item(items)?;
+    let Some(ask) = now.asked(alloc, kind, line)? else {
+        return Ok(Step::Rest);
+    };
+    let told = board.call(rt, alloc, desk, on, ask)?;
+    items.push_reserved(Shown::Call { on, no: told.no });
+    Ok(now.after(&told))
+}
+
+/// Makes the calls of a line at a structure, from its first step on, till nothing is left to ask. Each
+/// answered call is shown by its number. A full journal, or want of memory, ends the caller's work.
+pub(crate) fn ask_all<L: Link>(
+    rt: &impl Wait,
+    alloc: Global,
+    board: &Board<L>,
+    on: StrNo,
+    line: Option<&AnyAsk>,
+    first: Step,
+    desk: &mut Desk,
+    items: &mut Vec<Shown>,
+) -> AgentEnd
+    requires desk { IsDeskOf board.now desk.old }
+    requires place { on.0 < length board.now.cells }
+    requires may { IfSome (cell_on board.now on)
+        (IsAskable (option_copied line) desk.old.owner) }
+    requires ready { IsReady (option_copied line) first }
+    ensures asks { IfSome (cell_on board.now on)
+        (λ cell. Asks cell.limit cell.form.kind (option_copied line.entry) on first
+        (at_work desk.old items.old.items ended.Done)
+        (at_work desk.new items.new.items result)) }
+    ensures of_board { IsDeskOf board.now desk.new }
+    ensures owner { desk.new.owner ≡ desk.old.owner }
+{
+    let mut now = first;
+    while asks(now) {
+        match ask_step(rt, alloc, board, on, line, now, desk, items) {
+            Ok(next) => now = next,
+            Err(refusal) => {
+                desk.ordered(on);
+                return end_of(on, refusal);
+            }
+        }
+    }
+    AgentEnd::Done
+}
