@@ -1,0 +1,233 @@
+-- The law of a script's work at one board on one thread: the callers were shown what the run by the machine
+-- alone shows, and the
+-- histories that the closed structures left are the run's.
+use Rattle.std.proofs.Common.{◌≡◌, ◌≢◌, ℕ, ◌≤◌, ◌<◌, List, [], length, map, fold, get_or, slice_get, Option, None, Some, sym, ap, subst, ◌∙◌, arith, append-nil}
+use Rattle.std.specs.Prelude.{All, option_map}
+use Rattle.std.proofs.lemmas.List.{length-map, get_or-map}
+use Rattle.std.proofs.lemmas.Option.{slice_get-map, slice_get-get_or}
+use Rattle.cf_types.specs.declared.numbers.ConnId.{ConnId}
+use Rattle.plex_script.specs.declared.asks.AnyHistory.{AnyHistory}
+use Rattle.plex_script.specs.declared.scripts.Script.{Script}
+use Rattle.plex_script.specs.declared.transcripts.AgentEnd.TheVariants as ended
+use Rattle.plex_script.specs.declared.transcripts.Transcript.{Transcript}
+use Rattle.plex_script.specs.Heard.{any_calls, any_length, own_calls}
+use Rattle.any_model.specs.Kinds.{any_take}
+use Rattle.any_model.proofs.HistoryLaws.{calls_length, calls_rise, same_calls, take_all}
+use Rattle.serial_model.specs.Serial.{Run, start, connectors, after_line, after_closing, serial_run}
+use Rattle.serial_model.specs.Runnable.{IsRunnable}
+use Rattle.any_cell.specs.Cells.{IsAnyTold}
+use Rattle.desk_model.specs.Desks.{DeskShown, pass_at}
+use Rattle.desk_model.specs.Boards.{BoardShown, IsStarted, IsAccount, AreClosed}
+use Rattle.desk_model.specs.Turns.{AtWork}
+use Rattle.desk_model.specs.Floors.{Floor, Plays, worker_of, no_worker}
+use Rattle.serial_exact.proofs.Spots.{conn, str, Spot, IsKnownPass, LastKnows}
+use Rattle.serial_exact.proofs.Agreements.{AgreesAt}
+use Rattle.serial_exact.proofs.Stages.{Stage, IsStage, State, Known, Fits, Agrees, Goes, goes_then}
+use Rattle.serial_exact.proofs.Workers.{IsFloor}
+use Rattle.serial_exact.proofs.LineTurns.{of_all, of_none, TurnGoes}
+use Rattle.serial_exact.proofs.LineRuns.{lines_go}
+use Rattle.serial_exact.proofs.Closings.{closes_all}
+use Rattle.serial_exact.proofs.Beginnings.{stage_of, IsGiven, IsPlace, place_at, form_of, entries_of, is_stage, stage_is, callers_are, connectors_within, new_state, known_new, floor_new, agrees_new, list_same}
+
+-- no more is said of what callers were shown
+goes_silent : (stage : Stage) (state : State) → Goes stage of_all of_none state state (λ run. run)
+goes_silent stage state =
+    record {
+      known = λ known. known;
+      back = λ known fits. fits;
+      agrees = λ known fits run agrees. record {
+        histories = agrees.histories;
+        transcripts = agrees.transcripts;
+        numbers = agrees.numbers;
+        shown = agrees.shown;
+        at = λ x within.
+            let at : AgreesAt stage.callers (stage.entries x) x (of_all x) (state.spots x) state.shown
+            (slice_get run.histories x) (slice_get run.posted x) = agrees.at x within in
+            record {
+              history_is = at.history_is;
+              seen = λ c inside works.
+                  let seen = at.seen c inside works in
+                  record { complete = seen.complete; most = seen.most; seen = λ said. absurd said };
+              lasts = at.lasts;
+              number_is = at.number_is;
+              noted = at.noted;
+            };
+      };
+    }
+
+module _ {L : Type 0} (limit : ℕ) (script : Script) (board : BoardShown L) (floor : Floor) (histories : List AnyHistory)
+    (given : IsGiven limit script board histories) where
+  abbrev stage : Stage
+  stage = stage_of limit board histories
+
+  -- what has been done in the whole, and the run that goes with it
+  whole : Plays board script.lines (connectors script) floor
+      → TurnGoes stage of_all of_none (new_state limit script board histories given) floor
+      (λ run. fold (after_closing limit script) (fold (after_line limit script) run script.lines) (connectors script))
+  whole plays =
+      let is : IsStage stage = is_stage limit script board histories given in
+      let before : State = new_state limit script board histories given in
+      let known : Known stage before = known_new limit script board histories given in
+      let during : TurnGoes stage of_all of_all before plays.between
+      (λ run. fold (after_line limit script) run script.lines) =
+      lines_go board script stage is (stage_is limit script board histories given) script.lines
+      (callers_are limit script board histories given) _ plays.between before
+      (floor_new limit script board histories given) known
+      plays.during in
+      let closing : TurnGoes stage of_none of_none during.after floor
+      (λ run. fold (after_closing limit script) run (connectors script)) =
+      closes_all board script stage is (stage_is limit script board histories given) (connectors script)
+      (connectors_within limit script board histories given) given.forms plays.between floor during.after
+      during.is_floor
+      (during.goes_on.known known) plays.closing in
+      record {
+        after = closing.after;
+        is_floor = closing.is_floor;
+        goes_on = goes_then stage of_all of_none of_none before during.after closing.after
+            (λ run. fold (after_line limit script) run script.lines)
+            (λ run. fold (after_closing limit script) run (connectors script))
+            (goes_then stage of_all of_all of_none before during.after during.after
+            (λ run. fold (after_line limit script) run script.lines) (λ run. run) during.goes_on
+            (goes_silent stage during.after))
+            closing.goes_on;
+      }
+
+  -- ---- the histories fit what has been done in the end
+
+  module _ (state : State) (at : IsFloor stage floor state) (known : Known stage state)
+      (memory : All (λ worker. worker.shown.end ≢ ended.NoMemory) floor.workers)
+      (closed : AreClosed board (map (λ worker. worker.desk) floor.workers) histories) where
+    worker_within : (c : ℕ) → c ≤ board.callers → c < length floor.workers
+    worker_within c inside = omega (arith, at.workers)
+
+    account : (x c : ℕ) → x < length board.cells → c ≤ board.callers
+        → (place : IsPlace limit script board histories given x)
+        → IsAccount place.cell place.entries ((state.spots x).passes c)
+    account x c within inside place =
+        let desks : List DeskShown = map (λ (worker : AtWork). worker.desk) floor.workers in
+        let size : length desks ≡ length floor.workers = length-map floor.workers (λ (worker : AtWork). worker.desk) in
+        let desk : DeskShown = (worker_of floor (conn c)).desk in
+        let desk_is : get_or desks c desk ≡ desk =
+        get_or-map (λ (worker : AtWork). worker.desk) floor.workers c no_worker desk (worker_within c inside) in
+        let all : All (λ desk. IsAccount place.cell place.entries (pass_at desk (str x))) desks =
+        (closed.closed (str x) place.cell place.entries place.there place.kept).1 in
+        subst (IsAccount place.cell place.entries) ((at.worker c inside).passes x within)
+        (subst (λ (d : DeskShown). IsAccount place.cell place.entries (pass_at d (str x))) desk_is
+        (all c desk (omega (arith, size, worker_within c inside))))
+
+    events_are : (x : ℕ) → x < length board.cells → (place : IsPlace limit script board histories given x)
+        → any_calls place.entries ≡ (state.spots x).events
+    events_are x within place =
+        let spot : Spot = state.spots x in
+        same_calls board.callers (any_calls place.entries) spot.events
+        (calls_rise place.cell.form place.entries place.closed.legal)
+        (known x within).rising
+        (subst (λ (n : ℕ). All (λ call. call.by.0 ≤ n) (any_calls place.entries))
+        (place.started.callers_is ∙ sym given.callers) place.closed.callers)
+        (known x within).by
+        (λ caller inside.
+        let pass : IsKnownPass spot.events spot.front caller.0 (spot.passes caller.0) =
+        (known x within).pass caller.0 inside in
+        sym (ap (own_calls (any_calls place.entries)) pass.owner)
+        ∙ sym (account x caller.0 within inside place).mine ∙ pass.calls)
+
+    events_length : (x : ℕ) → x < length board.cells → (place : IsPlace limit script board histories given x)
+        → any_length place.entries ≡ length (state.spots x).events
+    events_length x within place =
+        sym (calls_length place.cell.form place.entries place.closed.legal)
+        ∙ ap length (events_are x within place)
+
+    front_within : (x : ℕ) → x < length board.cells → (place : IsPlace limit script board histories given x)
+        → (state.spots x).front ≤ length (state.spots x).events
+    front_within x within place = by_last (state.spots x).last (known x within).lasts
+      where
+        by_last : (last : Option ConnId) → LastKnows board.callers (state.spots x) last
+            → (state.spots x).front ≤ length (state.spots x).events
+        by_last None lasts = omega (arith, lasts.0)
+        by_last (Some c) lasts =
+            omega (arith, lasts.1, (account x c.0 within lasts.0 place).known, events_length x within place)
+
+    fits_end : Fits stage state
+    fits_end = record {
+      at = λ x within.
+          let place : IsPlace limit script board histories given x =
+          place_at limit script board histories given x within in
+          rw (form_of limit script board histories given x place, entries_of limit script board histories given x place)
+          (record {
+            more = [];
+            calls = events_are x within place ∙ sym (append-nil (state.spots x).events);
+            front = front_within x within place;
+            tests = λ c inside.
+                let is : IsAccount place.cell place.entries ((state.spots x).passes c) =
+                account x c within inside place in
+                subst (λ (o : ConnId). All (IsAnyTold place.cell.form place.entries o) ((state.spots x).passes c).tests)
+                ((known x within).pass c inside).owner is.tests;
+          });
+      memory = λ c inside.
+          subst (λ (t : Transcript). t.end ≢ ended.NoMemory) (at.worker c inside).shown
+          (memory c no_worker (worker_within c inside));
+    }
+
+    -- the run's histories and transcripts are these
+    histories_end : (run : Run) → Agrees stage of_none state run → histories ≡ run.histories
+    histories_end run agrees =
+        list_same histories run.histories (given.structures ∙ sym agrees.histories)
+        (λ x inside.
+        let within : x < length board.cells = omega (arith, given.structures) in
+        let place : IsPlace limit script board histories given x =
+        place_at limit script board histories given x within in
+        sym ((agrees.at x within).history_is
+        ∙ ap (λ (h : AnyHistory). Some (any_take (length (state.spots x).events) h))
+        (entries_of limit script board histories given x place)
+        ∙ ap (λ (n : ℕ). Some (any_take n place.entries)) (sym (events_length x within place))
+        ∙ ap Some (take_all place.entries) ∙ sym place.kept))
+
+    transcripts_end : (run : Run) → Agrees stage of_none state run
+        → map (λ worker. worker.shown) floor.workers ≡ run.transcripts
+    transcripts_end run agrees =
+        let size : length (map (λ (worker : AtWork). worker.shown) floor.workers) ≡ length floor.workers =
+        length-map floor.workers (λ (worker : AtWork). worker.shown) in
+        list_same (map (λ (worker : AtWork). worker.shown) floor.workers) run.transcripts
+        (size ∙ at.workers ∙ sym agrees.transcripts)
+        (λ c within.
+        let inside : c ≤ board.callers = omega (arith, size, at.workers) in
+        slice_get-map (λ (worker : AtWork). worker.shown) floor.workers c
+        ∙ ap (option_map (λ (worker : AtWork). worker.shown))
+        (slice_get-get_or floor.workers c no_worker (worker_within c inside))
+        ∙ ap Some (at.worker c inside).shown
+        ∙ sym (agrees.shown c inside))
+
+-- The histories of the closed structures are those of the script's run by the machine alone, and so is what
+-- the callers were shown.
+pub exact : {L : Type 0} (limit : ℕ) (script : Script) (board : BoardShown L) (floor : Floor)
+    (histories : List AnyHistory)
+    → IsRunnable script
+    → map (λ cell. cell.form) board.cells ≡ script.structures
+    → All (IsStarted (length script.connectors) limit) board.cells
+    → board.callers ≡ length script.connectors
+    → Plays board script.lines (connectors script) floor
+    → All (λ worker. worker.shown.end ≢ ended.NoMemory) floor.workers
+    → AreClosed board (map (λ worker. worker.desk) floor.workers) histories
+    → (histories ≡ (serial_run limit script).histories)
+    × (map (λ worker. worker.shown) floor.workers ≡ (serial_run limit script).transcripts)
+exact limit script board floor histories runnable forms started callers plays memory closed =
+    let given : IsGiven limit script board histories = record {
+      runnable = runnable;
+      forms = forms;
+      started = started;
+      callers = callers;
+      structures = closed.structures;
+      closed = λ x cell entries there kept. (closed.closed (str x) cell entries there kept).0;
+    } in
+    let all = whole limit script board floor histories given plays in
+    let known : Known (stage_of limit board histories) all.after =
+    all.goes_on.known (known_new limit script board histories given) in
+    let agrees : Agrees (stage_of limit board histories) of_none all.after (serial_run limit script) =
+    all.goes_on.agrees (known_new limit script board histories given)
+    (fits_end limit script board floor histories given all.after all.is_floor known memory closed)
+    (start script) (agrees_new limit script board histories given) in (
+      histories_end limit script board floor histories given all.after all.is_floor known memory closed
+          (serial_run limit script) agrees,
+      transcripts_end limit script board floor histories given all.after all.is_floor known memory closed
+          (serial_run limit script) agrees,
+    )

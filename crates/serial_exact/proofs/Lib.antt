@@ -1,0 +1,16 @@
+pub mod Tables
+pub mod TestLaws
+pub mod Spots
+pub mod Fits
+pub mod Agreements
+pub mod Stages
+pub mod Moves
+pub mod Calls
+pub mod Acts
+pub mod Workers
+pub mod Turned
+pub mod LineTurns
+pub mod LineRuns
+pub mod Closings
+pub mod Beginnings
+pub mod ExactLaw

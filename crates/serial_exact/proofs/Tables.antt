@@ -1,0 +1,25 @@
+-- Lists as tables: an element is replaced at its place.
+use Rattle.std.proofs.Common.{◌≡◌, ◌≢◌, ℕ, zero, suc, List, [], ◌∷◌, Some, refl, ap, slice_get, set}
+
+pub get-set_same : {X : Type 0} (xs : List X) (i : ℕ) (x y : X) → slice_get xs i ≡ Some x
+    → slice_get (set xs i y) i ≡ Some y
+get-set_same [] i x y e = absurd (none i e)
+  where
+    none : (i : ℕ) → slice_get [] i ≡ Some x → ⊥
+    none zero e = cc
+    none (suc i) e = cc
+get-set_same (z ∷ xs) zero x y e = refl
+get-set_same (z ∷ xs) (suc i) x y e = get-set_same xs i x y e
+
+pub get-set_other : {X : Type 0} (xs : List X) (i j : ℕ) (y : X) → j ≢ i → slice_get (set xs i y) j ≡ slice_get xs j
+get-set_other [] i j y apart = refl
+get-set_other (z ∷ xs) zero zero y apart = absurd (apart refl)
+get-set_other (z ∷ xs) zero (suc j) y apart = refl
+get-set_other (z ∷ xs) (suc i) zero y apart = refl
+get-set_other (z ∷ xs) (suc i) (suc j) y apart = get-set_other xs i j y (λ same. apart (ap suc same))
+
+-- what stands there, put there again
+pub set_same : {X : Type 0} (xs : List X) (i : ℕ) (x : X) → slice_get xs i ≡ Some x → set xs i x ≡ xs
+set_same [] i x e = refl
+set_same (z ∷ xs) zero x e = let same : x ≡ z = cc in ap (λ (w : _). w ∷ xs) same
+set_same (z ∷ xs) (suc i) x e = ap (λ (t : List _). z ∷ t) (set_same xs i x e)

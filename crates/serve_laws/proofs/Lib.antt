@@ -1,0 +1,12 @@
+pub mod Fronts
+pub mod Items
+pub mod Passes
+pub mod Adds
+pub mod Moves
+pub mod Turns
+pub mod ActTurns
+pub mod Lines
+pub mod Closings
+pub mod Lookups
+pub mod Work
+pub mod ServeLaw
