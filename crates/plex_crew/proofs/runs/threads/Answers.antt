@@ -1,0 +1,18 @@
+use Rattle.std.proofs.Common.{length, ◌∙◌}
+use Rattle.plex_crew.proofs.CrewLaws.{new_desks-of_board, new_desks-owners, new_crew}
+use Rattle.plex_crew.proofs.runs.threads.Goals as goal
+
+pub play-requires-clause-crew : goal.play-requires-clause-crew
+play-requires-clause-crew g c κs within =
+    new_crew c.in-Ok.begun.0 c.in-Ok.begun.1.items (length c.args.script.now.connectors)
+    c.in-Ok.ensures.callers c.in-Ok.ensures.desks c.in-Ok-new.crew c.in-Ok-new.ensures.crew
+
+pub close-histories-requires-clause-desks : goal.close-histories-requires-clause-desks
+close-histories-requires-clause-desks g c κs within =
+    new_desks-of_board c.in-Ok.begun.0 c.in-Err-new.desks.items (length c.args.script.now.connectors)
+    c.in-Ok.ensures.callers (c.in-Err-new.ensures.handed_back ∙ c.in-Ok.ensures.desks)
+
+pub close-histories-requires-clause-owners : goal.close-histories-requires-clause-owners
+close-histories-requires-clause-owners g c κs within =
+    new_desks-owners c.in-Ok.begun.0 c.in-Err-new.desks.items (length c.args.script.now.connectors)
+    c.in-Ok.ensures.callers (c.in-Err-new.ensures.handed_back ∙ c.in-Ok.ensures.desks)

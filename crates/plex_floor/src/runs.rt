@@ -1,0 +1,99 @@
+//! The run of a script on one thread.
+ghost use Rattle.std.specs.Prelude.{◌≡◌, ◌+◌, ◌≤◌, IfOk, OnOk, IsOk, All, length, map};
+ghost use Rattle.std.specs.Vec.{vec_len};
+ghost use Rattle.std.specs.List.{range_with_len};
+ghost use Rattle.serial_model.specs.Runnable.{IsRunnable};
+ghost use Rattle.serial_model.specs.Serial.{serial_run};
+ghost use Rattle.desk_model.specs.Boards.{new_desk};
+ghost use Rattle.plex_floor.specs.Standing.{AreDesksOf, IsPlayable};
+ghost use Rattle.plex_floor.specs.Played.{IsPlayed};
+
+use crate::floor::Floor;
+use cf_link::Link;
+use cf_types::{Listing, NoMemory};
+use plex_board::{Board, Desk};
+use plex_script::{AnyHistory, Script, Transcript};
+use std::alloc::Global;
+use std::sync::Wait;
+
+/// What a run leaves: the history of each structure, and the transcript of each caller, from the
+/// operator on.
+#[derive(Debug, Drop)]
+pub struct Finished {
+    pub histories: Listing<AnyHistory>,
+    pub transcripts: Listing<Transcript>,
+}
+
+// Plays a script to its end at a board. The desks come back also where there was no memory.
+fn play<L: Link>(
+    rt: &impl Wait,
+    alloc: Global,
+    script: &Script,
+    board: &Board<L>,
+    desks: Vec<Desk>,
+) -> (Result<Vec<Transcript>, NoMemory>, Vec<Desk>)
+    requires desks { desks.items
+        ≡ map (new_desk board.now) (range_with_len 0 (board.now.callers + 1)) }
+    requires few { board.now.callers ≤ 32 }
+    requires lines { All (IsPlayable board.now) script.now.lines }
+    requires connectors { board.now.callers ≡ length script.now.connectors }
+    ensures played { IfOk result.0
+        (λ shown. IsPlayed board.now script.now result.1.items shown.items) }
+    ensures of_board { AreDesksOf board.now result.1.items }
+{
+    let mut floor = match Floor::new(alloc, board, desks) {
+        Ok(floor) => floor,
+        Err(desks) => return (Err(NoMemory), desks),
+    };
+    let played = floor.play(rt, alloc, board, script);
+    let (desks, shown) = floor.into_parts();
+    match played {
+        Ok(()) => (Ok(shown), desks),
+        Err(NoMemory) => (Err(NoMemory), desks),
+    }
+}
+
+// A run, of what the callers were shown and of the histories.
+fn finish(
+    shown: Result<Vec<Transcript>, NoMemory>,
+    histories: Vec<AnyHistory>,
+) -> Result<Finished, NoMemory>
+    ensures histories { IfOk result (λ it. it.histories ≡ histories.items) }
+    ensures transcripts { IfOk result
+        (λ it. IfOk shown (λ transcripts. it.transcripts ≡ transcripts.items)) }
+    ensures shown { OnOk result (IsOk shown) }
+{
+    Ok(Finished {
+        transcripts: Listing::from_vec(shown?),
+        histories: Listing::from_vec(histories),
+    })
+}
+
+/// Runs a script on one thread: its lines in their order, then the departures of the connectors in
+/// number order. A journal takes `limit` entries; the caller whose call comes to a full one stops.
+/// There are 64 links: structure `s`, from 0, has the links `4 * s` to `4 * s + 3`, one to each
+/// facility. They come back as they were, also where there was no memory.
+pub fn serial<L: Link>(
+    rt: &impl Wait,
+    alloc: Global,
+    limit: u32,
+    script: &Script,
+    links: Vec<L>,
+) -> (Result<Finished, NoMemory>, Vec<L>)
+    requires script { IsRunnable script.now }
+    requires limit { (1 ≤ limit) × (limit ≤ 4294967000) }
+    requires links { vec_len links ≡ 64 }
+    ensures histories { IfOk result.0 (λ it. it.histories
+        ≡ (serial_run limit script.now).histories) }
+    ensures transcripts { IfOk result.0 (λ it. it.transcripts
+        ≡ (serial_run limit script.now).transcripts) }
+    ensures links { result.1.items ≡ links.items }
+{
+    let (board, desks) = match Board::start(rt, alloc, script, limit, links) {
+        Ok(begun) => begun,
+        Err(links) => return (Err(NoMemory), links),
+    };
+    let (shown, desks) = play(rt, alloc, script, &board, desks);
+    let (histories, links) = board.close(rt, desks);
+    (finish(shown, histories), links)
+}
