@@ -2,10 +2,15 @@
 #![tactic(auto)]
 
 use cf_io::{Sink, StdSink, StdSource, write_all};
+use cf_link::Steady;
+use plex_agent::OpenGate;
 use plex_run::run;
 use std::process::ExitCode;
 use std::rt::Env;
 use std::{env, io};
+
+/// How many links there are to the facilities: four for each of 16 structures.
+const LINKS: usize = 64;
 
 // The words behind the program's name.
 fn program_words(rt: &(impl Env + AllocGlobal)) -> io::Result<Vec<String>> {
@@ -16,7 +21,7 @@ fn program_words(rt: &(impl Env + AllocGlobal)) -> io::Result<Vec<String>> {
     Ok(words)
 }
 
-// Tells that there was no memory for the words.
+// Tells that there was no memory for the words or the links.
 fn say_no_memory<K: Sink>(sink: &mut K) -> ExitCode {
     let _ = write_all(sink, b"NOMEMORY\n");
     ExitCode::from(6)
@@ -39,5 +44,16 @@ fn main(rt: HostRuntime) -> ExitCode {
         // Words that are no text are none of the program's: they are taken as no words.
         Err(_) => Vec::new(rt.alloc()),
     };
-    ExitCode::from(run(rt.alloc(), &words, &mut source, &mut sink))
+    let Ok(mut links) = vec![in rt.alloc(); Steady; LINKS] else {
+        return say_no_memory(&mut sink);
+    };
+    ExitCode::from(run(
+        &rt,
+        rt.alloc(),
+        &words,
+        &mut source,
+        &mut sink,
+        &mut links,
+        &OpenGate,
+    ))
 }

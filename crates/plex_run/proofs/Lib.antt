@@ -1,4 +1,3 @@
-pub mod Singles
 pub mod Written
 pub mod Found
 pub mod RunnableLaws

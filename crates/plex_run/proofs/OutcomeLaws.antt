@@ -1,5 +1,5 @@
 -- Which texts are served, and what their status tells.
-use Rattle.std.proofs.Common.{◌≡◌, ◌≢◌, ℕ, ◌≤◌, ◌⊎◌, inl, inr, ◌↔◌, List, ◌++◌, length, Option, Some, None, IfSome, refl, ◌∙◌, subst, arith}
+use Rattle.std.proofs.Common.{◌≡◌, ◌≢◌, ℕ, ◌≤◌, ◌⊎◌, inl, inr, ◌↔◌, List, ◌++◌, length, Option, Some, None, IfSome, refl, ap, ◌∙◌, subst, arith}
 use Rattle.std.specs.Io.KnownBytes.{Appends}
 use Rattle.cf_types.specs.declared.names.Name16.{Name16}
 use Rattle.plex_script.specs.declared.faults.Why.{Why}
@@ -9,9 +9,32 @@ use Rattle.plex_script.specs.Reading.{TellsFault}
 use Rattle.plex_script.specs.declared.scripts.Script.{Script}
 use Rattle.plex_script.specs.Scripts.{IsScript, IsFault}
 use Rattle.plex_script.specs.Laws.{SaysOne, IsExclusive}
+use Rattle.cf_io.specs.Count.{Rises}
+use Rattle.plex_script.specs.declared.asks.AnyHistory.{AnyHistory}
+use Rattle.plex_script.specs.declared.transcripts.Transcript.{Transcript}
+use Rattle.serial_model.specs.Headline.{ShowsHistories}
+use Rattle.plex_valid.specs.Valid.{ShowsFresh}
+use Rattle.plex_reading.specs.Readings.{Reading}
+use Rattle.plex_run.specs.declared.way.Way.{Way}
+use Rattle.plex_run.specs.declared.way.Way.TheVariants as ways
+use Rattle.plex_run.specs.Written.{GainsPrefix}
 use Rattle.plex_run.specs.NotYet.{not_yet}
 use Rattle.plex_run.specs.StatusLines.{why_word, full_line}
-use Rattle.plex_run.specs.Outcome.{IsServed, IsRefused, IsUnserved, IsExact, WritesFull, script_limit, serial_report, full_in_run, served_text, served_status}
+use Rattle.plex_run.specs.Outcome.{IsServed, IsRefused, IsUnserved, IsExact, WritesRun, WritesRunFront, WritesReport, WritesFull, WritesHistories, WritesFront, WritesSerialFront, script_limit, journal_limit, serial_report, full_in_run, run_text, run_status, served_text, served_status}
+
+-- whatever a run shows, tests that tell VALID tell fresh copies
+abbrev pub AreFresh : Type 0
+AreFresh =
+    (limit : ℕ) (script : Script) (histories : List AnyHistory) (transcripts : List Transcript)
+    → ShowsHistories limit script histories transcripts → ShowsFresh script histories transcripts
+
+-- ---- words
+
+-- where the words say a way, they are one of both words
+pub said_by : (serial threads : Type 0) (said : Option Way) (by : Way) → said ≡ Some by → (said ≡ Some ways.InTurn) ↔ serial
+    → (said ≡ Some ways.OnThreads) ↔ threads → serial ⊎ threads
+said_by serial threads said ways.InTurn is first second = inl (first.0 is)
+said_by serial threads said ways.OnThreads is first second = inr (second.0 is)
 
 -- ---- texts that aren't served
 
@@ -62,7 +85,30 @@ served_exactly text script status one never served statuses = (
     other (inr (inr (inl e))) is = omega arith
     other (inr (inr (inr e))) is = omega arith
 
--- ---- full journals
+-- ---- runs in turn
+
+-- what is written of a run in turn is what is written of the run on one thread
+pub in_turn_status : (held held_now : Option (List ℕ)) (by : Way) (script : Script) (status : ℕ) → by ≡ ways.InTurn
+    → WritesRun by script status held held_now → status ≡ served_status script
+in_turn_status held held_now by script status turn wrote =
+    subst (λ (r : Reading). status ≡ run_status script r) (wrote.run.in_turn turn) wrote.status_right
+
+pub in_turn_text : (held held_now : Option (List ℕ)) (by : Way) (script : Script) (status : ℕ) → by ≡ ways.InTurn
+    → WritesRun by script status held held_now → Appends held held_now (served_text script)
+in_turn_text held held_now by script status turn wrote =
+    subst (λ (r : Reading). Appends held held_now (run_text script r)) (wrote.run.in_turn turn) wrote.wrote
+
+-- the status 0 tells that no journal got full
+pub report_written : (held held_now : Option (List ℕ)) (text : List ℕ) (script : Script) (status : ℕ)
+    → IsServed text script → status ≡ 0
+    → status ≡ served_status script → Appends held held_now (served_text script) → WritesReport held held_now text
+report_written held held_now text script status served none is gains = at_full (full_in_run script) refl
+  where
+    at_full : (full : Option Name16) → full_in_run script ≡ full → WritesReport held held_now text
+    at_full None e =
+        let same : served_text script ≡ serial_report script = rw e refl in
+        (script, served, e, subst (Appends held held_now) same gains)
+    at_full (Some name) e = absurd (let eight : served_status script ≡ 8 = rw e refl in omega arith)
 
 -- the status 8 tells that a journal got full
 pub full_written : (held held_now : Option (List ℕ)) (text : List ℕ) (script : Script) (status : ℕ)
@@ -80,6 +126,64 @@ full_written held held_now text script status served eight is gains = at_full (f
       subst (λ full. Appends held held_now (full_line full ++ serial_report script)) e
           gains,
     )
+
+-- ---- runs in either way
+
+-- what was written of a run shows histories
+pub histories_written : (held held_now : Option (List ℕ)) (text : List ℕ) (by : Way) (script : Script) (status : ℕ)
+    → IsServed text script → AreFresh → WritesRun by script status held held_now → WritesHistories status held held_now text
+histories_written held held_now text by script status served fresh wrote =
+    let shows = wrote.run.shows in (
+      script,
+      (
+        wrote.reading,
+        served,
+        shows,
+        fresh journal_limit script wrote.reading.histories wrote.reading.transcripts shows,
+        wrote.status_right,
+        wrote.wrote,
+      ),
+    )
+
+pub front_written : (held held_now : Option (List ℕ)) (text : List ℕ) (by : Way) (script : Script)
+    → IsServed text script → AreFresh → WritesRunFront by script held held_now → WritesFront held held_now text
+front_written held held_now text by script served fresh wrote =
+    let shows = wrote.run.shows in (
+      script,
+      (
+        wrote.reading,
+        served,
+        shows,
+        fresh journal_limit script wrote.reading.histories wrote.reading.transcripts shows,
+        wrote.front,
+      ),
+    )
+
+pub serial_front_written : (held held_now : Option (List ℕ)) (text : List ℕ) (by : Way) (script : Script)
+    → IsServed text script → by ≡ ways.InTurn → WritesRunFront by script held held_now
+    → WritesSerialFront held held_now text
+serial_front_written held held_now text by script served turn wrote = (
+  script,
+  served,
+  subst (λ (r : Reading). GainsPrefix held held_now (run_text script r)) (wrote.run.in_turn turn) wrote.front,
+)
+
+-- ---- which status
+
+-- where no write failed and memory was found, a run was written
+pub run_ends : (faults faults_now status : ℕ) → (status ≡ 0) ⊎ ((status ≡ 8) ⊎ ((status ≡ 5) ⊎ (status ≡ 6)))
+    → (status ≡ 5 → Rises faults faults_now) → (Rises faults faults_now → ⊥) → status ≢ 6
+    → (status ≡ 0) ⊎ (status ≡ 8)
+run_ends faults faults_now status (inl e) cause fine memory = inl e
+run_ends faults faults_now status (inr (inl e)) cause fine memory = inr e
+run_ends faults faults_now status (inr (inr (inl e))) cause fine memory = absurd (fine (cause e))
+run_ends faults faults_now status (inr (inr (inr e))) cause fine memory = absurd (memory e)
+
+-- a text that is served is served as one script
+pub served_once : (text : List ℕ) (script other : Script) (status : ℕ) → SaysOne → IsServed text script
+    → IsServed text other → status ≡ served_status script → status ≡ served_status other
+served_once text script other status one served again is =
+    is ∙ ap served_status (one text script other served.says again.says)
 
 -- ---- the text that a source had left
 

@@ -1,7 +1,7 @@
 -- Where no journal got full each caller's work was done, and the report can be read in one way.
-use Rattle.std.proofs.Common.{◌≡◌, ℕ, zero, suc, ◌+◌, ◌≤◌, ◌<◌, ◌==◌, ◌^◌, Bool, true, false, List, [], ◌∷◌, ◌++◌, length, Option, Some, None, slice_get, get_or, refl, sym, ap, subst, ◌∙◌, arith}
+use Rattle.std.proofs.Common.{◌≡◌, ℕ, zero, suc, ◌+◌, ◌<◌, ◌==◌, ◌^◌, Bool, true, false, List, [], ◌∷◌, length, Option, Some, None, slice_get, get_or, refl, sym, ap, subst, ◌∙◌, arith}
 use Rattle.std.specs.Prelude.{find, if◌then◌else◌}
-use Rattle.std.specs.List.{list_any, enumerate_from}
+use Rattle.std.specs.List.{enumerate_from}
 use Rattle.std.specs.Io.KnownBytes.{Appends}
 use Rattle.std.proofs.lemmas.Bool.Decides.{nat_tests}
 use Rattle.std.proofs.lemmas.List.Folds.{list_any_at}
@@ -14,11 +14,11 @@ use Rattle.plex_script.specs.declared.transcripts.AgentEnd.{AgentEnd}
 use Rattle.plex_script.specs.declared.transcripts.AgentEnd.TheVariants as ended
 use Rattle.plex_script.specs.declared.transcripts.Transcript.{Transcript}
 use Rattle.plex_script.specs.Heard.{length_on}
-use Rattle.plex_serial.specs.Headline.{ShowsHistories, EndsRight}
-use Rattle.plex_serial.specs.Serial.{serial_run}
+use Rattle.serial_model.specs.Headline.{ShowsHistories, EndsRight}
 use Rattle.plex_reading.specs.Readings.{Reading, IsReading, IsTheReading, IsOnlyReading, report_of}
+use Rattle.plex_run.specs.declared.way.Way.{Way}
 use Rattle.plex_run.specs.Full.{ends_full_at, is_full_at, full_structure}
-use Rattle.plex_run.specs.Outcome.{IsServed, WritesOneReading, full_in_run, serial_report, served_text, served_status, journal_limit}
+use Rattle.plex_run.specs.Outcome.{IsServed, WritesOneReading, WritesRun, ShowsRun, full_of, run_text, run_status, journal_limit}
 use Rattle.plex_run.proofs.RunnableLaws.{none_mapped}
 
 -- a place within the list that passes is found
@@ -77,31 +77,28 @@ all_done limit script histories transcripts some shows none c transcript there =
         let place : on.0 ≡ 0 + on.0 = omega arith in
         absurd (found_within (is_full_at transcripts) 0 on.0 script.structures within (ap (is_full_at transcripts) (sym place) ∙ found) nowhere)
 
--- the report of a script's run can be read in one way
-pub one_reading : (held held_now : Option (List ℕ)) (text : List ℕ) (script : Script) → IsServed text script → IsOnlyReading
-    → (let run = serial_run journal_limit script in ShowsHistories journal_limit script run.histories run.transcripts)
-    → full_in_run script ≡ None → length (serial_report script) < 2 ^ 64 → Appends held held_now (serial_report script)
-    → WritesOneReading held held_now text
-one_reading held held_now text script served only shows none short appends =
-    let run = serial_run journal_limit script in
-    let reading : Reading = record { histories = run.histories; transcripts = run.transcripts } in
+-- the report of a run can be read in one way
+pub one_reading : (held held_now : Option (List ℕ)) (text : List ℕ) (script : Script) (reading : Reading) → IsServed text script
+    → IsOnlyReading → ShowsRun script reading → full_of script reading ≡ None → length (report_of script reading) < 2 ^ 64
+    → Appends held held_now (report_of script reading) → WritesOneReading held held_now text
+one_reading held held_now text script reading served only shows none short appends =
     let is : IsReading journal_limit script reading =
-    record { shows = shows; done = all_done journal_limit script run.histories run.transcripts (omega arith) shows none } in
+    record { shows = shows; done = all_done journal_limit script reading.histories reading.transcripts (omega arith) shows none } in
     let the : IsTheReading journal_limit script reading =
     λ other other_is same. sym (only text journal_limit script reading other served.says is other_is short (sym same)) in
     (script, (reading, served, is, the, appends))
 
 -- the status 0 tells that no journal got full
-pub reading_written : (held held_now : Option (List ℕ)) (text : List ℕ) (script : Script) (status : ℕ) → IsServed text script → IsOnlyReading
-    → (let run = serial_run journal_limit script in ShowsHistories journal_limit script run.histories run.transcripts)
-    → status ≡ 0 → status ≡ served_status script → Appends held held_now (served_text script) → length (serial_report script) < 2 ^ 64
-    → WritesOneReading held held_now text
-reading_written held held_now text script status served only shows none is appends short =
-    by_full (full_in_run script) refl
+pub reading_written : (held held_now : Option (List ℕ)) (text : List ℕ) (by : Way) (script : Script) (status : ℕ) → IsServed text script
+    → IsOnlyReading → status ≡ 0 → WritesRun by script status held held_now → WritesOneReading held held_now text
+reading_written held held_now text by script status served only none wrote =
+    by_full (full_of script wrote.reading) refl
   where
-    by_full : (full : Option Name16) → full_in_run script ≡ full → WritesOneReading held held_now text
+    by_full : (full : Option Name16) → full_of script wrote.reading ≡ full → WritesOneReading held held_now text
     by_full None fine =
-        let same : served_text script ≡ serial_report script = rw fine refl in
-        one_reading held held_now text script served only shows fine short (subst (Appends held held_now) same appends)
+        let same : run_text script wrote.reading ≡ report_of script wrote.reading = rw fine refl in
+        one_reading held held_now text script wrote.reading served only wrote.run.shows fine wrote.short
+        (subst (Appends held held_now) same wrote.wrote)
     by_full (Some name) full =
-        let eight : served_status script ≡ 8 = rw full refl in absurd (omega (arith, none, is, eight))
+        let eight : run_status script wrote.reading ≡ 8 = rw full refl in
+        absurd (omega (arith, none, wrote.status_right, eight))

@@ -1,6 +1,6 @@
 -- A script of which all is built can be run.
 use Rattle.std.proofs.Common.{◌≡◌, ℕ, zero, suc, ◌<◌, Bool, true, false, cond, List, [], ◌∷◌, length, Option, Some, None, option_map, refl, arith}
-use Rattle.std.specs.Prelude.{◌&&◌, not, IsTrue, All, find, slice_index_or}
+use Rattle.std.specs.Prelude.{not, IsTrue, All, find, slice_index_or}
 use Rattle.cf_types.specs.declared.forms.Kind.{Kind}
 use Rattle.cf_types.specs.declared.forms.Kind.TheVariants as kind
 use Rattle.cf_types.specs.declared.forms.StrForm.{StrForm}
@@ -17,9 +17,9 @@ use Rattle.plex_script.specs.declared.scripts.Line.{Line}
 use Rattle.plex_script.specs.declared.scripts.Script.{Script}
 use Rattle.plex_script.specs.LineWords.{is_ask_of}
 use Rattle.plex_script.specs.WellFormed.{IsWellFormed, IsLineOf, IsActOf, MayAskAny}
-use Rattle.plex_serial.specs.Kinds.{IsAskOf}
-use Rattle.plex_serial.specs.Runnable.{IsRunnable, IsRunnableLine, IsRunnableAct}
-use Rattle.plex_serial.specs.Runnable as run
+use Rattle.any_model.specs.Kinds.{IsAskOf}
+use Rattle.serial_model.specs.Runnable.{IsRunnable, IsRunnableLine, IsRunnableAct}
+use Rattle.any_model.specs.Kinds as kinds
 use Rattle.plex_run.specs.NotYet.{is_unbuilt, is_unbuilt_ask, is_unbuilt_act, not_yet}
 
 -- ---- lists
@@ -50,7 +50,7 @@ built_ask (ask.Shell command) h = built (is_built command) h
     built false e = absurd (cc)
 built_ask (ask.Content command) h = tt
 
-may_ask : (by : ConnId) (asked : AnyAsk) → MayAskAny by asked → is_unbuilt_ask asked ≡ false → run.MayAskAny by asked
+may_ask : (by : ConnId) (asked : AnyAsk) → MayAskAny by asked → is_unbuilt_ask asked ≡ false → kinds.MayAskAny by asked
 may_ask by (any.Cache asked) may h = (may, built_ask asked h)
 may_ask by (any.List asked) may h = (may, built_ask asked h)
 may_ask by (any.Lock asked) may h = (may, built_ask asked h)
@@ -70,10 +70,10 @@ runnable_act : (form : StrForm) (by : ConnId) (a : Act) → IsActOf form.kind by
     → IsRunnableAct form by a
 runnable_act form by (act.Call asked) may h = (ask_of form.kind asked may.0, may_ask by asked may.1 h)
 runnable_act form by act.Events may h = tt
-runnable_act form by (act.Test index) may h = tt
-runnable_act form by (act.TestWord word) may h = tt
-runnable_act form by act.Post may h = absurd (cc)
-runnable_act form by act.Take may h = absurd (cc)
+runnable_act form by (act.Test index) may h = may
+runnable_act form by (act.TestWord word) may h = may
+runnable_act form by act.Post may h = tt
+runnable_act form by act.Take may h = tt
 
 runnable_line : (script : Script) (line : Line) → IsLineOf script line → is_unbuilt_act line.act ≡ false
     → IsRunnableLine script line

@@ -1,5 +1,5 @@
 -- What a script asks that isn't built yet.
-use Rattle.std.specs.Prelude.{ℕ, Bool, true, false, not, Option, option_map, find}
+use Rattle.std.specs.Prelude.{ℕ, Bool, false, not, Option, option_map, find}
 use Rattle.engine_api.specs.declared.asks.Ask.{Ask}
 use Rattle.engine_api.specs.declared.asks.Ask.TheVariants as ask
 use Rattle.engine_api.specs.Shell.{is_built}
@@ -20,13 +20,13 @@ is_unbuilt_ask (any.Cache asked) = is_unbuilt asked
 is_unbuilt_ask (any.List asked) = is_unbuilt asked
 is_unbuilt_ask (any.Lock asked) = is_unbuilt asked
 
--- POST and TAKE aren't built
+-- an act that isn't built: all are but some calls
 abbrev pub is_unbuilt_act : Act → Bool
 is_unbuilt_act (act.Call asked) = is_unbuilt_ask asked
 is_unbuilt_act (act.Test index) = false
 is_unbuilt_act (act.TestWord word) = false
-is_unbuilt_act act.Post = true
-is_unbuilt_act act.Take = true
+is_unbuilt_act act.Post = false
+is_unbuilt_act act.Take = false
 is_unbuilt_act act.Events = false
 
 -- the number of the first line that isn't built

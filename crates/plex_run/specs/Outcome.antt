@@ -1,16 +1,18 @@
 -- What a run of the program means: which script came in, what goes out, and what each status says.
-use Rattle.std.specs.Prelude.{◌≡◌, ◌⊎◌, ◌↔◌, ℕ, ◌≤◌, ◌<◌, ◌==◌, if◌then◌else◌, List, [], ◌∷◌, ◌++◌, length, map, Option, None, Some, is_some, codes, String, string_bytes, nat_eq, IsTrue}
+use Rattle.std.specs.Prelude.{◌≡◌, ◌⊎◌, ◌↔◌, ℕ, ◌≤◌, ◌<◌, ◌==◌, if◌then◌else◌, List, [], ◌∷◌, ◌++◌, ◌^◌, length, map, Option, None, Some, is_some, codes, String, string_bytes, nat_eq, IsTrue}
 use Rattle.std.specs.List.{list_any}
 use Rattle.std.specs.Io.KnownBytes.{Appends}
 use Rattle.cf_types.specs.declared.names.Name16.{Name16}
 use Rattle.plex_script.specs.declared.faults.Why.{Why}
 use Rattle.plex_script.specs.declared.scripts.Script.{Script}
 use Rattle.plex_script.specs.Scripts.{IsScript, IsFault}
-use Rattle.plex_serial.specs.Serial.{serial_run}
-use Rattle.plex_serial.specs.Headline.{ShowsHistories}
+use Rattle.serial_model.specs.Serial.{serial_run}
+use Rattle.serial_model.specs.Headline.{ShowsHistories}
 use Rattle.plex_valid.specs.Valid.{ShowsFresh}
-use Rattle.plex_report.specs.Report.{report}
+use Rattle.plex_floor.specs.declared.runs.Finished.{Finished}
 use Rattle.plex_reading.specs.Readings.{Reading, IsReading, IsTheReading, report_of}
+use Rattle.plex_run.specs.declared.way.Way.{Way}
+use Rattle.plex_run.specs.declared.way.Way.TheVariants as ways
 use Rattle.plex_run.specs.Written.{Gains, GainsPrefix}
 use Rattle.plex_run.specs.NotYet.{not_yet}
 use Rattle.plex_run.specs.Full.{full_structure}
@@ -27,6 +29,10 @@ journal_limit = 65536
 -- the words are the one word `serial`
 abbrev pub IsSerial : {A : Type 0} → List (String A) → Type 0
 IsSerial words = map string_bytes words ≡ codes "serial" ∷ []
+
+-- the words are the one word `threads`
+abbrev pub IsThreads : {A : Type 0} → List (String A) → Type 0
+IsThreads words = map string_bytes words ≡ codes "threads" ∷ []
 
 -- the statuses of the program
 abbrev pub IsStatus : ℕ → Type 0
@@ -60,20 +66,55 @@ IsUnserved text = (line : ℕ) × (told : List ℕ) × IsRefused text line told
 
 -- ---- runs
 
--- the report of a script's run on one thread
+-- the first structure whose journal got full in a run
+abbrev pub full_of : Script → Reading → Option Name16
+full_of script reading = full_structure script.structures reading.transcripts
+
+-- what is written of a run: its report, behind the line of a structure whose journal got full
+abbrev pub run_text : Script → Reading → List ℕ
+run_text script reading = full_line (full_of script reading) ++ report_of script reading
+
+abbrev pub run_status : Script → Reading → ℕ
+run_status script reading = if is_some (full_of script reading) then 8 else 0
+
+-- what the run on one thread leaves
+abbrev pub serial_reading : Script → Reading
+serial_reading script =
+    let run = serial_run journal_limit script in record { histories = run.histories; transcripts = run.transcripts }
+
 abbrev pub serial_report : Script → List ℕ
-serial_report script = let run = serial_run journal_limit script in report script run.histories run.transcripts
+serial_report script = report_of script (serial_reading script)
 
--- the first structure whose journal got full in that run
 abbrev pub full_in_run : Script → Option Name16
-full_in_run script = full_structure script.structures (serial_run journal_limit script).transcripts
+full_in_run script = full_of script (serial_reading script)
 
--- what is written of a script: its report, behind the line of a structure whose journal got full
 abbrev pub served_text : Script → List ℕ
-served_text script = full_line (full_in_run script) ++ serial_report script
+served_text script = run_text script (serial_reading script)
 
 abbrev pub served_status : Script → ℕ
-served_status script = if is_some (full_in_run script) then 8 else 0
+served_status script = run_status script (serial_reading script)
+
+-- legal histories of the structures, each caller's calls in them once and in their order, and tests that tell what stood
+abbrev pub ShowsRun : Script → Reading → Type 0
+ShowsRun script reading = ShowsHistories journal_limit script reading.histories reading.transcripts
+
+-- what a run left
+abbrev pub reading_of : Finished → Reading
+reading_of finished = record { histories = finished.histories; transcripts = finished.transcripts }
+
+-- a script's run leaves this: in turn, exactly what the run on one thread leaves
+pub record IsRunOf (by : Way) (script : Script) (reading : Reading) : Type 0 where
+  pub shows : ShowsRun script reading
+  pub in_turn : by ≡ ways.InTurn → reading ≡ serial_reading script
+
+-- the answer of a script's run: the status, the line of a structure whose journal got full, and the report
+pub record IsAnswerOf (by : Way) (script : Script) (status : ℕ) (heading told : List ℕ) : Type 0 where
+  pub reading : Reading
+  pub run : IsRunOf by script reading
+  pub status_right : status ≡ run_status script reading
+  pub heading_right : heading ≡ full_line (full_of script reading)
+  pub report_right : told ≡ report_of script reading
+  pub short : length told < 2 ^ 64
 
 -- ---- what is written
 
@@ -89,13 +130,12 @@ WritesFull held held_now text =
     × Appends held held_now (full_line (Some name) ++ serial_report script)
 
 -- what was written shows histories: each is legal and holds each caller's calls once and in their order; each test tells what stood at a
--- numbered point of it; and a test of a cache that tells VALID tells a fresh copy at that point
-abbrev pub WritesHistories : Option (List ℕ) → Option (List ℕ) → List ℕ → Type 0
-WritesHistories held held_now text =
-    (script : Script) × (let run = serial_run journal_limit script in
-    IsServed text script × ShowsHistories journal_limit script run.histories run.transcripts
-    × ShowsFresh script run.histories run.transcripts
-    × Appends held held_now (full_line (full_in_run script) ++ report script run.histories run.transcripts))
+-- numbered point of it; and a test of a cache that tells VALID tells a fresh copy at that point. The status says whether a journal got full.
+abbrev pub WritesHistories : ℕ → Option (List ℕ) → Option (List ℕ) → List ℕ → Type 0
+WritesHistories status held held_now text =
+    (script : Script) × ((reading : Reading) × IsServed text script × ShowsRun script reading
+    × ShowsFresh script reading.histories reading.transcripts × (status ≡ run_status script reading)
+    × Appends held held_now (run_text script reading))
 
 -- the report was written of histories and transcripts that each caller's work was done in, and of no others could it have been
 abbrev pub WritesOneReading : Option (List ℕ) → Option (List ℕ) → List ℕ → Type 0
@@ -103,9 +143,29 @@ WritesOneReading held held_now text =
     (script : Script) × ((reading : Reading) × IsServed text script × IsReading journal_limit script reading
     × IsTheReading journal_limit script reading × Appends held held_now (report_of script reading))
 
--- a front of what is written of the text's script was written
+-- a front of what is written of a run that shows histories, as above, was written
 abbrev pub WritesFront : Option (List ℕ) → Option (List ℕ) → List ℕ → Type 0
-WritesFront held held_now text = (script : Script) × IsServed text script × GainsPrefix held held_now (served_text script)
+WritesFront held held_now text =
+    (script : Script) × ((reading : Reading) × IsServed text script × ShowsRun script reading
+    × ShowsFresh script reading.histories reading.transcripts × GainsPrefix held held_now (run_text script reading))
+
+-- a front of what is written of the run on one thread was written
+abbrev pub WritesSerialFront : Option (List ℕ) → Option (List ℕ) → List ℕ → Type 0
+WritesSerialFront held held_now text = (script : Script) × IsServed text script × GainsPrefix held held_now (served_text script)
+
+-- what a script's run leaves was written, whole and nothing else
+pub record WritesRun (by : Way) (script : Script) (status : ℕ) (held held_now : Option (List ℕ)) : Type 0 where
+  pub reading : Reading
+  pub run : IsRunOf by script reading
+  pub status_right : status ≡ run_status script reading
+  pub short : length (report_of script reading) < 2 ^ 64
+  pub wrote : Appends held held_now (run_text script reading)
+
+-- a front of what a script's run leaves was written
+pub record WritesRunFront (by : Way) (script : Script) (held held_now : Option (List ℕ)) : Type 0 where
+  pub reading : Reading
+  pub run : IsRunOf by script reading
+  pub front : GainsPrefix held held_now (run_text script reading)
 
 -- the line of the text that isn't served was told, and why
 abbrev pub WritesRefusal : Option (List ℕ) → Option (List ℕ) → ℕ → ℕ → List ℕ → Type 0
@@ -122,3 +182,8 @@ IsExact text status =
 -- a script that is built has the status 0, or 8 where a journal got full
 abbrev pub IsComplete : List ℕ → ℕ → Type 0
 IsComplete text status = (script : Script) → IsServed text script → length text ≤ script_limit → status ≡ served_status script
+
+-- a script that is built, run on threads, has the status 0, or 8 where a journal got full
+abbrev pub IsCompleteOnThreads : List ℕ → ℕ → Type 0
+IsCompleteOnThreads text status =
+    (script : Script) → IsServed text script → length text ≤ script_limit → (status ≡ 0) ⊎ (status ≡ 8)

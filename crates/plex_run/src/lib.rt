@@ -6,5 +6,6 @@ mod full;
 mod not_yet;
 mod program;
 mod status_lines;
+mod way;
 
 pub use program::run;

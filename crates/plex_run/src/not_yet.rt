@@ -47,8 +47,7 @@ fn is_unbuilt_act(act: &Act) -> bool
 {
     match act {
         Act::Call(ask) => is_unbuilt_ask(ask),
-        Act::Test(_) | Act::TestWord(_) | Act::Events => false,
-        Act::Post | Act::Take => true,
+        Act::Test(_) | Act::TestWord(_) | Act::Post | Act::Take | Act::Events => false,
     }
 }
 

@@ -1,46 +1,40 @@
-ghost use Rattle.std.specs.Prelude.{◌≡◌, ◌≢◌, ◌⊎◌, ◌↔◌, ℕ, ◌≤◌, ◌<◌, ◌++◌, ◌^◌, length, IfSome, IfOk, OnOk, OnErr, IsTrue, codes, string_bytes};
+ghost use Rattle.std.specs.Prelude.{◌≡◌, ◌≢◌, ◌⊎◌, ◌↔◌, ℕ, ◌≤◌, ◌<◌, ◌++◌, ◌^◌, length, IfSome, IfOk, OnOk, OnErr};
 ghost use Rattle.std.specs.Io.KnownBytes.{Appends};
+ghost use Rattle.std.specs.Vec.{vec_len};
 ghost use Rattle.cf_io.specs.Count.{Rises};
 ghost use Rattle.plex_script.specs.declared.scripts.Script.{Script};
-ghost use Rattle.plex_serial.specs.Runnable.{IsRunnable};
-ghost use Rattle.plex_run.specs.StatusLines.{script_line};
+ghost use Rattle.serial_model.specs.Runnable.{IsRunnable};
+ghost use Rattle.plex_reading.specs.Readings.{report_of};
+ghost use Rattle.plex_run.specs.declared.way.Way.TheVariants as ways;
+ghost use Rattle.plex_run.specs.StatusLines.{script_line, full_line};
 ghost use Rattle.plex_run.specs.Written.{Gains, GainsPrefix};
-ghost use Rattle.plex_run.specs.Outcome.{IsSerial, IsStatus, status_line, script_limit, serial_report, served_text, served_status, WritesReport, WritesFull, WritesHistories, WritesOneReading, WritesFront, WritesRefusal, IsServed, IsUnserved, IsExact, IsComplete};
+ghost use Rattle.plex_run.specs.Outcome.{IsSerial, IsThreads, IsStatus, status_line, script_limit, served_status, full_of, run_status, reading_of, IsRunOf, IsAnswerOf, WritesRun, WritesRunFront, WritesReport, WritesFull, WritesHistories, WritesOneReading, WritesFront, WritesSerialFront, WritesRefusal, IsServed, IsUnserved, IsExact, IsComplete, IsCompleteOnThreads};
 
 use crate::full::full_structure;
 use crate::not_yet::not_yet;
 use crate::status_lines::{full_line, script_line, why_text};
+use crate::way::{Way, way_of};
 use cf_io::{ReadEnd, Sink, Source, WriteFault, read_all, write_all};
+use cf_link::Link;
 use cf_types::NoMemory;
+use plex_agent::Gate;
+use plex_crew::threads;
+use plex_floor::{Finished, serial};
 use plex_reading::only_reading;
 use plex_report::render;
 use plex_script::{ReadFault, Script, never_both, one_script, read, well_formed};
-use plex_serial::{one_run, serial};
 use plex_valid::valid_is_fresh;
+use serial_model::one_run;
 use std::alloc::Global;
+use std::mem;
+use std::sync::Wait;
+use std::thread::Threads;
 
 /// The greatest length of a script, in bytes.
 const SCRIPT_LIMIT: usize = 1_048_576;
 
 /// How many calls a journal takes.
 const JOURNAL_LIMIT: u32 = 65_536;
-
-// Whether a word is `serial`.
-fn is_serial_word(word: &String) -> bool
-    ensures { IsTrue result ↔ (string_bytes word.now ≡ codes "serial") }
-{
-    word.as_str() == "serial"
-}
-
-// Whether the words are the one word `serial`.
-fn is_serial(words: &[String]) -> bool
-    ensures { IsTrue result ↔ IsSerial words.now }
-{
-    match words {
-        [word] => is_serial_word(word),
-        _ => false,
-    }
-}
 
 // Writes a line that tells how the run ended. A failing write changes nothing else.
 fn say<K: Sink>(sink: &mut K, line: &[u8])
@@ -64,6 +58,47 @@ fn write_both<K: Sink>(sink: &mut K, first: &[u8], second: &[u8]) -> Result<(), 
     write_all(sink, second)
 }
 
+// Runs a script in this way over these links, which come back.
+fn run_by<R: Threads + Wait + Sync, L: Link, G: Gate>(
+    rt: &R,
+    alloc: Global,
+    way: Way,
+    script: &Script,
+    links: Vec<L>,
+    gate: &G,
+) -> (Result<Finished, NoMemory>, Vec<L>)
+    requires script { IsRunnable script.now }
+    requires links { vec_len links ≡ 64 }
+    ensures run { IfOk result.0 (λ it. IsRunOf way script.now (reading_of it)) }
+    ensures links { result.1.items ≡ links.items }
+{
+    one_run(JOURNAL_LIMIT, script);
+    match way {
+        Way::InTurn => serial(rt, alloc, JOURNAL_LIMIT, script, links),
+        Way::OnThreads => threads(rt, alloc, JOURNAL_LIMIT, script, links, gate),
+    }
+}
+
+// Runs a script in this way over these links, and puts them back.
+fn run_over<R: Threads + Wait + Sync, L: Link, G: Gate>(
+    rt: &R,
+    alloc: Global,
+    way: Way,
+    script: &Script,
+    links: &mut Vec<L>,
+    gate: &G,
+) -> Result<Finished, NoMemory>
+    requires script { IsRunnable script.now }
+    requires links { vec_len links.old ≡ 64 }
+    ensures run { IfOk result (λ it. IsRunOf way script.now (reading_of it)) }
+    ensures links { links.new.items ≡ links.old.items }
+{
+    let taken = mem::replace(links, Vec::new(alloc));
+    let (finished, back) = run_by(rt, alloc, way, script, taken, gate);
+    *links = back;
+    finished
+}
+
 // What a script's run answers: the status, the line of the structure whose journal got full, and
 // the report.
 #[derive(Drop)]
@@ -73,16 +108,17 @@ struct Answer {
     report: Vec<u8>,
 }
 
-// Runs a script on one thread, and makes its report.
-fn run_script(alloc: Global, script: &Script) -> Result<Answer, NoMemory>
-    requires { IsRunnable script.now }
-    ensures status { IfOk result (λ it. it.status ≡ served_status script.now) }
-    ensures text { IfOk result (λ it. it.heading.items ++ it.report.items
-        ≡ served_text script.now) }
+// Answers a script's run.
+fn answer_of(alloc: Global, script: &Script, finished: &Finished) -> Result<Answer, NoMemory>
+    requires script { IsRunnable script.now }
+    ensures status { IfOk result (λ it.
+        it.status ≡ run_status script.now (reading_of finished.now)) }
+    ensures heading { IfOk result (λ it.
+        it.heading.items ≡ full_line (full_of script.now (reading_of finished.now))) }
+    ensures report { IfOk result (λ it.
+        it.report.items ≡ report_of script.now (reading_of finished.now)) }
     ensures short { IfOk result (λ it. length it.report.items < 2 ^ 64) }
-    ensures report { IfOk result (λ it. it.report.items ≡ serial_report script.now) }
 {
-    let finished = serial(alloc, JOURNAL_LIMIT, script)?;
     let transcripts = finished.transcripts.items();
     let full = full_structure(script.structures.items(), transcripts);
     Ok(Answer {
@@ -92,20 +128,48 @@ fn run_script(alloc: Global, script: &Script) -> Result<Answer, NoMemory>
     })
 }
 
-// Runs a script on one thread and writes its report.
-fn reported<K: Sink>(alloc: Global, script: &Script, sink: &mut K) -> u8
-    requires { IsRunnable script.now }
-    ensures whole { (result ≡ 0) ⊎ (result ≡ 8) → (result ≡ served_status script.now)
-        × Appends (K.held sink.old) (K.held sink.new) (served_text script.now) }
-    ensures short { (result ≡ 0) ⊎ (result ≡ 8) → length (serial_report script.now) < 2 ^ 64 }
+// Runs a script in this way, and makes its report.
+fn run_script<R: Threads + Wait + Sync, L: Link, G: Gate>(
+    rt: &R,
+    alloc: Global,
+    way: Way,
+    script: &Script,
+    links: &mut Vec<L>,
+    gate: &G,
+) -> Result<Answer, NoMemory>
+    requires script { IsRunnable script.now }
+    requires links { vec_len links.old ≡ 64 }
+    ensures answer { IfOk result (λ it.
+        IsAnswerOf way script.now it.status it.heading.items it.report.items) }
+    ensures links { links.new.items ≡ links.old.items }
+{
+    let finished = run_over(rt, alloc, way, script, links, gate)?;
+    answer_of(alloc, script, &finished)
+}
+
+// Runs a script in this way and writes its report.
+fn reported<R: Threads + Wait + Sync, K: Sink, L: Link, G: Gate>(
+    rt: &R,
+    alloc: Global,
+    way: Way,
+    script: &Script,
+    sink: &mut K,
+    links: &mut Vec<L>,
+    gate: &G,
+) -> u8
+    requires script { IsRunnable script.now }
+    requires links { vec_len links.old ≡ 64 }
+    ensures whole { (result ≡ 0) ⊎ (result ≡ 8)
+        → WritesRun way script.now result (K.held sink.old) (K.held sink.new) }
     ensures sink_fault { result ≡ 5 → Rises (K.faults sink.old) (K.faults sink.new)
-        × GainsPrefix (K.held sink.old) (K.held sink.new) (served_text script.now) }
+        × WritesRunFront way script.now (K.held sink.old) (K.held sink.new) }
     ensures line { IfSome (status_line result)
         (Gains (K.held sink.old) (K.held sink.new) (K.faults sink.old) (K.faults sink.new)) }
     ensures statuses { (result ≡ 0) ⊎ ((result ≡ 8) ⊎ ((result ≡ 5) ⊎ (result ≡ 6))) }
     ensures faults { K.faults sink.old ≤ K.faults sink.new }
+    ensures links { links.new.items ≡ links.old.items }
 {
-    let Ok(answer) = run_script(alloc, script) else {
+    let Ok(answer) = run_script(rt, alloc, way, script, links, gate) else {
         say(sink, b"NOMEMORY\n");
         return 6;
     };
@@ -137,25 +201,42 @@ fn refused<K: Sink>(alloc: Global, line: u32, why: &[u8], sink: &mut K) -> u8
 }
 
 // Reads a script out of a text, runs it, and writes the report.
-fn judged<K: Sink>(alloc: Global, text: &[u8], sink: &mut K) -> u8
-    ensures served { result ≡ 0 → WritesReport (K.held sink.old) (K.held sink.new) text.now }
-    ensures full { result ≡ 8 → WritesFull (K.held sink.old) (K.held sink.new) text.now }
+fn judged<R: Threads + Wait + Sync, K: Sink, L: Link, G: Gate>(
+    rt: &R,
+    alloc: Global,
+    way: Way,
+    text: &[u8],
+    sink: &mut K,
+    links: &mut Vec<L>,
+    gate: &G,
+) -> u8
+    requires links { vec_len links.old ≡ 64 }
+    ensures served { way ≡ ways.InTurn → result ≡ 0
+        → WritesReport (K.held sink.old) (K.held sink.new) text.now }
+    ensures full { way ≡ ways.InTurn → result ≡ 8
+        → WritesFull (K.held sink.old) (K.held sink.new) text.now }
     ensures headline { (result ≡ 0) ⊎ (result ≡ 8)
-        → WritesHistories (K.held sink.old) (K.held sink.new) text.now }
+        → WritesHistories result (K.held sink.old) (K.held sink.new) text.now }
     ensures reading { result ≡ 0
         → WritesOneReading (K.held sink.old) (K.held sink.new) text.now }
     ensures refused { result ≡ 3 → WritesRefusal (K.held sink.old) (K.held sink.new)
         (K.faults sink.old) (K.faults sink.new) text.now }
     ensures sink_fault { result ≡ 5 → Rises (K.faults sink.old) (K.faults sink.new)
         × WritesFront (K.held sink.old) (K.held sink.new) text.now }
+    ensures front { way ≡ ways.InTurn → result ≡ 5
+        → WritesSerialFront (K.held sink.old) (K.held sink.new) text.now }
     ensures line { IfSome (status_line result)
         (Gains (K.held sink.old) (K.held sink.new) (K.faults sink.old) (K.faults sink.new)) }
     ensures exact { result ≢ 6 → (result ≡ 3) ↔ IsUnserved text.now }
-    ensures complete { ¬ Rises (K.faults sink.old) (K.faults sink.new) → result ≢ 6
-        → (script : Script) → IsServed text.now script → result ≡ served_status script }
+    ensures complete { way ≡ ways.InTurn → ¬ Rises (K.faults sink.old) (K.faults sink.new)
+        → result ≢ 6 → (script : Script) → IsServed text.now script
+        → result ≡ served_status script }
+    ensures ends { ¬ Rises (K.faults sink.old) (K.faults sink.new) → result ≢ 6
+        → (script : Script) → IsServed text.now script → (result ≡ 0) ⊎ (result ≡ 8) }
     ensures statuses { (result ≡ 0) ⊎ ((result ≡ 8) ⊎ ((result ≡ 5)
         ⊎ ((result ≡ 6) ⊎ (result ≡ 3)))) }
     ensures faults { K.faults sink.old ≤ K.faults sink.new }
+    ensures links { links.new.items ≡ links.old.items }
 {
     one_script();
     never_both();
@@ -171,20 +252,28 @@ fn judged<K: Sink>(alloc: Global, text: &[u8], sink: &mut K) -> u8
         return refused(alloc, line, b"NOTYET", sink);
     }
     well_formed(text, &script);
-    one_run(JOURNAL_LIMIT, &script);
     valid_is_fresh();
     only_reading();
-    reported(alloc, &script, sink)
+    reported(rt, alloc, way, &script, sink, links, gate)
 }
 
-// Reads the script, runs it, and writes the report: the run of `serial`.
-fn served<S: Source, K: Sink>(alloc: Global, source: &mut S, sink: &mut K) -> u8
-    ensures served { result ≡ 0 → IfSome (S.left source.old)
+// Reads the script, runs it in this way, and writes the report.
+fn served<R: Threads + Wait + Sync, S: Source, K: Sink, L: Link, G: Gate>(
+    rt: &R,
+    alloc: Global,
+    way: Way,
+    source: &mut S,
+    sink: &mut K,
+    links: &mut Vec<L>,
+    gate: &G,
+) -> u8
+    requires links { vec_len links.old ≡ 64 }
+    ensures served { way ≡ ways.InTurn → result ≡ 0 → IfSome (S.left source.old)
         (WritesReport (K.held sink.old) (K.held sink.new)) }
-    ensures full { result ≡ 8 → IfSome (S.left source.old)
+    ensures full { way ≡ ways.InTurn → result ≡ 8 → IfSome (S.left source.old)
         (WritesFull (K.held sink.old) (K.held sink.new)) }
     ensures headline { (result ≡ 0) ⊎ (result ≡ 8) → IfSome (S.left source.old)
-        (WritesHistories (K.held sink.old) (K.held sink.new)) }
+        (WritesHistories result (K.held sink.old) (K.held sink.new)) }
     ensures reading { result ≡ 0 → IfSome (S.left source.old)
         (WritesOneReading (K.held sink.old) (K.held sink.new)) }
     ensures read_fault { result ≡ 4 → Rises (S.faults source.old) (S.faults source.new) }
@@ -195,16 +284,22 @@ fn served<S: Source, K: Sink>(alloc: Global, source: &mut S, sink: &mut K) -> u8
         (K.faults sink.new)) }
     ensures sink_fault { result ≡ 5 → Rises (K.faults sink.old) (K.faults sink.new)
         × IfSome (S.left source.old) (WritesFront (K.held sink.old) (K.held sink.new)) }
+    ensures front { way ≡ ways.InTurn → result ≡ 5 → IfSome (S.left source.old)
+        (WritesSerialFront (K.held sink.old) (K.held sink.new)) }
     ensures line { IfSome (status_line result)
         (Gains (K.held sink.old) (K.held sink.new) (K.faults sink.old) (K.faults sink.new)) }
     ensures exact { ¬ Rises (S.faults source.old) (S.faults source.new) → result ≢ 6 →
         IfSome (S.left source.old) (λ text. IsExact text result) }
-    ensures complete { ¬ Rises (S.faults source.old) (S.faults source.new)
+    ensures complete { way ≡ ways.InTurn → ¬ Rises (S.faults source.old) (S.faults source.new)
         → ¬ Rises (K.faults sink.old) (K.faults sink.new) → result ≢ 6 →
         IfSome (S.left source.old) (λ text. IsComplete text result) }
+    ensures ends { ¬ Rises (S.faults source.old) (S.faults source.new)
+        → ¬ Rises (K.faults sink.old) (K.faults sink.new) → result ≢ 6 →
+        IfSome (S.left source.old) (λ text. IsCompleteOnThreads text result) }
     ensures statuses { IsStatus result × (result ≢ 2) }
     ensures source_faults { S.faults source.old ≤ S.faults source.new }
     ensures sink_faults { K.faults sink.old ≤ K.faults sink.new }
+    ensures links { links.new.items ≡ links.old.items }
 {
     let text = match read_all(alloc, source, SCRIPT_LIMIT) {
         Ok(text) => text,
@@ -221,16 +316,22 @@ fn served<S: Source, K: Sink>(alloc: Global, source: &mut S, sink: &mut K) -> u8
             return 6;
         }
     };
-    judged(alloc, &text, sink)
+    judged(rt, alloc, way, &text, sink, links, gate)
 }
 
 /// Runs the program: `words` are its words, the script comes from `source`, and what it says goes to
-/// `sink`. The answer is the exit status.
+/// `sink`. The answer is the exit status. There are 64 links: structure `s` of the script, from 0, and
+/// facility `f`, from 1, use link `4 * s + f - 1`.
+///
+/// With the one word `serial` the script's lines are done one after another, and its report is always
+/// the same. With `threads` each caller's lines are done on a thread of its own, where one can be made;
+/// the order in which the calls of several callers come to a structure, and so the report, may then
+/// differ from run to run. The gate is told of each line on threads, before and after it.
 ///
 /// | Status | Comes | Written to the sink |
 /// |---|---|---|
 /// | 0 | the script was read and run whole, and the report written whole | the report |
-/// | 2 | the words are not the one word `serial` | `USAGE plexrun serial or threads or load N` |
+/// | 2 | the words are not the one word `serial` or `threads` | `USAGE plexrun serial or threads or load N` |
 /// | 3 | the text is no script, or not all of it is built yet | `SCRIPT line why` |
 /// | 4 | a read failed | `FAULT READ` |
 /// | 5 | a write failed while the report was written | a front of what belongs to 0 or 8 |
@@ -242,24 +343,37 @@ fn served<S: Source, K: Sink>(alloc: Global, source: &mut S, sink: &mut K) -> u8
 /// or else the first line that isn't built, and NOTYET. With 8 the structure is the first in the
 /// policy whose journal got full. Lines are counted from 1. The causes are tried in the order 2, 4,
 /// 7, 3, 5, 8; want of memory may stand in place of any but 2.
-pub fn run<S: Source, K: Sink>(alloc: Global, words: &[String], source: &mut S, sink: &mut K) -> u8
-    // The bytes that the source had left are a script that is built, and what is written is the
-    // report of its run on one thread, whole and nothing else; a full journal is told before it.
-    ensures served { result ≡ 0 → IfSome (S.left source.old)
+pub fn run<R: Threads + Wait + Sync, S: Source, K: Sink, L: Link, G: Gate>(
+    rt: &R,
+    alloc: Global,
+    words: &[String],
+    source: &mut S,
+    sink: &mut K,
+    links: &mut Vec<L>,
+    gate: &G,
+) -> u8
+    requires links { vec_len links.old ≡ 64 }
+
+    // With `serial` the bytes that the source had left are a script that is built, and what is
+    // written is the report of its run on one thread, whole and nothing else; a full journal is
+    // told before it.
+    ensures served { IsSerial words.now → result ≡ 0 → IfSome (S.left source.old)
         (WritesReport (K.held sink.old) (K.held sink.new)) }
-    ensures full { result ≡ 8 → IfSome (S.left source.old)
+    ensures full { IsSerial words.now → result ≡ 8 → IfSome (S.left source.old)
         (WritesFull (K.held sink.old) (K.held sink.new)) }
-    // That report shows a legal history of each structure, each caller's calls in them once and in
-    // their order, and tests that tell what stood at a numbered point; where a cache's test tells
-    // VALID, the connector's copy was fresh there.
+    // With either word the bytes are such a script, and the report that is written, whole and
+    // nothing else, shows a legal history of each structure, each caller's calls in them once and
+    // in their order, and tests that tell what stood at a numbered point; where a cache's test tells
+    // VALID, the connector's copy was fresh there. The status is 8 where one of the transcripts ends
+    // at a full journal, which is told before the report, and else 0.
     ensures headline { (result ≡ 0) ⊎ (result ≡ 8) → IfSome (S.left source.old)
-        (WritesHistories (K.held sink.old) (K.held sink.new)) }
+        (WritesHistories result (K.held sink.old) (K.held sink.new)) }
     // And no other legal histories, with transcripts that follow the script, have that report.
     ensures reading { result ≡ 0 → IfSome (S.left source.old)
         (WritesOneReading (K.held sink.old) (K.held sink.new)) }
 
     // Each other status has its cause.
-    ensures usage { (result ≡ 2) ↔ (IsSerial words.now → ⊥) }
+    ensures usage { (result ≡ 2) ↔ (IsSerial words.now ⊎ IsThreads words.now → ⊥) }
     ensures read_fault { result ≡ 4 → Rises (S.faults source.old) (S.faults source.new) }
     ensures too_long { result ≡ 7 → IfSome (S.left source.old)
         (λ text. script_limit < length text) }
@@ -268,15 +382,22 @@ pub fn run<S: Source, K: Sink>(alloc: Global, words: &[String], source: &mut S, 
         (K.faults sink.new)) }
     ensures sink_fault { result ≡ 5 → Rises (K.faults sink.old) (K.faults sink.new)
         × IfSome (S.left source.old) (WritesFront (K.held sink.old) (K.held sink.new)) }
+    ensures front { IsSerial words.now → result ≡ 5 → IfSome (S.left source.old)
+        (WritesSerialFront (K.held sink.old) (K.held sink.new)) }
     ensures statuses { IsStatus result }
 
     // Where no read failed and memory was found, the text decides; where no write failed either, a
     // script that is built is served.
-    ensures exact { IsSerial words.now → ¬ Rises (S.faults source.old) (S.faults source.new)
-        → result ≢ 6 → IfSome (S.left source.old) (λ text. IsExact text result) }
+    ensures exact { IsSerial words.now ⊎ IsThreads words.now
+        → ¬ Rises (S.faults source.old) (S.faults source.new) → result ≢ 6
+        → IfSome (S.left source.old) (λ text. IsExact text result) }
     ensures complete { IsSerial words.now → ¬ Rises (S.faults source.old) (S.faults source.new)
         → ¬ Rises (K.faults sink.old) (K.faults sink.new) → result ≢ 6 →
         IfSome (S.left source.old) (λ text. IsComplete text result) }
+    ensures complete_threads { IsThreads words.now
+        → ¬ Rises (S.faults source.old) (S.faults source.new)
+        → ¬ Rises (K.faults sink.old) (K.faults sink.new) → result ≢ 6 →
+        IfSome (S.left source.old) (λ text. IsCompleteOnThreads text result) }
 
     // What is written with the statuses that have no report, whole unless a write failed. With
     // faulty words nothing is read.
@@ -287,12 +408,15 @@ pub fn run<S: Source, K: Sink>(alloc: Global, words: &[String], source: &mut S, 
     // The counts never fall.
     ensures source_faults { S.faults source.old ≤ S.faults source.new }
     ensures sink_faults { K.faults sink.old ≤ K.faults sink.new }
+
+    // The links are put back before it returns; none is asked yet.
+    ensures links { links.new.items ≡ links.old.items }
 {
-    if !is_serial(words) {
+    let Some(way) = way_of(words) else {
         say(sink, b"USAGE plexrun serial or threads or load N\n");
         return 2;
-    }
-    served(alloc, source, sink)
+    };
+    served(rt, alloc, way, source, sink, links, gate)
 }
 
 #[cfg(test)]

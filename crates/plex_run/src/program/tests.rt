@@ -1,9 +1,14 @@
-ghost use Rattle.std.specs.Prelude.{◌<◌};
+ghost use Rattle.std.specs.Prelude.{◌≡◌, ◌<◌, IfOk};
+ghost use Rattle.std.specs.Vec.{vec_len};
 
 use super::run;
 use cf_io::{MemSink, MemSource};
+use cf_link::Steady;
+use plex_agent::OpenGate;
 use std::alloc::{AllocError, Global};
+use std::sync::Wait;
 use std::test::Fail;
+use std::thread::Threads;
 
 /// A policy and two connectors.
 const POLICY: &str = "FACILITY CF1 100\n\
@@ -37,32 +42,80 @@ fn sink_of(alloc: Global, piece: usize, fails: &[u64]) -> Result<MemSink, Fail>
     Ok(MemSink::new(alloc, 4096, piece, Vec::from_slice(alloc, fails)?)?)
 }
 
-fn serial(alloc: Global) -> Result<Vec<String>, AllocError> {
+fn words_of(alloc: Global, word: &str) -> Result<Vec<String>, AllocError> {
     let mut words = Vec::new(alloc);
-    words.push(String::from_str(alloc, "serial")?)?;
+    words.push(String::from_str(alloc, word)?)?;
     Ok(words)
 }
 
-// The status of `serial` over these lines behind the policy, and what it wrote.
-fn ran(alloc: Global, lines: &str) -> Result<(u8, Vec<u8>), Fail> {
+// Links to facilities that are never lost.
+fn steady(alloc: Global) -> Result<Vec<Steady>, AllocError>
+    ensures { IfOk result (λ links. vec_len links ≡ 64) }
+{
+    vec![in alloc; Steady; 64]
+}
+
+// The status of a run by this word over these lines behind the policy, and what it wrote.
+fn ran<R: Threads + Wait + Sync>(
+    rt: &R,
+    alloc: Global,
+    word: &str,
+    lines: &str,
+) -> Result<(u8, Vec<u8>), Fail> {
     let mut source = source_of(alloc, POLICY, lines, &[])?;
     let mut sink = sink_of(alloc, 64, &[])?;
-    let words = serial(alloc)?;
-    let status = run(alloc, &words, &mut source, &mut sink);
+    let words = words_of(alloc, word)?;
+    let mut links = steady(alloc)?;
+    let status = run(
+        rt,
+        alloc,
+        &words,
+        &mut source,
+        &mut sink,
+        &mut links,
+        &OpenGate,
+    );
     Ok((status, sink.bytes))
 }
 
+// One connector's lines, and the end of their report.
+const ONE_CALLER: &str = "A GBP CONNECT DELETE\nA GBP READ P1 0\nA GBP TEST 0\n";
+
+const ONE_CALLER_END: &[u8] =
+    b"HISTORY GBP 3\n1 A CONNECT DELETE -> OK NEW CF1\n2 A READ P1 0 -> NODATA\n3 A DISCONNECT -> OK\n\
+      TRANSCRIPT OP 0\nTRANSCRIPT A 4\nGBP 1\nGBP 2\nGBP TEST 0 VALID 2\nGBP 3\nTRANSCRIPT B 0\nEND\n";
+
 #[test]
 fn read_and_test(rt: HostRuntime) -> Result<(), Fail> {
+    let (status, text) = ran(&rt, rt.alloc(), "serial", ONE_CALLER)?;
+    assert_eq!(rt; status, 0);
+    assert!(rt; text.as_slice().ends_with(ONE_CALLER_END));
+    Ok(())
+}
+
+// Where one caller alone has lines, each schedule has the same report.
+#[test]
+fn read_and_test_on_threads(rt: HostRuntime) -> Result<(), Fail> {
+    let (status, text) = ran(&rt, rt.alloc(), "threads", ONE_CALLER)?;
+    assert_eq!(rt; status, 0);
+    assert!(rt; text.as_slice().ends_with(ONE_CALLER_END));
+    Ok(())
+}
+
+#[test]
+fn post_and_take(rt: HostRuntime) -> Result<(), Fail> {
     let (status, text) = ran(
+        &rt,
         rt.alloc(),
-        "A GBP CONNECT DELETE\nA GBP READ P1 0\nA GBP TEST 0\n",
+        "serial",
+        "A GBP CONNECT DELETE\nB GBP CONNECT DELETE\nA GBP WRITE P1 0 a CHANGED 1\n\
+         B GBP TAKE\nA GBP POST\nB GBP TAKE\n",
     )?;
     assert_eq!(rt; status, 0);
     assert!(rt;
         text.as_slice().ends_with(
-            b"HISTORY GBP 3\n1 A CONNECT DELETE -> OK NEW CF1\n2 A READ P1 0 -> NODATA\n3 A DISCONNECT -> OK\n\
-          TRANSCRIPT OP 0\nTRANSCRIPT A 4\nGBP 1\nGBP 2\nGBP TEST 0 VALID 2\nGBP 3\nTRANSCRIPT B 0\nEND\n"
+            b"TRANSCRIPT OP 0\nTRANSCRIPT A 4\nGBP 1\nGBP 3\nGBP POST 3\nGBP 4\n\
+          TRANSCRIPT B 4\nGBP 2\nGBP TAKE 2\nGBP TAKE 3\nGBP 5\nEND\n"
         )
     );
     Ok(())
@@ -70,7 +123,12 @@ fn read_and_test(rt: HostRuntime) -> Result<(), Fail> {
 
 #[test]
 fn misspelt_policy(rt: HostRuntime) -> Result<(), Fail> {
-    let (status, text) = ran(rt.alloc(), "* A line that says nothing.\nFACILTY CF3 100\n")?;
+    let (status, text) = ran(
+        &rt,
+        rt.alloc(),
+        "serial",
+        "* A line that says nothing.\nFACILTY CF3 100\n",
+    )?;
     assert_eq!(rt; status, 3);
     assert_eq!(rt; text.as_slice(), b"SCRIPT 9 SYNTAX\n".as_slice());
     Ok(())
@@ -78,7 +136,12 @@ fn misspelt_policy(rt: HostRuntime) -> Result<(), Fail> {
 
 #[test]
 fn unbuilt_line(rt: HostRuntime) -> Result<(), Fail> {
-    let (status, text) = ran(rt.alloc(), "A GBP CONNECT DELETE\nA GBP POST\n")?;
+    let (status, text) = ran(
+        &rt,
+        rt.alloc(),
+        "serial",
+        "A GBP CONNECT DELETE\nA GBP REBUILD COMPLETE\n",
+    )?;
     assert_eq!(rt; status, 3);
     assert_eq!(rt; text.as_slice(), b"SCRIPT 9 NOTYET\n".as_slice());
     Ok(())
@@ -89,8 +152,18 @@ fn oversized_source(rt: HostRuntime) -> Result<(), Fail> {
     let mut source = source_of(rt.alloc(), "", "", &[])?;
     source.bytes = vec![in rt.alloc(); b'*'; 1_048_577]?;
     let mut sink = sink_of(rt.alloc(), 64, &[])?;
-    let words = serial(rt.alloc())?;
-    assert_eq!(rt; run(rt.alloc(), &words, &mut source, &mut sink), 7);
+    let words = words_of(rt.alloc(), "serial")?;
+    let mut links = steady(rt.alloc())?;
+    let status = run(
+        &rt,
+        rt.alloc(),
+        &words,
+        &mut source,
+        &mut sink,
+        &mut links,
+        &OpenGate,
+    );
+    assert_eq!(rt; status, 7);
     assert_eq!(rt; sink.bytes.as_slice(), b"TOOLONG 1048576\n".as_slice());
     Ok(())
 }
@@ -99,8 +172,18 @@ fn oversized_source(rt: HostRuntime) -> Result<(), Fail> {
 fn failing_source(rt: HostRuntime) -> Result<(), Fail> {
     let mut source = source_of(rt.alloc(), POLICY, "", &[1])?;
     let mut sink = sink_of(rt.alloc(), 64, &[])?;
-    let words = serial(rt.alloc())?;
-    assert_eq!(rt; run(rt.alloc(), &words, &mut source, &mut sink), 4);
+    let words = words_of(rt.alloc(), "serial")?;
+    let mut links = steady(rt.alloc())?;
+    let status = run(
+        &rt,
+        rt.alloc(),
+        &words,
+        &mut source,
+        &mut sink,
+        &mut links,
+        &OpenGate,
+    );
+    assert_eq!(rt; status, 4);
     assert_eq!(rt; sink.bytes.as_slice(), b"FAULT READ\n".as_slice());
     Ok(())
 }
@@ -110,7 +193,17 @@ fn missing_words(rt: HostRuntime) -> Result<(), Fail> {
     let mut source = source_of(rt.alloc(), POLICY, "", &[])?;
     let mut sink = sink_of(rt.alloc(), 64, &[])?;
     let words = Vec::<String>::new(rt.alloc());
-    assert_eq!(rt; run(rt.alloc(), &words, &mut source, &mut sink), 2);
+    let mut links = steady(rt.alloc())?;
+    let status = run(
+        &rt,
+        rt.alloc(),
+        &words,
+        &mut source,
+        &mut sink,
+        &mut links,
+        &OpenGate,
+    );
+    assert_eq!(rt; status, 2);
     assert_eq!(rt;
         sink.bytes.as_slice(),
         b"USAGE plexrun serial or threads or load N\n".as_slice()

@@ -1,24 +1,24 @@
 use Rattle.std.proofs.Common.{◌≤◌, length, arith}
-use Rattle.plex_run.specs.Outcome.{WritesReport, WritesFull, WritesHistories, WritesOneReading, WritesRefusal, WritesFront, IsExact, script_limit}
+use Rattle.plex_run.specs.Outcome.{WritesReport, WritesFull, WritesHistories, WritesOneReading, WritesRefusal, WritesFront, WritesSerialFront, IsExact, IsComplete, IsCompleteOnThreads, script_limit}
 use Rattle.plex_run.proofs.OutcomeLaws.{of_left, exactly_short}
 use Rattle.plex_run.proofs.program.served.Goals as goal
 
 pub returns-clause-served : goal.returns-clause-served
-returns-clause-served g c = λ is.
+returns-clause-served g c = λ turn is.
     of_left (g.S.Source.left c.args.source.now) c.in-Ok.text.items c.deref.result.now
     (WritesReport (g.K.Sink.held c.args.sink.now) (g.K.Sink.held c.judged.new.sink))
-    c.deref.ensures.value c.in-Ok.ensures.whole (c.judged.ensures.served is)
+    c.deref.ensures.value c.in-Ok.ensures.whole (c.judged.ensures.served turn is)
 
 pub returns-clause-full : goal.returns-clause-full
-returns-clause-full g c = λ is.
+returns-clause-full g c = λ turn is.
     of_left (g.S.Source.left c.args.source.now) c.in-Ok.text.items c.deref.result.now
     (WritesFull (g.K.Sink.held c.args.sink.now) (g.K.Sink.held c.judged.new.sink))
-    c.deref.ensures.value c.in-Ok.ensures.whole (c.judged.ensures.full is)
+    c.deref.ensures.value c.in-Ok.ensures.whole (c.judged.ensures.full turn is)
 
 pub returns-clause-headline : goal.returns-clause-headline
 returns-clause-headline g c = λ is.
     of_left (g.S.Source.left c.args.source.now) c.in-Ok.text.items c.deref.result.now
-    (WritesHistories (g.K.Sink.held c.args.sink.now) (g.K.Sink.held c.judged.new.sink))
+    (WritesHistories c.judged.result (g.K.Sink.held c.args.sink.now) (g.K.Sink.held c.judged.new.sink))
     c.deref.ensures.value c.in-Ok.ensures.whole (c.judged.ensures.headline is)
 
 pub returns-clause-refused : goal.returns-clause-refused
@@ -50,3 +50,23 @@ returns-clause-reading g c = λ is.
     of_left (g.S.Source.left c.args.source.now) c.in-Ok.text.items c.deref.result.now
     (WritesOneReading (g.K.Sink.held c.args.sink.now) (g.K.Sink.held c.judged.new.sink))
     c.deref.ensures.value c.in-Ok.ensures.whole (c.judged.ensures.reading is)
+
+pub returns-clause-front : goal.returns-clause-front
+returns-clause-front g c = λ turn is.
+    of_left (g.S.Source.left c.args.source.now) c.in-Ok.text.items c.deref.result.now
+    (WritesSerialFront (g.K.Sink.held c.args.sink.now) (g.K.Sink.held c.judged.new.sink))
+    c.deref.ensures.value c.in-Ok.ensures.whole (c.judged.ensures.front turn is)
+
+pub returns-clause-complete : goal.returns-clause-complete
+returns-clause-complete g c = λ turn read wrote memory.
+    of_left (g.S.Source.left c.args.source.now) c.in-Ok.text.items c.deref.result.now
+    (λ text. IsComplete text c.judged.result)
+    c.deref.ensures.value c.in-Ok.ensures.whole
+    (λ script served short. c.judged.ensures.complete turn wrote memory script served)
+
+pub returns-clause-ends : goal.returns-clause-ends
+returns-clause-ends g c = λ read wrote memory.
+    of_left (g.S.Source.left c.args.source.now) c.in-Ok.text.items c.deref.result.now
+    (λ text. IsCompleteOnThreads text c.judged.result)
+    c.deref.ensures.value c.in-Ok.ensures.whole
+    (λ script served short. c.judged.ensures.ends wrote memory script served)
