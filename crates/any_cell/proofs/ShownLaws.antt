@@ -57,11 +57,13 @@ module _ {C R : Type 0} (str_type : StrType) (of : Ask C → AnyAsk) where
       (passes : List (PassSeen (About C R))) (shown_is : shown ≡ keyed_as str_type key)
       (list_is : list ≡ map (shown_as str_type of) passes) where
     -- all of them, where each of them as it is seen
-    each_shown : (P : PassShown → Type 0) → All (λ (pass : PassSeen (About C R)). P (shown_as str_type of pass)) passes
+    each_shown : (P : PassShown → Type 0) → All (λ (pass : PassSeen (About C R)). P (shown_as str_type of pass))
+        passes
         → All P list
     each_shown P all = subst (All P) (sym list_is) (All-map P (shown_as str_type of) passes all)
 
-    pub shown_tables : All (IsPassOf shown) list → All (λ (pass : PassSeen (About C R)). pass.table ≡ key.words) passes
+    pub shown_tables : All (IsPassOf shown) list → All (λ (pass : PassSeen (About C R)). pass.table ≡ key.words)
+        passes
     shown_tables all k d below =
         let P : PassShown → Type 0 = IsPassOf (keyed_as str_type key) in
         let listed : All (IsPassOf shown) (map (shown_as str_type of) passes) =

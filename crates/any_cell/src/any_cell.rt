@@ -33,8 +33,9 @@ pub enum AnyCell<L: Link> {
 }
 
 impl<L: Link> AnyCell<L> {
-    /// A cell of a structure of this form without calls yet (what the first IXLCONN allocates), with a
-    /// pass for each caller from the operator, 0, on. Its journal has at most `limit` entries.
+    /// A cell of a structure of this form without calls yet (what the first IXLCONN allocates),
+    /// with a pass for each caller from the operator, 0, on. Its journal has at most `limit`
+    /// entries.
     ///
     /// # Errors
     ///
@@ -82,13 +83,14 @@ impl<L: Link> AnyCell<L> {
         }
     }
 
-    /// A call of the pass's owner. It waits for its turn; then it is judged and done at once, it stands
-    /// in the journal, and the words of the vectors show what it did before its number is published.
+    /// A call of the pass's owner. It waits for its turn; then it is judged and done at once, it
+    /// stands in the journal, and the words of the vectors show what it did before its number is
+    /// published.
     ///
     /// # Errors
     ///
-    /// `JournalFull` where the journal has `limit` entries; `NoMemory`, before anything was changed. In
-    /// both cases nothing happened to the structure.
+    /// `JournalFull` where the journal has `limit` entries; `NoMemory`, before anything was
+    /// changed. In both cases nothing happened to the structure.
     pub fn call(
         &self,
         rt: &impl Wait,
@@ -122,8 +124,8 @@ impl<L: Link> AnyCell<L> {
     }
 
     /// Tests a bit of the pass's own vector with one load: no lock, no memory, no waiting (IXLVECTR
-    /// TESTLOCALCACHE and TESTLISTSTATE). It answers the bit and the number that the answer is of, which
-    /// the pass then knows. The operator's pass doesn't test.
+    /// TESTLOCALCACHE and TESTLISTSTATE). It answers the bit and the number that the answer is of,
+    /// which the pass then knows. The operator's pass doesn't test.
     pub fn test(&self, pass: &mut AnyPass, index: u32) -> Tested
         requires pass { IsPassOf (cell_shown self.now) (pass_shown pass.old) }
         requires caller { 0 < (pass_shown pass.old).owner.0 }
@@ -205,8 +207,8 @@ impl<L: Link> AnyCell<L> {
         }
     }
 
-    /// Tells a note to the pass, whose numbers are then each the larger of both. It answers the number
-    /// of a call that the pass has now seen complete.
+    /// Tells a note to the pass, whose numbers are then each the larger of both. It answers the
+    /// number of a call that the pass has now seen complete.
     pub fn told(&self, pass: &mut AnyPass, note: AnyNote) -> u32
         requires pass { IsPassOf (cell_shown self.now) (pass_shown pass.old) }
         requires note { IsNoteOf (cell_shown self.now) (note_shown note) }
@@ -231,9 +233,9 @@ impl<L: Link> AnyCell<L> {
         }
     }
 
-    /// Ends the cell, with its history and the links as it got them. Of the history each pass has its
-    /// owner's calls, and it says what the pass's tests answered. It may wait for a turn, and takes no
-    /// memory.
+    /// Ends the cell, with its history and the links as it got them. Of the history each pass has
+    /// its owner's calls, and it says what the pass's tests answered. It may wait for a turn, and
+    /// takes no memory.
     pub fn close(self, rt: &impl Wait, passes: AnyPasses) -> (AnyHistory, Links<L>)
         requires passes { All (IsPassOf (cell_shown self)) (passes_shown passes) }
         requires passes_type { type_of_passes passes ≡ (cell_shown self).str_type }

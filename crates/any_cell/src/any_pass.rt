@@ -15,8 +15,8 @@ pub enum AnyPass {
 }
 
 impl AnyPass {
-    /// The greatest number of a call that the pass has seen complete. It is at most the number that the
-    /// pass knows.
+    /// The greatest number of a call that the pass has seen complete. It is at most the number that
+    /// the pass knows.
     pub fn sure(&self) -> u32
         ensures sure { result ≡ (pass_shown self.now).sure }
         ensures ordered { result ≤ (pass_shown self.now).known }

@@ -1,4 +1,5 @@
-//! A structure of whatever type, cache, list or lock, that connectors on threads of their own share.
+//! A structure of whatever type, cache, list or lock, that connectors on threads of their own
+//! share.
 #![tactic(auto)]
 
 mod any_cell;

@@ -1,4 +1,5 @@
--- A history of whatever kind, from its start on: its calls, the call that is heard by a number, and what holds of it after each call.
+-- A history of whatever kind, from its start on: its calls, the call that is heard by a number, and what holds of it
+-- after each call.
 use Rattle.std.proofs.Common.{◌≡◌, ℕ, zero, suc, ◌+◌, ◌≤◌, ◌==◌, true, false, List, [], ◌∷◌, map, Some, None, ap, ◌∙◌, refl, arith}
 use Rattle.std.proofs.lemmas.List.Folds.{find-append}
 use Rattle.std.proofs.lemmas.Simd.{map-map}
@@ -27,7 +28,8 @@ pub record IsHistory (form : StrForm) (entries : AnyHistory) : Type 0 where
   pub counted : IsCounted entries
 
 -- no call has a number past the count
-pub unheard : (calls : List AnyCall) (first n number : ℕ) → map (λ call. call.no) calls ≡ numbers_from first n → first + n ≤ number
+pub unheard : (calls : List AnyCall) (first n number : ℕ) → map (λ call. call.no) calls ≡ numbers_from first n
+    → first + n ≤ number
     → heard number calls ≡ None
 unheard [] first n number counted past = refl
 unheard (call ∷ calls) first zero number counted past = absurd cc
@@ -47,16 +49,22 @@ any_numbers (history.Lock entries) counted =
     map-map (λ (call : AnyCall). call.no) (any_call ask.Lock) (calls entries) ∙ counted
 
 -- the call that is added is heard by its number
-pub added_heard : (form : StrForm) (entries : AnyHistory) (by : ConnId) (asked : AnyAsk) → Takes entries asked → IsCounted entries
-    → heard (any_length entries + 1) (any_calls (any_next form entries by asked)) ≡ Some (call_added form entries by asked)
+pub added_heard : (form : StrForm) (entries : AnyHistory) (by : ConnId) (asked : AnyAsk) → Takes entries asked
+    → IsCounted entries
+    → heard (any_length entries + 1) (any_calls (any_next form entries by asked)) ≡ Some
+    (call_added form entries by asked)
 added_heard form entries by asked takes counted =
     let none : heard (any_length entries + 1) (any_calls entries) ≡ None =
-    unheard (any_calls entries) 1 (any_length entries) (any_length entries + 1) (any_numbers entries counted) (omega arith) in
+    unheard (any_calls entries) 1 (any_length entries) (any_length entries + 1) (any_numbers entries counted)
+    (omega arith) in
     ap (heard (any_length entries + 1)) (calls-next form entries by asked takes)
-    ∙ find-append (λ (call : AnyCall). call.no == any_length entries + 1) (any_calls entries) (call_added form entries by asked ∷ [])
-    ∙ rw none (let itself : any_length entries + 1 == any_length entries + 1 ≡ true = grind (arith, nat_tests) in rw itself refl)
+    ∙ find-append (λ (call : AnyCall). call.no == any_length entries + 1) (any_calls entries)
+    (call_added form entries by asked ∷ [])
+    ∙ rw none (let itself : any_length entries + 1 == any_length entries + 1 ≡ true = grind (arith, nat_tests) in rw
+    itself refl)
 
-pub next_history : (form : StrForm) (entries : AnyHistory) (by : ConnId) (asked : AnyAsk) → Takes entries asked → IsHistory form entries
+pub next_history : (form : StrForm) (entries : AnyHistory) (by : ConnId) (asked : AnyAsk) → Takes entries asked
+    → IsHistory form entries
     → IsHistory form (any_next form entries by asked)
 next_history form entries by asked takes kept =
     record {

@@ -58,7 +58,8 @@ module _ {C R I S : Type 0} (meaning : Meaning C R I S) (of : Ask C → AnyAsk) 
       (call : Call C R) × (call_told entry.no entry.by entry.reply told ≡ Some call)
       × IsCalled before (before ++ entry ∷ []) (any_call of call)
 
-  tells_call : (before : List (Entry C R)) (entry : Entry C R) (told : What C) → IsNextAs meaning form before entry told
+  tells_call : (before : List (Entry C R)) (entry : Entry C R) (told : What C) → IsNextAs meaning form before entry
+      told
       → TellsCall before entry told
   tells_call before entry (what.Call asked) e = (
     record { no = entry.no; by = entry.by; ask = asked; reply = entry.reply },

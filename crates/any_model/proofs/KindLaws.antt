@@ -66,7 +66,8 @@ abbrev pub call_added : StrForm → AnyHistory → ConnId → AnyAsk → AnyCall
 call_added form entries by asked =
     record { no = any_length entries + 1; by = by; ask = asked; told = any_told form entries by asked }
 
-module _ {C R I S : Type 0} (meaning : Meaning C R I S) (of : Ask C → AnyAsk) (form : StrForm) (entries : List (Entry C R))
+module _ {C R I S : Type 0} (meaning : Meaning C R I S) (of : Ask C → AnyAsk) (form : StrForm)
+    (entries : List (Entry C R))
     (by : ConnId) (asked : Ask C) where
   calls_next : map (any_call of) (calls (next meaning form entries by asked))
       ≡ map (any_call of) (calls entries)
@@ -82,15 +83,18 @@ module _ {C R I S : Type 0} (meaning : Meaning C R I S) (of : Ask C → AnyAsk) 
 
 pub calls-next : (form : StrForm) (entries : AnyHistory) (by : ConnId) (asked : AnyAsk) → Takes entries asked
     → any_calls (any_next form entries by asked) ≡ any_calls entries ++ call_added form entries by asked ∷ []
-calls-next form (history.Cache entries) by (ask.Cache asked) takes = calls_next cache_meaning ask.Cache form entries by asked
+calls-next form (history.Cache entries) by (ask.Cache asked) takes = calls_next cache_meaning ask.Cache form entries
+    by asked
 calls-next form (history.Cache entries) by (ask.List asked) takes = absurd takes
 calls-next form (history.Cache entries) by (ask.Lock asked) takes = absurd takes
 calls-next form (history.List entries) by (ask.Cache asked) takes = absurd takes
-calls-next form (history.List entries) by (ask.List asked) takes = calls_next list_meaning ask.List form entries by asked
+calls-next form (history.List entries) by (ask.List asked) takes = calls_next list_meaning ask.List form entries by
+    asked
 calls-next form (history.List entries) by (ask.Lock asked) takes = absurd takes
 calls-next form (history.Lock entries) by (ask.Cache asked) takes = absurd takes
 calls-next form (history.Lock entries) by (ask.List asked) takes = absurd takes
-calls-next form (history.Lock entries) by (ask.Lock asked) takes = calls_next lock_meaning ask.Lock form entries by asked
+calls-next form (history.Lock entries) by (ask.Lock asked) takes = calls_next lock_meaning ask.Lock form entries by
+    asked
 
 pub length-next : (form : StrForm) (entries : AnyHistory) (by : ConnId) (asked : AnyAsk) → Takes entries asked
     → any_length (any_next form entries by asked) ≡ any_length entries + 1
@@ -99,14 +103,16 @@ length-next form (history.Cache entries) by (ask.Cache asked) takes =
 length-next form (history.Cache entries) by (ask.List asked) takes = absurd takes
 length-next form (history.Cache entries) by (ask.Lock asked) takes = absurd takes
 length-next form (history.List entries) by (ask.Cache asked) takes = absurd takes
-length-next form (history.List entries) by (ask.List asked) takes = length-append entries (next_entry list_meaning form entries by asked ∷ [])
+length-next form (history.List entries) by (ask.List asked) takes = length-append entries
+    (next_entry list_meaning form entries by asked ∷ [])
 length-next form (history.List entries) by (ask.Lock asked) takes = absurd takes
 length-next form (history.Lock entries) by (ask.Cache asked) takes = absurd takes
 length-next form (history.Lock entries) by (ask.List asked) takes = absurd takes
 length-next form (history.Lock entries) by (ask.Lock asked) takes =
     length-append entries (next_entry lock_meaning form entries by asked ∷ [])
 
-pub kind-next : (kind : Kind) (form : StrForm) (entries : AnyHistory) (by : ConnId) (asked : AnyAsk) → IsOfKind kind entries
+pub kind-next : (kind : Kind) (form : StrForm) (entries : AnyHistory) (by : ConnId) (asked : AnyAsk)
+    → IsOfKind kind entries
     → IsOfKind kind (any_next form entries by asked)
 kind-next kind.Cache form (history.Cache entries) by (ask.Cache asked) of_kind = tt
 kind-next kind.Cache form (history.Cache entries) by (ask.List asked) of_kind = tt
@@ -124,17 +130,21 @@ kind-next kind.Lock form (history.Lock entries) by (ask.Cache asked) of_kind = t
 kind-next kind.Lock form (history.Lock entries) by (ask.List asked) of_kind = tt
 kind-next kind.Lock form (history.Lock entries) by (ask.Lock asked) of_kind = tt
 
-pub legal-next : (form : StrForm) (entries : AnyHistory) (by : ConnId) (asked : AnyAsk) → Takes entries asked → IsAnyLegal form entries
+pub legal-next : (form : StrForm) (entries : AnyHistory) (by : ConnId) (asked : AnyAsk) → Takes entries asked
+    → IsAnyLegal form entries
     → IsAnyLegal form (any_next form entries by asked)
-legal-next form (history.Cache entries) by (ask.Cache asked) takes legal = legal_next cache_meaning form entries by asked legal
+legal-next form (history.Cache entries) by (ask.Cache asked) takes legal = legal_next cache_meaning form entries by
+    asked legal
 legal-next form (history.Cache entries) by (ask.List asked) takes legal = absurd takes
 legal-next form (history.Cache entries) by (ask.Lock asked) takes legal = absurd takes
 legal-next form (history.List entries) by (ask.Cache asked) takes legal = absurd takes
-legal-next form (history.List entries) by (ask.List asked) takes legal = legal_next list_meaning form entries by asked legal
+legal-next form (history.List entries) by (ask.List asked) takes legal = legal_next list_meaning form entries by asked
+    legal
 legal-next form (history.List entries) by (ask.Lock asked) takes legal = absurd takes
 legal-next form (history.Lock entries) by (ask.Cache asked) takes legal = absurd takes
 legal-next form (history.Lock entries) by (ask.List asked) takes legal = absurd takes
-legal-next form (history.Lock entries) by (ask.Lock asked) takes legal = legal_next lock_meaning form entries by asked legal
+legal-next form (history.Lock entries) by (ask.Lock asked) takes legal = legal_next lock_meaning form entries by asked
+    legal
 
 -- ---- tests: what stood at a point of a history
 
@@ -156,10 +166,12 @@ module _ {C R I S : Type 0} (meaning : Meaning C R I S) (form : StrForm) (entrie
       let added : List (Entry C R) = next_entry meaning form entries by asked ∷ [] in (
         omega (arith, length-append entries added, stood.0),
         point-append meaning form entries added at stood.1,
-        stood.2 ∙ ap (λ (h : List (Entry C R)). stands_after meaning form h conn index) (sym (take-append-le at entries added stood.0)),
+        stood.2 ∙ ap (λ (h : List (Entry C R)). stands_after meaning form h conn index)
+            (sym (take-append-le at entries added stood.0)),
       )
 
-pub stood-next : (form : StrForm) (entries : AnyHistory) (by : ConnId) (asked : AnyAsk) (at : ℕ) (conn : ConnId) (index : ℕ) (bit : Bool)
+pub stood-next : (form : StrForm) (entries : AnyHistory) (by : ConnId) (asked : AnyAsk) (at : ℕ) (conn : ConnId)
+    (index : ℕ) (bit : Bool)
     → Stood form entries at conn index bit → Stood form (any_next form entries by asked) at conn index bit
 stood-next form (history.Cache entries) by (ask.Cache asked) at conn index bit stood =
     stood_next cache_meaning form entries by asked at conn index bit stood
@@ -198,7 +210,8 @@ last_counted (suc n) =
 counted_more : (n : ℕ) → numbers_from 1 n ++ (n + 1) ∷ [] ≡ numbers_from 1 (n + 1)
 counted_more n =
     let ends : 1 + n ≡ n + 1 = omega arith in
-    ap (λ (m : ℕ). numbers_from 1 n ++ m ∷ []) (sym ends) ∙ sym (numbers_from-suc 1 n) ∙ ap (numbers_from 1) (sym (add-one n))
+    ap (λ (m : ℕ). numbers_from 1 n ++ m ∷ []) (sym ends) ∙ sym (numbers_from-suc 1 n) ∙ ap (numbers_from 1)
+    (sym (add-one n))
 
 module _ {C R I S : Type 0} (meaning : Meaning C R I S) (form : StrForm) (entries : List (Entry C R)) where
   counted_next : (by : ConnId) (asked : Ask C) → numbers entries ≡ numbers_from 1 (length entries)
@@ -214,21 +227,27 @@ module _ {C R I S : Type 0} (meaning : Meaning C R I S) (form : StrForm) (entrie
       → StoodAt meaning form entries (length entries) conn index (stands_after meaning form entries conn index)
   stood_last conn index counted = (
     omega arith,
-    subst (λ (ns : List ℕ). (length entries ≡ 0) ⊎ Contains ns (length entries)) (sym counted) (last_counted (length entries)),
-    ap (λ (h : List (Entry C R)). stands_after meaning form h conn index) (sym (take_all (length entries) entries (omega arith))),
+    subst (λ (ns : List ℕ). (length entries ≡ 0) ⊎ Contains ns (length entries)) (sym counted)
+        (last_counted (length entries)),
+    ap (λ (h : List (Entry C R)). stands_after meaning form h conn index)
+        (sym (take_all (length entries) entries (omega arith))),
   )
 
-pub counted-next : (form : StrForm) (entries : AnyHistory) (by : ConnId) (asked : AnyAsk) → Takes entries asked → IsCounted entries
+pub counted-next : (form : StrForm) (entries : AnyHistory) (by : ConnId) (asked : AnyAsk) → Takes entries asked
+    → IsCounted entries
     → IsCounted (any_next form entries by asked)
-counted-next form (history.Cache entries) by (ask.Cache asked) takes counted = counted_next cache_meaning form entries by asked counted
+counted-next form (history.Cache entries) by (ask.Cache asked) takes counted = counted_next cache_meaning form entries
+    by asked counted
 counted-next form (history.Cache entries) by (ask.List asked) takes counted = absurd takes
 counted-next form (history.Cache entries) by (ask.Lock asked) takes counted = absurd takes
 counted-next form (history.List entries) by (ask.Cache asked) takes counted = absurd takes
-counted-next form (history.List entries) by (ask.List asked) takes counted = counted_next list_meaning form entries by asked counted
+counted-next form (history.List entries) by (ask.List asked) takes counted = counted_next list_meaning form entries by
+    asked counted
 counted-next form (history.List entries) by (ask.Lock asked) takes counted = absurd takes
 counted-next form (history.Lock entries) by (ask.Cache asked) takes counted = absurd takes
 counted-next form (history.Lock entries) by (ask.List asked) takes counted = absurd takes
-counted-next form (history.Lock entries) by (ask.Lock asked) takes counted = counted_next lock_meaning form entries by asked counted
+counted-next form (history.Lock entries) by (ask.Lock asked) takes counted = counted_next lock_meaning form entries by
+    asked counted
 
 -- what stands now stood at the last point
 pub stood_now : (form : StrForm) (entries : AnyHistory) (conn : ConnId) (index : ℕ) → IsCounted entries
@@ -238,7 +257,8 @@ stood_now form (history.List entries) conn index counted = stood_last list_meani
 stood_now form (history.Lock entries) conn index counted = stood_last lock_meaning form entries conn index counted
 
 -- what stood at a point that isn't before what the connector had seen tells the test
-pub stood_tells : (form : StrForm) (entries : AnyHistory) (at sure : ℕ) (conn : ConnId) (index : ℕ) (bit : Bool) → sure ≤ at
+pub stood_tells : (form : StrForm) (entries : AnyHistory) (at sure : ℕ) (conn : ConnId) (index : ℕ) (bit : Bool)
+    → sure ≤ at
     → Stood form entries at conn index bit → AnyTells form entries at sure conn index bit
 stood_tells form (history.Cache entries) at sure conn index bit seen stood =
     record { point = stood.1; seen = seen; stood = inl stood.2 }

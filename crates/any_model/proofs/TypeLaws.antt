@@ -31,7 +31,8 @@ ask_of_type kind.Lock (ask.Cache asked) same = absurd cc
 ask_of_type kind.Lock (ask.List asked) same = absurd cc
 ask_of_type kind.Lock (ask.Lock asked) same = tt
 
-pub history_type : (kind : Kind) (entries : AnyHistory) → IsOfKind kind entries → type_of_history entries ≡ type_of_kind kind
+pub history_type : (kind : Kind) (entries : AnyHistory) → IsOfKind kind entries
+    → type_of_history entries ≡ type_of_kind kind
 history_type kind.Cache (history.Cache entries) of_kind = refl
 history_type kind.Cache (history.List entries) of_kind = absurd of_kind
 history_type kind.Cache (history.Lock entries) of_kind = absurd of_kind
@@ -42,7 +43,8 @@ history_type kind.Lock (history.Cache entries) of_kind = absurd of_kind
 history_type kind.Lock (history.List entries) of_kind = absurd of_kind
 history_type kind.Lock (history.Lock entries) of_kind = refl
 
-pub history_of_type : (kind : Kind) (entries : AnyHistory) → type_of_history entries ≡ type_of_kind kind → IsOfKind kind entries
+pub history_of_type : (kind : Kind) (entries : AnyHistory) → type_of_history entries ≡ type_of_kind kind
+    → IsOfKind kind entries
 history_of_type kind.Cache (history.Cache entries) same = tt
 history_of_type kind.Cache (history.List entries) same = absurd cc
 history_of_type kind.Cache (history.Lock entries) same = absurd cc

@@ -14,10 +14,12 @@ use Rattle.any_model.proofs.KindLaws.{numbers_from-suc}
 abbrev pub worth : (ℕ → Bool) → ℕ → ℕ
 worth bits k = if bits k then 2 ^ k else 0
 
-pub word_next : (bits : ℕ → Bool) (n : ℕ) → sum_by (worth bits) (numbers_from 0 (suc n)) ≡ sum_by (worth bits) (numbers_from 0 n) + worth bits n
+pub word_next : (bits : ℕ → Bool) (n : ℕ) → sum_by (worth bits) (numbers_from 0 (suc n)) ≡ sum_by (worth bits)
+    (numbers_from 0 n) + worth bits n
 word_next bits n =
     let none : 0 + n ≡ n = omega arith in
-    ap (sum_by (worth bits)) (numbers_from-suc 0 n ∙ ap (λ x. numbers_from 0 n ++ x ∷ []) none) ∙ sum_by_push (worth bits) (numbers_from 0 n) n
+    ap (sum_by (worth bits)) (numbers_from-suc 0 n ∙ ap (λ x. numbers_from 0 n ++ x ∷ []) none)
+    ∙ sum_by_push (worth bits) (numbers_from 0 n) n
 
 pub word_below : (bits : ℕ → Bool) (n : ℕ) → suc (sum_by (worth bits) (numbers_from 0 n)) ≤ 2 ^ n
 word_below bits zero = omega arith
@@ -33,7 +35,8 @@ word_below bits (suc n) = by_bit (bits n) refl (word_below bits n)
         omega (arith, word_next bits n, below, value, pow-suc 2 n)
 
 -- what is added up fits 32 bits
-pub word_fits : (bits : ℕ → Bool) (k value unit : ℕ) → value ≡ sum_by (worth bits) (numbers_from 0 k) → unit ≡ 2 ^ k → k ≤ 32
+pub word_fits : (bits : ℕ → Bool) (k value unit : ℕ) → value ≡ sum_by (worth bits) (numbers_from 0 k) → unit ≡ 2 ^ k
+    → k ≤ 32
     → (value + 1 ≤ 4294967296) × (unit ≤ 4294967296)
 word_fits bits k value unit added is small =
     let most : 2 ^ k ≤ 2 ^ 32 = pow_mono small in

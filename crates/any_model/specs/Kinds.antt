@@ -104,7 +104,8 @@ numbers_from first (ℕ.suc n) = first ∷ numbers_from (first + 1) n
 -- the 32 bits of a word of a connector's vector, the least index lowest; past the vector's end they are 0
 abbrev pub any_word : StrForm → AnyHistory → ConnId → ℕ → ℕ
 any_word form entries conn word =
-    sum_by (λ k. if nat_lt (32 * word + k) form.vector && any_stands form entries conn (32 * word + k) then 2 ^ k else 0)
+    sum_by (λ k. if nat_lt (32 * word + k) form.vector && any_stands form entries conn (32 * word + k) then 2 ^ k
+    else 0)
     (numbers_from 0 32)
 
 abbrev pub IsAnyLegal : StrForm → AnyHistory → Type 0
@@ -112,7 +113,8 @@ IsAnyLegal form (history.Cache entries) = IsLegal cache_meaning form entries
 IsAnyLegal form (history.List entries) = IsLegal list_meaning form entries
 IsAnyLegal form (history.Lock entries) = IsLegal lock_meaning form entries
 
--- a test that shows a bit with a number tells what stood at a numbered point, not before what the connector had seen complete
+-- a test that shows a bit with a number tells what stood at a numbered point, not before what the connector had seen
+-- complete
 abbrev pub AnyTells : StrForm → AnyHistory → ℕ → ℕ → ConnId → ℕ → Bool → Type 0
 AnyTells form (history.Cache entries) at sure conn index bit = Tells cache_meaning form entries at sure conn index bit
 AnyTells form (history.List entries) at sure conn index bit = Tells list_meaning form entries at sure conn index bit

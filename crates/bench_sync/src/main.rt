@@ -1,7 +1,8 @@
 #![tactic(auto)]
-//! Turns at a lock, and tests of a vector's bits. With the word `time` it prints how long they take. A line
-//! for each number of threads, `cf_turn THREADS TURNS NANOSECONDS`, comes before a line for the tests alone
-//! and one for those beside a thread that makes calls, `vec_words alone|beside TESTS NANOSECONDS SET KNOWN`.
+//! Turns at a lock, and tests of a vector's bits. With the word `time` it prints how long they
+//! take. A line for each number of threads, `cf_turn THREADS TURNS NANOSECONDS`, comes before a
+//! line for the tests alone and one for those beside a thread that makes calls, `vec_words
+//! alone|beside TESTS NANOSECONDS SET KNOWN`.
 mod turns;
 mod words;
 

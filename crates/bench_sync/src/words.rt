@@ -13,8 +13,8 @@ use std::thread::{Threads, join};
 use std::time::{Clock, Instant};
 use vec_words::{EngineSeat, Pass, Vectors};
 
-/// How many bits were set of those that were tested, the number that the pass knew then, and the nanoseconds that
-/// the tests took.
+/// How many bits were set of those that were tested, the number that the pass knew then, and the
+/// nanoseconds that the tests took.
 #[derive(Clone, Copy)]
 pub struct Found {
     pub set: u32,

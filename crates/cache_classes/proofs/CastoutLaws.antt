@@ -24,6 +24,7 @@ pub ordered-set : (name : Name16) (class : Option ℕ) (names : List Changed) �
 ordered-set name None names h = pairwise-filter stands_before (λ changed. not (is_named name changed)) names h
 ordered-set name (Some class) names h =
     let new : Changed = record { name = name; class = class } in
-    pairwise-insertion stands_before (λ changed. stands_before changed new) (λ changed. not (is_named name changed)) new
+    pairwise-insertion stands_before (λ changed. stands_before changed new) (λ changed. not (is_named name changed))
+    new
     (names_without name names) (finds_place new) (list_all-filter_same (λ changed. not (is_named name changed)) names)
     (pairwise-filter stands_before (λ changed. not (is_named name changed)) names h)

@@ -26,5 +26,6 @@ turned o Greater same e f g h = rw e refl
 
 pub name_before-else : (a b : Name16) → same_name a b ≡ false → name_before a b ≡ false → name_before b a ≡ true
 name_before-else a b apart h =
-    turned (slice_cmp nat_cmp b.0 a.0) (slice_cmp nat_cmp a.0 b.0) (same_name a b) (nat_list_cmp_total.antisymm b.0 a.0)
+    turned (slice_cmp nat_cmp b.0 a.0) (slice_cmp nat_cmp a.0 b.0) (same_name a b)
+    (nat_list_cmp_total.antisymm b.0 a.0)
     (texts_ties a.0 b.0) apart h

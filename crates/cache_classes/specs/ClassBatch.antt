@@ -13,7 +13,10 @@ pub record ClassBatch : Type 0 where
 
 abbrev pub batch_of : Inside → ClassBatch
 batch_of c =
-    record { names = c.names.items; room = min (vec_capacity c.names - vec_len c.names) (4294967295 - vec_len c.names) }
+    record {
+      names = c.names.items;
+      room = min (vec_capacity c.names - vec_len c.names) (4294967295 - vec_len c.names);
+    }
 
 -- in the order of names, so that each stands there once; fewer than 2^32, so that their number is one of 32 bits
 pub record IsKept (c : Inside) : Type 0 where

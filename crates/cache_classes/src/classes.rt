@@ -8,8 +8,8 @@ use cf_types::{Name16, NoMemory};
 use std::alloc::Global;
 use std::marker::Model;
 
-/// The castout classes of changed names, one class for a name. Contracts see the names with their classes, in the
-/// order of names, and for how many more there is room.
+/// The castout classes of changed names, one class for a name. Contracts see the names with their
+/// classes, in the order of names, and for how many more there is room.
 #[derive(Debug, Drop)]
 pub struct Classes {
     names: Vec<Changed>,
@@ -133,8 +133,8 @@ impl Classes {
         Ok(())
     }
 
-    /// A name takes a castout class (1 to 16), in place of the one that it had; with no class the name goes, if it is
-    /// there. A class takes room for one name at most, and none takes no room.
+    /// A name takes a castout class (1 to 16), in place of the one that it had; with no class the
+    /// name goes, if it is there. A class takes room for one name at most, and none takes no room.
     pub fn set(&mut self, name: Name16, class: Option<u32>)
         requires { room_taken class ≤ self.old.room }
         ensures names { self.new.names ≡ names_set name class self.old.names }

@@ -30,79 +30,99 @@ pub regs_spared-cons : (name : Name16) (names : List Name16) (regs : List Regist
     → regs_spared names (regs_without_name name None regs) ≡ regs_spared (name ∷ names) regs
 regs_spared-cons name names regs =
     filter-filter (λ reg. not (is_among names reg.name)) (λ reg. not (ends_with_name name None reg)) regs
-    ∙ filter_agree (λ reg. not (ends_with_name name None reg) && not (is_among names reg.name)) (λ reg. not (is_among (name ∷ names) reg.name))
-    (λ reg. test_step (same_name reg.name name) (same_name name reg.name) (is_among names reg.name) (same_name-sym name reg.name)) regs
+    ∙ filter_agree (λ reg. not (ends_with_name name None reg) && not (is_among names reg.name))
+    (λ reg. not (is_among (name ∷ names) reg.name))
+    (λ reg. test_step (same_name reg.name name) (same_name name reg.name) (is_among names reg.name)
+    (same_name-sym name reg.name)) regs
 
 -- what has ended so far
-pub record Ending (names : List Name16) (start now : List Registration) (i : ℕ) (room : ℕ) (told later : List BitChange) : Type 0 where
+pub record Ending (names : List Name16) (start now : List Registration) (i : ℕ) (room : ℕ)
+    (told later : List BitChange) : Type 0 where
   pub rest : regs_spared (drop i names) now ≡ regs_spared names start
   pub fits : length now ≤ room
   pub falls : Falls (stands start) (stands now)
   pub bits : Gains (stands start) (stands now) told later
 
-pub ending_more : (names : List Name16) (start now next : List Registration) (i room left ended : ℕ) (told later last : List BitChange) (d : Name16)
-    → i < length names → Ending names start now i room told later → next ≡ regs_without_name (get_or names i d) None now
+pub ending_more : (names : List Name16) (start now next : List Registration) (i room left ended : ℕ)
+    (told later last : List BitChange) (d : Name16)
+    → i < length names → Ending names start now i room told later → next ≡ regs_without_name (get_or names i d) None
+    now
     → length next + ended ≡ length now → left + ended ≡ room → Gains (stands now) (stands next) later last
     → Ending names start next (i + 1) left told last
 ending_more names start now next i room left ended told later last d lt so_far is few spent bits =
     let name = get_or names i d in
-    let falls : Falls (stands now) (stands next) = rw is (falls_filter (λ (reg : Registration). not (ends_with_name name None reg)) now) in
+    let falls : Falls (stands now) (stands next) = rw is
+    (falls_filter (λ (reg : Registration). not (ends_with_name name None reg)) now) in
     record {
       rest = rw is (regs_spared-cons name (drop (i + 1) names) now
           ∙ ap (λ (l : List Name16). regs_spared l now) (sym (drop_more names i d lt)) ∙ so_far.rest);
       fits = omega (arith, few, spent, so_far.fits);
       falls = λ conn index h. so_far.falls conn index (falls conn index h);
-      bits = gains_falls (stands start) (stands now) (stands next) told later last so_far.falls falls so_far.bits bits;
+      bits = gains_falls (stands start) (stands now) (stands next) told later last so_far.falls falls so_far.bits
+          bits;
     }
 
-pub ending_all : (names : List Name16) (start now : List Registration) (i room : ℕ) (told later : List BitChange) → length names ≤ i
+pub ending_all : (names : List Name16) (start now : List Registration) (i room : ℕ) (told later : List BitChange)
+    → length names ≤ i
     → Ending names start now i room told later → now ≡ regs_spared names start
 ending_all names start now i room told later le so_far =
-    sym (filter_all (λ reg. not (is_among [] reg.name)) now (list_all_always (λ reg. not (is_among [] reg.name)) (λ reg. refl) now))
+    sym (filter_all (λ reg. not (is_among [] reg.name)) now (list_all_always (λ reg. not (is_among [] reg.name))
+    (λ reg. refl) now))
     ∙ ap (λ (l : List Name16). regs_spared l now) (sym (drop_all i names le)) ∙ so_far.rest
 
 -- the new registration stands where two filters keep it
-pub stands_kept_twice : (p q : Registration → Bool) (by : ConnId) (index : ℕ) (name : Name16) (regs : List Registration)
-    → p (record { conn = by; index = index; name = name }) ≡ true → q (record { conn = by; index = index; name = name }) ≡ true
+pub stands_kept_twice : (p q : Registration → Bool) (by : ConnId) (index : ℕ) (name : Name16)
+    (regs : List Registration)
+    → p (record { conn = by; index = index; name = name }) ≡ true
+    → q (record { conn = by; index = index; name = name }) ≡ true
     → stands (filter q (filter p (regs_with by index name regs))) by index ≡ true
 stands_kept_twice p q by index name regs e f =
     let new : Registration = record { conn = by; index = index; name = name } in
     rw (filter-filter q p (regs_with by index name regs))
     (stands_kept (λ reg. p reg && q reg) by index name regs (and_from (p new) (q new) e f))
 
-pub falls_twice : (p q : Registration → Bool) (regs : List Registration) → Falls (stands regs) (stands (filter q (filter p regs)))
+pub falls_twice : (p q : Registration → Bool) (regs : List Registration) → Falls (stands regs)
+    (stands (filter q (filter p regs)))
 falls_twice p q regs conn i h = falls_filter p regs conn i (falls_filter q (filter p regs) conn i h)
 
 -- ---- counts, a class at a time
 
-pub class_counts-append : (rows : List CacheItem) (classes others : List ℕ) → class_counts rows (classes ++ others) ≡ class_counts rows classes ++ class_counts rows others
+pub class_counts-append : (rows : List CacheItem) (classes others : List ℕ) → class_counts rows (classes ++ others) ≡
+    class_counts rows classes ++ class_counts rows others
 class_counts-append rows classes others =
-    ap (λ (l : List ℕ). map (λ (class : ℕ). (class, rows_of_class rows class)) l) (filter-append (has_rows rows) classes others)
-    ∙ map-append (λ (class : ℕ). (class, rows_of_class rows class)) (filter (has_rows rows) classes) (filter (has_rows rows) others)
+    ap (λ (l : List ℕ). map (λ (class : ℕ). (class, rows_of_class rows class)) l)
+    (filter-append (has_rows rows) classes others)
+    ∙ map-append (λ (class : ℕ). (class, rows_of_class rows class)) (filter (has_rows rows) classes)
+    (filter (has_rows rows) others)
 
-pub range-more : (class last : ℕ) → class < last → range_with_len class (last - class) ≡ class ∷ range_with_len (class + 1) (last - (class + 1))
+pub range-more : (class last : ℕ) → class < last → range_with_len class (last - class) ≡ class ∷ range_with_len
+    (class + 1) (last - (class + 1))
 range-more class last lt = at (last - class) (last - (class + 1)) (omega arith)
   where
     at : (n m : ℕ) → n ≡ m + 1 → range_with_len class n ≡ class ∷ range_with_len (class + 1) m
     at n m e = rw (e, add-one) refl
 
 -- a connector's own registration is spared
-pub own_spared : (by : ConnId) (index : ℕ) (name : Name16) → not (ends_with_name name (Some by) (record { conn = by; index = index; name = name })) ≡ true
+pub own_spared : (by : ConnId) (index : ℕ) (name : Name16)
+    → not (ends_with_name name (Some by) (record { conn = by; index = index; name = name })) ≡ true
 own_spared by index name = test (same_name name name) (by.0 == by.0) (eq-eqb by.0 by.0 refl)
   where
     test : (a b : Bool) → b ≡ true → not (a && not b) ≡ true
     test true b e = rw e refl
     test false b e = refl
 
-pub ending_room : (name : Name16) (regs : List Registration) (room : ℕ) → length regs ≤ room → length (filter (ends_with_name name None) regs) ≤ room
+pub ending_room : (name : Name16) (regs : List Registration) (room : ℕ) → length regs ≤ room
+    → length (filter (ends_with_name name None) regs) ≤ room
 ending_room name regs room le = omega (arith, le, length-filter-le (ends_with_name name None) regs)
 
 -- the next class
 pub class_turn : (counts all : List (ℕ × ℕ)) (rows : List CacheItem) (class last : ℕ) → class < last
     → counts ++ class_counts rows (range_with_len class (last - class)) ≡ all
-    → (counts ++ class_counts rows (class ∷ [])) ++ class_counts rows (range_with_len (class + 1) (last - (class + 1))) ≡ all
+    → (counts ++ class_counts rows (class ∷ [])) ++ class_counts rows
+    (range_with_len (class + 1) (last - (class + 1))) ≡ all
 class_turn counts all rows class last lt h =
     let rest = range_with_len (class + 1) (last - (class + 1)) in
     append_assoc counts (class_counts rows (class ∷ [])) (class_counts rows rest)
-    ∙ ap (λ (l : List (ℕ × ℕ)). counts ++ l) (sym (class_counts-append rows (class ∷ []) rest) ∙ ap (λ (l : List ℕ). class_counts rows l) (sym (range-more class last lt)))
+    ∙ ap (λ (l : List (ℕ × ℕ)). counts ++ l) (sym (class_counts-append rows (class ∷ []) rest)
+    ∙ ap (λ (l : List ℕ). class_counts rows l) (sym (range-more class last lt)))
     ∙ h

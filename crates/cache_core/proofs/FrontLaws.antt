@@ -147,7 +147,8 @@ part_bound p rows i total row lt read passes so_far few =
     ∙ ap (λ (r : CacheItem). r ∷ drop (i + 1) rows) (sym read) in
     let kept : filter p (drop i rows) ≡ row ∷ filter p (drop (i + 1) rows) = ap
     (λ (l : List CacheItem). filter p l) next ∙ rw passes refl in
-    let sum : elements_in (filter p (drop i rows)) ≡ elements_of row.body + elements_in (filter p (drop (i + 1) rows)) =
+    let sum : elements_in (filter p (drop i rows)) ≡ elements_of row.body + elements_in (filter p (drop (i + 1) rows))
+    =
     ap (λ (l : List CacheItem). elements_in l) kept ∙ sum_by-cons size row (filter p (drop (i + 1) rows)) in
     omega (arith, sum, so_far, few, sum_by-filter-le size p rows)
 
@@ -162,7 +163,8 @@ pub room_refusal-measured : (caps : Caps) (request : Request) (rows : List Cache
 room_refusal-measured caps request rows =
     both (length (reclaim_order request rows)) (length (filter (is_reclaimable request.name) rows))
     (elements_in (reclaim_order request rows))
-    (elements_in (filter (is_reclaimable request.name) rows)) (length-order request rows) (elements-order request rows)
+    (elements_in (filter (is_reclaimable request.name) rows)) (length-order request rows)
+    (elements-order request rows)
   where
     both : (n k m j : ℕ) → n ≡ k → m ≡ j
         → cond (measure.has_place (room_for caps request rows) n)
@@ -221,7 +223,8 @@ reclaimable-past request rows k le =
     (drop_all k (reclaimed_for request.stg rows) (omega (arith, le, length-reclaimed request.stg rows)))
 
 -- the names so far, and those of what is left, where so many elements are given back
-pub record Fronting (request : Request) (rows : List CacheItem) (room : Room) (names : List Name16) (count given k : ℕ)
+pub record Fronting (request : Request) (rows : List CacheItem) (room : Room) (names : List Name16)
+    (count given k : ℕ)
     : Type 0 where
   pub told : names ++ front_from room count given (reclaimable_from request rows k)
       ≡ measure.front_names room (reclaimable_from request rows 0)
@@ -251,7 +254,8 @@ next_row request rows k o row is some =
 pub fronting_some : (request : Request) (rows : List CacheItem) (room : Room) (names more : List Name16)
     (count given long sum k : ℕ) (o : Option Reclaimable) (row : Reclaimable)
     → o ≡ measure.victim_at request rows k → o ≡ Some row
-    → is_enough room count given ≡ false → more ≡ names ++ row.name ∷ [] → long ≡ count + 1 → sum ≡ given + row.elements
+    → is_enough room count given ≡ false → more ≡ names ++ row.name ∷ [] → long ≡ count + 1
+    → sum ≡ given + row.elements
     → Fronting request rows room names count given k → Fronting request rows room more long sum (k + 1)
 fronting_some request rows room names more count given long sum k o row is some lacks e f g so_far =
     let rest = reclaimable_from request rows (k + 1) in
@@ -267,7 +271,8 @@ fronting_some request rows room names more count given long sum k o row is some 
     })
 
 -- the next row fits the sum
-pub fronting_fits : (request : Request) (rows : List CacheItem) (room : Room) (names : List Name16) (count given k : ℕ)
+pub fronting_fits : (request : Request) (rows : List CacheItem) (room : Room) (names : List Name16)
+    (count given k : ℕ)
     (o : Option Reclaimable) (row : Reclaimable)
     → o ≡ measure.victim_at request rows k → o ≡ Some row
     → Fronting request rows room names count given k → given + row.elements ≤ elements_in rows

@@ -116,7 +116,8 @@ order-last b row rows e =
     ∙ map-append used_of (filter is_unchanged rows) (filter is_unchanged (row ∷ []))
     ∙ ap (λ (l : List Used). order_of rows ++ l) (one b e)
   where
-    one : (b : Bool) → is_changed row ≡ b → map used_of (filter is_unchanged (row ∷ [])) ≡ cond b [] (used_of row ∷ [])
+    one : (b : Bool) → is_changed row ≡ b → map used_of (filter is_unchanged (row ∷ [])) ≡ cond b []
+        (used_of row ∷ [])
     one true e = rw e refl
     one false e = rw e refl
 
@@ -125,7 +126,8 @@ set-absent : (name : Name16) (class : Option ℕ) (names : List Changed) → nam
     → names_set name class names
     ≡ cond (is_some class) (names_with (record { name = name; class = unwrap_or class 0 }) names) names
 set-absent name None names h = h
-set-absent name (Some class) names h = ap (λ (l : List Changed). names_with (record { name = name; class = class }) l) h
+set-absent name (Some class) names h = ap (λ (l : List Changed). names_with (record { name = name; class = class }) l)
+    h
 
 pub classes-put : (row : CacheItem) (rows : List CacheItem) → has_row row.name rows ≡ false
     → pairwise changed_first rows ≡ true
@@ -311,7 +313,12 @@ spared-all names rows all i le h =
 -- ---- how many
 
 pub length-order_of : (rows : List CacheItem) → length (order_of rows) ≤ length rows
-length-order_of rows = omega (arith, length-map (filter is_unchanged rows) used_of, length-filter-le is_unchanged rows)
+length-order_of rows = omega (
+  arith,
+  length-map (filter is_unchanged rows) used_of,
+  length-filter-le is_unchanged
+      rows,
+)
 
 pub room_taken-le : (class : Option ℕ) → room_taken class ≤ 1
 room_taken-le None = omega arith

@@ -28,7 +28,8 @@ classed : (class : ℕ) (rows : List CacheItem)
     ≡ filter (has_class class) rows
 classed class rows =
     filter-filter (λ (row : CacheItem). castout.is_of_class class (changed_of row)) is_changed rows
-    ∙ filter_agree (λ (row : CacheItem). is_changed row && castout.is_of_class class (changed_of row)) (has_class class)
+    ∙ filter_agree (λ (row : CacheItem). is_changed row && castout.is_of_class class (changed_of row))
+    (has_class class)
     (λ row. agree row row.class) rows
   where
     agree : (row : CacheItem) (o : Option ℕ)
@@ -87,7 +88,8 @@ found_part : (p : CacheItem → Bool) (rows : List CacheItem) → pairwise names
     → AreFound (filter p (filter is_unchanged rows)) rows
 found_part p rows h =
     subst (λ (l : List CacheItem). AreFound l rows) (sym (filter-filter p is_unchanged rows))
-    (found_filter name_of same_name same_name-eq same_name-refl (λ (row : CacheItem). is_unchanged row && p row) rows h)
+    (found_filter name_of same_name same_name-eq same_name-refl (λ (row : CacheItem). is_unchanged row && p row) rows
+    h)
 
 found_reclaimed : (stg : ℕ) (rows : List CacheItem) → pairwise names_apart rows ≡ true
     → AreFound (reclaimed_for stg rows) rows

@@ -18,15 +18,18 @@ use Rattle.cache_core.specs.declared.plans.Plan.{Plan}
 use Rattle.cache_core.specs.Plans.{body_of, plan_unless, plan_for, IsSpared}
 
 -- the plan that is taken is the one that was wanted
-pub plan_taken : (taken kept : Option Plan) (plan wanted : Plan) → taken ≡ kept → taken ≡ Some plan → kept ≡ Some wanted → plan ≡ wanted
+pub plan_taken : (taken kept : Option Plan) (plan wanted : Plan) → taken ≡ kept → taken ≡ Some plan
+    → kept ≡ Some wanted → plan ≡ wanted
 plan_taken taken kept plan wanted e f g = let same : Some plan ≡ Some wanted = sym f ∙ e ∙ g in cc
 
-pub record IsAccepted (vector : ℕ) (caps : Caps) (content : Content) (by : ConnId) (cmd : CacheCmd) (plan : Plan) : Type 0 where
+pub record IsAccepted (vector : ℕ) (caps : Caps) (content : Content) (by : ConnId) (cmd : CacheCmd) (plan : Plan) :
+    Type 0 where
   pub none : cause vector caps content by cmd ≡ None
   pub gone : plan.gone ≡ victims caps content.rows cmd
   pub body : plan.body ≡ body_of cmd
 
-accepted_step : (vector : ℕ) (caps : Caps) (content : Content) (by : ConnId) (cmd : CacheCmd) (plan : Plan) (told : CacheReply) (o : Option Refusal)
+accepted_step : (vector : ℕ) (caps : Caps) (content : Content) (by : ConnId) (cmd : CacheCmd) (plan : Plan)
+    (told : CacheReply) (o : Option Refusal)
     → cause vector caps content by cmd ≡ o → plan ≡ plan_unless o caps content by cmd → plan.reply ≡ Ok told
     → IsAccepted vector caps content by cmd plan
 accepted_step vector caps content by cmd plan told None e is h =
@@ -34,15 +37,18 @@ accepted_step vector caps content by cmd plan told None e is h =
 accepted_step vector caps content by cmd plan told (Some refusal) e is h =
     let wrong : Ok told ≡ Err refusal = sym h ∙ ap (λ (p : Plan). p.reply) is in absurd (cc)
 
-pub plan_accepted : (vector : ℕ) (caps : Caps) (content : Content) (by : ConnId) (cmd : CacheCmd) (plan : Plan) (told : CacheReply)
+pub plan_accepted : (vector : ℕ) (caps : Caps) (content : Content) (by : ConnId) (cmd : CacheCmd) (plan : Plan)
+    (told : CacheReply)
     → plan ≡ plan_for vector caps content by cmd → plan.reply ≡ Ok told → IsAccepted vector caps content by cmd plan
 plan_accepted vector caps content by cmd plan told is h =
     accepted_step vector caps content by cmd plan told (cause vector caps content by cmd) refl is h
 
 -- a command's own name isn't reclaimed for it
-pub spared_victims : (caps : Caps) (rows : List CacheItem) (cmd : CacheCmd) → IsDirectory rows → IsSpared (victims caps rows cmd) cmd
+pub spared_victims : (caps : Caps) (rows : List CacheItem) (cmd : CacheCmd) → IsDirectory rows
+    → IsSpared (victims caps rows cmd) cmd
 spared_victims caps rows (Read name index old stg) is = request_spared caps (read.request name stg) rows is
-spared_victims caps rows (Write name index body class adj old stg when_reg) is = request_spared caps (write.request name body stg) rows is
+spared_victims caps rows (Write name index body class adj old stg when_reg) is = request_spared caps
+    (write.request name body stg) rows is
 spared_victims caps rows (CrossInval name) is = tt
 spared_victims caps rows RegList is = tt
 spared_victims caps rows (Castout name) is = tt
@@ -54,7 +60,8 @@ spared_victims caps rows (Delete name) is = tt
 spared_victims caps rows (StgStats stg) is = tt
 
 -- what holds either way
-pub either_way : {X E Y : Type 0} (P : Y → Type 0) (r : Result X E) (old more now : Y) → OnOk r (now ≡ more) → OnErr r (now ≡ old)
+pub either_way : {X E Y : Type 0} (P : Y → Type 0) (r : Result X E) (old more now : Y) → OnOk r (now ≡ more)
+    → OnErr r (now ≡ old)
     → P more → P old → P now
 either_way P (Ok x) old more now e f a b = subst P (sym e) a
 either_way P (Err x) old more now e f a b = subst P (sym f) b

@@ -1,4 +1,5 @@
--- The indexes of a directory: the castout classes of its changed rows, and the order of last use of its unchanged ones.
+-- The indexes of a directory: the castout classes of its changed rows, and the order of last use of its unchanged
+-- ones.
 use Rattle.std.specs.Prelude.{ℕ, Bool, not, ◌||◌, if◌then◌else◌, List, ◌++◌, filter, map, unwrap_or}
 use Rattle.cache_classes.specs.declared.changed.Changed.{Changed}
 use Rattle.cache_reclaim.specs.declared.used.Used.{Used}

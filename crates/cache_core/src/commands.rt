@@ -46,7 +46,8 @@ fn take_or_new(rows: &mut Rows, name: &Name16, stg: u32) -> CacheItem
 fn end_regs(regs: &mut Regs, names: &[Name16], out: &mut Effects)
     requires { length regs.old.regs ≤ out.old.bits.room }
     ensures regs { regs.new.regs ≡ regs_spared names.now regs.old.regs }
-    ensures bits { Gains (stands regs.old.regs) (stands regs.new.regs) out.old.bits.items out.new.bits.items }
+    ensures bits { Gains (stands regs.old.regs) (stands regs.new.regs) out.old.bits.items
+        out.new.bits.items }
     ensures mail { out.new.mail ≡ out.old.mail }
 {
     for name in names {

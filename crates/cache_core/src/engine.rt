@@ -66,7 +66,8 @@ impl Engine for CacheEngine {
     ghost is_ready = { IsReady };
 
     fn empty(alloc: Global, form: &StrForm, caps: Caps) -> Result<Self, NoMemory> {
-        // One place more than there are entries, since room for a command's row is taken before other rows go.
+        // One place more than there are entries, since room for a command's row is taken before
+        // other rows go.
         let rows = Rows::new(alloc, caps.entries + 1)?;
         let regs = Regs::new(alloc, form.conns, form.vector)?;
         Ok(CacheEngine {

@@ -1,5 +1,5 @@
-//! The cache structure of a coupling facility: a directory of named entries with their data, and the registrations
-//! that say whose copy of an entry is valid.
+//! The cache structure of a coupling facility: a directory of named entries with their data, and
+//! the registrations that say whose copy of an entry is valid.
 #![tactic(auto)]
 
 mod commands;

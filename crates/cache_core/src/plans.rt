@@ -19,8 +19,8 @@ use cf_types::{
 };
 use std::alloc::Global;
 
-/// What is got ready for a command: its reply, the names of the rows that are reclaimed for it, and a copy of its
-/// data.
+/// What is got ready for a command: its reply, the names of the rows that are reclaimed for it, and
+/// a copy of its data.
 #[derive(Debug, Drop)]
 pub(crate) struct Plan {
     pub reply: Result<CacheReply, Refusal>,
@@ -38,7 +38,8 @@ fn refusal(
     cmd: &CacheCmd,
 ) -> Option<Refusal>
     requires { elements_in rows.now < 2 ^ 32 }
-    ensures { result ≡ cause vector caps (record { rows = rows.now; regs = regs.now.regs }) by cmd.now }
+    ensures { result ≡ cause vector caps (record { rows = rows.now; regs = regs.now.regs }) by
+        cmd.now }
 {
     match cmd {
         CacheCmd::Read {
@@ -180,8 +181,8 @@ pub(crate) fn make_plan(
     }
 }
 
-/// Does a command that isn't refused, where the rows of these names are reclaimed for it, and with a copy of its
-/// data.
+/// Does a command that isn't refused, where the rows of these names are reclaimed for it, and with
+/// a copy of its data.
 pub(crate) fn act(
     rows: &mut Rows,
     regs: &mut Regs,
@@ -198,7 +199,8 @@ pub(crate) fn act(
     requires copied { body ≡ body_of cmd.now }
     ensures content { record { rows = rows.new.rows; regs = regs.new.regs }
         ≡ after gone.now (record { rows = rows.old.rows; regs = regs.old.regs }) by cmd.now }
-    ensures bits { Gains (stands regs.old.regs) (stands regs.new.regs) out.old.bits.items out.new.bits.items }
+    ensures bits { Gains (stands regs.old.regs) (stands regs.new.regs) out.old.bits.items
+        out.new.bits.items }
     ensures mail { out.new.mail ≡ out.old.mail }
 {
     match cmd {

@@ -9,8 +9,9 @@ use cache_model::{CacheItem, Request};
 use cf_types::{Caps, Name16, NoMemory, Refusal};
 use std::alloc::Global;
 
-/// What decides whether there is room for a request: whether its name has a row, how many rows there are and may be,
-/// how many elements the data of others take, how many there are, and how many are asked for.
+/// What decides whether there is room for a request: whether its name has a row, how many rows
+/// there are and may be, how many elements the data of others take, how many there are, and how
+/// many are asked for.
 #[derive(Clone, Copy)]
 pub(crate) struct Room {
     pub named: bool,
@@ -132,7 +133,8 @@ pub(crate) fn room_refusal(caps: Caps, rows: &[CacheItem], request: &Request) ->
     }
 }
 
-// The row that is reclaimed at a place (from 0) for a request; none where that is the request's own, or past the end.
+// The row that is reclaimed at a place (from 0) for a request; none where that is the request's
+// own, or past the end.
 fn victim_at(rows: &Rows, request: &Request, k: u32) -> Option<Reclaimable>
     ensures { result ≡ victim_at request.now rows.now.rows k }
 {

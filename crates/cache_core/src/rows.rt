@@ -197,7 +197,8 @@ fn push_copy(alloc: Global, copy: &mut Vec<CacheItem>, row: &CacheItem) -> Resul
     Ok(())
 }
 
-// Puts a row into the indexes: a changed one under its castout class, and an unchanged one as the most recently used.
+// Puts a row into the indexes: a changed one under its castout class, and an unchanged one as the
+// most recently used.
 fn index_row(classes: &mut Classes, order: &mut Order, row: &CacheItem)
     requires class_room { 1 ≤ classes.old.room }
     requires order_room { 1 ≤ order.old.room }
@@ -224,11 +225,11 @@ fn unindex(classes: &mut Classes, order: &mut Order, name: &Name16)
     order.remove(name);
 }
 
-/// The rows of a directory, one at most for a name, the changed ones first, with room for more. Contracts see the list
-/// of them, and for how many more there is room.
+/// The rows of a directory, one at most for a name, the changed ones first, with room for more.
+/// Contracts see the list of them, and for how many more there is room.
 ///
-/// Beside the list stand two indexes: the castout classes of the changed rows, and the order in which the unchanged
-/// ones were last used.
+/// Beside the list stand two indexes: the castout classes of the changed rows, and the order in
+/// which the unchanged ones were last used.
 #[derive(Debug, Drop)]
 pub(crate) struct Rows {
     rows: Vec<CacheItem>,
@@ -299,7 +300,8 @@ impl Rows {
         self.classes.count(class)
     }
 
-    /// The row that is reclaimed as the `k`-th (from 0) for a storage class, if there are so many unchanged rows.
+    /// The row that is reclaimed as the `k`-th (from 0) for a storage class, if there are so many
+    /// unchanged rows.
     pub(crate) fn reclaimed(&self, stg: u32, k: u32) -> Option<&CacheItem>
         ensures { option_map (λ row. row.now) result
             ≡ slice_get (reclaimed_for stg self.now.rows) k }
@@ -310,8 +312,8 @@ impl Rows {
         }
     }
 
-    /// Takes room for one row more, in the list and in both indexes. It is refused where there are as many rows as
-    /// there may be.
+    /// Takes room for one row more, in the list and in both indexes. It is refused where there are
+    /// as many rows as there may be.
     pub(crate) fn reserve(&mut self) -> Result<(), NoMemory>
         ensures room { OnOk result (1 ≤ self.new.room) }
         ensures rows { self.new.rows ≡ self.old.rows }
@@ -361,7 +363,8 @@ impl Rows {
         release_all(&mut self.rows, conn);
     }
 
-    /// Puts a row behind the others, where it has its place; no row has its name. Want of memory hands it back.
+    /// Puts a row behind the others, where it has its place; no row has its name. Want of memory
+    /// hands it back.
     pub(crate) fn push(&mut self, row: CacheItem) -> Result<(), CacheItem>
         requires alone { has_row row.name self.old.rows ≡ false }
         requires last { IsTrue (list_all (λ other. may_precede other row) self.old.rows) }

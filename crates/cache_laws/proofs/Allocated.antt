@@ -76,7 +76,8 @@ departed_active by keep conns conn active =
     (λ h. active)
     (λ apart h. sym (is_active-with_departure_other by keep conns conn apart) ∙ h)
 
-forced_active : (other : ConnId) (conns : Connections) (conn : ConnId) → is_active (with_forced other conns) conn ≡ true
+forced_active : (other : ConnId) (conns : Connections) (conn : ConnId) → is_active (with_forced other conns) conn ≡
+    true
     → is_active conns conn ≡ true
 forced_active other conns conn =
     caller_or_other (λ c. is_active (with_forced other conns) c ≡ true → is_active conns c ≡ true) other conn
@@ -169,7 +170,8 @@ served_command form shell letters by (cmd.ForceConn other) accepted served =
 served_command form shell letters by cmd.ForceStr accepted served =
     let why = refusal.HasConnections (defined_count shell.conns) in
     let none = none_hold (when (nat_lt 0 (defined_count shell.conns)) why ∷ []) accepted in
-    λ conn active. absurd (nobody_active shell.conns (no_connection (defined_count shell.conns) why none.0) conn active)
+    λ conn active. absurd (nobody_active shell.conns (no_connection (defined_count shell.conns) why none.0) conn
+    active)
 served_command form shell letters by _ accepted served = served
 
 module _ {C R I S : Type 0} (meaning : Meaning C R I S) (form : StrForm) where
@@ -181,7 +183,8 @@ module _ {C R I S : Type 0} (meaning : Meaning C R I S) (form : StrForm) where
           → IsServed (unless meaning form cause machine (command_done meaning form machine by command)).machine.shell
       go (Some refusal) is = served
       go None is =
-          served_command form machine.shell (leaving meaning form (leaver machine.shell by command) machine).letters by
+          served_command form machine.shell (leaving meaning form (leaver machine.shell by command) machine).letters
+          by
           command is served
   served_step machine by (ask.Content command) served = go (content_cause machine.shell by)
     where

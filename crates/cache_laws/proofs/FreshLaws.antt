@@ -61,7 +61,8 @@ fresh_at form history conn index (Some reg) trace stands there e =
     let named : registered_at content.regs conn index ≡ Some reg.name =
     ap (λ (o : Option Registration). option_map (λ (r : Registration). r.name) o) there in
     let has : has_row reg.name content.rows ≡ true =
-    all_found (is_at conn index) (λ (r : Registration). has_row r.name content.rows) content.regs reg is.row_each there
+    all_found (is_at conn index) (λ (r : Registration). has_row r.name content.rows) content.regs reg is.row_each
+    there
     in
     let row = found_row (row_of reg.name content.rows) (sym (any_is_found (is_row_of reg.name) content.rows) ∙ has) in
     record {

@@ -57,7 +57,8 @@ record Keeps (form : StrForm) (machine : Machine Content) (name : Name16) (page 
 
 uncast_run-push : (vector : ℕ) (caps : Caps) (content : Content) (uncast : Uncasts) (deeds : List Deed) (deed : Deed)
     → uncast_run vector caps content uncast (deeds ++ deed ∷ [])
-    ≡ uncast_after vector caps (after_run vector caps content deeds) (uncast_run vector caps content uncast deeds) deed
+    ≡ uncast_after vector caps (after_run vector caps content deeds) (uncast_run vector caps content uncast deeds)
+    deed
 uncast_run-push vector caps content uncast [] deed = refl
 uncast_run-push vector caps content uncast (first ∷ deeds) deed =
     uncast_run-push vector caps (after_deed vector caps content first)
@@ -91,13 +92,16 @@ own_name : (name n : Name16) (uncast : Uncasts) (f : Option Uncast → Option Un
     → (value : Option Uncast)
     → (s ≡ true → f (uncast name) ≡ value) → (s ≡ false → uncast name ≡ value)
     → cond s (f (uncast n)) (uncast name) ≡ value
-own_name name n uncast f true e value here there = ap (λ (m : Name16). f (uncast m)) (same_name-eq n name e) ∙ here refl
+own_name name n uncast f true e value here there = ap (λ (m : Name16). f (uncast m)) (same_name-eq n name e)
+    ∙ here refl
 own_name name n uncast f false e value here there = there refl
 
-written_told : (name n : Name16) (body : List ℕ) (class : ℕ) (adj : Option (List ℕ)) (page : Page) (old : Option Uncast)
+written_told : (name n : Name16) (body : List ℕ) (class : ℕ) (adj : Option (List ℕ)) (page : Page)
+    (old : Option Uncast)
     (s : Bool)
     → cond s (Some (record { body = body; adj = adj; class = class })) None ≡ Some page
-    → cond s (Some (record { body = body; adj = adj; class = class; cast = false })) old ≡ Some (uncast_page page false)
+    → cond s (Some (record { body = body; adj = adj; class = class; cast = false })) old ≡ Some
+    (uncast_page page false)
 written_told name n body class adj page old true e =
     let first : Page = record { body = body; adj = adj; class = class } in
     let same : first ≡ page = cc in
@@ -409,7 +413,8 @@ kept_since form before since write name page legal wrote last not_deleted alloca
     (continues_legal cache_meaning form (before ++ write ∷ since) legal) in
     let keeps = wrote_next form before write write.what name page goes.0
     (trace-legal form before (write ∷ since) legal) wrote in
-    let stands = allocated_next form before write write.what goes.0 (wrote_accepted name page (accepted write) wrote) in
+    let stands = allocated_next form before write write.what goes.0 (wrote_accepted name page (accepted write) wrote)
+    in
     let all = kept_along form (before ++ write ∷ []) since name page false goes.1 keeps stands last not_deleted
     allocated not_cast_out
     (λ e. absurd (false≢true e)) in
@@ -417,7 +422,8 @@ kept_since form before since write name page legal wrote last not_deleted alloca
     (page_kept form ((before ++ write ∷ []) ++ since) name page all.0 all.1)
 
 -- a page that isn't cast out is kept
-pub uncast-kept : (form : StrForm) (history : CacheHistory) → IsLegalCache form history → (name : Name16) (page : Page)
+pub uncast-kept : (form : StrForm) (history : CacheHistory) → IsLegalCache form history
+    → (name : Name16) (page : Page)
     → IsUncast form history name page → HasPage form history name page
 uncast-kept form history legal name page uncast =
     subst (λ (h : CacheHistory). HasPage form h name page) (sym uncast.split)

@@ -73,7 +73,8 @@ cautious_depart form shell by keep =
     } in
     record { drop = gone_then form left (goes form left.conns) refl; make = λ e. absurd (false≢true e) }
 
-cautious_force : (form : StrForm) (shell : Shell) (other : ConnId) → Cautious shell (force_connection form shell other)
+cautious_force : (form : StrForm) (shell : Shell) (other : ConnId)
+    → Cautious shell (force_connection form shell other)
 cautious_force form shell other =
     let left : Shell = record shell { conns = with_forced other shell.conns } in
     record { drop = forced left (goes form left.conns); make = λ e. absurd (false≢true e) }
@@ -94,7 +95,8 @@ cautious_event : (shell : Shell) (by : ConnId) (taken : Option Event) → Cautio
 cautious_event shell by None = idle shell _ refl refl
 cautious_event shell by (Some taken) = idle shell _ refl refl
 
-cautious_response : (shell : Shell) (by : ConnId) (answered : Option Event) → Cautious shell (respond shell by answered)
+cautious_response : (shell : Shell) (by : ConnId) (answered : Option Event)
+    → Cautious shell (respond shell by answered)
 cautious_response shell by None = idle shell _ refl refl
 cautious_response shell by (Some answered) = idle shell _ refl refl
 
@@ -157,7 +159,8 @@ change_by form before after left true make back deeds gone e drops makes =
 change_by form before after left false (Some cf) back deeds gone e drops makes =
     Cleared e (false-and (stands_in before) (stands_in after) (makes refl))
 change_by form before after left false None None deeds gone e drops makes = kept_change before after left gone e
-change_by form before after left false None (Some conn) deeds gone e drops makes = kept_change before after left gone e
+change_by form before after left false None (Some conn) deeds gone e drops makes = kept_change before after left gone
+    e
 
 command_change : (form : StrForm) (machine : Machine Content) (by : ConnId) (command : ShellCmd)
     → Change machine (command_done cache_meaning form machine by command).machine

@@ -40,7 +40,8 @@ after_run-push vector caps content (first ∷ deeds) deed =
 
 copies_run-push : (vector : ℕ) (caps : Caps) (content : Content) (copies : Copies) (deeds : List Deed) (deed : Deed)
     → copies_run vector caps content copies (deeds ++ deed ∷ [])
-    ≡ copies_after vector caps (after_run vector caps content deeds) (copies_run vector caps content copies deeds) deed
+    ≡ copies_after vector caps (after_run vector caps content deeds) (copies_run vector caps content copies deeds)
+    deed
 copies_run-push vector caps content copies [] deed = refl
 copies_run-push vector caps content copies (first ∷ deeds) deed =
     copies_run-push vector caps (after_deed vector caps content first)
@@ -51,7 +52,8 @@ copies_run-push vector caps content copies (first ∷ deeds) deed =
 -- what a connector holds at an index once a call was answered
 abbrev pub then_held : ConnId → Ask CacheCmd → Reply CacheReply → (ConnId → ℕ → Copy) → ConnId → ℕ → Copy
 then_held by asked answered copies conn index =
-    unwrap_or (cond (by.0 == conn.0) (copy_of index (accepted_as (what.Call asked) answered)) None) (copies conn index)
+    unwrap_or (cond (by.0 == conn.0) (copy_of index (accepted_as (what.Call asked) answered)) None)
+    (copies conn index)
 
 nothing_brought : (b : Bool) (copy : Copy) → unwrap_or (cond b None None) copy ≡ copy
 nothing_brought true copy = refl
@@ -173,7 +175,8 @@ HasTrace form history = Trace form (replay cache_meaning form history) (held his
 held-push : (history : CacheHistory) (entry : CacheEntry) (conn : ConnId) (index : ℕ)
     → held (history ++ entry ∷ []) conn index ≡ unwrap_or (copy_brought conn index entry) (held history conn index)
 held-push history entry conn index =
-    fold_push (λ (copy : Copy) (entry : CacheEntry). unwrap_or (copy_brought conn index entry) copy) None history entry
+    fold_push (λ (copy : Copy) (entry : CacheEntry). unwrap_or (copy_brought conn index entry) copy) None history
+    entry
 
 same_trace : (form : StrForm) (machine other : Machine Content) (copies others : Copies) → other ≡ machine
     → ((conn : ConnId) (index : ℕ) → others conn index ≡ copies conn index) → Trace form machine copies

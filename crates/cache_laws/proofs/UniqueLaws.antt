@@ -53,7 +53,8 @@ one_passes relation p apart (x ∷ xs) h =
     (one_passes relation p apart xs parts.1)
 
 -- a name of its own
-other_name : (a b name : Name16) → same_name a name ≡ true → not (same_name a b) ≡ true → not (same_name b name) ≡ true
+other_name : (a b name : Name16) → same_name a name ≡ true → not (same_name a b) ≡ true
+    → not (same_name b name) ≡ true
 other_name a b name same apart = go (same_name b name) refl
   where
     go : (s : Bool) → same_name b name ≡ s → not s ≡ true
@@ -139,7 +140,8 @@ unique form history =
     let is = content-after form history in
     record {
       row = λ name. one_passes names_apart (is_row_of name) (rows_apart name) _ is.directory.one_for_name;
-      index = λ conn index. one_passes stands_before (is_at conn index) (places_apart conn index) _ is.registry.ordered;
+      index = λ conn index. one_passes stands_before (is_at conn index) (places_apart conn index) _
+          is.registry.ordered;
       name = λ conn name. one_passes regs_apart (is_for conn name)
           (registered_once conn name) _ is.registry.one_for_name;
     }

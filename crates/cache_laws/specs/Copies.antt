@@ -31,7 +31,8 @@ copy_of at told = option_and_then (λ told. copy_at at told.command told.answer)
 abbrev pub copy_brought : ConnId → ℕ → CacheEntry → Option Copy
 copy_brought conn index entry = if entry.by.0 == conn.0 then copy_of index (accepted entry) else None
 
--- what a connector holds at an index: the copy that its last accepted READ or WRITE there brought; without one, no data
+-- what a connector holds at an index: the copy that its last accepted READ or WRITE there brought; without one, no
+-- data
 abbrev pub held : CacheHistory → ConnId → ℕ → Copy
 held history conn index = fold (λ copy entry. unwrap_or (copy_brought conn index entry) copy) None history
 
@@ -52,7 +53,8 @@ pub record IsAsRead (form : StrForm) (history : CacheHistory) (conn : ConnId) (i
       → next_reply cache_meaning form history by (ask.Content (Read name at old stg)) ≡ reply.Content answer
       → reply_copy answer ≡ held history conn index
 
--- a test that tells with the number n, to a connector that has seen the calls up to q complete, that its copy is fresh:
+-- a test that tells with the number n, to a connector that has seen the calls up to q complete, that its copy is
+-- fresh:
 -- it was at the call n; or, where n is a call that it hasn't seen complete, it was before that call
 pub record TellsFresh (form : StrForm) (history : CacheHistory) (n q : ℕ) (conn : ConnId) (index : ℕ) : Type 0 where
   pub point : IsPoint history n

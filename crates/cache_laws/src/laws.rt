@@ -13,17 +13,17 @@ use cf_types::{CacheCmd, CacheReply, StrForm};
 use engine_api::History;
 
 /// After every history of a cache a name has one entry at most, and a connector has one
-/// registration at most for an index of its vector, and one at most for a name. Entries and data are
-/// within the capacity, and each registration is for a name that has an entry.
+/// registration at most for an index of its vector, and one at most for a name. Entries and data
+/// are within the capacity, and each registration is for a name that has an entry.
 pub fn unique(form: &StrForm, history: &History<CacheCmd, CacheReply>)
     ensures unique { IsUnique (content_after form.now history.now) }
     ensures content { IsContent form.now.caps (content_after form.now history.now) }
 {}
 
-/// Where a connector's bit stands after a legal history, its copy is fresh: the data and adjunct that
-/// its last accepted READ_DATA or WRITE_DATA at this index answered or wrote (none where the entry had
-/// no data) are those that the entry of the registered name has now. So they are what READ_DATA of this
-/// name would answer to anyone.
+/// Where a connector's bit stands after a legal history, its copy is fresh: the data and adjunct
+/// that its last accepted READ_DATA or WRITE_DATA at this index answered or wrote (none where the
+/// entry had no data) are those that the entry of the registered name has now. So they are what
+/// READ_DATA of this name would answer to anyone.
 pub fn fresh_copy(form: &StrForm, history: &History<CacheCmd, CacheReply>)
     requires { IsLegalCache form.now history.now }
     ensures fresh { (conn : ConnId) (index : ℕ)
@@ -44,10 +44,10 @@ pub fn fresh_test(form: &StrForm, history: &History<CacheCmd, CacheReply>)
 {}
 
 /// A page that was written as changed stays until it is cast out: where the last accepted changed
-/// WRITE_DATA of a name was followed by no accepted DELETE_NAME of it, no failure or deallocation of
-/// the structure, and no CASTOUT_DATA with its UNLOCK_CASTOUT, the name has an entry, it is changed, and
-/// it has the data, adjunct and castout class of that WRITE_DATA. So accepted READ_DATA and CASTOUT_DATA
-/// of the name answer that page.
+/// WRITE_DATA of a name was followed by no accepted DELETE_NAME of it, no failure or deallocation
+/// of the structure, and no CASTOUT_DATA with its UNLOCK_CASTOUT, the name has an entry, it is
+/// changed, and it has the data, adjunct and castout class of that WRITE_DATA. So accepted
+/// READ_DATA and CASTOUT_DATA of the name answer that page.
 pub fn uncast_kept(form: &StrForm, history: &History<CacheCmd, CacheReply>)
     requires { IsLegalCache form.now history.now }
     ensures kept { (name : Name16) (page : Page) → IsUncast form.now history.now name page

@@ -37,14 +37,18 @@ use Rattle.cache_model.proofs.ContentLaws.{content-step, content-without, conten
 
 -- ---- the row of a name after a row is replaced
 
-found_with : (b : Bool) (n : Name16) (row : CacheItem) (rest : List CacheItem) → has_row row.name rest ≡ false → (s : Bool) → same_name row.name n ≡ s
-    → row_of n (cond b (insertion (stands_before row) row rest) (rest ++ row ∷ [])) ≡ cond s (Some row) (row_of n rest)
+found_with : (b : Bool) (n : Name16) (row : CacheItem) (rest : List CacheItem) → has_row row.name rest ≡ false
+    → (s : Bool) → same_name row.name n ≡ s
+    → row_of n (cond b (insertion (stands_before row) row rest) (rest ++ row ∷ [])) ≡ cond s (Some row)
+    (row_of n rest)
 found_with true n row rest alone true e =
-    let none : has_row n rest ≡ false = subst (λ (m : Name16). has_row m rest ≡ false) (same_name-eq row.name n e) alone in
+    let none : has_row n rest ≡ false = subst (λ (m : Name16). has_row m rest ≡ false) (same_name-eq row.name n e)
+    alone in
     find-insertion_here (is_row_of n) (stands_before row) row rest e none
 found_with true n row rest alone false e = find-insertion_past (is_row_of n) (stands_before row) row rest e
 found_with false n row rest alone true e =
-    let none : has_row n rest ≡ false = subst (λ (m : Name16). has_row m rest ≡ false) (same_name-eq row.name n e) alone in
+    let none : has_row n rest ≡ false = subst (λ (m : Name16). has_row m rest ≡ false) (same_name-eq row.name n e)
+    alone in
     find-append (is_row_of n) rest (row ∷ []) ∙ rw (find_none (is_row_of n) rest none, e) refl
 found_with false n row rest alone false e = find-append (is_row_of n) rest (row ∷ []) ∙ rw e (or_none (row_of n rest))
   where
@@ -52,28 +56,35 @@ found_with false n row rest alone false e = find-append (is_row_of n) rest (row 
     or_none None = refl
     or_none (Some x) = refl
 
-pub other_found : (n name : Name16) (rows : List CacheItem) → same_name name n ≡ false → row_of n (rows_without name rows) ≡ row_of n rows
+pub other_found : (n name : Name16) (rows : List CacheItem) → same_name name n ≡ false
+    → row_of n (rows_without name rows) ≡ row_of n rows
 other_found n name rows e =
     find-filter (is_row_of n) (λ row. not (is_row_of name row))
-    (λ row k. ap not (subst (λ (m : Name16). same_name m name ≡ false) (sym (same_name-eq row.name n k)) (same_name-sym n name ∙ e))) rows
+    (λ row k. ap not (subst (λ (m : Name16). same_name m name ≡ false) (sym (same_name-eq row.name n k))
+    (same_name-sym n name ∙ e))) rows
 
 pub row_of-replaced : (n : Name16) (row : CacheItem) (rows : List CacheItem) (s : Bool) → same_name row.name n ≡ s
     → row_of n (rows_replaced row rows) ≡ cond s (Some row) (row_of n rows)
 row_of-replaced n row rows true e =
     found_with (is_changed row) n row (rows_without row.name rows) (none_filtered (is_row_of row.name) rows) true e
 row_of-replaced n row rows false e =
-    found_with (is_changed row) n row (rows_without row.name rows) (none_filtered (is_row_of row.name) rows) false e ∙ other_found n row.name rows e
+    found_with (is_changed row) n row (rows_without row.name rows) (none_filtered (is_row_of row.name) rows) false e
+    ∙ other_found n row.name rows e
 
 -- a name's copy after its row is replaced, and that of other names
-pub copy-here : (name : Name16) (row : CacheItem) (rows : List CacheItem) → row.name ≡ name → copy_in (rows_replaced row rows) name ≡ row_copy row
+pub copy-here : (name : Name16) (row : CacheItem) (rows : List CacheItem) → row.name ≡ name
+    → copy_in (rows_replaced row rows) name ≡ row_copy row
 copy-here name row rows named =
     ap (λ o. option_and_then row_copy o)
-    (row_of-replaced name row rows true (subst (λ (n : Name16). same_name row.name n ≡ true) named (same_name-refl row.name)))
+    (row_of-replaced name row rows true (subst (λ (n : Name16). same_name row.name n ≡ true) named
+    (same_name-refl row.name)))
 
-pub copy-other : (n : Name16) (row : CacheItem) (rows : List CacheItem) → same_name row.name n ≡ false → copy_in (rows_replaced row rows) n ≡ copy_in rows n
+pub copy-other : (n : Name16) (row : CacheItem) (rows : List CacheItem) → same_name row.name n ≡ false
+    → copy_in (rows_replaced row rows) n ≡ copy_in rows n
 copy-other n row rows e = ap (λ o. option_and_then row_copy o) (row_of-replaced n row rows false e)
 
-pub copy-same : (name n : Name16) (row : CacheItem) (rows : List CacheItem) → row.name ≡ name → row_copy row ≡ copy_in rows name
+pub copy-same : (name n : Name16) (row : CacheItem) (rows : List CacheItem) → row.name ≡ name
+    → row_copy row ≡ copy_in rows name
     → copy_in (rows_replaced row rows) n ≡ copy_in rows n
 copy-same name n row rows named is = go (same_name row.name n) refl
   where
@@ -83,18 +94,22 @@ copy-same name n row rows named is = go (same_name row.name n) refl
         copy-here n row rows here ∙ is ∙ ap (λ m. copy_in rows m) (sym named ∙ here)
     go false e = copy-other n row rows e
 
-pub copy-spared : (n : Name16) (gone : List Name16) (rows : List CacheItem) → is_among gone n ≡ false → copy_in (rows_spared gone rows) n ≡ copy_in rows n
+pub copy-spared : (n : Name16) (gone : List Name16) (rows : List CacheItem) → is_among gone n ≡ false
+    → copy_in (rows_spared gone rows) n ≡ copy_in rows n
 copy-spared n gone rows e = ap (λ o. option_and_then row_copy o) (row_of-spared n gone rows e)
 
 -- the copy of a row, or of a new one
-or_new_copy : (name : Name16) (stg : ℕ) (o : Option CacheItem) → row_copy (unwrap_or o (new_row name stg)) ≡ option_and_then row_copy o
+or_new_copy : (name : Name16) (stg : ℕ) (o : Option CacheItem) → row_copy (unwrap_or o (new_row name stg)) ≡
+    option_and_then row_copy o
 or_new_copy name stg None = refl
 or_new_copy name stg (Some row) = refl
 
-pub copy-row_or_new : (name : Name16) (stg : ℕ) (rows : List CacheItem) → row_copy (row_or_new name stg rows) ≡ copy_in rows name
+pub copy-row_or_new : (name : Name16) (stg : ℕ) (rows : List CacheItem) → row_copy (row_or_new name stg rows) ≡
+    copy_in rows name
 copy-row_or_new name stg rows = or_new_copy name stg (row_of name rows)
 
-reply_of_data : (row : CacheItem) (body : Option (List ℕ)) → reply_copy (read.data_reply row body) ≡ option_map (λ b. (b, row.adj)) body
+reply_of_data : (row : CacheItem) (body : Option (List ℕ)) → reply_copy (read.data_reply row body) ≡ option_map
+    (λ b. (b, row.adj)) body
 reply_of_data row None = refl
 reply_of_data row (Some body) = refl
 
@@ -104,28 +119,35 @@ abbrev pub Each : (Registration → Type 0) → List Registration → Type 0
 Each P [] = Unit {0}
 Each P (reg ∷ regs) = P reg × Each P regs
 
-each_step : (P Q : Registration → Type 0) (q : Registration → Bool) (b : Bool) (reg : Registration) (regs : List Registration) → q reg ≡ b
+each_step : (P Q : Registration → Type 0) (q : Registration → Bool) (b : Bool) (reg : Registration)
+    (regs : List Registration) → q reg ≡ b
     → ((r : Registration) → q r ≡ true → P r → Q r) → P reg → Each Q regs → Each Q (cond b (reg ∷ regs) regs)
 each_step P Q q true reg regs e h p rest = (h reg e p, rest)
 each_step P Q q false reg regs e h p rest = rest
 
-pub each_filter : (P Q : Registration → Type 0) (q : Registration → Bool) → ((r : Registration) → q r ≡ true → P r → Q r) → (regs : List Registration)
+pub each_filter : (P Q : Registration → Type 0) (q : Registration → Bool) → ((r : Registration) → q r ≡ true → P r
+    → Q r) → (regs : List Registration)
     → Each P regs → Each Q (filter q regs)
 each_filter P Q q h [] all = tt
-each_filter P Q q h (reg ∷ regs) all = each_step P Q q (q reg) reg (filter q regs) refl h all.0 (each_filter P Q q h regs all.1)
+each_filter P Q q h (reg ∷ regs) all = each_step P Q q (q reg) reg (filter q regs) refl h all.0
+    (each_filter P Q q h regs all.1)
 
-each_place : (P : Registration → Type 0) (b : Bool) (new reg : Registration) (regs zs : List Registration) → P new → P reg → Each P regs → Each P zs
+each_place : (P : Registration → Type 0) (b : Bool) (new reg : Registration) (regs zs : List Registration) → P new
+    → P reg → Each P regs → Each P zs
     → Each P (cond b (reg ∷ zs) (new ∷ reg ∷ regs))
 each_place P true new reg regs zs n p rest ih = (p, ih)
 each_place P false new reg regs zs n p rest ih = (n, (p, rest))
 
-pub each_insertion : (P : Registration → Type 0) (first : Registration → Bool) (new : Registration) (regs : List Registration) → P new → Each P regs
+pub each_insertion : (P : Registration → Type 0) (first : Registration → Bool) (new : Registration)
+    (regs : List Registration) → P new → Each P regs
     → Each P (insertion first new regs)
 each_insertion P first new [] n all = (n, tt)
 each_insertion P first new (reg ∷ regs) n all =
-    each_place P (first reg) new reg regs (insertion first new regs) n all.0 all.1 (each_insertion P first new regs n all.1)
+    each_place P (first reg) new reg regs (insertion first new regs) n all.0 all.1
+    (each_insertion P first new regs n all.1)
 
-each_weaker : (P Q : Registration → Type 0) → ((r : Registration) → P r → Q r) → (regs : List Registration) → Each P regs → Each Q regs
+each_weaker : (P Q : Registration → Type 0) → ((r : Registration) → P r → Q r) → (regs : List Registration)
+    → Each P regs → Each Q regs
 each_weaker P Q h [] all = tt
 each_weaker P Q h (reg ∷ regs) all = (h reg all.0, each_weaker P Q h regs all.1)
 
@@ -139,28 +161,35 @@ turn : (a b : ℕ) → (a == b) ≡ (b == a)
 turn a b = grind (arith, nat_tests)
 
 -- a registration that isn't replaced has another place
-other_place : (by : ConnId) (index : ℕ) (name : Name16) (reg : Registration) (copy : Copy) (copies : Copies) → not (is_replaced by index name reg) ≡ true
+other_place : (by : ConnId) (index : ℕ) (name : Name16) (reg : Registration) (copy : Copy) (copies : Copies)
+    → not (is_replaced by index name reg) ≡ true
     → copies_with by index copy copies reg.conn reg.index ≡ copies reg.conn reg.index
 other_place by index name reg copy copies h =
     let apart = or_parts (is_at by index reg) (is_for by name reg) (not-true (is_replaced by index name reg) h) in
     rw (turn by.0 reg.conn.0, turn index reg.index, apart.0) refl
 
-own_place : (by : ConnId) (index : ℕ) (copy : Copy) (copies : Copies) → copies_with by index copy copies by index ≡ copy
-own_place by index copy copies = let here : (by.0 == by.0) && (index == index) ≡ true = grind (arith, nat_tests) in rw here refl
+own_place : (by : ConnId) (index : ℕ) (copy : Copy) (copies : Copies) → copies_with by index copy copies by index ≡
+    copy
+own_place by index copy copies = let here : (by.0 == by.0) && (index == index) ≡ true = grind (arith, nat_tests) in rw
+    here refl
 
 -- ---- READ
 
-read_fresh : (gone : List Name16) (content : Content) (copies : Copies) (by : ConnId) (name : Name16) (index stg : ℕ) → is_among gone name ≡ false
+read_fresh : (gone : List Name16) (content : Content) (copies : Copies) (by : ConnId) (name : Name16) (index stg : ℕ)
+    → is_among gone name ≡ false
     → AllFresh content copies
-    → AllFresh (read.after gone content by name index stg) (copies_with by index (reply_copy (read.reply content.rows name stg)) copies)
+    → AllFresh (read.after gone content by name index stg)
+    (copies_with by index (reply_copy (read.reply content.rows name stg)) copies)
 read_fresh gone content copies by name index stg out all =
     let row = row_or_new name stg content.rows in
     let rows = rows_replaced row (rows_spared gone content.rows) in
     let told = copies_with by index (reply_copy (read.reply content.rows name stg)) copies in
     let new : Registration = record { conn = by; index = index; name = name } in
     let Q : Registration → Type 0 = λ reg. not (is_among gone reg.name) ≡ true → Fresh rows told reg in
-    each_filter Q (Fresh rows told) (λ reg. not (is_among gone reg.name)) (λ reg e q. q e) (regs_with by index name content.regs)
-    (each_insertion Q (λ other. before other new) new (filter (λ reg. not (is_replaced by index name reg)) content.regs)
+    each_filter Q (Fresh rows told) (λ reg. not (is_among gone reg.name)) (λ reg e q. q e)
+    (regs_with by index name content.regs)
+    (each_insertion Q (λ other. before other new) new (filter (λ reg. not (is_replaced by index name reg))
+    content.regs)
     (λ e. own_place by index (reply_copy (read.reply content.rows name stg)) copies ∙ reply_of_data row row.body
     ∙ sym (copy-here name row (rows_spared gone content.rows) (name-row_or_new name stg content.rows)))
     (each_filter (Fresh content.rows copies) Q (λ reg. not (is_replaced by index name reg))
@@ -168,9 +197,11 @@ read_fresh gone content copies by name index stg out all =
     ∙ sym (same reg (not-true (is_among gone reg.name) k))) content.regs all))
   where
     same : (reg : Registration) → is_among gone reg.name ≡ false
-        → copy_in (rows_replaced (row_or_new name stg content.rows) (rows_spared gone content.rows)) reg.name ≡ copy_in content.rows reg.name
+        → copy_in (rows_replaced (row_or_new name stg content.rows) (rows_spared gone content.rows)) reg.name ≡
+        copy_in content.rows reg.name
     same reg k =
-        copy-same name reg.name (row_or_new name stg content.rows) (rows_spared gone content.rows) (name-row_or_new name stg content.rows)
+        copy-same name reg.name (row_or_new name stg content.rows) (rows_spared gone content.rows)
+        (name-row_or_new name stg content.rows)
         (copy-row_or_new name stg content.rows ∙ sym (copy-spared name gone content.rows out))
         ∙ copy-spared reg.name gone content.rows k
 
@@ -184,30 +215,41 @@ other_name true false false h k = refl
 other_name false i true h k = absurd (false≢true k)
 other_name false i false h k = refl
 
-write_fresh : (gone : List Name16) (content : Content) (copies : Copies) (by : ConnId) (name : Name16) (index : ℕ) (body : List ℕ) (class : Option ℕ)
+write_fresh : (gone : List Name16) (content : Content) (copies : Copies) (by : ConnId) (name : Name16) (index : ℕ)
+    (body : List ℕ) (class : Option ℕ)
     (adj : Option (List ℕ)) (stg : ℕ) → AllFresh content copies
-    → AllFresh (write.after gone content by name index body class adj stg) (copies_with by index (Some (body, adj)) copies)
+    → AllFresh (write.after gone content by name index body class adj stg) (copies_with by index (Some (body, adj))
+    copies)
 write_fresh gone content copies by name index body class adj stg all =
     let row = write.row_with body class adj (row_or_new name stg content.rows) in
     let rows = rows_replaced row (rows_spared gone content.rows) in
     let told = copies_with by index (Some (body, adj)) copies in
     let new : Registration = record { conn = by; index = index; name = name } in
-    let Q : Registration → Type 0 = λ reg. not (ends_with_name name (Some by) reg) ≡ true → not (is_among gone reg.name) ≡ true → Fresh rows told reg in
+    let Q : Registration → Type 0 = λ reg. not (ends_with_name name (Some by) reg) ≡ true
+    → not (is_among gone reg.name) ≡ true → Fresh rows told reg in
     let R : Registration → Type 0 = λ reg. not (is_among gone reg.name) ≡ true → Fresh rows told reg in
-    each_filter R (Fresh rows told) (λ reg. not (is_among gone reg.name)) (λ reg e q. q e) (regs_without_name name (Some by) (regs_with by index name content.regs))
-    (each_filter Q R (λ reg. not (ends_with_name name (Some by) reg)) (λ reg e q. q e) (regs_with by index name content.regs)
-    (each_insertion Q (λ other. before other new) new (filter (λ reg. not (is_replaced by index name reg)) content.regs)
-    (λ f e. own_place by index (Some (body, adj)) copies ∙ sym (copy-here name row (rows_spared gone content.rows) (name-row_or_new name stg content.rows)))
+    each_filter R (Fresh rows told) (λ reg. not (is_among gone reg.name)) (λ reg e q. q e)
+    (regs_without_name name (Some by) (regs_with by index name content.regs))
+    (each_filter Q R (λ reg. not (ends_with_name name (Some by) reg)) (λ reg e q. q e)
+    (regs_with by index name content.regs)
+    (each_insertion Q (λ other. before other new) new (filter (λ reg. not (is_replaced by index name reg))
+    content.regs)
+    (λ f e. own_place by index (Some (body, adj)) copies ∙ sym (copy-here name row (rows_spared gone content.rows)
+    (name-row_or_new name stg content.rows)))
     (each_filter (Fresh content.rows copies) Q (λ reg. not (is_replaced by index name reg))
     (λ reg e fresh f k. other_place by index name reg (Some (body, adj)) copies e ∙ fresh
-    ∙ sym (same reg (other_name (is_of by reg) (reg.index == index) (same_name reg.name name) e f) (not-true (is_among gone reg.name) k))) content.regs all)))
+    ∙ sym (same reg (other_name (is_of by reg) (reg.index == index) (same_name reg.name name) e f)
+    (not-true (is_among gone reg.name) k))) content.regs all)))
   where
     same : (reg : Registration) → same_name reg.name name ≡ false → is_among gone reg.name ≡ false
-        → copy_in (rows_replaced (write.row_with body class adj (row_or_new name stg content.rows)) (rows_spared gone content.rows)) reg.name
+        → copy_in (rows_replaced (write.row_with body class adj (row_or_new name stg content.rows))
+        (rows_spared gone content.rows)) reg.name
         ≡ copy_in content.rows reg.name
     same reg apart k =
-        copy-other reg.name (write.row_with body class adj (row_or_new name stg content.rows)) (rows_spared gone content.rows)
-        (subst (λ (n : Name16). same_name n reg.name ≡ false) (sym (name-row_or_new name stg content.rows)) (same_name-sym name reg.name ∙ apart))
+        copy-other reg.name (write.row_with body class adj (row_or_new name stg content.rows))
+        (rows_spared gone content.rows)
+        (subst (λ (n : Name16). same_name n reg.name ≡ false) (sym (name-row_or_new name stg content.rows))
+        (same_name-sym name reg.name ∙ apart))
         ∙ copy-spared reg.name gone content.rows k
 
 -- ---- the other commands, and the end of a connector
@@ -217,53 +259,68 @@ castout_fresh : (content : Content) (copies : Copies) (by : ConnId) (name : Name
 castout_fresh content copies by name all =
     let row = castout.row_with_hold by (row_or_new name 1 content.rows) in
     each_weaker (Fresh content.rows copies) (Fresh (rows_replaced row content.rows) copies)
-    (λ reg fresh. fresh ∙ sym (copy-same name reg.name row content.rows (name-row_or_new name 1 content.rows) (copy-row_or_new name 1 content.rows)))
+    (λ reg fresh. fresh ∙ sym (copy-same name reg.name row content.rows (name-row_or_new name 1 content.rows)
+    (copy-row_or_new name 1 content.rows)))
     content.regs all
 
-unlock_fresh : (content : Content) (copies : Copies) (name : Name16) → AllFresh content copies → AllFresh (unlock.after content name) copies
+unlock_fresh : (content : Content) (copies : Copies) (name : Name16) → AllFresh content copies
+    → AllFresh (unlock.after content name) copies
 unlock_fresh content copies name all =
     let row = unlock.row_without_hold (row_or_new name 1 content.rows) in
     each_weaker (Fresh content.rows copies) (Fresh (rows_replaced row content.rows) copies)
-    (λ reg fresh. fresh ∙ sym (copy-same name reg.name row content.rows (name-row_or_new name 1 content.rows) (copy-row_or_new name 1 content.rows)))
+    (λ reg fresh. fresh ∙ sym (copy-same name reg.name row content.rows (name-row_or_new name 1 content.rows)
+    (copy-row_or_new name 1 content.rows)))
     content.regs all
 
 not_both : (b : Bool) → not (b && true) ≡ true → b ≡ false
 not_both true e = absurd (false≢true e)
 not_both false e = refl
 
-delete_fresh : (content : Content) (copies : Copies) (name : Name16) → AllFresh content copies → AllFresh (delete.after content name) copies
+delete_fresh : (content : Content) (copies : Copies) (name : Name16) → AllFresh content copies
+    → AllFresh (delete.after content name) copies
 delete_fresh content copies name all =
-    each_filter (Fresh content.rows copies) (Fresh (rows_without name content.rows) copies) (λ reg. not (ends_with_name name None reg))
+    each_filter (Fresh content.rows copies) (Fresh (rows_without name content.rows) copies)
+    (λ reg. not (ends_with_name name None reg))
     (λ reg e fresh. fresh
     ∙ sym (ap (λ o. option_and_then row_copy o)
-    (other_found reg.name name content.rows (same_name-sym name reg.name ∙ not_both (same_name reg.name name) e)))) content.regs all
+    (other_found reg.name name content.rows (same_name-sym name reg.name ∙ not_both (same_name reg.name name) e))))
+    content.regs all
 
-released_step : (conn : ConnId) (row : CacheItem) (b : Bool) (x y : Option CacheItem) → option_and_then row_copy x ≡ option_and_then row_copy y
-    → option_and_then row_copy (cond b (Some (without_hold conn row)) x) ≡ option_and_then row_copy (cond b (Some row) y)
+released_step : (conn : ConnId) (row : CacheItem) (b : Bool) (x y : Option CacheItem) → option_and_then row_copy x ≡
+    option_and_then row_copy y
+    → option_and_then row_copy (cond b (Some (without_hold conn row)) x) ≡ option_and_then row_copy
+    (cond b (Some row) y)
 released_step conn row true x y e = refl
 released_step conn row false x y e = e
 
-copy-released : (conn : ConnId) (name : Name16) (rows : List CacheItem) → copy_in (map (without_hold conn) rows) name ≡ copy_in rows name
+copy-released : (conn : ConnId) (name : Name16) (rows : List CacheItem) → copy_in (map (without_hold conn) rows)
+    name ≡ copy_in rows name
 copy-released conn name [] = refl
 copy-released conn name (row ∷ rows) =
-    released_step conn row (same_name row.name name) (row_of name (map (without_hold conn) rows)) (row_of name rows) (copy-released conn name rows)
+    released_step conn row (same_name row.name name) (row_of name (map (without_hold conn) rows)) (row_of name rows)
+    (copy-released conn name rows)
 
-leave_fresh : (content : Content) (copies : Copies) (conn : ConnId) → AllFresh content copies → AllFresh (content_without conn content) copies
+leave_fresh : (content : Content) (copies : Copies) (conn : ConnId) → AllFresh content copies
+    → AllFresh (content_without conn content) copies
 leave_fresh content copies conn all =
-    each_filter (Fresh content.rows copies) (Fresh (map (without_hold conn) content.rows) copies) (λ reg. not (is_of conn reg))
+    each_filter (Fresh content.rows copies) (Fresh (map (without_hold conn) content.rows) copies)
+    (λ reg. not (is_of conn reg))
     (λ reg e fresh. fresh ∙ sym (copy-released conn reg.name content.rows)) content.regs all
 
 -- ---- every command
 
-after_fresh : (caps : Caps) (content : Content) (copies : Copies) (by : ConnId) (cmd : CacheCmd) → IsContent caps content → AllFresh content copies
+after_fresh : (caps : Caps) (content : Content) (copies : Copies) (by : ConnId) (cmd : CacheCmd)
+    → IsContent caps content → AllFresh content copies
     → AllFresh (after (victims caps content.rows cmd) content by cmd) (copies_done content by cmd copies)
 after_fresh caps content copies by (Read name index old stg) is all =
     read_fresh (victims caps content.rows (Read name index old stg)) content copies by name index stg
     (request_spared caps (read.request name stg) content.rows is.directory) all
 after_fresh caps content copies by (Write name index body class adj old stg when_reg) is all =
-    write_fresh (victims caps content.rows (Write name index body class adj old stg when_reg)) content copies by name index body class adj stg all
+    write_fresh (victims caps content.rows (Write name index body class adj old stg when_reg)) content copies by name
+    index body class adj stg all
 after_fresh caps content copies by (CrossInval name) is all =
-    each_filter (Fresh content.rows copies) (Fresh content.rows copies) (λ reg. not (ends_with_name name (Some by) reg)) (λ reg e fresh. fresh) content.regs all
+    each_filter (Fresh content.rows copies) (Fresh content.rows copies)
+    (λ reg. not (ends_with_name name (Some by) reg)) (λ reg e fresh. fresh) content.regs all
 after_fresh caps content copies by RegList is all = all
 after_fresh caps content copies by (Castout name) is all = castout_fresh content copies by name all
 after_fresh caps content copies by (Unlock name) is all = unlock_fresh content copies name all
@@ -273,15 +330,19 @@ after_fresh caps content copies by (DirInfo name) is all = all
 after_fresh caps content copies by (Delete name) is all = delete_fresh content copies name all
 after_fresh caps content copies by (StgStats stg) is all = all
 
-unless_fresh : (caps : Caps) (content : Content) (copies : Copies) (by : ConnId) (cmd : CacheCmd) (refusal : Option Refusal) → IsContent caps content
+unless_fresh : (caps : Caps) (content : Content) (copies : Copies) (by : ConnId) (cmd : CacheCmd)
+    (refusal : Option Refusal) → IsContent caps content
     → AllFresh content copies
-    → AllFresh (unless_refused refusal content (done caps content by cmd)).state (copies_unless refusal content by cmd copies)
+    → AllFresh (unless_refused refusal content (done caps content by cmd)).state (copies_unless refusal content by cmd
+    copies)
 unless_fresh caps content copies by cmd None is all = after_fresh caps content copies by cmd is all
 unless_fresh caps content copies by cmd (Some refusal) is all = all
 
-deed_fresh : (vector : ℕ) (caps : Caps) (content : Content) (copies : Copies) (deed : Deed) → IsContent caps content → AllFresh content copies
+deed_fresh : (vector : ℕ) (caps : Caps) (content : Content) (copies : Copies) (deed : Deed) → IsContent caps content
+    → AllFresh content copies
     → AllFresh (after_deed vector caps content deed) (copies_after vector caps content copies deed)
-deed_fresh vector caps content copies (Calls by cmd) is all = unless_fresh caps content copies by cmd (cause vector caps content by cmd) is all
+deed_fresh vector caps content copies (Calls by cmd) is all = unless_fresh caps content copies by cmd
+    (cause vector caps content by cmd) is all
 deed_fresh vector caps content copies (Leaves conn) is all = leave_fresh content copies conn all
 deed_fresh vector caps content copies Forgets is all = tt
 
@@ -299,36 +360,46 @@ content-run vector caps content [] is = is
 content-run vector caps content (deed ∷ deeds) is =
     content-run vector caps (after_deed vector caps content deed) deeds (content-deed vector caps content deed is)
 
-run_fresh : (vector : ℕ) (caps : Caps) (content : Content) (copies : Copies) (deeds : List Deed) → IsContent caps content → AllFresh content copies
+run_fresh : (vector : ℕ) (caps : Caps) (content : Content) (copies : Copies) (deeds : List Deed)
+    → IsContent caps content → AllFresh content copies
     → AllFresh (after_run vector caps content deeds) (copies_run vector caps content copies deeds)
 run_fresh vector caps content copies [] is all = all
 run_fresh vector caps content copies (deed ∷ deeds) is all =
     run_fresh vector caps (after_deed vector caps content deed) (copies_after vector caps content copies deed) deeds
     (content-deed vector caps content deed is) (deed_fresh vector caps content copies deed is all)
 
-fresh_step : (rows : List CacheItem) (copies : Copies) (conn : ConnId) (index : ℕ) (name : Name16) (reg : Registration) (regs : List Registration) (b : Bool)
-    → is_at conn index reg ≡ b → Fresh rows copies reg → (registered_at regs conn index ≡ Some name → copies conn index ≡ copy_in rows name)
-    → option_map (λ (r : Registration). r.name) (cond b (Some reg) (find (is_at conn index) regs)) ≡ Some name → copies conn index ≡ copy_in rows name
+fresh_step : (rows : List CacheItem) (copies : Copies) (conn : ConnId) (index : ℕ) (name : Name16)
+    (reg : Registration) (regs : List Registration) (b : Bool)
+    → is_at conn index reg ≡ b → Fresh rows copies reg → (registered_at regs conn index ≡ Some name
+    → copies conn index ≡ copy_in rows name)
+    → option_map (λ (r : Registration). r.name) (cond b (Some reg) (find (is_at conn index) regs)) ≡ Some name
+    → copies conn index ≡ copy_in rows name
 fresh_step rows copies conn index name reg regs true e fresh h k =
     let parts = and_parts (is_of conn reg) (reg.index == index) e in
     let conn_of : ℕ → ConnId = λ (n : ℕ). record { 0 = n } in
     let own : reg.conn ≡ conn = ap conn_of (eqb-true reg.conn.0 conn.0 parts.0) in
     let here : reg.index ≡ index = eqb-true reg.index index parts.1 in
     let named : reg.name ≡ name = cc in
-    ap (λ c. copies c index) (sym own) ∙ ap (λ i. copies reg.conn i) (sym here) ∙ fresh ∙ ap (λ n. copy_in rows n) named
+    ap (λ c. copies c index) (sym own) ∙ ap (λ i. copies reg.conn i) (sym here) ∙ fresh
+    ∙ ap (λ n. copy_in rows n) named
 fresh_step rows copies conn index name reg regs false e fresh h k = h k
 
-fresh_at : (rows : List CacheItem) (copies : Copies) (conn : ConnId) (index : ℕ) (name : Name16) (regs : List Registration) → Each (Fresh rows copies) regs
+fresh_at : (rows : List CacheItem) (copies : Copies) (conn : ConnId) (index : ℕ) (name : Name16)
+    (regs : List Registration) → Each (Fresh rows copies) regs
     → registered_at regs conn index ≡ Some name → copies conn index ≡ copy_in rows name
 fresh_at rows copies conn index name [] all h = absurd (cc)
 fresh_at rows copies conn index name (reg ∷ regs) all h =
-    fresh_step rows copies conn index name reg regs (is_at conn index reg) refl all.0 (fresh_at rows copies conn index name regs all.1) h
+    fresh_step rows copies conn index name reg regs (is_at conn index reg) refl all.0
+    (fresh_at rows copies conn index name regs all.1) h
 
--- A valid bit: after every run from the empty content, what a connector has a copy of at an index where it is registered for a name
+-- A valid bit: after every run from the empty content, what a connector has a copy of at an index where it is
+-- registered for a name
 -- is what the name's row has
-pub fresh-copy : (vector : ℕ) (caps : Caps) (copies : Copies) (deeds : List Deed) (conn : ConnId) (index : ℕ) (name : Name16)
+pub fresh-copy : (vector : ℕ) (caps : Caps) (copies : Copies) (deeds : List Deed) (conn : ConnId) (index : ℕ)
+    (name : Name16)
     → registered_at (after_run vector caps nothing deeds).regs conn index ≡ Some name
     → copies_run vector caps nothing copies deeds conn index ≡ copy_in (after_run vector caps nothing deeds).rows name
 fresh-copy vector caps copies deeds conn index name h =
     fresh_at (after_run vector caps nothing deeds).rows (copies_run vector caps nothing copies deeds) conn index name
-    (after_run vector caps nothing deeds).regs (run_fresh vector caps nothing copies deeds (content-nothing caps) tt) h
+    (after_run vector caps nothing deeds).regs (run_fresh vector caps nothing copies deeds (content-nothing caps) tt)
+    h

@@ -34,28 +34,35 @@ content-nothing caps =
       row_each = refl;
     }
 
-pub step-content : (shape : Shape) (caps : Caps) (content : Content) (by : ConnId) (cmd : CacheCmd) → IsContent caps content
+pub step-content : (shape : Shape) (caps : Caps) (content : Content) (by : ConnId) (cmd : CacheCmd)
+    → IsContent caps content
     → IsContent caps (stepped cache_meaning (record { shape = shape; caps = caps; state = content }) by cmd).state
 step-content shape caps content by cmd is = laws.content-step shape.vector caps content by cmd is
 
-pub leave-content : (caps : Caps) (content : Content) (conn : ConnId) → IsContent caps content → IsContent caps (content_without conn content)
+pub leave-content : (caps : Caps) (content : Content) (conn : ConnId) → IsContent caps content
+    → IsContent caps (content_without conn content)
 leave-content caps content conn is = laws.content-without caps content conn is
 
-pub content-forgotten : (caps : Caps) (content : Content) → IsContent caps content → IsContent caps (content_forgotten content)
+pub content-forgotten : (caps : Caps) (content : Content) → IsContent caps content
+    → IsContent caps (content_forgotten content)
 content-forgotten caps content is = laws.content-forgotten caps content is
 
 -- ---- items
 
-made-from : (content : Content) (items : List CacheItem) → fold content_with content items ≡ record content { rows = content.rows ++ items }
+made-from : (content : Content) (items : List CacheItem) → fold content_with content items ≡ record content
+    { rows = content.rows ++ items }
 made-from content [] = ap (λ (l : List CacheItem). record content { rows = l }) (sym (append-nil content.rows))
 made-from content (item ∷ items) =
-    made-from (content_with content item) items ∙ ap (λ (l : List CacheItem). record content { rows = l }) (append_assoc content.rows (item ∷ []) items)
+    made-from (content_with content item) items ∙ ap (λ (l : List CacheItem). record content { rows = l })
+    (append_assoc content.rows (item ∷ []) items)
 
 pub made-items : (rows : List CacheItem) → fold content_with nothing rows ≡ record { rows = rows; regs = [] }
 made-items rows = made-from nothing rows
 
-last-away : (rows : List CacheItem) (item : CacheItem) → take (length (rows ++ item ∷ []) - 1) (rows ++ item ∷ []) ≡ rows
-last-away rows item = take_at rows (item ∷ []) (length (rows ++ item ∷ []) - 1) (omega (arith, length-append rows (item ∷ [])))
+last-away : (rows : List CacheItem) (item : CacheItem) → take (length (rows ++ item ∷ []) - 1) (rows ++ item ∷ []) ≡
+    rows
+last-away rows item = take_at rows (item ∷ []) (length (rows ++ item ∷ []) - 1)
+    (omega (arith, length-append rows (item ∷ [])))
 
 pub unplace-place : (content : Content) (item : CacheItem) → fold content_with nothing content.rows ≡ content
     → content_without_last (content_with content item) ≡ content
@@ -71,10 +78,14 @@ no_more_of kind.Cache need other h = h
 no_more_of (kind.List headers locks refs) need other h = h
 no_more_of kind.Lock need other h = h.1
 
-pub need-leave : (kind : Kind) (content : Content) (conn : ConnId) → IsNoMoreOf kind (need_of (content_without conn content).rows) (need_of content.rows)
+pub need-leave : (kind : Kind) (content : Content) (conn : ConnId)
+    → IsNoMoreOf kind (need_of (content_without conn content).rows) (need_of content.rows)
 need-leave kind content conn =
-    no_more_of kind (need_of (content_without conn content).rows) (need_of content.rows)
-    (omega (arith, length-map content.rows (without_hold conn)), omega (arith, elements-without_hold conn content.rows))
+    no_more_of kind (need_of (content_without conn content).rows) (need_of content.rows) (
+      omega (arith, length-map content.rows (without_hold conn)),
+      omega
+          (arith, elements-without_hold conn content.rows),
+    )
 
 pub need-same : (kind : Kind) (rows : List CacheItem) → IsNoMoreOf kind (need_of rows) (need_of rows)
 need-same kind rows = no_more_of kind (need_of rows) (need_of rows) (omega arith, omega arith)
@@ -85,7 +96,8 @@ sum_front : (rows others : List CacheItem) → elements_in rows ≤ elements_in 
 sum_front rows others = omega (arith, sum_by-append size rows others)
 
 -- the first rows of a content, with no registrations, are a content
-pub content-front : (caps : Caps) (whole : Content) (rows others : List CacheItem) → IsContent caps whole → whole.rows ≡ rows ++ others
+pub content-front : (caps : Caps) (whole : Content) (rows others : List CacheItem) → IsContent caps whole
+    → whole.rows ≡ rows ++ others
     → IsContent caps (record { rows = rows; regs = [] })
 content-front caps whole rows others is e =
     let ordered : pairwise may_precede (rows ++ others) ≡ true = rw e at is.directory.ordered in
@@ -97,7 +109,8 @@ content-front caps whole rows others is e =
       directory = record {
         ordered = pairwise_front may_precede rows others ordered;
         one_for_name = pairwise_front names_apart rows others apart;
-        sound = (and_parts (list_all is_sound rows) (list_all is_sound others) (sym (list_all-append is_sound rows others) ∙ sound)).0;
+        sound = (and_parts (list_all is_sound rows) (list_all is_sound others)
+            (sym (list_all-append is_sound rows others) ∙ sound)).0;
       };
       entries = omega (arith, few, length-append rows others);
       elements = omega (arith, small, sum_front rows others);
@@ -106,32 +119,40 @@ content-front caps whole rows others is e =
     }
 
 -- without its last row, and with no registrations
-pub content-without_last : (caps : Caps) (content : Content) → IsContent caps content → IsContent caps (content_without_last content)
+pub content-without_last : (caps : Caps) (content : Content) → IsContent caps content
+    → IsContent caps (content_without_last content)
 content-without_last caps content is =
-    content-front caps content (take (length content.rows - 1) content.rows) (drop (length content.rows - 1) content.rows) is
+    content-front caps content (take (length content.rows - 1) content.rows)
+    (drop (length content.rows - 1) content.rows) is
     (sym (take-append-drop (length content.rows - 1) content.rows))
 
 -- one more of the rows of a content has a name of its own
-pub alone-next : (rows others : List CacheItem) (item : CacheItem) → pairwise names_apart (rows ++ item ∷ others) ≡ true → has_row item.name rows ≡ false
+pub alone-next : (rows others : List CacheItem) (item : CacheItem) → pairwise names_apart (rows ++ item ∷ others) ≡
+    true → has_row item.name rows ≡ false
 alone-next [] others item h = refl
 alone-next (row ∷ rows) others item h =
-    let parts = and_parts (list_all (names_apart row) (rows ++ item ∷ others)) (pairwise names_apart (rows ++ item ∷ others)) h in
+    let parts = and_parts (list_all (names_apart row) (rows ++ item ∷ others))
+    (pairwise names_apart (rows ++ item ∷ others)) h in
     let split = and_parts (list_all (names_apart row) rows) (list_all (names_apart row) (item ∷ others))
     (sym (list_all-append (names_apart row) rows (item ∷ others)) ∙ parts.0) in
     let first = and_parts (names_apart row item) (list_all (names_apart row) others) split.1 in
-    or_from (same_name row.name item.name) (has_row item.name rows) (not-true (same_name row.name item.name) first.0) (alone-next rows others item parts.1)
+    or_from (same_name row.name item.name) (has_row item.name rows) (not-true (same_name row.name item.name) first.0)
+    (alone-next rows others item parts.1)
 
 -- one more of the rows of a content, within the capacity
-pub content-next : (caps : Caps) (content whole : Content) (item : CacheItem) (others : List CacheItem) → IsContent caps content → IsContent caps whole
+pub content-next : (caps : Caps) (content whole : Content) (item : CacheItem) (others : List CacheItem)
+    → IsContent caps content → IsContent caps whole
     → whole.rows ≡ content.rows ++ item ∷ others → IsContent caps (content_with content item)
 content-next caps content whole item others is all e =
-    let front = content-front caps whole (content.rows ++ item ∷ []) others all (e ∙ sym (append_assoc content.rows (item ∷ []) others)) in
+    let front = content-front caps whole (content.rows ++ item ∷ []) others all
+    (e ∙ sym (append_assoc content.rows (item ∷ []) others)) in
     record {
       directory = front.directory;
       entries = front.entries;
       elements = front.elements;
       registry = is.registry;
-      row_each = list_all_weaker (λ reg. has_row reg.name content.rows) (λ reg. has_row reg.name (content.rows ++ item ∷ []))
+      row_each = list_all_weaker (λ reg. has_row reg.name content.rows) (λ reg. has_row reg.name (content.rows
+          ++ item ∷ []))
           (λ reg h. list_any-append (is_row_of reg.name) content.rows (item ∷ [])
           ∙ or_left (has_row reg.name content.rows) (has_row reg.name (item ∷ [])) h) content.regs is.row_each;
     }

@@ -28,32 +28,44 @@ gone caps request rows = shortest_prefix (has_room caps request rows) (reclaim_o
 abbrev pub OnesFound : List CacheItem → List CacheItem → Type 0
 OnesFound = AllFound name_of same_name same_name-eq same_name-refl
 
-order_found : (request : Request) (rows : List CacheItem) → IsDirectory rows → OnesFound (reclaim_order request rows) rows
+order_found : (request : Request) (rows : List CacheItem) → IsDirectory rows → OnesFound (reclaim_order request rows)
+    rows
 order_found request rows is =
     let reclaimable = filter (is_reclaimable request.name) rows in
     let first : OnesFound (filter (has_storage request.stg) reclaimable) rows =
-    subst (λ (l : List CacheItem). OnesFound l rows) (sym (filter-filter (has_storage request.stg) (is_reclaimable request.name) rows))
-    (found_filter name_of same_name same_name-eq same_name-refl (λ row. is_reclaimable request.name row && has_storage request.stg row) rows is.one_for_name) in
+    subst (λ (l : List CacheItem). OnesFound l rows) (sym (filter-filter (has_storage request.stg)
+    (is_reclaimable request.name) rows))
+    (found_filter name_of same_name same_name-eq same_name-refl (λ row. is_reclaimable request.name row
+    && has_storage request.stg row) rows is.one_for_name) in
     let others : OnesFound (filter (λ row. not (has_storage request.stg row)) reclaimable) rows =
-    subst (λ (l : List CacheItem). OnesFound l rows) (sym (filter-filter (λ row. not (has_storage request.stg row)) (is_reclaimable request.name) rows))
-    (found_filter name_of same_name same_name-eq same_name-refl (λ row. is_reclaimable request.name row && not (has_storage request.stg row)) rows is.one_for_name) in
+    subst (λ (l : List CacheItem). OnesFound l rows) (sym (filter-filter (λ row. not (has_storage request.stg row))
+    (is_reclaimable request.name) rows))
+    (found_filter name_of same_name same_name-eq same_name-refl (λ row. is_reclaimable request.name row
+    && not (has_storage request.stg row)) rows is.one_for_name) in
     found_append name_of same_name same_name-eq same_name-refl (filter (has_storage request.stg) reclaimable)
     (filter (λ row. not (has_storage request.stg row)) reclaimable) rows first others
 
-order_apart : (request : Request) (rows : List CacheItem) → IsDirectory rows → pairwise names_apart (reclaim_order request rows) ≡ true
+order_apart : (request : Request) (rows : List CacheItem) → IsDirectory rows → pairwise names_apart
+    (reclaim_order request rows) ≡ true
 order_apart request rows is =
     pairwise_split names_apart (apart_sym name_of same_name same_name-eq same_name-refl) (has_storage request.stg)
-    (filter (is_reclaimable request.name) rows) (pairwise-filter names_apart (is_reclaimable request.name) rows is.one_for_name)
+    (filter (is_reclaimable request.name) rows) (pairwise-filter names_apart (is_reclaimable request.name) rows
+    is.one_for_name)
 
 -- what holds of all reclaimable rows holds of the order
-order_all : (p : CacheItem → Bool) (request : Request) (rows : List CacheItem) → ((row : CacheItem) → is_reclaimable request.name row ≡ true → p row ≡ true)
+order_all : (p : CacheItem → Bool) (request : Request) (rows : List CacheItem)
+    → ((row : CacheItem) → is_reclaimable request.name row ≡ true → p row ≡ true)
     → list_all p (reclaim_order request rows) ≡ true
 order_all p request rows h =
     let reclaimable = filter (is_reclaimable request.name) rows in
-    let each = list_all_weaker (is_reclaimable request.name) p h reclaimable (list_all-filter_same (is_reclaimable request.name) rows) in
-    list_all-append p (filter (has_storage request.stg) reclaimable) (filter (λ row. not (has_storage request.stg row)) reclaimable)
-    ∙ and_from (list_all p (filter (has_storage request.stg) reclaimable)) (list_all p (filter (λ row. not (has_storage request.stg row)) reclaimable))
-    (list_all-filter p (has_storage request.stg) reclaimable each) (list_all-filter p (λ row. not (has_storage request.stg row)) reclaimable each)
+    let each = list_all_weaker (is_reclaimable request.name) p h reclaimable
+    (list_all-filter_same (is_reclaimable request.name) rows) in
+    list_all-append p (filter (has_storage request.stg) reclaimable)
+    (filter (λ row. not (has_storage request.stg row)) reclaimable)
+    ∙ and_from (list_all p (filter (has_storage request.stg) reclaimable))
+    (list_all p (filter (λ row. not (has_storage request.stg row)) reclaimable))
+    (list_all-filter p (has_storage request.stg) reclaimable each)
+    (list_all-filter p (λ row. not (has_storage request.stg row)) reclaimable each)
 
 -- the rows that go are apart, each is the one of its name, and none has the request's name
 pub record Goes (caps : Caps) (request : Request) (rows : List CacheItem) : Type 0 where
@@ -65,19 +77,24 @@ pub record Goes (caps : Caps) (request : Request) (rows : List CacheItem) : Type
 pub goes : (caps : Caps) (request : Request) (rows : List CacheItem) → IsDirectory rows → Goes caps request rows
 goes caps request rows is =
     record {
-      found = found_prefix name_of same_name same_name-eq same_name-refl (has_room caps request rows) (reclaim_order request rows) rows
+      found = found_prefix name_of same_name same_name-eq same_name-refl (has_room caps request rows)
+          (reclaim_order request rows) rows
           (order_found request rows is);
-      apart = pairwise-shortest_prefix names_apart (has_room caps request rows) (reclaim_order request rows) (order_apart request rows is);
-      other = list_all-shortest_prefix (λ row. not (is_row_of request.name row)) (has_room caps request rows) (reclaim_order request rows)
+      apart = pairwise-shortest_prefix names_apart (has_room caps request rows) (reclaim_order request rows)
+          (order_apart request rows is);
+      other = list_all-shortest_prefix (λ row. not (is_row_of request.name row)) (has_room caps request rows)
+          (reclaim_order request rows)
           (order_all (λ row. not (is_row_of request.name row)) request rows
           (λ row h. (and_parts (not (is_changed row)) (not (is_row_of request.name row)) h).1));
-      unchanged = list_all-shortest_prefix (λ row. not (is_changed row)) (has_room caps request rows) (reclaim_order request rows)
+      unchanged = list_all-shortest_prefix (λ row. not (is_changed row)) (has_room caps request rows)
+          (reclaim_order request rows)
           (order_all (λ row. not (is_changed row)) request rows
           (λ row h. (and_parts (not (is_changed row)) (not (is_row_of request.name row)) h).0));
     }
 
 -- the request's name isn't among them
-pub request_spared : (caps : Caps) (request : Request) (rows : List CacheItem) → IsDirectory rows → is_among (victims caps request rows) request.name ≡ false
+pub request_spared : (caps : Caps) (request : Request) (rows : List CacheItem) → IsDirectory rows
+    → is_among (victims caps request rows) request.name ≡ false
 request_spared caps request rows is =
     list_any-map (λ other. same_name other request.name) name_of (gone caps request rows)
     ∙ none_from_all (is_row_of request.name) (gone caps request rows) (goes caps request rows is).other
@@ -86,13 +103,16 @@ pub length-spared : (caps : Caps) (request : Request) (rows : List CacheItem) �
     → length (rows_spared (victims caps request rows) rows) + length (gone caps request rows) ≡ length rows
 length-spared caps request rows is =
     let g = goes caps request rows is in
-    length_spared name_of same_name same_name-eq same_name-refl (gone caps request rows) rows is.one_for_name g.apart g.found
+    length_spared name_of same_name same_name-eq same_name-refl (gone caps request rows) rows is.one_for_name g.apart
+    g.found
 
 pub elements-spared : (caps : Caps) (request : Request) (rows : List CacheItem) → IsDirectory rows
-    → elements_in (rows_spared (victims caps request rows) rows) + elements_in (gone caps request rows) ≡ elements_in rows
+    → elements_in (rows_spared (victims caps request rows) rows) + elements_in (gone caps request rows) ≡ elements_in
+    rows
 elements-spared caps request rows is =
     let g = goes caps request rows is in
-    sum_by_spared name_of same_name same_name-eq same_name-refl size (gone caps request rows) rows is.one_for_name g.apart g.found
+    sum_by_spared name_of same_name same_name-eq same_name-refl size (gone caps request rows) rows is.one_for_name
+    g.apart g.found
 
 -- a row whose name isn't among them stays
 pub row_of-spared : (name : Name16) (names : List Name16) (rows : List CacheItem) → is_among names name ≡ false
@@ -107,7 +127,8 @@ has_row-spared name names rows h =
 
 -- ---- room
 
-room_step : (place : Bool) (need free entries : ℕ) → cond place (elements_refusal need free) (Some (DirectoryFull entries)) ≡ None
+room_step : (place : Bool) (need free entries : ℕ) → cond place (elements_refusal need free)
+    (Some (DirectoryFull entries)) ≡ None
     → place && nat_le need free ≡ true
 room_step true need free entries h = free_step (nat_le need free) h
   where
@@ -122,4 +143,5 @@ pub room_left : (caps : Caps) (request : Request) (rows : List CacheItem) → ro
 room_left caps request rows h =
     let all = reclaim_order request rows in
     shortest_prefix-enough (has_room caps request rows) all
-    (room_step (has_place caps request rows all) request.elements (free_elements caps request rows all) caps.entries h)
+    (room_step (has_place caps request rows all) request.elements (free_elements caps request rows all) caps.entries
+    h)

@@ -32,12 +32,14 @@ front_test true true n e h = h
 front_test a false n e h = absurd (false≢true e)
 front_test false true n e h = h
 
-stop_test : (a b n m : Bool) → a ≡ true → b && n ≡ false → (n ≡ false → m ≡ true) → cond a (cond b m true) (not b) ≡ true
+stop_test : (a b n m : Bool) → a ≡ true → b && n ≡ false → (n ≡ false → m ≡ true) → cond a (cond b m true) (not b) ≡
+    true
 stop_test true true n m e h f = f h
 stop_test true false n m e h f = refl
 stop_test false b n m e h f = absurd (false≢true e)
 
-follows_test : (a b c n m k : Bool) → a ≡ true → (n ≡ true → m ≡ true → k ≡ true) → cond a (cond b n true) (not b) ≡ true
+follows_test : (a b c n m k : Bool) → a ≡ true → (n ≡ true → m ≡ true → k ≡ true) → cond a (cond b n true) (not b) ≡
+    true
     → cond b (cond c m true) (not c) ≡ true → cond a (cond c k true) (not c) ≡ true
 follows_test true true true n m k e f h g = f h g
 follows_test true false true n m k e f h g = absurd (false≢true g)
@@ -54,17 +56,21 @@ finds_place : (row : CacheItem) → is_changed row ≡ true
 finds_place row c =
     record {
       front = λ other h. front_test (is_changed other) (is_changed row) (name_before other.name row.name) c h;
-      stop = λ other h e. stop_test (is_changed row) (is_changed other) (name_before other.name row.name) (name_before row.name other.name) c e
+      stop = λ other h e. stop_test (is_changed row) (is_changed other) (name_before other.name row.name)
+          (name_before row.name other.name) c e
           (name_before-else other.name row.name (not-true (same_name other.name row.name) h));
-      follows = λ y z h e. follows_test (is_changed row) (is_changed y) (is_changed z) (name_before row.name y.name) (name_before y.name z.name)
+      follows = λ y z h e. follows_test (is_changed row) (is_changed y) (is_changed z) (name_before row.name y.name)
+          (name_before y.name z.name)
           (name_before row.name z.name) c (name_before-trans row.name y.name z.name) h e;
     }
 
 -- no row of the name is among the others
-others_apart : (name : Name16) (rows : List CacheItem) → list_all (λ other. not (same_name other.name name)) (rows_without name rows) ≡ true
+others_apart : (name : Name16) (rows : List CacheItem) → list_all (λ other. not (same_name other.name name))
+    (rows_without name rows) ≡ true
 others_apart name rows = list_all-filter_same (λ row. not (is_row_of name row)) rows
 
-both_ways : (row other : CacheItem) → not (same_name other.name row.name) ≡ true → names_apart row other && names_apart other row ≡ true
+both_ways : (row other : CacheItem) → not (same_name other.name row.name) ≡ true → names_apart row other
+    && names_apart other row ≡ true
 both_ways row other h =
     and_from (names_apart row other) (names_apart other row) (ap not (same_name-sym row.name other.name) ∙ h) h
 
@@ -72,13 +78,16 @@ ordered_with : (b : Bool) (row : CacheItem) (rest : List CacheItem) → is_chang
     → list_all (λ other. not (same_name other.name row.name)) rest ≡ true → pairwise may_precede rest ≡ true
     → pairwise may_precede (cond b (insertion (stands_before row) row rest) (rest ++ row ∷ [])) ≡ true
 ordered_with true row rest e h o =
-    pairwise-insertion may_precede (stands_before row) (λ other. not (same_name other.name row.name)) row rest (finds_place row e) h o
+    pairwise-insertion may_precede (stands_before row) (λ other. not (same_name other.name row.name)) row rest
+    (finds_place row e) h o
 ordered_with false row rest e h o =
     pairwise_push may_precede rest row o
-    (list_all_always (λ other. may_precede other row) (λ other. last_test (is_changed row) (is_changed other) (name_before other.name row.name) e) rest)
+    (list_all_always (λ other. may_precede other row) (λ other. last_test (is_changed row) (is_changed other)
+    (name_before other.name row.name) e) rest)
 
 apart_with : (b : Bool) (row : CacheItem) (rest : List CacheItem)
-    → list_all (λ other. names_apart row other && names_apart other row) rest ≡ true → pairwise names_apart rest ≡ true
+    → list_all (λ other. names_apart row other && names_apart other row) rest ≡ true → pairwise names_apart rest ≡
+    true
     → pairwise names_apart (cond b (insertion (stands_before row) row rest) (rest ++ row ∷ [])) ≡ true
 apart_with true row rest h o = pairwise-insertion_any names_apart (stands_before row) row rest o h
 apart_with false row rest h o =
@@ -86,9 +95,11 @@ apart_with false row rest h o =
     (list_all_weaker (λ other. names_apart row other && names_apart other row) (λ other. names_apart other row)
     (λ other k. (and_parts (names_apart row other) (names_apart other row) k).1) rest h)
 
-all_with : (p : CacheItem → Bool) (b : Bool) (row : CacheItem) (rest : List CacheItem) → p row ≡ true → list_all p rest ≡ true
+all_with : (p : CacheItem → Bool) (b : Bool) (row : CacheItem) (rest : List CacheItem) → p row ≡ true
+    → list_all p rest ≡ true
     → list_all p (cond b (insertion (stands_before row) row rest) (rest ++ row ∷ [])) ≡ true
-all_with p true row rest e h = list_all-insertion p (stands_before row) row rest ∙ and_from (p row) (list_all p rest) e h
+all_with p true row rest e h = list_all-insertion p (stands_before row) row rest ∙ and_from (p row) (list_all p rest)
+    e h
 all_with p false row rest e h =
     list_all-append p rest (row ∷ []) ∙ and_from (list_all p rest) (p row && true) h (and_from (p row) true e refl)
 
@@ -100,7 +111,8 @@ directory-filter q rows is =
       sound = list_all-filter is_sound q rows is.sound;
     }
 
-pub directory-replaced : (row : CacheItem) (rows : List CacheItem) → IsDirectory rows → is_sound row ≡ true → IsDirectory (rows_replaced row rows)
+pub directory-replaced : (row : CacheItem) (rows : List CacheItem) → IsDirectory rows → is_sound row ≡ true
+    → IsDirectory (rows_replaced row rows)
 directory-replaced row rows is sound =
     let rest = rows_without row.name rows in
     let others = directory-filter (λ other. not (is_row_of row.name other)) rows is in
@@ -108,7 +120,8 @@ directory-replaced row rows is sound =
     record {
       ordered = ordered_with (is_changed row) row rest refl apart others.ordered;
       one_for_name = apart_with (is_changed row) row rest
-          (list_all_weaker (λ other. not (same_name other.name row.name)) (λ other. names_apart row other && names_apart other row) (both_ways row) rest apart)
+          (list_all_weaker (λ other. not (same_name other.name row.name)) (λ other. names_apart row other
+          && names_apart other row) (both_ways row) rest apart)
           others.one_for_name;
       sound = all_with is_sound (is_changed row) row rest sound others.sound;
     }
@@ -120,11 +133,13 @@ length_with : (b : Bool) (row : CacheItem) (rest : List CacheItem)
 length_with true row rest = length-insertion (stands_before row) row rest
 length_with false row rest = length-append rest (row ∷ [])
 
-pub length-replaced : (row : CacheItem) (rows : List CacheItem) → length (rows_replaced row rows) ≡ length (rows_without row.name rows) + 1
+pub length-replaced : (row : CacheItem) (rows : List CacheItem) → length (rows_replaced row rows) ≡ length
+    (rows_without row.name rows) + 1
 length-replaced row rows = length_with (is_changed row) row (rows_without row.name rows)
 
 elements_with : (b : Bool) (row : CacheItem) (rest : List CacheItem)
-    → elements_in (cond b (insertion (stands_before row) row rest) (rest ++ row ∷ [])) ≡ elements_of row.body + elements_in rest
+    → elements_in (cond b (insertion (stands_before row) row rest) (rest ++ row ∷ [])) ≡ elements_of row.body +
+    elements_in rest
 elements_with true row rest = sum_by-insertion size (stands_before row) row rest
 elements_with false row rest = omega (arith, sum_by_push size rest row)
 
@@ -132,23 +147,30 @@ pub elements-replaced : (row : CacheItem) (rows : List CacheItem)
     → elements_in (rows_replaced row rows) ≡ elements_of row.body + elements_in (rows_without row.name rows)
 elements-replaced row rows = elements_with (is_changed row) row (rows_without row.name rows)
 
-pub elements-without : (name : Name16) (rows : List CacheItem) (row : CacheItem) → IsDirectory rows → row_of name rows ≡ Some row
+pub elements-without : (name : Name16) (rows : List CacheItem) (row : CacheItem) → IsDirectory rows
+    → row_of name rows ≡ Some row
     → elements_in (rows_without name rows) + elements_of row.body ≡ elements_in rows
-elements-without name rows row is h = sum_by_without name_of same_name same_name-eq same_name-refl size name rows row is.one_for_name h
+elements-without name rows row is h = sum_by_without name_of same_name same_name-eq same_name-refl size name rows row
+    is.one_for_name h
 
-pub length-without : (name : Name16) (rows : List CacheItem) (row : CacheItem) → IsDirectory rows → row_of name rows ≡ Some row
+pub length-without : (name : Name16) (rows : List CacheItem) (row : CacheItem) → IsDirectory rows
+    → row_of name rows ≡ Some row
     → length (rows_without name rows) + 1 ≡ length rows
-length-without name rows row is h = length_without name_of same_name same_name-eq same_name-refl name rows row is.one_for_name h
+length-without name rows row is h = length_without name_of same_name same_name-eq same_name-refl name rows row
+    is.one_for_name h
 
-pub without-absent : (name : Name16) (rows : List CacheItem) → has_row name rows ≡ false → rows_without name rows ≡ rows
+pub without-absent : (name : Name16) (rows : List CacheItem) → has_row name rows ≡ false
+    → rows_without name rows ≡ rows
 without-absent name rows h = filter_all (λ row. not (is_row_of name row)) rows (all_from_none (is_row_of name) rows h)
 
 -- ---- which names have a row
 
 has_with : (b : Bool) (name : Name16) (row : CacheItem) (rest : List CacheItem)
-    → has_row name (cond b (insertion (stands_before row) row rest) (rest ++ row ∷ [])) ≡ same_name row.name name || has_row name rest
+    → has_row name (cond b (insertion (stands_before row) row rest) (rest ++ row ∷ [])) ≡ same_name row.name name
+    || has_row name rest
 has_with true name row rest = list_any-insertion (is_row_of name) (stands_before row) row rest
-has_with false name row rest = list_any-append (is_row_of name) rest (row ∷ []) ∙ swap (has_row name rest) (same_name row.name name)
+has_with false name row rest = list_any-append (is_row_of name) rest (row ∷ []) ∙ swap (has_row name rest)
+    (same_name row.name name)
   where
     swap : (a b : Bool) → a || (b || false) ≡ b || a
     swap true true = refl
@@ -161,12 +183,15 @@ pub has_row-replaced : (name : Name16) (row : CacheItem) (rows : List CacheItem)
 has_row-replaced name row rows = has_with (is_changed row) name row (rows_without row.name rows)
 
 -- a name that had a row has one
-pub has_row_stays : (name : Name16) (row : CacheItem) (rows : List CacheItem) → has_row name rows ≡ true → has_row name (rows_replaced row rows) ≡ true
+pub has_row_stays : (name : Name16) (row : CacheItem) (rows : List CacheItem) → has_row name rows ≡ true
+    → has_row name (rows_replaced row rows) ≡ true
 has_row_stays name row rows h = has_row-replaced name row rows ∙ go (same_name row.name name) refl
   where
-    kept : same_name row.name name ≡ false → (other : CacheItem) → is_row_of name other ≡ true → not (is_row_of row.name other) ≡ true
+    kept : same_name row.name name ≡ false → (other : CacheItem) → is_row_of name other ≡ true
+        → not (is_row_of row.name other) ≡ true
     kept e other k =
-        ap not (subst (λ (n : Name16). same_name n row.name ≡ false) (sym (same_name-eq other.name name k)) (same_name-sym name row.name ∙ e))
+        ap not (subst (λ (n : Name16). same_name n row.name ≡ false) (sym (same_name-eq other.name name k))
+        (same_name-sym name row.name ∙ e))
 
     go : (b : Bool) → same_name row.name name ≡ b → b || has_row name (rows_without row.name rows) ≡ true
     go true e = refl
@@ -174,7 +199,8 @@ has_row_stays name row rows h = has_row-replaced name row rows ∙ go (same_name
 
 pub has_row_here : (row : CacheItem) (rows : List CacheItem) → has_row row.name (rows_replaced row rows) ≡ true
 has_row_here row rows =
-    has_row-replaced row.name row rows ∙ or_left (same_name row.name row.name) (has_row row.name (rows_without row.name rows)) (same_name-refl row.name)
+    has_row-replaced row.name row rows ∙ or_left (same_name row.name row.name)
+    (has_row row.name (rows_without row.name rows)) (same_name-refl row.name)
 
 -- ---- the row of a name, or a new one
 
@@ -185,25 +211,30 @@ or_new_name name stg (Some row) h = h row refl
 
 pub name-row_or_new : (name : Name16) (stg : ℕ) (rows : List CacheItem) → (row_or_new name stg rows).name ≡ name
 name-row_or_new name stg rows =
-    or_new_name name stg (row_of name rows) (λ row h. same_name-eq row.name name (found_passes (is_row_of name) rows row h))
+    or_new_name name stg (row_of name rows) (λ row h. same_name-eq row.name name
+    (found_passes (is_row_of name) rows row h))
 
-or_new_sound : (name : Name16) (stg : ℕ) (o : Option CacheItem) → ((row : CacheItem) → o ≡ Some row → is_sound row ≡ true)
+or_new_sound : (name : Name16) (stg : ℕ) (o : Option CacheItem) → ((row : CacheItem) → o ≡ Some row
+    → is_sound row ≡ true)
     → is_sound (unwrap_or o (new_row name stg)) ≡ true
 or_new_sound name stg None h = refl
 or_new_sound name stg (Some row) h = h row refl
 
-pub sound-row_or_new : (name : Name16) (stg : ℕ) (rows : List CacheItem) → IsDirectory rows → is_sound (row_or_new name stg rows) ≡ true
+pub sound-row_or_new : (name : Name16) (stg : ℕ) (rows : List CacheItem) → IsDirectory rows
+    → is_sound (row_or_new name stg rows) ≡ true
 sound-row_or_new name stg rows is =
     or_new_sound name stg (row_of name rows) (λ row h. all_found (is_row_of name) is_sound rows row is.sound h)
 
-pub or_new_size : (name : Name16) (stg rest all : ℕ) (o : Option CacheItem) → rest ≤ all → ((row : CacheItem) → o ≡ Some row → rest + elements_of row.body ≡ all)
+pub or_new_size : (name : Name16) (stg rest all : ℕ) (o : Option CacheItem) → rest ≤ all
+    → ((row : CacheItem) → o ≡ Some row → rest + elements_of row.body ≡ all)
     → elements_of (unwrap_or o (new_row name stg)).body + rest ≤ all
 or_new_size name stg rest all None le h = omega arith
 or_new_size name stg rest all (Some row) le h = omega (arith, h row refl)
 
 -- ---- a connector lets go
 
-hold_sound : (conn : ConnId) (row : CacheItem) (b : Bool) (c : Bool) → (is_none row.holder || c) && (not c || is_some row.body) ≡ true
+hold_sound : (conn : ConnId) (row : CacheItem) (b : Bool) (c : Bool) → (is_none row.holder || c)
+    && (not c || is_some row.body) ≡ true
     → (is_none (cond b None row.holder) || c) && (not c || is_some row.body) ≡ true
 hold_sound conn row true c h = right (is_none row.holder || c) (not c || is_some row.body) h
   where
@@ -211,7 +242,8 @@ hold_sound conn row true c h = right (is_none row.holder || c) (not c || is_some
     right x y h = (and_parts x y h).1
 hold_sound conn row false c h = h
 
-pub directory-without_hold : (conn : ConnId) (rows : List CacheItem) → IsDirectory rows → IsDirectory (map (without_hold conn) rows)
+pub directory-without_hold : (conn : ConnId) (rows : List CacheItem) → IsDirectory rows
+    → IsDirectory (map (without_hold conn) rows)
 directory-without_hold conn rows is =
     record {
       ordered = pairwise-map may_precede (without_hold conn) (λ x y. refl) rows ∙ is.ordered;
@@ -221,11 +253,14 @@ directory-without_hold conn rows is =
           (λ row h. hold_sound conn row (is_held_by conn row.holder) (is_changed row) h) rows is.sound;
     }
 
-pub has_row-without_hold : (conn : ConnId) (name : Name16) (rows : List CacheItem) → has_row name (map (without_hold conn) rows) ≡ has_row name rows
+pub has_row-without_hold : (conn : ConnId) (name : Name16) (rows : List CacheItem)
+    → has_row name (map (without_hold conn) rows) ≡ has_row name rows
 has_row-without_hold conn name [] = refl
-has_row-without_hold conn name (row ∷ rows) = ap (λ b. same_name row.name name || b) (has_row-without_hold conn name rows)
+has_row-without_hold conn name (row ∷ rows) = ap (λ b. same_name row.name name || b)
+    (has_row-without_hold conn name rows)
 
-pub elements-without_hold : (conn : ConnId) (rows : List CacheItem) → elements_in (map (without_hold conn) rows) ≡ elements_in rows
+pub elements-without_hold : (conn : ConnId) (rows : List CacheItem) → elements_in (map (without_hold conn) rows) ≡
+    elements_in rows
 elements-without_hold conn rows = fold-map (λ n row. n + elements_of row.body) (without_hold conn) 0 rows
 
 -- ---- one row more
@@ -233,39 +268,50 @@ elements-without_hold conn rows = fold-map (λ n row. n + elements_of row.body) 
 alone_apart : (row : CacheItem) (rows : List CacheItem) → has_row row.name rows ≡ false
     → list_all (λ other. names_apart row other && names_apart other row) rows ≡ true
 alone_apart row rows h =
-    list_all_weaker (λ other. not (same_name other.name row.name)) (λ other. names_apart row other && names_apart other row) (both_ways row) rows
+    list_all_weaker (λ other. not (same_name other.name row.name)) (λ other. names_apart row other
+    && names_apart other row) (both_ways row) rows
     (all_from_none (is_row_of row.name) rows h)
 
-pub apart-with : (row : CacheItem) (rows : List CacheItem) → pairwise names_apart rows ≡ true → has_row row.name rows ≡ false
+pub apart-with : (row : CacheItem) (rows : List CacheItem) → pairwise names_apart rows ≡ true
+    → has_row row.name rows ≡ false
     → pairwise names_apart (rows_with row rows) ≡ true
 apart-with row rows u h = apart_with (is_changed row) row rows (alone_apart row rows h) u
 
-pub apart-push : (row : CacheItem) (rows : List CacheItem) → pairwise names_apart rows ≡ true → has_row row.name rows ≡ false
+pub apart-push : (row : CacheItem) (rows : List CacheItem) → pairwise names_apart rows ≡ true
+    → has_row row.name rows ≡ false
     → pairwise names_apart (rows ++ row ∷ []) ≡ true
 apart-push row rows u h = apart_with false row rows (alone_apart row rows h) u
 
-pub apart-either : (b : Bool) (row : CacheItem) (rows : List CacheItem) → pairwise names_apart rows ≡ true → has_row row.name rows ≡ false
+pub apart-either : (b : Bool) (row : CacheItem) (rows : List CacheItem) → pairwise names_apart rows ≡ true
+    → has_row row.name rows ≡ false
     → pairwise names_apart (cond b (rows ++ row ∷ []) rows) ≡ true
 apart-either true row rows u h = apart-push row rows u h
 apart-either false row rows u h = u
 
 -- ---- the row of a name is taken out, changed and put back
 
-pub found_named : (name : Name16) (rows : List CacheItem) (row : CacheItem) → row_of name rows ≡ Some row → row.name ≡ name
+pub found_named : (name : Name16) (rows : List CacheItem) (row : CacheItem) → row_of name rows ≡ Some row
+    → row.name ≡ name
 found_named name rows row h = same_name-eq row.name name (found_passes (is_row_of name) rows row h)
 
 pub alone-without : (n name : Name16) (rows : List CacheItem) → n ≡ name → has_row n (rows_without name rows) ≡ false
-alone-without n name rows e = subst (λ (m : Name16). has_row m (rows_without name rows) ≡ false) (sym e) (none_filtered (is_row_of name) rows)
+alone-without n name rows e = subst (λ (m : Name16). has_row m (rows_without name rows) ≡ false) (sym e)
+    (none_filtered (is_row_of name) rows)
 
-pub alone-spared : (n name : Name16) (names : List Name16) (rows : List CacheItem) → n ≡ name → has_row n (rows_spared names (rows_without name rows)) ≡ false
+pub alone-spared : (n name : Name16) (names : List Name16) (rows : List CacheItem) → n ≡ name
+    → has_row n (rows_spared names (rows_without name rows)) ≡ false
 alone-spared n name names rows e =
-    none-filter (is_row_of n) (λ row. not (is_among names row.name)) (rows_without name rows) (alone-without n name rows e)
+    none-filter (is_row_of n) (λ row. not (is_among names row.name)) (rows_without name rows)
+    (alone-without n name rows e)
 
-pub replaced-named : (row : CacheItem) (name : Name16) (rows : List CacheItem) → row.name ≡ name → rows_with row (rows_without name rows) ≡ rows_replaced row rows
+pub replaced-named : (row : CacheItem) (name : Name16) (rows : List CacheItem) → row.name ≡ name
+    → rows_with row (rows_without name rows) ≡ rows_replaced row rows
 replaced-named row name rows e = ap (λ (n : Name16). rows_with row (rows_without n rows)) (sym e)
 
-pub replaced-spared : (row : CacheItem) (name : Name16) (names : List Name16) (rows : List CacheItem) → row.name ≡ name
+pub replaced-spared : (row : CacheItem) (name : Name16) (names : List Name16) (rows : List CacheItem)
+    → row.name ≡ name
     → rows_with row (rows_spared names (rows_without name rows)) ≡ rows_replaced row (rows_spared names rows)
 replaced-spared row name names rows e =
-    ap (rows_with row) (filter_swap (λ (r : CacheItem). not (is_among names r.name)) (λ (r : CacheItem). not (is_row_of name r)) rows)
+    ap (rows_with row) (filter_swap (λ (r : CacheItem). not (is_among names r.name))
+    (λ (r : CacheItem). not (is_row_of name r)) rows)
     ∙ replaced-named row name (rows_spared names rows) e

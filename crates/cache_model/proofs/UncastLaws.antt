@@ -1,4 +1,5 @@
--- A row that was written as changed stays, changed and with the data that were written, until it is cast out or deleted.
+-- A row that was written as changed stays, changed and with the data that were written, until it is cast out or
+-- deleted.
 use Rattle.std.proofs.Common.{◌≡◌, ℕ, Bool, true, false, not, ◌&&◌, ◌||◌, cond, List, [], ◌∷◌, Option, Some, None, is_some, is_none, unwrap_or, option_map, map, refl, sym, ap, ◌∙◌, subst}
 use Rattle.std.specs.List.{list_any, list_all}
 use Rattle.std.proofs.lemmas.Bool.{and_parts, not-true, false≢true}
@@ -36,17 +37,22 @@ use Rattle.cache_model.proofs.CopyLaws.{other_found, row_of-replaced, content-de
 
 -- ---- rows that are reclaimed
 
-none_step : (n : Name16) (row x : CacheItem) (rows rest : List CacheItem) (b : Bool) → same_name x.name n ≡ b → row_of n rows ≡ Some row
-    → is_changed row ≡ true → row_of x.name rows ≡ Some x → not (is_changed x) ≡ true → list_any (is_row_of n) rest ≡ false
+none_step : (n : Name16) (row x : CacheItem) (rows rest : List CacheItem) (b : Bool) → same_name x.name n ≡ b
+    → row_of n rows ≡ Some row
+    → is_changed row ≡ true → row_of x.name rows ≡ Some x → not (is_changed x) ≡ true → list_any (is_row_of n) rest ≡
+    false
     → b || list_any (is_row_of n) rest ≡ false
 none_step n row x rows rest true e found changed is unchanged none =
-    let there : row_of n rows ≡ Some x = subst (λ (m : Name16). row_of m rows ≡ Some x) (same_name-eq x.name n e) is in
+    let there : row_of n rows ≡ Some x = subst (λ (m : Name16). row_of m rows ≡ Some x) (same_name-eq x.name n e) is
+    in
     let both : Some x ≡ Some row = sym there ∙ found in
     let same : x ≡ row = cc in
-    absurd (false≢true (sym (not-true (is_changed row) (subst (λ (r : CacheItem). not (is_changed r) ≡ true) same unchanged)) ∙ changed))
+    absurd (false≢true (sym (not-true (is_changed row) (subst (λ (r : CacheItem). not (is_changed r) ≡ true) same
+    unchanged)) ∙ changed))
 none_step n row x rows rest false e found changed is unchanged none = none
 
-none_changed : (n : Name16) (row : CacheItem) (rows out : List CacheItem) → row_of n rows ≡ Some row → is_changed row ≡ true → OnesFound out rows
+none_changed : (n : Name16) (row : CacheItem) (rows out : List CacheItem) → row_of n rows ≡ Some row
+    → is_changed row ≡ true → OnesFound out rows
     → list_all (λ r. not (is_changed r)) out ≡ true → list_any (is_row_of n) out ≡ false
 none_changed n row rows [] found changed ones all = refl
 none_changed n row rows (x ∷ out) found changed ones all =
@@ -55,45 +61,56 @@ none_changed n row rows (x ∷ out) found changed ones all =
     (none_changed n row rows out found changed ones.1 parts.1)
 
 -- a changed row isn't among those that go
-changed_spared : (caps : Caps) (request : Request) (rows : List CacheItem) (n : Name16) (row : CacheItem) → IsDirectory rows → row_of n rows ≡ Some row
+changed_spared : (caps : Caps) (request : Request) (rows : List CacheItem) (n : Name16) (row : CacheItem)
+    → IsDirectory rows → row_of n rows ≡ Some row
     → is_changed row ≡ true → is_among (victims caps request rows) n ≡ false
 changed_spared caps request rows n row is found changed =
     list_any-map (λ other. same_name other n) name_of (gone caps request rows)
-    ∙ none_changed n row rows (gone caps request rows) found changed (goes caps request rows is).found (goes caps request rows is).unchanged
+    ∙ none_changed n row rows (gone caps request rows) found changed (goes caps request rows is).found
+    (goes caps request rows is).unchanged
 
 kept_changed : (row : CacheItem) (uncast : Uncast) → HasWritten row uncast → is_changed row ≡ true
 kept_changed row uncast has = ap (λ (c : Option ℕ). is_some c) has.class
 
-spared_step : (caps : Caps) (request : Request) (rows : List CacheItem) (n : Name16) (p : Option Uncast) (o : Option CacheItem) → IsDirectory rows
+spared_step : (caps : Caps) (request : Request) (rows : List CacheItem) (n : Name16) (p : Option Uncast)
+    (o : Option CacheItem) → IsDirectory rows
     → row_of n rows ≡ o → Kept o p → Kept (row_of n (rows_spared (victims caps request rows) rows)) p
 spared_step caps request rows n None o is found kept = tt
 spared_step caps request rows n (Some uncast) None is found kept = absurd kept
 spared_step caps request rows n (Some uncast) (Some row) is found kept =
     let out = changed_spared caps request rows n row is found (kept_changed row uncast kept) in
-    subst (λ (o : Option CacheItem). Kept o (Some uncast)) (sym (row_of-spared n (victims caps request rows) rows out ∙ found)) kept
+    subst (λ (o : Option CacheItem). Kept o (Some uncast)) (sym (row_of-spared n (victims caps request rows) rows out
+    ∙ found)) kept
 
-kept_spared : (caps : Caps) (request : Request) (rows : List CacheItem) (n : Name16) (p : Option Uncast) → IsDirectory rows → Kept (row_of n rows) p
+kept_spared : (caps : Caps) (request : Request) (rows : List CacheItem) (n : Name16) (p : Option Uncast)
+    → IsDirectory rows → Kept (row_of n rows) p
     → Kept (row_of n (rows_spared (victims caps request rows) rows)) p
 kept_spared caps request rows n p is kept = spared_step caps request rows n p (row_of n rows) is refl kept
 
 -- ---- a row that is replaced
 
-replaced_step : (n name : Name16) (row : CacheItem) (rows : List CacheItem) (new old : Option Uncast) (s : Bool) → same_name name n ≡ s → row.name ≡ name
-    → Kept (Some row) new → (s ≡ false → Kept (row_of n rows) old) → Kept (row_of n (rows_replaced row rows)) (cond s new old)
+replaced_step : (n name : Name16) (row : CacheItem) (rows : List CacheItem) (new old : Option Uncast) (s : Bool)
+    → same_name name n ≡ s → row.name ≡ name
+    → Kept (Some row) new → (s ≡ false → Kept (row_of n rows) old) → Kept (row_of n (rows_replaced row rows))
+    (cond s new old)
 replaced_step n name row rows new old true e named here there =
     subst (λ (o : Option CacheItem). Kept o new)
     (sym (row_of-replaced n row rows true (subst (λ (m : Name16). same_name m n ≡ true) (sym named) e))) here
 replaced_step n name row rows new old false e named here there =
     subst (λ (o : Option CacheItem). Kept o old)
-    (sym (row_of-replaced n row rows false (subst (λ (m : Name16). same_name m n ≡ false) (sym named) e))) (there refl)
+    (sym (row_of-replaced n row rows false (subst (λ (m : Name16). same_name m n ≡ false) (sym named) e)))
+    (there refl)
 
-kept_replaced : (n name : Name16) (row : CacheItem) (rows : List CacheItem) (new : Option Uncast) (uncast : Uncasts) → row.name ≡ name
-    → Kept (Some row) new → Kept (row_of n rows) (uncast n) → Kept (row_of n (rows_replaced row rows)) (uncast_with name new uncast n)
+kept_replaced : (n name : Name16) (row : CacheItem) (rows : List CacheItem) (new : Option Uncast) (uncast : Uncasts)
+    → row.name ≡ name
+    → Kept (Some row) new → Kept (row_of n rows) (uncast n) → Kept (row_of n (rows_replaced row rows))
+    (uncast_with name new uncast n)
 kept_replaced n name row rows new uncast named here there =
     replaced_step n name row rows new (uncast n) (same_name name n) refl named here (λ e. there)
 
 -- a name's own, where nothing is written
-own_step : (name n : Name16) (uncast : Uncasts) (s : Bool) → same_name name n ≡ s → cond s (uncast name) (uncast n) ≡ uncast n
+own_step : (name n : Name16) (uncast : Uncasts) (s : Bool) → same_name name n ≡ s → cond s (uncast name) (uncast n) ≡
+    uncast n
 own_step name n uncast true e = ap uncast (same_name-eq name n e)
 own_step name n uncast false e = refl
 
@@ -102,7 +119,8 @@ own_step name n uncast false e = refl
 abbrev pub AllKept : Content → Uncasts → Type 0
 AllKept content uncast = (n : Name16) → Kept (row_of n content.rows) (uncast n)
 
-read_kept : (name : Name16) (stg : ℕ) (o : Option CacheItem) (p : Option Uncast) → Kept o p → Kept (Some (unwrap_or o (new_row name stg))) p
+read_kept : (name : Name16) (stg : ℕ) (o : Option CacheItem) (p : Option Uncast) → Kept o p
+    → Kept (Some (unwrap_or o (new_row name stg))) p
 read_kept name stg o None kept = tt
 read_kept name stg None (Some uncast) kept = absurd kept
 read_kept name stg (Some row) (Some uncast) kept = kept
@@ -111,13 +129,16 @@ rewritten_settled : (holder : Option Holder) → is_settled (option_map write.re
 rewritten_settled None = refl
 rewritten_settled (Some holder) = refl
 
-unchanged_none : (row : CacheItem) (o : Option CacheItem) (p : Option Uncast) → is_changed_row o ≡ false → Kept o p → Kept (Some row) p
+unchanged_none : (row : CacheItem) (o : Option CacheItem) (p : Option Uncast) → is_changed_row o ≡ false → Kept o p
+    → Kept (Some row) p
 unchanged_none row o None e kept = tt
 unchanged_none row None (Some uncast) e kept = absurd kept
 unchanged_none row (Some old) (Some uncast) e kept = absurd (false≢true (sym e ∙ kept_changed old uncast kept))
 
-write_kept : (body : List ℕ) (class : Option ℕ) (adj : Option (List ℕ)) (row : CacheItem) (o : Option CacheItem) (p : Option Uncast)
-    → is_none class && is_changed_row o ≡ false → Kept o p → Kept (Some (write.row_with body class adj row)) (uncast_written body class adj p)
+write_kept : (body : List ℕ) (class : Option ℕ) (adj : Option (List ℕ)) (row : CacheItem) (o : Option CacheItem)
+    (p : Option Uncast)
+    → is_none class && is_changed_row o ≡ false → Kept o p → Kept (Some (write.row_with body class adj row))
+    (uncast_written body class adj p)
 write_kept body None adj row o p e kept = unchanged_none (write.row_with body None adj row) o p e kept
 write_kept body (Some class) adj row o p e kept =
     record { body = refl; adj = refl; class = refl; settled = rewritten_settled row.holder }
@@ -126,14 +147,21 @@ castout_kept : (by : ConnId) (name : Name16) (o : Option CacheItem) (p : Option 
     → Kept (Some (castout.row_with_hold by (unwrap_or o (new_row name 1)))) (uncast_cast p)
 castout_kept by name o None kept = tt
 castout_kept by name None (Some uncast) kept = absurd kept
-castout_kept by name (Some row) (Some uncast) kept = record { body = kept.body; adj = kept.adj; class = kept.class; settled = refl }
+castout_kept by name (Some row) (Some uncast) kept = record {
+  body = kept.body;
+  adj = kept.adj;
+  class = kept.class;
+  settled = refl;
+}
 
 unless_held : (b : Bool) → cond b None (Some NotHeld) ≡ None → b ≡ true
 unless_held true h = refl
 unless_held false h = absurd (cc)
 
-unlocked_step : (row : CacheItem) (uncast : Uncast) (holder : Option Holder) (by : ConnId) (cast : Bool) → row.holder ≡ holder → uncast.cast ≡ cast
-    → is_held_by by holder ≡ true → HasWritten row uncast → Kept (Some (unlock.row_without_hold row)) (cond cast None (Some uncast))
+unlocked_step : (row : CacheItem) (uncast : Uncast) (holder : Option Holder) (by : ConnId) (cast : Bool)
+    → row.holder ≡ holder → uncast.cast ≡ cast
+    → is_held_by by holder ≡ true → HasWritten row uncast → Kept (Some (unlock.row_without_hold row))
+    (cond cast None (Some uncast))
 unlocked_step row uncast holder by true e c held has = tt
 unlocked_step row uncast None by false e c held has = absurd (false≢true held)
 unlocked_step row uncast (Some holder) by false e c held has =
@@ -141,7 +169,8 @@ unlocked_step row uncast (Some holder) by false e c held has =
     let is : unlock.is_rewritten row.holder ≡ true = ap unlock.is_rewritten e ∙ again in
     record { body = has.body; adj = has.adj; class = rw is has.class; settled = right uncast.cast }
   where
-    both : (cast : Bool) (o : Option Holder) → cast ≡ false → o ≡ Some holder → cast || is_settled o ≡ true → holder.rewritten ≡ true
+    both : (cast : Bool) (o : Option Holder) → cast ≡ false → o ≡ Some holder → cast || is_settled o ≡ true
+        → holder.rewritten ≡ true
     both true o c e h = absurd (false≢true (sym c))
     both false o c e h = sym (ap is_settled e) ∙ h
 
@@ -156,42 +185,57 @@ unlock_kept by name o None h kept = tt
 unlock_kept by name None (Some uncast) h kept = absurd kept
 unlock_kept by name (Some row) (Some uncast) h kept =
     let none = none_hold (entry_refusal (Some row) ∷ not_held_refusal by (Some row) ∷ []) h in
-    unlocked_step row uncast row.holder by uncast.cast refl refl (unless_held (is_held_by by row.holder) none.1.0) kept
+    unlocked_step row uncast row.holder by uncast.cast refl refl (unless_held (is_held_by by row.holder) none.1.0)
+    kept
 
-delete_step : (n name : Name16) (rows : List CacheItem) (old : Option Uncast) (s : Bool) → same_name name n ≡ s → Kept (row_of n rows) old
+delete_step : (n name : Name16) (rows : List CacheItem) (old : Option Uncast) (s : Bool) → same_name name n ≡ s
+    → Kept (row_of n rows) old
     → Kept (row_of n (rows_without name rows)) (cond s None old)
 delete_step n name rows old true e kept = tt
-delete_step n name rows old false e kept = subst (λ (o : Option CacheItem). Kept o old) (sym (other_found n name rows e)) kept
+delete_step n name rows old false e kept = subst (λ (o : Option CacheItem). Kept o old)
+    (sym (other_found n name rows e)) kept
 
-released_kept : (conn : ConnId) (o : Option CacheItem) (p : Option Uncast) → Kept o p → Kept (option_map (without_hold conn) o) p
+released_kept : (conn : ConnId) (o : Option CacheItem) (p : Option Uncast) → Kept o p
+    → Kept (option_map (without_hold conn) o) p
 released_kept conn o None kept = tt
 released_kept conn None (Some uncast) kept = absurd kept
 released_kept conn (Some row) (Some uncast) kept =
-    record { body = kept.body; adj = kept.adj; class = kept.class; settled = free (is_held_by conn row.holder) uncast.cast kept.settled }
+    record {
+      body = kept.body;
+      adj = kept.adj;
+      class = kept.class;
+      settled = free (is_held_by conn row.holder)
+          uncast.cast kept.settled;
+    }
   where
     free : (b cast : Bool) → cast || is_settled row.holder ≡ true → cast || is_settled (cond b None row.holder) ≡ true
     free true true h = refl
     free true false h = refl
     free false cast h = h
 
-row_of-released_step : (conn : ConnId) (row : CacheItem) (b : Bool) (x y : Option CacheItem) → x ≡ option_map (without_hold conn) y
+row_of-released_step : (conn : ConnId) (row : CacheItem) (b : Bool) (x y : Option CacheItem)
+    → x ≡ option_map (without_hold conn) y
     → cond b (Some (without_hold conn row)) x ≡ option_map (without_hold conn) (cond b (Some row) y)
 row_of-released_step conn row true x y e = refl
 row_of-released_step conn row false x y e = e
 
-row_of-released : (conn : ConnId) (n : Name16) (rows : List CacheItem) → row_of n (map (without_hold conn) rows) ≡ option_map (without_hold conn) (row_of n rows)
+row_of-released : (conn : ConnId) (n : Name16) (rows : List CacheItem) → row_of n (map (without_hold conn) rows) ≡
+    option_map (without_hold conn) (row_of n rows)
 row_of-released conn n [] = refl
 row_of-released conn n (row ∷ rows) =
-    row_of-released_step conn row (same_name row.name n) (row_of n (map (without_hold conn) rows)) (row_of n rows) (row_of-released conn n rows)
+    row_of-released_step conn row (same_name row.name n) (row_of n (map (without_hold conn) rows)) (row_of n rows)
+    (row_of-released conn n rows)
 
-after_kept : (vector : ℕ) (caps : Caps) (content : Content) (uncast : Uncasts) (by : ConnId) (cmd : CacheCmd) → IsContent caps content
+after_kept : (vector : ℕ) (caps : Caps) (content : Content) (uncast : Uncasts) (by : ConnId) (cmd : CacheCmd)
+    → IsContent caps content
     → cause vector caps content by cmd ≡ None → AllKept content uncast
     → AllKept (after (victims_of caps content.rows cmd) content by cmd) (uncast_done cmd uncast)
 after_kept vector caps content uncast by (Read name index old stg) is h all =
     λ n. subst (λ (p : Option Uncast). Kept (row_of n (rows_replaced (row_or_new name stg content.rows)
     (rows_spared (victims caps (read.request name stg) content.rows) content.rows))) p)
     (own_step name n uncast (same_name name n) refl)
-    (kept_replaced n name (row_or_new name stg content.rows) (rows_spared (victims caps (read.request name stg) content.rows) content.rows)
+    (kept_replaced n name (row_or_new name stg content.rows)
+    (rows_spared (victims caps (read.request name stg) content.rows) content.rows)
     (uncast name) uncast (name-row_or_new name stg content.rows)
     (read_kept name stg (row_of name content.rows) (uncast name) (all name))
     (kept_spared caps (read.request name stg) content.rows n (uncast n) is.directory (all n)))
@@ -206,11 +250,15 @@ after_kept vector caps content uncast by (Write name index body class adj old st
 after_kept vector caps content uncast by (CrossInval name) is h all = all
 after_kept vector caps content uncast by RegList is h all = all
 after_kept vector caps content uncast by (Castout name) is h all =
-    λ n. kept_replaced n name (castout.row_with_hold by (row_or_new name 1 content.rows)) content.rows (uncast_cast (uncast name)) uncast
-    (name-row_or_new name 1 content.rows) (castout_kept by name (row_of name content.rows) (uncast name) (all name)) (all n)
+    λ n. kept_replaced n name (castout.row_with_hold by (row_or_new name 1 content.rows)) content.rows
+    (uncast_cast (uncast name)) uncast
+    (name-row_or_new name 1 content.rows) (castout_kept by name (row_of name content.rows) (uncast name) (all name))
+    (all n)
 after_kept vector caps content uncast by (Unlock name) is h all =
-    λ n. kept_replaced n name (unlock.row_without_hold (row_or_new name 1 content.rows)) content.rows (uncast_unlocked (uncast name)) uncast
-    (name-row_or_new name 1 content.rows) (unlock_kept by name (row_of name content.rows) (uncast name) h (all name)) (all n)
+    λ n. kept_replaced n name (unlock.row_without_hold (row_or_new name 1 content.rows)) content.rows
+    (uncast_unlocked (uncast name)) uncast
+    (name-row_or_new name 1 content.rows) (unlock_kept by name (row_of name content.rows) (uncast name) h (all name))
+    (all n)
 after_kept vector caps content uncast by (CoClass class) is h all = all
 after_kept vector caps content uncast by CoStats is h all = all
 after_kept vector caps content uncast by (DirInfo name) is h all = all
@@ -218,30 +266,37 @@ after_kept vector caps content uncast by (Delete name) is h all =
     λ n. delete_step n name content.rows (uncast n) (same_name name n) refl (all n)
 after_kept vector caps content uncast by (StgStats stg) is h all = all
 
-unless_kept : (caps : Caps) (content : Content) (uncast : Uncasts) (by : ConnId) (cmd : CacheCmd) (refusal : Option Refusal)
+unless_kept : (caps : Caps) (content : Content) (uncast : Uncasts) (by : ConnId) (cmd : CacheCmd)
+    (refusal : Option Refusal)
     → (refusal ≡ None → AllKept (done caps content by cmd).state (uncast_done cmd uncast)) → AllKept content uncast
     → AllKept (unless_refused refusal content (done caps content by cmd)).state (uncast_unless refusal cmd uncast)
 unless_kept caps content uncast by cmd None h all = h refl
 unless_kept caps content uncast by cmd (Some refusal) h all = all
 
-deed_kept : (vector : ℕ) (caps : Caps) (content : Content) (uncast : Uncasts) (deed : Deed) → IsContent caps content → AllKept content uncast
+deed_kept : (vector : ℕ) (caps : Caps) (content : Content) (uncast : Uncasts) (deed : Deed) → IsContent caps content
+    → AllKept content uncast
     → AllKept (after_deed vector caps content deed) (uncast_after vector caps content uncast deed)
 deed_kept vector caps content uncast (Calls by cmd) is all =
-    unless_kept caps content uncast by cmd (cause vector caps content by cmd) (λ h. after_kept vector caps content uncast by cmd is h all) all
+    unless_kept caps content uncast by cmd (cause vector caps content by cmd)
+    (λ h. after_kept vector caps content uncast by cmd is h all) all
 deed_kept vector caps content uncast (Leaves conn) is all =
     λ n. subst (λ (o : Option CacheItem). Kept o (uncast n)) (sym (row_of-released conn n content.rows))
     (released_kept conn (row_of n content.rows) (uncast n) (all n))
 deed_kept vector caps content uncast Forgets is all = all
 
-run_kept : (vector : ℕ) (caps : Caps) (content : Content) (uncast : Uncasts) (deeds : List Deed) → IsContent caps content → AllKept content uncast
+run_kept : (vector : ℕ) (caps : Caps) (content : Content) (uncast : Uncasts) (deeds : List Deed)
+    → IsContent caps content → AllKept content uncast
     → AllKept (after_run vector caps content deeds) (uncast_run vector caps content uncast deeds)
 run_kept vector caps content uncast [] is all = all
 run_kept vector caps content uncast (deed ∷ deeds) is all =
     run_kept vector caps (after_deed vector caps content deed) (uncast_after vector caps content uncast deed) deeds
     (content-deed vector caps content deed is) (deed_kept vector caps content uncast deed is all)
 
--- A changed WRITE: after every run from the empty content, a name whose last changed WRITE isn't cast out nor deleted has a changed
+-- A changed WRITE: after every run from the empty content, a name whose last changed WRITE isn't cast out nor deleted
+-- has a changed
 -- row with what was written
 pub uncast-kept : (vector : ℕ) (caps : Caps) (deeds : List Deed) (name : Name16)
-    → Kept (row_of name (after_run vector caps nothing deeds).rows) (uncast_run vector caps nothing (λ n. None) deeds name)
-uncast-kept vector caps deeds name = run_kept vector caps nothing (λ n. None) deeds (content-nothing caps) (λ n. tt) name
+    → Kept (row_of name (after_run vector caps nothing deeds).rows) (uncast_run vector caps nothing (λ n. None) deeds
+    name)
+uncast-kept vector caps deeds name = run_kept vector caps nothing (λ n. None) deeds (content-nothing caps) (λ n. tt)
+    name

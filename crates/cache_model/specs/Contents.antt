@@ -38,7 +38,8 @@ content_without conn content =
 abbrev pub content_forgotten : Content → Content
 content_forgotten content = record content { regs = [] }
 
--- one item more, behind the others; without the last one. There are no registrations while items come one after another
+-- one item more, behind the others; without the last one. There are no registrations while items come one after
+-- another
 abbrev pub content_with : Content → CacheItem → Content
 content_with content item = record content { rows = content.rows ++ item ∷ [] }
 

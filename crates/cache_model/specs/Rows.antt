@@ -1,4 +1,5 @@
--- An entry of the directory, and the directory as a list of rows. The rows stand in one order: the changed ones by name, then the
+-- An entry of the directory, and the directory as a list of rows. The rows stand in one order: the changed ones by
+-- name, then the
 -- unchanged ones from least to most recently used.
 use Rattle.std.specs.Prelude.{ℕ, ◌+◌, ◌/◌, Bool, IsTrue, true, false, not, ◌&&◌, ◌||◌, ◌==◌, if◌then◌else◌, List, [], ◌∷◌, ◌++◌, length, Option, Some, None, is_some, is_none, unwrap_or, filter, find, sum_by}
 use Rattle.std.specs.List.{list_any, list_all}
@@ -76,7 +77,8 @@ has_storage stg row = row.stg == stg
 -- which rows may stand before which
 abbrev pub may_precede : CacheItem → CacheItem → Bool
 may_precede row other =
-    if is_changed row then (if is_changed other then name_before row.name other.name else true) else not (is_changed other)
+    if is_changed row then (if is_changed other then name_before row.name other.name else true) else not
+    (is_changed other)
 
 abbrev pub names_apart : CacheItem → CacheItem → Bool
 names_apart row other = not (same_name row.name other.name)

@@ -55,7 +55,8 @@ reply_copy (replies.Stats stats) = None
 reply_copy (replies.Dir class stg holder regs) = None
 reply_copy (replies.Stg rows changed) = None
 
--- what each connector has a copy of at each index: what the last READ there that wasn't refused answered, or WRITE wrote
+-- what each connector has a copy of at each index: what the last READ there that wasn't refused answered, or WRITE
+-- wrote
 abbrev pub Copies : Type 0
 Copies = ConnId → ℕ → Copy
 
@@ -65,7 +66,8 @@ copies_with by index copy copies = λ conn i. if (by.0 == conn.0) && (index == i
 abbrev pub copies_done : Content → ConnId → CacheCmd → Copies → Copies
 copies_done content by (Read name index old stg) copies =
     copies_with by index (reply_copy (reply content by (Read name index old stg))) copies
-copies_done content by (Write name index body class adj old stg when_reg) copies = copies_with by index (Some (body, adj)) copies
+copies_done content by (Write name index body class adj old stg when_reg) copies = copies_with by index
+    (Some (body, adj)) copies
 copies_done content by (CrossInval name) copies = copies
 copies_done content by RegList copies = copies
 copies_done content by (Castout name) copies = copies
@@ -81,7 +83,8 @@ copies_unless None content by cmd copies = copies_done content by cmd copies
 copies_unless (Some refusal) content by cmd copies = copies
 
 abbrev pub copies_after : ℕ → Caps → Content → Copies → Deed → Copies
-copies_after vector caps content copies (Calls by cmd) = copies_unless (cause vector caps content by cmd) content by cmd copies
+copies_after vector caps content copies (Calls by cmd) = copies_unless (cause vector caps content by cmd) content by
+    cmd copies
 copies_after vector caps content copies (Leaves conn) = copies
 copies_after vector caps content copies Forgets = copies
 

@@ -59,7 +59,8 @@ reply content by (StgStats stg) = stg_stats.reply content.rows stg
 -- the names of the rows that are reclaimed for a command
 abbrev pub victims : Caps → List CacheItem → CacheCmd → List Name16
 victims caps rows (Read name index old stg) = room.victims caps (read.request name stg) rows
-victims caps rows (Write name index body class adj old stg when_reg) = room.victims caps (write.request name body stg) rows
+victims caps rows (Write name index body class adj old stg when_reg) = room.victims caps (write.request name body stg)
+    rows
 victims caps rows (CrossInval name) = []
 victims caps rows RegList = []
 victims caps rows (Castout name) = []
@@ -73,7 +74,8 @@ victims caps rows (StgStats stg) = []
 -- the content that a command leaves, where the rows of these names are reclaimed
 abbrev pub after : List Name16 → Content → ConnId → CacheCmd → Content
 after gone content by (Read name index old stg) = read.after gone content by name index stg
-after gone content by (Write name index body class adj old stg when_reg) = write.after gone content by name index body class adj stg
+after gone content by (Write name index body class adj old stg when_reg) = write.after gone content by name index body
+    class adj stg
 after gone content by (CrossInval name) = cross_inval.after content by name
 after gone content by RegList = content
 after gone content by (Castout name) = castout.after content by name
@@ -87,4 +89,8 @@ after gone content by (StgStats stg) = content
 -- what a command does where no refusal holds
 abbrev pub done : Caps → Content → ConnId → CacheCmd → Outcome CacheReply Content
 done caps content by cmd =
-    record { reply = reply content by cmd; state = after (victims caps content.rows cmd) content by cmd; letters = [] }
+    record {
+      reply = reply content by cmd;
+      state = after (victims caps content.rows cmd) content by cmd;
+      letters = [];
+    }

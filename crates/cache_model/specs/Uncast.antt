@@ -41,7 +41,8 @@ uncast_unlocked (Some old) = if old.cast then None else Some old
 
 abbrev pub uncast_done : CacheCmd → Uncasts → Uncasts
 uncast_done (Read name index old stg) uncast = uncast
-uncast_done (Write name index body class adj old stg when_reg) uncast = uncast_with name (uncast_written body class adj (uncast name)) uncast
+uncast_done (Write name index body class adj old stg when_reg) uncast = uncast_with name
+    (uncast_written body class adj (uncast name)) uncast
 uncast_done (CrossInval name) uncast = uncast
 uncast_done RegList uncast = uncast
 uncast_done (Castout name) uncast = uncast_with name (uncast_cast (uncast name)) uncast
@@ -71,7 +72,8 @@ abbrev pub is_settled : Option Holder → Bool
 is_settled None = true
 is_settled (Some holder) = holder.rewritten
 
--- the row is changed, with the data, adjunct and class of that WRITE; where no CASTOUT came since, a CASTOUT before it doesn't count
+-- the row is changed, with the data, adjunct and class of that WRITE; where no CASTOUT came since, a CASTOUT before
+-- it doesn't count
 pub record HasWritten (row : CacheItem) (uncast : Uncast) : Type 0 where
   pub body : row.body ≡ Some uncast.body
   pub adj : row.adj ≡ uncast.adj

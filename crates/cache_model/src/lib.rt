@@ -1,5 +1,6 @@
-//! What a cache structure of a coupling facility is: its entries, what each command means, and the laws of it. There is
-//! no code but the types: contracts cite `specs/`, and the engine's laws stand in `proofs/`.
+//! What a cache structure of a coupling facility is: its entries, what each command means, and the
+//! laws of it. There is no code but the types: contracts cite `specs/`, and the engine's laws stand
+//! in `proofs/`.
 #![tactic(auto)]
 
 mod items;

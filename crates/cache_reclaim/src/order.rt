@@ -7,8 +7,8 @@ use cf_types::{Name16, NoMemory};
 use std::alloc::Global;
 use std::marker::Model;
 
-/// The names of unchanged rows with their storage classes, each name once. Contracts see them from least to most
-/// recently used, how many there may be, and for how many more there is room.
+/// The names of unchanged rows with their storage classes, each name once. Contracts see them from
+/// least to most recently used, how many there may be, and for how many more there is room.
 #[derive(Debug, Drop)]
 pub struct Order {
     order: Vec<Used>,
@@ -104,8 +104,8 @@ impl Order {
         Ok(())
     }
 
-    /// A name, of a row of this storage class (1 to 8), becomes the most recently used. It takes room for one name at
-    /// most.
+    /// A name, of a row of this storage class (1 to 8), becomes the most recently used. It takes
+    /// room for one name at most.
     pub fn touch(&mut self, name: Name16, stg: u32)
         requires room { 1 ≤ self.old.room }
         requires place { has_name name self.old.order ≡ false
@@ -127,8 +127,9 @@ impl Order {
         take_out(&mut self.order, name);
     }
 
-    /// The name that is reclaimed as the `k`-th (from 0) for a request of this storage class: first the names of that
-    /// class, then the others, each from least recently used. None exactly where there are no more than `k` names.
+    /// The name that is reclaimed as the `k`-th (from 0) for a request of this storage class: first
+    /// the names of that class, then the others, each from least recently used. None exactly where
+    /// there are no more than `k` names.
     pub fn victim(&self, stg: u32, k: u32) -> Option<Name16>
         ensures { result ≡ victim stg k self.now.order }
     {

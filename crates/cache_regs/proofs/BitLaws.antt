@@ -21,46 +21,61 @@ use Rattle.cache_regs.proofs.RegLaws.{places_apart}
 
 -- ---- registrations end
 
-same_place : (c i d j k n : ℕ) → (c == k) && (i == n) ≡ true → not ((d == c) && (j == i)) ≡ true → not ((d == k) && (j == n)) ≡ true
+same_place : (c i d j k n : ℕ) → (c == k) && (i == n) ≡ true → not ((d == c) && (j == i)) ≡ true
+    → not ((d == k) && (j == n)) ≡ true
 same_place c i d j k n h e = grind (arith, nat_tests)
 
 -- where one stands at an index, no later one does
-none_later : (reg : Registration) (regs : List Registration) (conn : ConnId) (index : ℕ) → pairwise stands_before (reg ∷ regs) ≡ true
+none_later : (reg : Registration) (regs : List Registration) (conn : ConnId) (index : ℕ) → pairwise stands_before
+    (reg ∷ regs) ≡ true
     → is_at conn index reg ≡ true → stands regs conn index ≡ false
 none_later reg regs conn index ordered here =
     none_from_all (is_at conn index) regs
     (list_all_weaker (stands_before reg) (λ other. not (is_at conn index other))
-    (λ other h. same_place reg.conn.0 reg.index other.conn.0 other.index conn.0 index here (places_apart reg other h)) regs
+    (λ other h. same_place reg.conn.0 reg.index other.conn.0 other.index conn.0 index here (places_apart reg other h))
+    regs
     (and_parts (list_all (stands_before reg) regs) (pairwise stands_before regs) ordered).0)
 
-ended_step : (p : Registration → Bool) (conn : ConnId) (index : ℕ) (a b : Bool) (reg : Registration) (regs : List Registration)
+ended_step : (p : Registration → Bool) (conn : ConnId) (index : ℕ) (a b : Bool) (reg : Registration)
+    (regs : List Registration)
     → is_at conn index reg ≡ a → p reg ≡ b → (a ≡ true → stands regs conn index ≡ false)
-    → told (map clear_change (filter p regs)) conn index ≡ difference (stands regs conn index) (stands (filter (λ r. not (p r)) regs) conn index)
+    → told (map clear_change (filter p regs)) conn index ≡ difference (stands regs conn index)
+    (stands (filter (λ r. not (p r)) regs) conn index)
     → told (map clear_change (filter p (reg ∷ regs))) conn index
     ≡ difference (stands (reg ∷ regs) conn index) (stands (filter (λ r. not (p r)) (reg ∷ regs)) conn index)
 ended_step p conn index true true reg regs e f none ih =
-    let gone : stands (filter (λ r. not (p r)) regs) conn index ≡ false = none-filter (is_at conn index) (λ r. not (p r)) regs (none refl) in
+    let gone : stands (filter (λ r. not (p r)) regs) conn index ≡ false = none-filter (is_at conn index)
+    (λ r. not (p r)) regs (none refl) in
     let quiet : told (map clear_change (filter p regs)) conn index ≡ [] = ih ∙ rw (none refl, gone) refl in
     rw (f, e, gone, quiet) refl
 ended_step p conn index true false reg regs e f none ih =
-    let gone : stands (filter (λ r. not (p r)) regs) conn index ≡ false = none-filter (is_at conn index) (λ r. not (p r)) regs (none refl) in
+    let gone : stands (filter (λ r. not (p r)) regs) conn index ≡ false = none-filter (is_at conn index)
+    (λ r. not (p r)) regs (none refl) in
     let quiet : told (map clear_change (filter p regs)) conn index ≡ [] = ih ∙ rw (none refl, gone) refl in
     rw (f, e, quiet) refl
 ended_step p conn index false true reg regs e f none ih = rw (f, e) ih
 ended_step p conn index false false reg regs e f none ih = rw (f, e) ih
 
-ended_told : (p : Registration → Bool) (conn : ConnId) (index : ℕ) (regs : List Registration) → pairwise stands_before regs ≡ true
-    → told (map clear_change (filter p regs)) conn index ≡ difference (stands regs conn index) (stands (filter (λ r. not (p r)) regs) conn index)
+ended_told : (p : Registration → Bool) (conn : ConnId) (index : ℕ) (regs : List Registration)
+    → pairwise stands_before regs ≡ true
+    → told (map clear_change (filter p regs)) conn index ≡ difference (stands regs conn index)
+    (stands (filter (λ r. not (p r)) regs) conn index)
 ended_told p conn index [] h = refl
 ended_told p conn index (reg ∷ regs) h =
     ended_step p conn index (is_at conn index reg) (p reg) reg regs refl refl (none_later reg regs conn index h)
     (ended_told p conn index regs (and_parts (list_all (stands_before reg) regs) (pairwise stands_before regs) h).1)
 
 -- each registration that ends clears its bit
-pub gains_ended : (p : Registration → Bool) (regs : List Registration) (bits : List BitChange) → pairwise stands_before regs ≡ true
+pub gains_ended : (p : Registration → Bool) (regs : List Registration) (bits : List BitChange)
+    → pairwise stands_before regs ≡ true
     → Gains (stands regs) (stands (filter (λ reg. not (p reg)) regs)) bits (bits ++ map clear_change (filter p regs))
 gains_ended p regs bits h =
-    record { added = map clear_change (filter p regs); behind = refl; exactly = λ conn index. ended_told p conn index regs h }
+    record {
+      added = map clear_change (filter p regs);
+      behind = refl;
+      exactly = λ conn index. ended_told p conn index
+          regs h;
+    }
 
 -- ---- one registration comes
 
@@ -69,34 +84,41 @@ same_test a b c d x y e = grind (arith, nat_tests)
 
 -- without what stood at an index
 stands_elsewhere : (regs : List Registration) (by conn : ConnId) (index i : ℕ)
-    → stands (filter (λ reg. not (is_at by index reg)) regs) conn i ≡ (not ((by.0 == conn.0) && (index == i)) && stands regs conn i)
+    → stands (filter (λ reg. not (is_at by index reg)) regs) conn i ≡ (not ((by.0 == conn.0) && (index == i))
+    && stands regs conn i)
 stands_elsewhere regs by conn index i =
     any-filter_same (is_at conn i) (λ reg. not (is_at by index reg)) (not ((by.0 == conn.0) && (index == i)))
     (λ reg e. same_test reg.conn.0 reg.index conn.0 i by.0 index e) regs
 
 -- with the new one in its place
 abbrev pub with_reg : Registration → List Registration → List Registration
-with_reg new regs = insertion (λ reg. stands_before reg new) new (filter (λ reg. not (is_at new.conn new.index reg)) regs)
+with_reg new regs = insertion (λ reg. stands_before reg new) new (filter (λ reg. not (is_at new.conn new.index reg))
+    regs)
 
 stands_with : (new : Registration) (regs : List Registration) (conn : ConnId) (i : ℕ)
-    → stands (with_reg new regs) conn i ≡ ((new.conn.0 == conn.0) && (new.index == i)) || (not ((new.conn.0 == conn.0) && (new.index == i)) && stands regs conn i)
+    → stands (with_reg new regs) conn i ≡ ((new.conn.0 == conn.0) && (new.index == i))
+    || (not ((new.conn.0 == conn.0) && (new.index == i)) && stands regs conn i)
 stands_with new regs conn i =
-    list_any-insertion (is_at conn i) (λ reg. stands_before reg new) new (filter (λ reg. not (is_at new.conn new.index reg)) regs)
+    list_any-insertion (is_at conn i) (λ reg. stands_before reg new) new
+    (filter (λ reg. not (is_at new.conn new.index reg)) regs)
     ∙ ap (λ b. ((new.conn.0 == conn.0) && (new.index == i)) || b) (stands_elsewhere regs new.conn conn new.index i)
 
 -- other bits stay
-pub stands_with-other : (new : Registration) (regs : List Registration) (conn : ConnId) (i : ℕ) → (new.conn.0 == conn.0) && (new.index == i) ≡ false
+pub stands_with-other : (new : Registration) (regs : List Registration) (conn : ConnId) (i : ℕ)
+    → (new.conn.0 == conn.0) && (new.index == i) ≡ false
     → stands (with_reg new regs) conn i ≡ stands regs conn i
 stands_with-other new regs conn i e = stands_with new regs conn i ∙ rw e refl
 
 self : (a b : ℕ) → (a == a) && (b == b) ≡ true
 self a b = grind (arith, nat_tests)
 
-pub stands_with-here : (new : Registration) (regs : List Registration) → stands (with_reg new regs) new.conn new.index ≡ true
+pub stands_with-here : (new : Registration) (regs : List Registration) → stands (with_reg new regs) new.conn new.index
+    ≡ true
 stands_with-here new regs = stands_with new regs new.conn new.index ∙ rw (self new.conn.0 new.index) refl
 
 -- where the bit stood, nothing changes
-same_pair : (new : Registration) (regs : List Registration) (conn : ConnId) (i : ℕ) (b : Bool) → (new.conn.0 == conn.0) && (new.index == i) ≡ b
+same_pair : (new : Registration) (regs : List Registration) (conn : ConnId) (i : ℕ) (b : Bool)
+    → (new.conn.0 == conn.0) && (new.index == i) ≡ b
     → stands regs new.conn new.index ≡ true → stands (with_reg new regs) conn i ≡ stands regs conn i
 same_pair new regs conn i true e stood =
     let parts = and_parts (new.conn.0 == conn.0) (new.index == i) e in
@@ -106,15 +128,18 @@ same_pair new regs conn i true e stood =
     stands_with new regs conn i ∙ rw e (sym there)
 same_pair new regs conn i false e stood = stands_with-other new regs conn i e
 
-pub gains_stood : (new : Registration) (regs : List Registration) (bits : List BitChange) → stands regs new.conn new.index ≡ true
+pub gains_stood : (new : Registration) (regs : List Registration) (bits : List BitChange)
+    → stands regs new.conn new.index ≡ true
     → Gains (stands regs) (stands (with_reg new regs)) bits bits
 gains_stood new regs bits stood =
     gains_none (stands regs) (stands (with_reg new regs)) bits
     (λ conn i. same_pair new regs conn i ((new.conn.0 == conn.0) && (new.index == i)) refl stood)
 
 -- where it didn't, it does now
-pub gains_new : (new : Registration) (regs : List Registration) (bits : List BitChange) → stands regs new.conn new.index ≡ false
-    → Gains (stands regs) (stands (with_reg new regs)) bits (bits ++ record { conn = new.conn; index = new.index; bit = true } ∷ [])
+pub gains_new : (new : Registration) (regs : List Registration) (bits : List BitChange)
+    → stands regs new.conn new.index ≡ false
+    → Gains (stands regs) (stands (with_reg new regs)) bits
+    (bits ++ record { conn = new.conn; index = new.index; bit = true } ∷ [])
 gains_new new regs bits stood =
     let now : stands (with_reg new regs) new.conn new.index ≡ true = stands_with-here new regs in
     let one = gains_one new.conn new.index (stands regs) (stands (with_reg new regs)) bits
@@ -141,34 +166,42 @@ gains_with new regs xs ys zs first second =
     (λ conn i. once conn i ((new.conn.0 == conn.0) && (new.index == i)) refl) first second
   where
     once : (conn : ConnId) (i : ℕ) (b : Bool) → (new.conn.0 == conn.0) && (new.index == i) ≡ b
-        → (stands (filter (λ reg. not (is_for new.conn new.name reg && not (reg.index == new.index))) regs) conn i ≡ stands regs conn i)
-        ⊎ (stands (with_reg new (filter (λ reg. not (is_for new.conn new.name reg && not (reg.index == new.index))) regs)) conn i
+        → (stands (filter (λ reg. not (is_for new.conn new.name reg && not (reg.index == new.index))) regs) conn i ≡
+        stands regs conn i)
+        ⊎ (stands (with_reg new (filter (λ reg. not (is_for new.conn new.name reg && not (reg.index == new.index)))
+        regs)) conn i
         ≡ stands (filter (λ reg. not (is_for new.conn new.name reg && not (reg.index == new.index))) regs) conn i)
     once conn i true e =
-        inl (any-filter_same (is_at conn i) (λ reg. not (is_for new.conn new.name reg && not (reg.index == new.index))) true
+        inl (any-filter_same (is_at conn i) (λ reg. not (is_for new.conn new.name reg
+        && not (reg.index == new.index))) true
         (λ reg h. at_index (is_for new.conn new.name reg) (is_of conn reg) reg.index i new.index h
         (eqb-true new.index i (and_parts (new.conn.0 == conn.0) (new.index == i) e).1)) regs)
-    once conn i false e = inr (stands_with-other new (filter (λ reg. not (is_for new.conn new.name reg && not (reg.index == new.index))) regs) conn i e)
+    once conn i false e = inr (stands_with-other new (filter (λ reg. not (is_for new.conn new.name reg
+        && not (reg.index == new.index))) regs) conn i e)
 
 -- ---- after a registration, others end
 
 -- the new one stands among those that are kept
 pub stands_kept : (q : Registration → Bool) (by : ConnId) (index : ℕ) (name : Name16) (regs : List Registration)
-    → q (record { conn = by; index = index; name = name }) ≡ true → stands (filter q (regs_with by index name regs)) by index ≡ true
+    → q (record { conn = by; index = index; name = name }) ≡ true → stands (filter q (regs_with by index name regs))
+    by index ≡ true
 stands_kept q by index name regs h =
     let new : Registration = record { conn = by; index = index; name = name } in
-    list_any-insertion_kept (is_at by index) q (λ reg. stands_before reg new) new (filter (λ reg. not (is_replaced by index name reg)) regs)
+    list_any-insertion_kept (is_at by index) q (λ reg. stands_before reg new) new
+    (filter (λ reg. not (is_replaced by index name reg)) regs)
     (self by.0 index) h
 
 -- elsewhere no bit rises
-stood_elsewhere : (by : ConnId) (index : ℕ) (name : Name16) (regs : List Registration) (conn : ConnId) (i : ℕ) → (by.0 == conn.0) && (index == i) ≡ false
+stood_elsewhere : (by : ConnId) (index : ℕ) (name : Name16) (regs : List Registration) (conn : ConnId) (i : ℕ)
+    → (by.0 == conn.0) && (index == i) ≡ false
     → stands (regs_with by index name regs) conn i ≡ true → stands regs conn i ≡ true
 stood_elsewhere by index name regs conn i apart h =
     let new : Registration = record { conn = by; index = index; name = name } in
     let others = filter (λ reg. not (is_replaced by index name reg)) regs in
     let split : ((by.0 == conn.0) && (index == i)) || stands others conn i ≡ true =
     sym (list_any-insertion (is_at conn i) (λ reg. stands_before reg new) new others) ∙ h in
-    let left : stands others conn i ≡ true = second ((by.0 == conn.0) && (index == i)) (stands others conn i) apart split in
+    let left : stands others conn i ≡ true = second ((by.0 == conn.0) && (index == i)) (stands others conn i) apart
+    split in
     any-filter (is_at conn i) (λ reg. not (is_replaced by index name reg)) regs left
   where
     second : (a b : Bool) → a ≡ false → a || b ≡ true → b ≡ true
@@ -183,16 +216,19 @@ only_falls true false true h k = absurd (false≢true (k refl))
 only_falls false true c h k = absurd (false≢true (h refl))
 
 -- a connector registers, and then bits fall, but not its own there
-pub gains_then_falls : (by : ConnId) (index : ℕ) (name : Name16) (regs later : List Registration) (xs ys zs : List BitChange)
+pub gains_then_falls : (by : ConnId) (index : ℕ) (name : Name16) (regs later : List Registration)
+    (xs ys zs : List BitChange)
     → stands later by index ≡ true → Falls (stands (regs_with by index name regs)) (stands later)
-    → Gains (stands regs) (stands (regs_with by index name regs)) xs ys → Gains (stands (regs_with by index name regs)) (stands later) ys zs
+    → Gains (stands regs) (stands (regs_with by index name regs)) xs ys
+    → Gains (stands (regs_with by index name regs)) (stands later) ys zs
     → Gains (stands regs) (stands later) xs zs
 gains_then_falls by index name regs later xs ys zs there falls first second =
     gains_then (stands regs) (stands (regs_with by index name regs)) (stands later) xs ys zs
     (λ conn i. once conn i ((by.0 == conn.0) && (index == i)) refl) first second
   where
     once : (conn : ConnId) (i : ℕ) (b : Bool) → (by.0 == conn.0) && (index == i) ≡ b
-        → (stands (regs_with by index name regs) conn i ≡ stands regs conn i) ⊎ (stands later conn i ≡ stands (regs_with by index name regs) conn i)
+        → (stands (regs_with by index name regs) conn i ≡ stands regs conn i)
+        ⊎ (stands later conn i ≡ stands (regs_with by index name regs) conn i)
     once conn i true e =
         let parts = and_parts (by.0 == conn.0) (index == i) e in
         let here : stands later conn i ≡ true =

@@ -36,9 +36,11 @@ is_less Greater h = absurd (false≢true h)
 
 pub name_before-trans : (a b c : Name16) → name_before a b ≡ true → name_before b c ≡ true → name_before a c ≡ true
 name_before-trans a b c h k =
-    ap is_lt (nat_list_cmp_total.trans a.0 b.0 c.0 (is_less (slice_cmp nat_cmp a.0 b.0) h) (is_less (slice_cmp nat_cmp b.0 c.0) k))
+    ap is_lt (nat_list_cmp_total.trans a.0 b.0 c.0 (is_less (slice_cmp nat_cmp a.0 b.0) h)
+    (is_less (slice_cmp nat_cmp b.0 c.0) k))
 
-other_way : (o p : Ordering) (same : Bool) → o ≡ ordering_reverse p → same ≡ is_eq p → same ≡ false → is_lt p ≡ false → is_lt o ≡ true
+other_way : (o p : Ordering) (same : Bool) → o ≡ ordering_reverse p → same ≡ is_eq p → same ≡ false → is_lt p ≡ false
+    → is_lt o ≡ true
 other_way o Less same e f g h = absurd (false≢true (sym h))
 other_way o Equal same e f g h = absurd (false≢true (sym g ∙ f))
 other_way o Greater same e f g h = rw e refl

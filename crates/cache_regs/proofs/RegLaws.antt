@@ -21,7 +21,8 @@ before_stop : (c i d j : ℕ) → not ((d == c) && (j == i)) ≡ true → nat_lt
     → nat_lt c d || ((c == d) && nat_lt i j) ≡ true
 before_stop c i d j h e = grind (arith, nat_tests)
 
-before_follows : (c i d j e k : ℕ) → nat_lt c d || ((c == d) && nat_lt i j) ≡ true → nat_lt d e || ((d == e) && nat_lt j k) ≡ true
+before_follows : (c i d j e k : ℕ) → nat_lt c d || ((c == d) && nat_lt i j) ≡ true → nat_lt d e
+    || ((d == e) && nat_lt j k) ≡ true
     → nat_lt c e || ((c == e) && nat_lt i k) ≡ true
 before_follows c i d j e k h g = grind (arith, nat_tests)
 
@@ -29,10 +30,12 @@ before_apart : (c i d j : ℕ) → nat_lt c d || ((c == d) && nat_lt i j) ≡ tr
 before_apart c i d j h = grind (arith, nat_tests)
 
 -- what stands before another has another place
-pub places_apart : (reg other : Registration) → stands_before reg other ≡ true → not (is_at reg.conn reg.index other) ≡ true
+pub places_apart : (reg other : Registration) → stands_before reg other ≡ true → not (is_at reg.conn reg.index other)
+    ≡ true
 places_apart reg other h = before_apart reg.conn.0 reg.index other.conn.0 other.index h
 
-finds_place : (reg : Registration) → FindsPlace stands_before (λ other. stands_before other reg) (λ other. not (is_at reg.conn reg.index other)) reg
+finds_place : (reg : Registration) → FindsPlace stands_before (λ other. stands_before other reg)
+    (λ other. not (is_at reg.conn reg.index other)) reg
 finds_place reg =
     record {
       front = λ other h. h;
@@ -51,12 +54,15 @@ split_test false i n = refl
 
 -- the registrations elsewhere for the name go first, and then the one at the index
 pub filter-replaced : (conn : ConnId) (index : ℕ) (name : Name16) (regs : List Registration)
-    → filter (λ reg. not (is_at conn index reg)) (filter (λ reg. not (is_for conn name reg && not (reg.index == index))) regs)
+    → filter (λ reg. not (is_at conn index reg)) (filter
+    (λ reg. not (is_for conn name reg && not (reg.index == index))) regs)
     ≡ filter (λ reg. not (is_replaced conn index name reg)) regs
 filter-replaced conn index name regs =
-    filter-filter (λ reg. not (is_at conn index reg)) (λ reg. not (is_for conn name reg && not (reg.index == index))) regs
+    filter-filter (λ reg. not (is_at conn index reg)) (λ reg. not (is_for conn name reg && not (reg.index == index)))
+    regs
     ∙ filter_agree (λ reg. not (is_for conn name reg && not (reg.index == index)) && not (is_at conn index reg))
-    (λ reg. not (is_replaced conn index name reg)) (λ reg. split_test (is_of conn reg) (reg.index == index) (same_name reg.name name)) regs
+    (λ reg. not (is_replaced conn index name reg)) (λ reg. split_test (is_of conn reg) (reg.index == index)
+    (same_name reg.name name)) regs
 
 not_at : (c i n : Bool) → not ((c && i) || (c && n)) ≡ true → not (c && i) ≡ true
 not_at true true n h = h
@@ -84,7 +90,8 @@ registry-with conn index name regs is =
     let spared = list_all-filter_same (λ other. not (is_replaced conn index name other)) regs in
     record {
       ordered =
-          pairwise-insertion stands_before (λ other. stands_before other reg) (λ other. not (is_at conn index other)) reg others
+          pairwise-insertion stands_before (λ other. stands_before other reg) (λ other. not (is_at conn index other))
+          reg others
           (finds_place reg)
           (list_all_weaker (λ other. not (is_replaced conn index name other)) (λ other. not (is_at conn index other))
           (λ other. not_at (is_of conn other) (other.index == index) (same_name other.name name)) others spared)
@@ -92,12 +99,15 @@ registry-with conn index name regs is =
       one_for_name =
           pairwise-insertion_any names_apart (λ other. stands_before other reg) reg others
           (pairwise-filter names_apart (λ other. not (is_replaced conn index name other)) regs is.one_for_name)
-          (list_all_weaker (λ other. not (is_replaced conn index name other)) (λ other. names_apart reg other && names_apart other reg)
-          (λ other. not_for (is_of conn other) (other.index == index) (same_name other.name name) (conn.0 == other.conn.0)
+          (list_all_weaker (λ other. not (is_replaced conn index name other)) (λ other. names_apart reg other
+          && names_apart other reg)
+          (λ other. not_for (is_of conn other) (other.index == index) (same_name other.name name)
+          (conn.0 == other.conn.0)
           (same_name name other.name) (turn other.conn.0 conn.0) (same_name-sym other.name name)) others spared);
     }
 
-pub registry-filter : (q : Registration → Bool) (regs : List Registration) → IsRegistry regs → IsRegistry (filter q regs)
+pub registry-filter : (q : Registration → Bool) (regs : List Registration) → IsRegistry regs
+    → IsRegistry (filter q regs)
 registry-filter q regs is =
     record {
       ordered = pairwise-filter stands_before q regs is.ordered;
@@ -106,21 +116,25 @@ registry-filter q regs is =
 
 -- ---- one at most for a name
 
-same_for : (reg other : Registration) (conn : ConnId) (name : Name16) → is_for conn name reg ≡ true → names_apart reg other ≡ true
+same_for : (reg other : Registration) (conn : ConnId) (name : Name16) → is_for conn name reg ≡ true
+    → names_apart reg other ≡ true
     → not (is_for conn name other) ≡ true
 same_for reg other conn name h e =
     let parts = and_parts (reg.conn.0 == conn.0) (same_name reg.name name) h in
     let here : not ((conn.0 == other.conn.0) && same_name name other.name) ≡ true =
-    subst₂ (λ (k : ℕ) (m : Name16). not ((k == other.conn.0) && same_name m other.name) ≡ true) (eqb-true reg.conn.0 conn.0 parts.0)
+    subst₂ (λ (k : ℕ) (m : Name16). not ((k == other.conn.0) && same_name m other.name) ≡ true)
+    (eqb-true reg.conn.0 conn.0 parts.0)
     (same_name-eq reg.name name parts.1) e in
     rw (turn other.conn.0 conn.0, same_name-sym other.name name) here
 
-one_step : (conn : ConnId) (name : Name16) (b : Bool) (reg : Registration) (regs : List Registration) → is_for conn name reg ≡ b
+one_step : (conn : ConnId) (name : Name16) (b : Bool) (reg : Registration) (regs : List Registration)
+    → is_for conn name reg ≡ b
     → list_all (names_apart reg) regs ≡ true → length (filter (is_for conn name) regs) ≤ 1
     → length (cond b (reg ∷ filter (is_for conn name) regs) (filter (is_for conn name) regs)) ≤ 1
 one_step conn name true reg regs e apart ih =
     let none = none_from_all (is_for conn name) regs
-    (list_all_weaker (names_apart reg) (λ other. not (is_for conn name other)) (λ other h. same_for reg other conn name e h) regs apart) in
+    (list_all_weaker (names_apart reg) (λ other. not (is_for conn name other))
+    (λ other h. same_for reg other conn name e h) regs apart) in
     let empty : filter (is_for conn name) regs ≡ [] = filter_none (is_for conn name) regs none in
     rw empty (omega arith)
 one_step conn name false reg regs e apart ih = ih
@@ -133,7 +147,8 @@ one_for_name conn name (reg ∷ regs) h =
     one_step conn name (is_for conn name reg) reg regs refl parts.0 (one_for_name conn name regs parts.1)
 
 -- at another index than one
-pub one_elsewhere : (conn : ConnId) (index : ℕ) (name : Name16) (regs : List Registration) → pairwise names_apart regs ≡ true
+pub one_elsewhere : (conn : ConnId) (index : ℕ) (name : Name16) (regs : List Registration)
+    → pairwise names_apart regs ≡ true
     → length (filter (λ reg. is_for conn name reg && not (reg.index == index)) regs) ≤ 1
 one_elsewhere conn index name regs h =
     let all = one_for_name conn name regs h in

@@ -9,8 +9,8 @@ ghost use Rattle.cache_regs.specs.Ends.{is_ended, regs_ended, changes_of};
 use crate::registrations::Registration;
 use cf_types::{BitChange, ConnId, Effects, Name16};
 
-/// Which registrations end: a connector's for a name, but not at this index; all for a name, but those of a
-/// connector that is spared; a connector's; or all.
+/// Which registrations end: a connector's for a name, but not at this index; all for a name, but
+/// those of a connector that is spared; a connector's; or all.
 #[derive(Clone, Copy)]
 pub(crate) enum Ends {
     Elsewhere {
@@ -87,10 +87,13 @@ pub(crate) fn end(regs: &mut Vec<Registration>, ends: Ends, out: &mut Effects)
     requires ordered { IsTrue (pairwise stands_before regs.old.items) }
     requires room { length (filter (is_ended ends) regs.old.items) ≤ out.old.bits.room }
     ensures regs { regs.new.items ≡ regs_ended ends regs.old.items }
-    ensures bits { Gains (stands regs.old.items) (stands regs.new.items) out.old.bits.items out.new.bits.items }
-    ensures room { out.new.bits.room + length (filter (is_ended ends) regs.old.items) ≡ out.old.bits.room }
+    ensures bits { Gains (stands regs.old.items) (stands regs.new.items) out.old.bits.items
+        out.new.bits.items }
+    ensures room { out.new.bits.room + length (filter (is_ended ends) regs.old.items) ≡
+        out.old.bits.room }
     ensures mail { out.new.mail ≡ out.old.mail }
-    ensures fewer { vec_len regs.new + length (filter (is_ended ends) regs.old.items) ≡ vec_len regs.old }
+    ensures fewer { vec_len regs.new + length (filter (is_ended ends) regs.old.items) ≡ vec_len
+        regs.old }
     ensures capacity { vec_capacity regs.new ≡ vec_capacity regs.old }
 {
     tell(regs, ends, out);

@@ -1,5 +1,5 @@
-//! The registrations of a cache structure: which connector has a copy of which name, and at which bit of its
-//! vector it is told whether that copy is valid.
+//! The registrations of a cache structure: which connector has a copy of which name, and at which
+//! bit of its vector it is told whether that copy is valid.
 #![tactic(auto)]
 
 mod ends;

@@ -1,7 +1,7 @@
 use cf_types::{ConnId, Name16};
 
-/// A connector's registration for a name: the bit at this index of its vector (from 0) tells whether its copy of
-/// the entry is valid.
+/// A connector's registration for a name: the bit at this index of its vector (from 0) tells
+/// whether its copy of the entry is valid.
 #[derive(Clone, Copy, Debug, PartialEq, Eq)]
 pub struct Registration {
     pub conn: ConnId,

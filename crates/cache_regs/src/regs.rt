@@ -13,8 +13,8 @@ use cf_types::{BitChange, ConnId, Effects, Name16, NoMemory};
 use std::alloc::Global;
 use std::marker::Model;
 
-/// The registrations of a cache structure. Contracts see them in the order of connectors and, of one connector, of
-/// indexes, with how many more there is room for.
+/// The registrations of a cache structure. Contracts see them in the order of connectors and, of
+/// one connector, of indexes, with how many more there is room for.
 #[derive(Debug, Drop)]
 pub struct Regs {
     regs: Vec<Registration>,
@@ -77,7 +77,8 @@ fn put(regs: &mut Vec<Registration>, new: Registration, out: &mut Effects)
     requires room { 1 ≤ out.old.bits.room }
     ensures regs { regs.new.items ≡ insertion (λ reg. stands_before reg new) new
         (filter (λ reg. not (is_at new.conn new.index reg)) regs.old.items) }
-    ensures bits { Gains (stands regs.old.items) (stands regs.new.items) out.old.bits.items out.new.bits.items }
+    ensures bits { Gains (stands regs.old.items) (stands regs.new.items) out.old.bits.items
+        out.new.bits.items }
     ensures room { out.old.bits.room ≤ out.new.bits.room + 1 }
     ensures mail { out.new.mail ≡ out.old.mail }
     ensures more { vec_len regs.new ≤ vec_len regs.old + 1 }
@@ -96,8 +97,8 @@ fn put(regs: &mut Vec<Registration>, new: Registration, out: &mut Effects)
 }
 
 impl Regs {
-    /// No registrations, for structures of so many connections and of vectors of so many bits. It takes no memory
-    /// yet.
+    /// No registrations, for structures of so many connections and of vectors of so many bits. It
+    /// takes no memory yet.
     pub fn new(alloc: Global, _conns: u8, _len: u32) -> Result<Regs, NoMemory>
         ensures { IfOk result (λ regs. regs.regs ≡ []) }
     {
@@ -173,8 +174,8 @@ impl Regs {
         is_taken(&self.regs, conn, index)
     }
 
-    /// Takes room for one more registration, and room in the effects for what one command tells: its registration,
-    /// and the end of others'. Want of memory changes nothing.
+    /// Takes room for one more registration, and room in the effects for what one command tells:
+    /// its registration, and the end of others'. Want of memory changes nothing.
     pub fn room(&mut self, out: &mut Effects) -> Result<(), NoMemory>
         ensures regs { self.new.regs ≡ self.old.regs }
         ensures place { OnOk result (1 ≤ self.new.room) }
@@ -190,13 +191,14 @@ impl Regs {
         out.bits.reserve(count)
     }
 
-    /// Registers a connector for a name at an index. Its registration at that index, and its registration for that
-    /// name at another one, end. At most two bits change.
+    /// Registers a connector for a name at an index. Its registration at that index, and its
+    /// registration for that name at another one, end. At most two bits change.
     pub fn set(&mut self, conn: ConnId, index: u32, name: Name16, out: &mut Effects)
         requires place { 1 ≤ self.old.room }
         requires room { 2 ≤ out.old.bits.room }
         ensures regs { self.new.regs ≡ regs_with conn index name self.old.regs }
-        ensures bits { Gains (stands self.old.regs) (stands self.new.regs) out.old.bits.items out.new.bits.items }
+        ensures bits { Gains (stands self.old.regs) (stands self.new.regs) out.old.bits.items
+            out.new.bits.items }
         ensures room { out.old.bits.room ≤ out.new.bits.room + 2 }
         ensures mail { out.new.mail ≡ out.old.mail }
         ensures more { length self.new.regs ≤ length self.old.regs + 1 }
@@ -206,13 +208,14 @@ impl Regs {
         put(&mut self.regs, Registration { conn, index, name }, out);
     }
 
-    /// Ends the registrations for a name, but those of the connector that is spared; answers how many ended. The
-    /// bit of each is cleared.
+    /// Ends the registrations for a name, but those of the connector that is spared; answers how
+    /// many ended. The bit of each is cleared.
     pub fn drop_name(&mut self, name: &Name16, spare: Option<ConnId>, out: &mut Effects) -> u32
         requires { length (filter (ends_with_name name.now spare) self.old.regs) ≤ out.old.bits.room }
         ensures count { result ≡ length (filter (ends_with_name name.now spare) self.old.regs) }
         ensures regs { self.new.regs ≡ regs_without_name name.now spare self.old.regs }
-        ensures bits { Gains (stands self.old.regs) (stands self.new.regs) out.old.bits.items out.new.bits.items }
+        ensures bits { Gains (stands self.old.regs) (stands self.new.regs) out.old.bits.items
+            out.new.bits.items }
         ensures room { out.new.bits.room + result ≡ out.old.bits.room }
         ensures mail { out.new.mail ≡ out.old.mail }
         ensures fewer { length self.new.regs + result ≡ length self.old.regs }
@@ -227,7 +230,8 @@ impl Regs {
     pub fn drop_conn(&mut self, conn: ConnId, out: &mut Effects)
         requires { length (filter (is_of conn) self.old.regs) ≤ out.old.bits.room }
         ensures regs { self.new.regs ≡ regs_without conn self.old.regs }
-        ensures bits { Gains (stands self.old.regs) (stands self.new.regs) out.old.bits.items out.new.bits.items }
+        ensures bits { Gains (stands self.old.regs) (stands self.new.regs) out.old.bits.items
+            out.new.bits.items }
         ensures mail { out.new.mail ≡ out.old.mail }
         ensures place { self.old.room ≤ self.new.room }
     {
@@ -245,7 +249,8 @@ impl Regs {
     pub fn drop_all(&mut self, out: &mut Effects)
         requires { length self.old.regs ≤ out.old.bits.room }
         ensures regs { self.new.regs ≡ [] }
-        ensures bits { Gains (stands self.old.regs) (stands self.new.regs) out.old.bits.items out.new.bits.items }
+        ensures bits { Gains (stands self.old.regs) (stands self.new.regs) out.old.bits.items
+            out.new.bits.items }
         ensures mail { out.new.mail ≡ out.old.mail }
         ensures place { self.old.room ≤ self.new.room }
     {

@@ -19,6 +19,8 @@ length-more xs ys n k h = omega (arith, length-append xs (take n ys), length-tak
 pub drop-read : (t n : ℕ) (bytes place piece : List ℕ) → n ≤ length (drop t bytes) → piece ≡ take n (drop t bytes)
     → drop t bytes ≡ take n (piece ++ place) ++ drop (t + n) bytes
 drop-read t n bytes place piece h e =
-    let front : take n (piece ++ place) ≡ take n (drop t bytes) = take_at piece place n (ap length e ∙ length-take-le n (drop t bytes) h) ∙ e in
+    let front : take n (piece ++ place) ≡ take n (drop t bytes) = take_at piece place n (ap length e
+    ∙ length-take-le n (drop t bytes) h) ∙ e in
     let rest : drop n (drop t bytes) ≡ drop (t + n) bytes = drop-drop n t bytes in
-    sym (take-append-drop n (drop t bytes)) ∙ ap (λ l. l ++ drop n (drop t bytes)) (sym front) ∙ ap (λ l. take n (piece ++ place) ++ l) rest
+    sym (take-append-drop n (drop t bytes)) ∙ ap (λ l. l ++ drop n (drop t bytes)) (sym front)
+    ∙ ap (λ l. take n (piece ++ place) ++ l) rest

@@ -1,7 +1,8 @@
 ghost use Rattle.std.specs.Prelude.{◌≡◌, ◌↔◌, IsTrue};
 ghost use Rattle.cf_io.specs.Count.{IsListed, one_more};
 
-// Whether the call after so many is listed. None is at the end of the count, since no number of a `u64` is past it.
+// Whether the call after so many is listed. None is at the end of the count, since no number of a
+// `u64` is past it.
 pub(crate) fn is_listed(fails: &[u64], calls: u64) -> bool
     ensures { IsTrue result ↔ IsListed fails.now calls }
 {

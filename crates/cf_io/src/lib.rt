@@ -1,8 +1,10 @@
-//! What comes in and what goes out: bytes from a source, bytes to a sink, and faults that are counted.
+//! What comes in and what goes out: bytes from a source, bytes to a sink, and faults that are
+//! counted.
 //!
-//! [`Source`] and [`Sink`] are the outside as the other crates see it. [`MemSource`] and [`MemSink`] tell each
-//! byte and fail at listed calls. [`StdSource`] and [`StdSink`] stand over std's `Read` and `Write`.
-//! [`read_all`] takes all that a source has left, up to a limit, and [`write_all`] writes a whole text.
+//! [`Source`] and [`Sink`] are the outside as the other crates see it. [`MemSource`] and
+//! [`MemSink`] tell each byte and fail at listed calls. [`StdSource`] and [`StdSink`] stand over
+//! std's `Read` and `Write`. [`read_all`] takes all that a source has left, up to a limit, and
+//! [`write_all`] writes a whole text.
 #![tactic(auto)]
 
 mod counting;

@@ -5,8 +5,8 @@ use crate::counting::{counted, is_listed};
 use crate::{Failed, NoMemory, Sink};
 use std::alloc::Global;
 
-/// A sink in memory. It fails exactly the calls whose numbers, from 1, stand in `fails`, and where its room is
-/// used up.
+/// A sink in memory. It fails exactly the calls whose numbers, from 1, stand in `fails`, and where
+/// its room is used up.
 #[derive(Drop)]
 pub struct MemSink {
     /// The bytes that were written.
@@ -33,7 +33,8 @@ pub struct MemSink {
 }
 
 impl MemSink {
-    /// A sink that holds nothing yet, with memory for `room` bytes. One call takes at most `piece` bytes.
+    /// A sink that holds nothing yet, with memory for `room` bytes. One call takes at most `piece`
+    /// bytes.
     ///
     /// # Errors
     ///
@@ -46,7 +47,8 @@ impl MemSink {
     ) -> Result<MemSink, NoMemory>
         requires { 0 < piece }
         ensures empty { IfOk result (λ sink. sink.bytes.items ≡ []) }
-        ensures form { IfOk result (λ sink. (sink.room ≡ room) × (sink.piece ≡ piece) × (sink.fails ≡ fails)) }
+        ensures form { IfOk result (λ sink. (sink.room ≡ room) × (sink.piece ≡ piece)
+            × (sink.fails ≡ fails)) }
         ensures counts { IfOk result (λ sink. (sink.calls ≡ 0) × (sink.faults ≡ 0)) }
     {
         Ok(MemSink {
@@ -67,8 +69,8 @@ impl Sink for MemSink {
 
     ghost calls = { λ sink. sink.calls };
 
-    /// Takes as many bytes as are given, fit into the room that is left, and may come in one call. It takes no
-    /// memory.
+    /// Takes as many bytes as are given, fit into the room that is left, and may come in one call.
+    /// It takes no memory.
     ///
     /// # Errors
     ///
@@ -79,16 +81,21 @@ impl Sink for MemSink {
             ⊎ ((0 < length from.now) × (vec_len self.old.bytes ≡ self.old.room))) }
 
         // What an Ok takes.
-        ensures count { IfOk result (λ n. n ≡ min (length from.now) (min self.old.piece (self.old.room - vec_len self.old.bytes))) }
-        ensures bytes { IfOk result (λ n. self.new.bytes.items ≡ self.old.bytes.items ++ take n from.now) }
+        ensures count { IfOk result (λ n. n ≡ min (length from.now)
+            (min self.old.piece (self.old.room - vec_len self.old.bytes))) }
+        ensures bytes { IfOk result (λ n. self.new.bytes.items ≡ self.old.bytes.items
+            ++ take n from.now) }
         ensures some { IfOk result (λ n. 0 < length from.now → 0 < n) }
-        ensures ok { OnOk result ((self.new.calls ≡ one_more self.old.calls) × (self.new.faults ≡ self.old.faults)) }
+        ensures ok { OnOk result ((self.new.calls ≡ one_more self.old.calls)
+            × (self.new.faults ≡ self.old.faults)) }
 
         // An error counts a fault, and takes nothing.
-        ensures err { OnErr result (self.new ≡ record self.old { calls = one_more self.old.calls; faults = one_more self.old.faults }) }
+        ensures err { OnErr result (self.new ≡ record self.old
+            { calls = one_more self.old.calls; faults = one_more self.old.faults }) }
         ensures faults { self.old.faults ≤ self.new.faults }
 
-        ensures form { (self.new.room ≡ self.old.room) × (self.new.piece ≡ self.old.piece) × (self.new.fails ≡ self.old.fails) }
+        ensures form { (self.new.room ≡ self.old.room) × (self.new.piece ≡ self.old.piece)
+            × (self.new.fails ≡ self.old.fails) }
     {
         let listed = is_listed(&self.fails, self.calls);
         self.calls = counted(self.calls);

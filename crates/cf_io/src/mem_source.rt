@@ -31,7 +31,8 @@ impl Source for MemSource {
 
     ghost calls = { λ source. source.calls };
 
-    /// Gives as many bytes as there are and fit, and leaves what stands behind them in `into` as it was.
+    /// Gives as many bytes as there are and fit, and leaves what stands behind them in `into` as it
+    /// was.
     ///
     /// # Errors
     ///
@@ -43,11 +44,13 @@ impl Source for MemSource {
         // What an Ok gives, and what stays.
         ensures count { IfOk result (λ n. n ≡ min (length (left_of self.old)) (length into.old)) }
         ensures bytes { IfOk result (λ n. into.new ≡ take n (left_of self.old) ++ drop n into.old) }
-        ensures ok { IfOk result (λ n. self.new ≡ record self.old { taken = self.old.taken + n; calls = one_more self.old.calls }) }
+        ensures ok { IfOk result (λ n. self.new ≡ record self.old
+            { taken = self.old.taken + n; calls = one_more self.old.calls }) }
         ensures given { IfOk result (λ n. left_of self.old ≡ take n into.new ++ left_of self.new) }
 
         // An error counts a fault, and takes and gives nothing.
-        ensures err { OnErr result (self.new ≡ record self.old { calls = one_more self.old.calls; faults = one_more self.old.faults }) }
+        ensures err { OnErr result (self.new ≡ record self.old
+            { calls = one_more self.old.calls; faults = one_more self.old.faults }) }
         ensures into { OnErr result (into.new ≡ into.old) }
         ensures faults { self.old.faults ≤ self.new.faults }
     {

@@ -10,8 +10,9 @@ use std::alloc::Global;
 // How many bytes one read asks for at most.
 const PIECE: usize = 4096;
 
-/// Reads all that the source has left, at most `limit` bytes. It makes at most `limit + 1` reads, and takes
-/// at most `limit + 1` bytes. What its reads took is gone from the source, whatever the answer.
+/// Reads all that the source has left, at most `limit` bytes. It makes at most `limit + 1` reads,
+/// and takes at most `limit + 1` bytes. What its reads took is gone from the source, whatever the
+/// answer.
 ///
 /// # Errors
 ///
@@ -25,7 +26,8 @@ pub fn read_all<S: Source>(alloc: Global, source: &mut S, limit: usize) -> Resul
     ensures fits { IfOk result (λ text. vec_len text ≤ limit) }
 
     // An error has its cause, and in the absence of faults and of want of memory, length decides.
-    ensures cause { IfErr result (HasCause limit (S.left source.old) (S.faults source.old) (S.faults source.new)) }
+    ensures cause { IfErr result (HasCause limit (S.left source.old) (S.faults source.old)
+        (S.faults source.new)) }
     ensures too_long { IfSome (S.left source.old) (λ bytes.
         ¬ Rises (S.faults source.old) (S.faults source.new) → ¬ IsErrOf result ReadEnd.NoMemory
         → IsErrOf result (ReadEnd.TooLong limit) ↔ (limit < length bytes)) }

@@ -6,15 +6,15 @@ use crate::counting::counted;
 use crate::{Failed, Sink};
 use std::io::Write;
 
-/// A sink over std's `Write`. It tells the bytes that its writer tells: over a terminal or a file none, and what
-/// becomes of them there is trusted.
+/// A sink over std's `Write`. It tells the bytes that its writer tells: over a terminal or a file
+/// none, and what becomes of them there is trusted.
 #[derive(Drop)]
 pub struct StdSink<W> {
     /// The writer.
     pub inner: W,
 
-    /// How many writes answered an error, or took none of the bytes that they were given. The count stands still
-    /// at `u64::MAX`.
+    /// How many writes answered an error, or took none of the bytes that they were given. The count
+    /// stands still at `u64::MAX`.
     pub faults: u64,
 }
 
@@ -25,7 +25,8 @@ impl<W: Write> Sink for StdSink<W> {
 
     fn write(&mut self, from: &[u8]) -> Result<usize, Failed>
         ensures within { IfOk result (λ n. n ≤ length from.now) }
-        ensures taken { IfOk result (λ n. Appends (W.contents self.old.inner) (W.contents self.new.inner) (take n from.now)) }
+        ensures taken { IfOk result (λ n. Appends (W.contents self.old.inner)
+            (W.contents self.new.inner) (take n from.now)) }
         ensures some { IfOk result (λ n. 0 < length from.now → 0 < n) }
         ensures kept { OnErr result (Keeps (W.contents self.old.inner) (W.contents self.new.inner)) }
 

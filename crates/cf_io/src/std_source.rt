@@ -6,8 +6,8 @@ use crate::counting::counted;
 use crate::{Failed, Source};
 use std::io::Read;
 
-/// A source over std's `Read`. It tells the bytes that its reader tells: over a terminal or a file none, and what
-/// such a reader gives is trusted.
+/// A source over std's `Read`. It tells the bytes that its reader tells: over a terminal or a file
+/// none, and what such a reader gives is trusted.
 #[derive(Drop)]
 pub struct StdSource<R> {
     /// The reader.
@@ -24,9 +24,12 @@ impl<R: Read> Source for StdSource<R> {
 
     fn read(&mut self, into: &mut [u8]) -> Result<usize, Failed>
         ensures within { IfOk result (λ n. n ≤ length into.new) }
-        ensures given { IfOk result (λ n. Consumes (R.remaining self.old.inner) (R.remaining self.new.inner) (take n into.new)) }
-        ensures end { IfOk result (λ n. n ≡ 0 → 0 < length into.new → IsAtEnd (R.remaining self.new.inner)) }
-        ensures kept { OnErr result (Keeps (R.remaining self.old.inner) (R.remaining self.new.inner)) }
+        ensures given { IfOk result (λ n. Consumes (R.remaining self.old.inner)
+            (R.remaining self.new.inner) (take n into.new)) }
+        ensures end { IfOk result (λ n. n ≡ 0 → 0 < length into.new
+            → IsAtEnd (R.remaining self.new.inner)) }
+        ensures kept { OnErr result (Keeps (R.remaining self.old.inner)
+            (R.remaining self.new.inner)) }
 
         // Each error counts, and nothing else does.
         ensures ok { OnOk result (self.new.faults ≡ self.old.faults) }

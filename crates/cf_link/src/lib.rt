@@ -1,5 +1,5 @@
-//! The links over which a structure reaches its instances. A link that answers [`Down`] tells that the
-//! instance in its facility is lost.
+//! The links over which a structure reaches its instances. A link that answers [`Down`] tells that
+//! the instance in its facility is lost.
 #![tactic(auto)]
 
 mod link;

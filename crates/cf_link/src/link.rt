@@ -8,7 +8,8 @@ pub struct Down;
 
 /// A way to the instance in one facility. It may go to another thread, and no more.
 pub trait Link: Send + Drop {
-    /// How many calls there have been, where the link tells them. The count stands still at `u64::MAX`.
+    /// How many calls there have been, where the link tells them. The count stands still at
+    /// `u64::MAX`.
     ghost calls: { Self → Option ℕ };
 
     /// The numbers of the calls that are answered [`Down`], from 1, where the link tells them.

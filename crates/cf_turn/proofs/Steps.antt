@@ -42,7 +42,8 @@ module _ {K : Type 0} where
   -- a seat with the key may be put in place of another
   pub know-set : (key : K) (vs : List (Stand K)) (i : ℕ) (w : Stand K) → AllKnow key vs → Knows key w
       → AllKnow key (set vs i w)
-  know-set key vs i w all here j u e = ⊎_elim (λ t. subst (Knows key) t.1 here) (λ t. all j u t.1) (at_set vs i j w u e)
+  know-set key vs i w all here j u e = ⊎_elim (λ t. subst (Knows key) t.1 here) (λ t. all j u t.1)
+      (at_set vs i j w u e)
 
   pub know-snoc : (key : K) (vs : List (Stand K)) (w : Stand K) → AllKnow key vs → Knows key w
       → AllKnow key (vs ++ w ∷ [])
@@ -117,7 +118,8 @@ module _ {V K : Type 0} (stands : K → V → Type 0) (key : K) where
 
   -- an attempt keeps the rule
   pub tries : (n id : ℕ) (me : Mine) → me ≡ (waiting key, [])
-      → Allows (Kept stands key) n id me 0 (λ found. either (eqb found 0) 1 found) (Tries stands (step n 0 0 1 none) me)
+      → Allows (Kept stands key) n id me 0 (λ found. either (eqb found 0) 1 found)
+      (Tries stands (step n 0 0 1 none) me)
   tries n id me e = subst (λ (x : Mine). Allows (Kept stands key) n id x 0 (λ found. either (eqb found 0) 1 found)
       (Tries stands (step n 0 0 1 none) x)) (sym e)
       (λ s kept wide at _. ⊎_elim (λ (t : IsFree (stands key) s). subst (Goes n id s) (sym t.0)
@@ -125,7 +127,8 @@ module _ {V K : Type 0} (stands : K → V → Type 0) (key : K) where
       (goes-taken n id s kept.0 at t)) kept.1)
 
   -- a seat that has the turn gives a value back that stands to the key
-  pub gives-back : (n id : ℕ) (me : Mine) (value : V) → me.0.turns ≡ 1 → me.1 ≡ (0, Some value) ∷ [] → stands key value
+  pub gives-back : (n id : ℕ) (me : Mine) (value : V) → me.0.turns ≡ 1 → me.1 ≡ (0, Some value) ∷ []
+      → stands key value
       → Allows (Kept stands key) n id me 0 (λ _. 0) (λ _ after. after.0.turns ≡ 0)
   gives-back n id me value one out ok s kept wide at _ =
       let w : Stand K = waiting key in let moved = turns-set s.views id me.0 w at in (

@@ -65,6 +65,8 @@ module _ {V K : Type 0} where
   Starts s before found after = after.0 ≡ cut before.0
 
   -- where 0 was found the seat has the turn, and a value that stands to the key; else it is as it was
-  abbrev pub Tries : (K → V → Type 0) → Step (Option V) → Me (Option V) (Stand K) → ℕ → Me (Option V) (Stand K) → Type 0
-  Tries stands s before found after = (found ≡ 0 → (key : K) → before.0.key ≡ Some key → HasValue (stands key) after) ×
+  abbrev pub Tries : (K → V → Type 0) → Step (Option V) → Me (Option V) (Stand K) → ℕ → Me (Option V) (Stand K)
+      → Type 0
+  Tries stands s before found after = (found ≡ 0 → (key : K) → before.0.key ≡ Some key → HasValue (stands key) after)
+      ×
       (0 < found → after ≡ before)

@@ -28,9 +28,14 @@ impl<F: Keeps> Model for KeyLock<F> {
 
     ghost coded = { lock_code F.Key.code };
 
-    ghost view = { λ lock. record { name = lock.table.shared.table_id; key = F.key_of lock.table.shared.key.value } };
+    ghost view = { λ lock. record {
+      name = lock.table.shared.table_id;
+      key = F.key_of
+          lock.table.shared.key.value;
+    } };
 
-    ghost invariant = { λ lock. (lock.table.shared.table_id.words ≡ 1) × (lock.table.shared.table_id.slots ≡ 1) };
+    ghost invariant = { λ lock. (lock.table.shared.table_id.words ≡ 1)
+        × (lock.table.shared.table_id.slots ≡ 1) };
 }
 
 /// The right to give a value back to a lock. Contracts see it as the lock's name.
@@ -60,7 +65,8 @@ const TAKEN: u64 = 1;
 const LOOKS: u32 = 100;
 
 impl<F: Keeps> KeyLock<F> {
-    /// A free lock round the value, whose key is the value's. Where there is no memory the value comes back.
+    /// A free lock round the value, whose key is the value's. Where there is no memory the value
+    /// comes back.
     pub fn new(alloc: Global, value: F::Value) -> Result<KeyLock<F>, F::Value>
         requires { F.stands (F.key_of value) value }
         ensures made { IfOk result (λ lock. lock.key ≡ F.key_of value) }
@@ -223,8 +229,8 @@ fn leave<V: Drop, K>(seat: Seat<V, Stand<K>>)
 }
 
 impl<F: Keeps> KeyLock<Boxed<F>> {
-    /// A free lock round the value in a box, so that a turn moves a pointer however large the value is.
-    /// Where there is no memory the value comes back.
+    /// A free lock round the value in a box, so that a turn moves a pointer however large the value
+    /// is. Where there is no memory the value comes back.
     pub fn boxed(alloc: Global, value: F::Value) -> Result<KeyLock<Boxed<F>>, F::Value>
         requires { F.stands (F.key_of value) value }
         ensures made { IfOk result (λ lock. lock.key ≡ F.key_of value) }

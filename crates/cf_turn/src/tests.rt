@@ -39,7 +39,8 @@ fn turns_of(rt: &impl Wait, lock: &KeyLock<Twins>) -> u64 {
     pair.0
 }
 
-// Counts so many turns. In the middle it waits until others have counted some. It answers how many turns of others it saw there.
+// Counts so many turns. In the middle it waits until others have counted some. It answers how many
+// turns of others it saw there.
 fn count_twins(rt: &impl Wait, lock: &KeyLock<Twins>, times: u64) -> u64 {
     let half = times / 2;
     for _ in 0..half {
@@ -183,7 +184,8 @@ impl<V: Send + Drop> Keeps for Anything<V> {
     ghost stands = { λ _ _. Unit {0} };
 }
 
-// Takes a turn while another thread sleeps at the lock: it gives the value back once it sees a sleeper.
+// Takes a turn while another thread sleeps at the lock: it gives the value back once it sees a
+// sleeper.
 fn hold<V: Send + Drop>(
     rt: &(impl Wait + Clock),
     lock: &KeyLock<Boxed<Anything<V>>>,
@@ -220,7 +222,8 @@ fn come_second<V: Send + Drop>(
     lock.give(ticket, value);
 }
 
-// Two threads share a lock round a value that may be sent and not shared. It answers how many slept at it.
+// Two threads share a lock round a value that may be sent and not shared. It answers how many slept
+// at it.
 fn share_in_two<V: Send + Drop, R: Threads + Wait + Clock + Sync>(
     rt: &R,
     lock: &KeyLock<Boxed<Anything<V>>>,

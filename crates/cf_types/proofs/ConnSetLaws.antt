@@ -14,7 +14,8 @@ use Rattle.cf_types.specs.declared.numbers.ConnId.{ConnId}
 -- ---- the connectors of a range that pass a test
 
 -- tests that agree in the range keep the same ones
-pub filter_agree_from : (p q : ConnId → Bool) (first n : ℕ) → ((c : ConnId) → first ≤ c.0 → c.0 < first + n → p c ≡ q c)
+pub filter_agree_from : (p q : ConnId → Bool) (first n : ℕ) → ((c : ConnId) → first ≤ c.0 → c.0 < first + n
+    → p c ≡ q c)
     → filter p (conns_from first n) ≡ filter q (conns_from first n)
 unfolding conns_from
 filter_agree_from p q first zero agree = refl
@@ -24,7 +25,8 @@ filter_agree_from p q first (suc n) agree =
     rw (agree c (omega arith) (omega arith)) (ap (λ (t : List ConnId). cond (q c) (c ∷ t) t) others)
 
 -- nobody passes
-pub filter_none_from : (p : ConnId → Bool) (first n : ℕ) → ((c : ConnId) → first ≤ c.0 → c.0 < first + n → p c ≡ false)
+pub filter_none_from : (p : ConnId → Bool) (first n : ℕ) → ((c : ConnId) → first ≤ c.0 → c.0 < first + n
+    → p c ≡ false)
     → filter p (conns_from first n) ≡ []
 unfolding conns_from
 filter_none_from p first zero none = refl
@@ -207,7 +209,8 @@ pub filter-from_zero_more : (p : ConnId → Bool) (n : ℕ)
     (with_member (record { 0 = n }) (filter p (conns_from 0 n))) (filter p (conns_from 0 n))
 filter-from_zero_more p n =
     let conn : ConnId = record { 0 = n } in
-    let more : conns_from 0 (n + 1) ≡ conns_from 0 n ++ conn ∷ [] = rw (add-one, conns_from-suc 0 n, zero-add n) refl in
+    let more : conns_from 0 (n + 1) ≡ conns_from 0 n ++ conn ∷ [] = rw (add-one, conns_from-suc 0 n, zero-add n) refl
+    in
     rw (more, filter-append p (conns_from 0 n) (conn ∷ [])) (filter-one p conn n (omega arith) (p conn))
 
 -- ---- the bits of a set

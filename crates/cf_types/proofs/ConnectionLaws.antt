@@ -24,7 +24,8 @@ state_of-set_same conns conn state within = state_of-get_or (set conns conn.0 st
     ∙ get_or-set_same conns conn.0 state None within
 
 -- the same past the last place, where there is nothing to set
-state_of-set : (conns : Connections) (conn : ConnId) (state : Option ConnState) → (length conns ≤ conn.0 → state ≡ None)
+state_of-set : (conns : Connections) (conn : ConnId) (state : Option ConnState)
+    → (length conns ≤ conn.0 → state ≡ None)
     → state_of (slice_set conns conn.0 state) conn ≡ state
 state_of-set conns conn state past = ⊎_elim (λ
     (within : conn.0 < length conns). state_of-set_same conns conn state within)
@@ -104,7 +105,8 @@ state_of-with_connect_same conn keep conns within = state_of-set_same conns conn
 
 pub state_of-with_connect_other : (conn : ConnId) (keep : Bool) (conns : Connections) (other : ConnId)
     → other.0 ≢ conn.0 → state_of (with_connect conn keep conns) other ≡ state_of conns other
-state_of-with_connect_other conn keep conns other apart = state_of-set_other conns conn other (Some (Active keep)) apart
+state_of-with_connect_other conn keep conns other apart = state_of-set_other conns conn other (Some (Active keep))
+    apart
 
 pub state_of-with_departure_same : (conn : ConnId) (keep : Bool) (conns : Connections) → conn.0 < length conns
     → state_of (with_departure conn keep conns) conn ≡ departed_state keep (without_member conn (actives conns))
@@ -217,7 +219,8 @@ actives-with_forced conn conns idle =
 
 -- ---- who is awaited
 
-pub awaited_by-departed_state : (keep : Bool) (awaits : List ConnId) → awaited_by (departed_state keep awaits) ≡ awaits
+pub awaited_by-departed_state : (keep : Bool) (awaits : List ConnId) → awaited_by (departed_state keep awaits) ≡
+    awaits
 awaited_by-departed_state keep (other ∷ others) = refl
 awaited_by-departed_state true [] = refl
 awaited_by-departed_state false [] = refl
@@ -225,7 +228,8 @@ awaited_by-departed_state false [] = refl
 pub awaited_by-excused_state : (conn : ConnId) (state : Option ConnState)
     → awaited_by (excused_state conn state) ≡ without_member conn (awaited_by state)
 awaited_by-excused_state conn (Some (Active keep)) = refl
-awaited_by-excused_state conn (Some (Leaving keep awaits)) = awaited_by-departed_state keep (without_member conn awaits)
+awaited_by-excused_state conn (Some (Leaving keep awaits)) = awaited_by-departed_state keep
+    (without_member conn awaits)
 awaited_by-excused_state conn (Some Failed) = refl
 awaited_by-excused_state conn None = refl
 
@@ -387,7 +391,8 @@ AreConnections-with_connect conn keep conns from_one are = record {
       are.operator;
 }
 
-pub AreConnections-with_departure : (conn : ConnId) (keep : Bool) (conns : Connections) → IsTrue (is_active conns conn)
+pub AreConnections-with_departure : (conn : ConnId) (keep : Bool) (conns : Connections)
+    → IsTrue (is_active conns conn)
     → AreConnections conns → AreConnections (with_departure conn keep conns)
 AreConnections-with_departure conn keep conns active are = record {
   places = length-set (map (excused_state conn) conns) conn.0 _ ∙ length-map conns (excused_state conn) ∙ are.places;

@@ -30,7 +30,8 @@ told-append xs ys conn index =
 -- one change after another, where at most one of them changes the bit
 difference_then : (a b c : Bool) → (b ≡ a) ⊎ (c ≡ b) → difference a b ++ difference b c ≡ difference a c
 difference_then a b c (inl same) = rw same (ap (λ (t : List Bool). t ++ difference a c) (sym (difference_none a)))
-difference_then a b c (inr same) = rw same (ap (λ (t : List Bool). difference a b ++ t) (sym (difference_none b)) ∙ append-nil (difference a b))
+difference_then a b c (inr same) = rw same (ap (λ (t : List Bool). difference a b ++ t) (sym (difference_none b))
+    ∙ append-nil (difference a b))
 
 -- two changes, of which no bit is changed by both
 pub gains_then : (before middle after : Bits) (xs ys zs : List BitChange)
@@ -39,8 +40,10 @@ pub gains_then : (before middle after : Bits) (xs ys zs : List BitChange)
 gains_then before middle after xs ys zs once first second =
     record {
       added = first.added ++ second.added;
-      behind = second.behind ∙ ap (λ (t : List BitChange). t ++ second.added) first.behind ∙ append_assoc xs first.added second.added;
-      exactly = λ conn index. told-append first.added second.added conn index ∙ rw (first.exactly conn index, second.exactly conn index)
+      behind = second.behind ∙ ap (λ (t : List BitChange). t ++ second.added) first.behind
+          ∙ append_assoc xs first.added second.added;
+      exactly = λ conn index. told-append first.added second.added conn index
+          ∙ rw (first.exactly conn index, second.exactly conn index)
           (difference_then (before conn index) (middle conn index) (after conn index) (once conn index));
     }
 
@@ -59,7 +62,8 @@ pub gains_falls : (before middle after : Bits) (xs ys zs : List BitChange) → F
     → Gains before middle xs ys → Gains middle after ys zs → Gains before after xs zs
 gains_falls before middle after xs ys zs fall falls =
     gains_then before middle after xs ys zs
-    (λ conn index. only_falls (before conn index) (middle conn index) (after conn index) (fall conn index) (falls conn index))
+    (λ conn index. only_falls (before conn index) (middle conn index) (after conn index) (fall conn index)
+    (falls conn index))
 
 both_left : (a b c d : ℕ) → (a == b) && (c == d) ≡ true → a ≡ b
 both_left a b c d e = grind (arith, nat_tests)
@@ -76,16 +80,20 @@ difference_changed true true h = absurd (h refl)
 told_one : (by conn : ConnId) (index i : ℕ) (before after : Bits)
     → (before by index ≡ after by index → ⊥)
     → ((by.0 == conn.0) && (index == i) ≡ false → after conn i ≡ before conn i)
-    → told (record { conn = by; index = index; bit = after by index } ∷ []) conn i ≡ difference (before conn i) (after conn i)
+    → told (record { conn = by; index = index; bit = after by index } ∷ []) conn i ≡ difference (before conn i)
+    (after conn i)
 told_one by conn index i before after changed others = go ((by.0 == conn.0) && (index == i)) refl
   where
     go : (b : Bool) → (by.0 == conn.0) && (index == i) ≡ b
-        → told (record { conn = by; index = index; bit = after by index } ∷ []) conn i ≡ difference (before conn i) (after conn i)
+        → told (record { conn = by; index = index; bit = after by index } ∷ []) conn i ≡ difference (before conn i)
+        (after conn i)
     go true same =
         let conns : by.0 ≡ conn.0 = both_left by.0 conn.0 index i same in
         let indexes : index ≡ i = both_right by.0 conn.0 index i same in
-        let here : after by index ∷ [] ≡ difference (before by index) (after by index) = difference_changed (before by index) (after by index) changed in
-        rw same (here ∙ subst₂ (λ (c n : ℕ). difference (before by index) (after by index) ≡ difference (before (record { 0 = c }) n) (after (record { 0 = c }) n)) conns indexes refl)
+        let here : after by index ∷ [] ≡ difference (before by index) (after by index) = difference_changed
+        (before by index) (after by index) changed in
+        rw same (here ∙ subst₂ (λ (c n : ℕ). difference (before by index) (after by index) ≡ difference
+        (before (record { 0 = c }) n) (after (record { 0 = c }) n)) conns indexes refl)
     go false apart = rw (apart, others apart) (difference_none (before conn i))
 
 -- one bit changed, and is told

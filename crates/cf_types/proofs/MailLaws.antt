@@ -92,7 +92,8 @@ length-empty_mail = refl
 pub length-with_letter : (mail : Mailboxes) (letter : Letter) → length (with_letter mail letter) ≡ length mail
 length-with_letter mail letter = length-set mail letter.to.0 _
 
-pub length-with_letters : (mail : Mailboxes) (letters : List Letter) → length (with_letters mail letters) ≡ length mail
+pub length-with_letters : (mail : Mailboxes) (letters : List Letter) → length (with_letters mail letters) ≡ length
+    mail
 length-with_letters mail [] = refl
 length-with_letters mail (letter ∷ letters) = length-with_letters (with_letter mail letter) letters
     ∙ length-with_letter mail letter

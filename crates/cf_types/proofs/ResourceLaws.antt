@@ -109,9 +109,11 @@ same_resource_comm a b = go (same_resource a b) (same_resource b a) refl refl
     go true true e f = refl
     go false false e f = refl
     go true false e f =
-        absurd (false≢true (sym f ∙ subst (λ c. same_resource b c ≡ true) (sym (same_resource-eq a b e)) (same_resource-refl b)))
+        absurd (false≢true (sym f ∙ subst (λ c. same_resource b c ≡ true) (sym (same_resource-eq a b e))
+        (same_resource-refl b)))
     go false true e f =
-        absurd (false≢true (sym e ∙ subst (λ c. same_resource a c ≡ true) (sym (same_resource-eq b a f)) (same_resource-refl a)))
+        absurd (false≢true (sym e ∙ subst (λ c. same_resource a c ≡ true) (sym (same_resource-eq b a f))
+        (same_resource-refl a)))
 
 pub same_part_comm : (a b : Part) → same_part a b ≡ same_part b a
 same_part_comm a b =

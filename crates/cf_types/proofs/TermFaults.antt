@@ -4,7 +4,8 @@ use Rattle.std.specs.List.{list_all, position_or_len}
 use Rattle.std.proofs.lemmas.Grind.{common_steps}
 
 one_more : (v : Bool) {a : Bool} {n m : ℕ} → ((a ≡ true) × (n ≡ m)) ⊎ ((a ≡ false) × (n < m))
-    → ((v && a ≡ true) × (cond (not (not v)) (1 + n) 0 ≡ suc m)) ⊎ ((v && a ≡ false) × (cond (not (not v)) (1 + n) 0 < suc m))
+    → ((v && a ≡ true) × (cond (not (not v)) (1 + n) 0 ≡ suc m))
+    ⊎ ((v && a ≡ false) × (cond (not (not v)) (1 + n) 0 < suc m))
 one_more true (inl h) = inl (h.0, omega (arith, h.1))
 one_more true (inr h) = inr (h.0, omega (arith, h.1))
 one_more false h = inr (refl, omega arith)
@@ -20,5 +21,6 @@ passes_or_place q (x ∷ xs) = one_more (q x) (passes_or_place q xs)
 pub passes_at_none : (q : ℕ → Bool) (xs : List ℕ) → position (λ b. not (q b)) xs ≡ None → list_all q xs ≡ true
 passes_at_none q xs h = grind (arith, common_steps, passes_or_place q xs)
 
-pub fails_at_some : (q : ℕ → Bool) (xs : List ℕ) (i : ℕ) → position (λ b. not (q b)) xs ≡ Some i → list_all q xs ≡ false
+pub fails_at_some : (q : ℕ → Bool) (xs : List ℕ) (i : ℕ) → position (λ b. not (q b)) xs ≡ Some i
+    → list_all q xs ≡ false
 fails_at_some q xs i h = grind (arith, common_steps, passes_or_place q xs)

@@ -18,7 +18,8 @@ refilled text = record { bytes = filled text; len = length text }
 pub refilled-take : (a : Inside) → IsFilled a → refilled (take a.len a.bytes) ≡ a
 refilled-take a h =
     let len : length (take a.len a.bytes) ≡ a.len = omega (arith, length-take a.len a.bytes, h.short, h.whole) in
-    let bytes : take a.len a.bytes ++ replicate (64 - a.len) 0 ≡ a.bytes = rw (← h.zeros) (take-append-drop a.len a.bytes) in
+    let bytes : take a.len a.bytes ++ replicate (64 - a.len) 0 ≡ a.bytes = rw (← h.zeros)
+    (take-append-drop a.len a.bytes) in
     let whole : filled (take a.len a.bytes) ≡ a.bytes = rw len bytes in
     let at : List ℕ → ℕ → Inside = λ b n. record { bytes = b; len = n } in
     ap (λ (b : List ℕ). at b (length (take a.len a.bytes))) whole ∙ ap (λ (n : ℕ). at a.bytes n) len

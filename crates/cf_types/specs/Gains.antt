@@ -25,4 +25,5 @@ difference Bool.true Bool.true = []
 pub record Gains (before after : Bits) (old new : List BitChange) : Type 0 where
   pub added : List BitChange
   pub behind : new ≡ old ++ added
-  pub exactly : (conn : ConnId) (index : ℕ) → told added conn index ≡ difference (before conn index) (after conn index)
+  pub exactly : (conn : ConnId) (index : ℕ) → told added conn index ≡ difference (before conn index)
+      (after conn index)

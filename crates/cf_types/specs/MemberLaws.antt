@@ -35,7 +35,8 @@ member_first bits n first rest others b is = go b is
         → bits_of (cond b (record { 0 = first } ∷ rest) rest) ≡ (bits / 2 ^ first % 2 ^ (n + 1)) * 2 ^ first
     go true is =
         let one = eqb-true (bit_at bits first) 1 is in
-        sum_by-cons (λ (conn : ConnId). 2 ^ conn.0) (record { 0 = first }) rest ∙ rw (whole, one) (omega (arith, other))
+        sum_by-cons (λ (conn : ConnId). 2 ^ conn.0) (record { 0 = first }) rest
+        ∙ rw (whole, one) (omega (arith, other))
     go false is =
         let none : bit_at bits first ≡ 0 = omega (arith, bit_at-lt bits first, eqb-false (bit_at bits first) 1 is) in
         rw (whole, none) (omega (arith, other))

@@ -17,7 +17,11 @@ impl<T> Model for Batch<T> {
 
     ghost Value = { Batched T };
 
-    ghost view = { λ b. record { items = b.items.items; room = vec_capacity b.items - vec_len b.items } };
+    ghost view = { λ b. record {
+      items = b.items.items;
+      room = vec_capacity b.items - vec_len
+          b.items;
+    } };
 }
 
 impl<T> Batch<T> {

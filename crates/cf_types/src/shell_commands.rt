@@ -2,15 +2,16 @@ use crate::events::Event;
 use crate::forms::Caps;
 use crate::numbers::{CfId, ConnId};
 
-/// A command that structures of every kind share. Connectors give those up to `RebuildComplete`, the
-/// operator the others; REBUILD START and STOP come from both.
+/// A command that structures of every kind share. Connectors give those up to `RebuildComplete`,
+/// the operator the others; REBUILD START and STOP come from both.
 #[derive(Clone, Copy, Debug, PartialEq, Eq)]
 pub enum ShellCmd {
     /// CONNECT (IXLCONN): the caller becomes active, with disposition KEEP or DELETE.
     Connect { keep: bool },
     /// DISCONNECT (IXLDISC): the caller departs.
     Disconnect,
-    /// FAIL: the caller's task or system fails. With disposition KEEP the connection stays, as failed.
+    /// FAIL: the caller's task or system fails. With disposition KEEP the connection stays, as
+    /// failed.
     Fail,
     /// NEXT: the event exit is given the next event.
     Next,

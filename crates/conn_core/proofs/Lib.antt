@@ -1,0 +1,1 @@
+-- No lemmas that others cite: the answers stand beside.

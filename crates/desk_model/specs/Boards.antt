@@ -1,4 +1,5 @@
--- The structures of a script that threads share, as contracts see them, what goes with them, and what is left of them at the end.
+-- The structures of a script that threads share, as contracts see them, what goes with them, and what is left of them
+-- at the end.
 use Rattle.std.specs.Prelude.{◌≡◌, ℕ, ◌≤◌, List, [], ◌∷◌, ◌++◌, length, map, replicate, slice_get, slice_index_or, Option, None, Some, All}
 use Rattle.std.specs.List.{flat_map}
 use Rattle.cf_types.specs.declared.numbers.ConnId.{ConnId}
@@ -86,14 +87,16 @@ pub record IsClosed {L : Type 0} (cell : CellShown L) (entries : AnyHistory) : T
   pub most : any_length entries ≤ cell.limit
   pub callers : All (λ call. call.by.0 ≤ cell.callers) (any_calls entries)
 
--- what the history says of a caller's pass: its owner's calls, each once and in order; what its tests answered; what it knows
+-- what the history says of a caller's pass: its owner's calls, each once and in order; what its tests answered; what
+-- it knows
 pub record IsAccount {L : Type 0} (cell : CellShown L) (entries : AnyHistory) (pass : PassShown) : Type 0 where
   pub mine : pass.calls ≡ own_calls (any_calls entries) pass.owner
   pub tests : All (IsAnyTold cell.form entries pass.owner) pass.tests
   pub known : pass.known ≤ any_length entries
 
 -- the histories of the structures, with the desks of all callers
-pub record AreClosed {L : Type 0} (board : BoardShown L) (desks : List DeskShown) (histories : List AnyHistory) : Type 0 where
+pub record AreClosed {L : Type 0} (board : BoardShown L) (desks : List DeskShown) (histories : List AnyHistory) : Type
+    0 where
   pub structures : length histories ≡ length board.cells
   pub closed : (on : StrNo) (cell : CellShown L) (entries : AnyHistory) → cell_on board on ≡ Some cell
       → slice_get histories on.0 ≡ Some entries

@@ -14,7 +14,15 @@ pub record DeskShown : Type 0 where
 -- the pass to a structure that isn't there
 abbrev pub no_pass : PassShown
 no_pass =
-    let id : TableId = record { words = 0; slots = 0; views_name = 0; atom = 0; block = 0; offset = 0; slot_names = [] } in
+    let id : TableId = record {
+      words = 0;
+      slots = 0;
+      views_name = 0;
+      atom = 0;
+      block = 0;
+      offset = 0;
+      slot_names = [];
+    } in
     unused_pass OfCache (record { id = id; conns = 0; len = 0 }) 0
 
 -- the pass to a structure

@@ -1,4 +1,5 @@
--- A script's work on one thread: its callers at work at one board, a line after another, and then the closings. Before a caller's
+-- A script's work on one thread: its callers at work at one board, a line after another, and then the closings.
+-- Before a caller's
 -- call or test it is told what the caller before it has seen of the structure.
 use Rattle.std.specs.Prelude.{◌≡◌, ◌+◌, ◌*◌, ◌==◌, nat_lt, Bool, true, false, if◌then◌else◌, MatchBool, List, [], ◌∷◌, length, map, fold, replicate, slice_index_or, slice_set, Option, None, Some}
 use Rattle.std.specs.List.{range_with_len}
@@ -45,9 +46,13 @@ new_floor board = record {
 
 abbrev pub told_by : Floor → StrNo → ConnId → AtWork → AtWork
 told_by floor on other worker =
-    record worker { desk = with_pass on (with_note (note_of (pass_at (worker_of floor other).desk on)) (pass_at worker.desk on)) worker.desk }
+    record worker {
+      desk = with_pass on (with_note (note_of (pass_at (worker_of floor other).desk on))
+          (pass_at worker.desk on)) worker.desk;
+    }
 
--- the worker is told what the one who acted on the structure last knows of it; nothing where that is itself, or was nobody
+-- the worker is told what the one who acted on the structure last knows of it; nothing where that is itself, or was
+-- nobody
 abbrev pub heard_from : Floor → ConnId → StrNo → Option ConnId → AtWork → AtWork
 heard_from floor by on None worker = worker
 heard_from floor by on (Some other) worker = if other.0 == by.0 then worker else told_by floor on other worker
@@ -58,11 +63,13 @@ heard floor by worker on = heard_from floor by on (slice_index_or floor.last on.
 -- the same at every structure
 abbrev pub heard_all : {L : Type 0} → BoardShown L → Floor → ConnId → AtWork
 heard_all board floor by =
-    fold (λ worker place. heard floor by worker (record { 0 = place })) (worker_of floor by) (range_with_len 0 (length board.cells))
+    fold (λ worker place. heard floor by worker (record { 0 = place })) (worker_of floor by)
+    (range_with_len 0 (length board.cells))
 
 -- ---- lines
 
--- a call, an event round, and a test within the vector: the caller hears before it, and has then acted on the structure
+-- a call, an event round, and a test within the vector: the caller hears before it, and has then acted on the
+-- structure
 abbrev pub is_counted : StrForm → Act → Bool
 is_counted form (act.Call asked) = true
 is_counted form act.Events = true
@@ -71,7 +78,8 @@ is_counted form (act.TestWord word) = nat_lt (32 * word) form.vector
 is_counted form act.Post = false
 is_counted form act.Take = false
 
--- the structure's note in the tray is told to the caller, and the number of a call that it has now seen complete is shown
+-- the structure's note in the tray is told to the caller, and the number of a call that it has now seen complete is
+-- shown
 abbrev pub taken : StrNo → Option NoteShown → AtWork → AtWork
 taken on note worker =
     let pass = with_any_note note (pass_at worker.desk on) in
@@ -80,7 +88,8 @@ taken on note worker =
 -- the worker as it begins a line, and who has acted last once the line is done
 abbrev pub ready : StrForm → Line → Floor → AtWork
 ready form line floor =
-    if is_counted form line.act then heard floor line.by (worker_of floor line.by) line.on else worker_of floor line.by
+    if is_counted form line.act then heard floor line.by (worker_of floor line.by) line.on else worker_of floor
+    line.by
 
 abbrev pub last_after : StrForm → Line → Floor → List (Option ConnId)
 last_after form line floor =
@@ -131,7 +140,8 @@ ClosesAll board (conn ∷ conns) before after =
 -- ---- the whole
 
 -- the lines of a script in their order, and then the closings of its connectors in number order
-pub record Plays {L : Type 0} (board : BoardShown L) (lines : List Line) (conns : List ConnId) (after : Floor) : Type 0 where
+pub record Plays {L : Type 0} (board : BoardShown L) (lines : List Line) (conns : List ConnId) (after : Floor) : Type
+    0 where
   pub between : Floor
   pub during : PlaysLines board lines (new_floor board) between
   pub closing : ClosesAll board conns between after

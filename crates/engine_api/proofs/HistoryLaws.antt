@@ -26,9 +26,14 @@ module _ {C R : Type 0} where
       ∙ filter-append (λ (call : Call C R). call.by.0 == conn.0) (calls xs) (calls ys)
 
   -- groups, and groups behind them
-  pub groups-append : (losses : ℕ) (xs ys : List (Entry C R)) → AreGroupsAfter losses xs → AreGroupsAfter 0 ys → AreGroupsAfter losses (xs ++ ys)
+  pub groups-append : (losses : ℕ) (xs ys : List (Entry C R)) → AreGroupsAfter losses xs → AreGroupsAfter 0 ys
+      → AreGroupsAfter losses (xs ++ ys)
   groups-append losses [] ys none groups = rw none groups
-  groups-append losses (x ∷ xs) ys first groups = (first.0, groups-append (losses_after losses x.what) xs ys first.1 groups)
+  groups-append losses (x ∷ xs) ys first groups = (
+    first.0,
+    groups-append (losses_after losses x.what) xs ys first.1
+        groups,
+  )
 
 module _ {C R I S : Type 0} (meaning : Meaning C R I S) (form : StrForm) where
   -- ---- replay
@@ -60,7 +65,8 @@ module _ {C R I S : Type 0} (meaning : Meaning C R I S) (form : StrForm) where
         groups = groups-append 0 history (added ∷ []) legal.groups (tt, refl);
         entries = λ i entry e. elim (pushed_cases history added i entry e) [
           | inl h ↦
-              let before : take i (history ++ added ∷ []) ≡ take i history = take-append-le i history _ (le_of_lt h.0) in
+              let before : take i (history ++ added ∷ []) ≡ take i history = take-append-le i history _ (le_of_lt h.0)
+              in
               rw before (legal.entries i entry h.1)
           | inr h ↦
               let before : take i (history ++ added ∷ []) ≡ history = take_at history _ i (sym h.0) in
@@ -69,18 +75,21 @@ module _ {C R I S : Type 0} (meaning : Meaning C R I S) (form : StrForm) where
       }
 
   -- groups at the front of a legal history are legal
-  pub legal_front : (front others : List (Entry C R)) → IsLegal meaning form (front ++ others) → AreGroupsAfter 0 front
+  pub legal_front : (front others : List (Entry C R)) → IsLegal meaning form (front ++ others)
+      → AreGroupsAfter 0 front
       → IsLegal meaning form front
   legal_front front others legal groups =
       record {
         groups = groups;
         entries = λ i entry e.
-            let found : (i < length front) × (slice_get (front ++ others) i ≡ Some entry) = get_front front others i entry e in
+            let found : (i < length front) × (slice_get (front ++ others) i ≡ Some entry) = get_front front others i
+            entry e in
             let before : take i (front ++ others) ≡ take i front = take-append-le i front others (le_of_lt found.0) in
             subst (λ (h : List (Entry C R)). IsNext meaning form h entry) before (legal.entries i entry found.1);
       }
 
-  number-next : (history : List (Entry C R)) (entry : Entry C R) (told : What C) → IsNextAs meaning form history entry told
+  number-next : (history : List (Entry C R)) (entry : Entry C R) (told : What C) → IsNextAs meaning form history entry
+      told
       → entry.no ≡ length history + 1
   number-next history entry (what.Call ask) e = ap (λ (it : Entry C R). it.no) e
   number-next history entry (what.Lost cf) e = absurd e
@@ -90,7 +99,8 @@ module _ {C R I S : Type 0} (meaning : Meaning C R I S) (form : StrForm) where
       → slice_get history i ≡ Some entry → i < length history → entry.no ≡ i + 1
   number-legal history legal i entry e within =
       number-next (take i history) entry entry.what (legal.entries i entry e)
-      ∙ (let short : length (take i history) ≡ i = omega (arith, length-take i history) in ap (λ (n : ℕ). n + 1) short)
+      ∙ (let short : length (take i history) ≡ i = omega (arith, length-take i history) in ap (λ (n : ℕ). n + 1)
+      short)
 
   -- ---- a caller's own calls
 
@@ -117,7 +127,8 @@ module _ {C R I S : Type 0} (meaning : Meaning C R I S) (form : StrForm) where
 
   numbers-append : (xs ys : List (Entry C R)) → numbers (xs ++ ys) ≡ numbers xs ++ numbers ys
   numbers-append xs ys =
-      ap (map (λ (call : Call C R). call.no)) (calls-append xs ys) ∙ map-append (λ (call : Call C R). call.no) (calls xs) (calls ys)
+      ap (map (λ (call : Call C R). call.no)) (calls-append xs ys) ∙ map-append (λ (call : Call C R). call.no)
+      (calls xs) (calls ys)
 
   -- a point of a history is one of a longer history
   pub point-append : (history others : List (Entry C R)) (n : ℕ) → IsPoint history n → IsPoint (history ++ others) n
@@ -137,29 +148,37 @@ module _ {C R I S : Type 0} (meaning : Meaning C R I S) (form : StrForm) where
 
   abbrev FollowsEach : List (Entry C R) → List (Entry C R) → Type 0
   FollowsEach history others =
-      (i : ℕ) (entry : Entry C R) → slice_get others i ≡ Some entry → IsNext meaning form (history ++ take i others) entry
+      (i : ℕ) (entry : Entry C R) → slice_get others i ≡ Some entry → IsNext meaning form (history ++ take i others)
+      entry
 
-  continues_each : (history others : List (Entry C R)) → FollowsEach history others → Continues meaning form history others
+  continues_each : (history others : List (Entry C R)) → FollowsEach history others → Continues meaning form history
+      others
   continues_each history [] each = tt
   continues_each history (entry ∷ others) each = (
     subst (λ (h : List (Entry C R)). IsNext meaning form h entry) (append-nil history) (each 0 entry refl),
     continues_each (history ++ entry ∷ []) others (λ i other e.
-        subst (λ (h : List (Entry C R)). IsNext meaning form h other) (sym (append_assoc history (entry ∷ []) (take i others))) (each (suc i) other e)),
+        subst (λ (h : List (Entry C R)). IsNext meaning form h other)
+        (sym (append_assoc history (entry ∷ []) (take i others))) (each (suc i) other e)),
   )
 
-  each_continues : (history others : List (Entry C R)) → Continues meaning form history others → FollowsEach history others
+  each_continues : (history others : List (Entry C R)) → Continues meaning form history others
+      → FollowsEach history others
   each_continues history [] goes zero entry e = absurd cc
   each_continues history [] goes (suc i) entry e = absurd cc
   each_continues history (first ∷ others) goes zero entry e =
       let same : first ≡ entry = cc in
-      subst (λ (h : List (Entry C R)). IsNext meaning form h entry) (sym (append-nil history)) (subst (IsNext meaning form history) same goes.0)
+      subst (λ (h : List (Entry C R)). IsNext meaning form h entry) (sym (append-nil history))
+      (subst (IsNext meaning form history) same goes.0)
   each_continues history (first ∷ others) goes (suc i) entry e =
-      subst (λ (h : List (Entry C R)). IsNext meaning form h entry) (append_assoc history (first ∷ []) (take i others))
+      subst (λ (h : List (Entry C R)). IsNext meaning form h entry) (append_assoc history (first ∷ [])
+      (take i others))
       (each_continues (history ++ first ∷ []) others goes.1 i entry e)
 
   -- a history is legal exactly where its entries stand in groups and each continues those before it
-  pub continues_legal : (history : List (Entry C R)) → IsLegal meaning form history → Continues meaning form [] history
+  pub continues_legal : (history : List (Entry C R)) → IsLegal meaning form history → Continues meaning form
+      [] history
   continues_legal history legal = continues_each [] history legal.entries
 
-  pub legal_continues : (history : List (Entry C R)) → AreGroupsAfter 0 history → Continues meaning form [] history → IsLegal meaning form history
+  pub legal_continues : (history : List (Entry C R)) → AreGroupsAfter 0 history → Continues meaning form [] history
+      → IsLegal meaning form history
   legal_continues history groups goes = record { groups = groups; entries = each_continues [] history goes }

@@ -149,7 +149,8 @@ pub conns-connect : (form : StrForm) (shell : Shell) (by : ConnId) (keep : Bool)
     → (connect form shell by keep).shell.conns ≡ with_connect by keep shell.conns
 conns-connect form shell by keep = go (is_some (state_of shell.conns by))
   where
-    go : (back : Bool) → (cond back (connected_again form shell by keep) (connected_new form shell by keep)).shell.conns
+    go : (back : Bool) → (cond back (connected_again form shell by keep)
+        (connected_new form shell by keep)).shell.conns
         ≡ with_connect by keep shell.conns
     go true = refl
     go false = refl
@@ -223,7 +224,8 @@ force_changes form shell other conn idle =
     (ap is_active_state (state_of-with_forced_same other shell.conns) ∙ sym idle)
     (λ apart. ap is_active_state (state_of-with_forced_other other shell.conns conn apart))
 
--- a command that isn't refused: whether its caller is active then is what the answer tells, and nobody else is changed.
+-- a command that isn't refused: whether its caller is active then is what the answer tells, and nobody else is
+-- changed.
 -- The shell may have got letters since the refusals were judged
 command_changes : (form : StrForm) (shell shell' : Shell) (by : ConnId) (command : ShellCmd) (conn : ConnId)
     → shell'.conns ≡ shell.conns → by.0 < length shell.conns → IsTrue (is_built command)
@@ -231,7 +233,8 @@ command_changes : (form : StrForm) (shell shell' : Shell) (by : ConnId) (command
     → let acted = shell_done form shell' by command in
     TellsActive by conn (link_of command acted.reply) shell'.conns acted.shell.conns
 command_changes form shell shell' by (cmd.Connect keep) conn same within built accepted =
-    subst (λ (change : Option Bool). TellsActive by conn change shell'.conns (connect form shell' by keep).shell.conns)
+    subst (λ (change : Option Bool). TellsActive by conn change shell'.conns
+    (connect form shell' by keep).shell.conns)
     (sym (link-connect form shell' by keep)) (connect_changes form shell' by keep conn (rw same within))
 command_changes form shell shell' by cmd.Disconnect conn same within built accepted =
     depart_changes form shell' by false conn (rw same within)
@@ -390,7 +393,8 @@ module _ {C R I S : Type 0} (meaning : Meaning C R I S) (form : StrForm) where
           command_changes form machine.shell (posting letters machine.shell) by command conn refl within built is
   is_active-step number machine by (ask.Content command) conn places may built =
       let answered = step meaning form machine by (ask.Content command) in
-      same_connections answered.machine.shell.conns (conns-content machine by command (content_cause machine.shell by))
+      same_connections answered.machine.shell.conns (conns-content machine by command
+      (content_cause machine.shell by))
       (told {C = C} number (ask.Content command) answered.reply).linked
       (linked-content number command (step meaning form machine by (ask.Content command)).reply)
     where
@@ -547,7 +551,8 @@ module _ {C R I S : Type 0} (meaning : Meaning C R I S) (form : StrForm) where
       refused_by machine _ _ refusal.NotConnected (inactive_cause machine.shell by _ idle)
 
   refused_done : (machine : Machine S) (by : ConnId) (command : ShellCmd) (cause : Option Refusal) (refusal : Refusal)
-      → (unless meaning form cause machine (command_done meaning form machine by command)).reply ≡ reply.Refused refusal
+      → (unless meaning form cause machine (command_done meaning form machine by command)).reply ≡ reply.Refused
+      refusal
       → (unless meaning form cause machine (command_done meaning form machine by command)).machine ≡ machine
   refused_done machine by command (Some why) refusal is = refl
   refused_done machine by command None refusal is = absurd (cc)
@@ -561,7 +566,8 @@ module _ {C R I S : Type 0} (meaning : Meaning C R I S) (form : StrForm) where
   refused_stepped machine None outcome refusal is = absurd (cc)
 
   refused_content : (machine : Machine S) (by : ConnId) (command : C) (cause : Option Refusal) (refusal : Refusal)
-      → (unless meaning form cause machine (content_done meaning form machine by command)).reply ≡ reply.Refused refusal
+      → (unless meaning form cause machine (content_done meaning form machine by command)).reply ≡ reply.Refused
+      refusal
       → (unless meaning form cause machine (content_done meaning form machine by command)).machine ≡ machine
   refused_content machine by command (Some why) refusal is = refl
   refused_content machine by command None refusal is =

@@ -11,7 +11,8 @@ use Rattle.engine_api.specs.Shell.{is_built}
 abbrev pub IsOperator : ConnId → Type 0
 IsOperator conn = conn.0 ≡ 0
 
--- who may give a common command, and which numbers it may name. The operator's NEXT and RESPOND are asked too, and refused
+-- who may give a common command, and which numbers it may name. The operator's NEXT and RESPOND are asked too, and
+-- refused
 abbrev pub MayCommand : ConnId → ShellCmd → Type 0
 MayCommand by (cmd.Connect keep) = IsConnector by
 MayCommand by cmd.Disconnect = IsConnector by

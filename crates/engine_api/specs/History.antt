@@ -101,7 +101,8 @@ module _ {C R I S : Type 0} (meaning : Meaning C R I S) (form : StrForm) where
   abbrev pub IsNext : List (Entry C R) → Entry C R → Type 0
   IsNext history entry = IsNextAs history entry entry.what
 
-  -- entries are numbered from 1 without a gap, stand in groups, and each reply is that of the machine at the entries before it
+  -- entries are numbered from 1 without a gap, stand in groups, and each reply is that of the machine at the entries
+  -- before it
   pub record IsLegal (history : List (Entry C R)) : Type 0 where
     pub groups : AreGroupsAfter 0 history
     pub entries : (i : ℕ) (entry : Entry C R) → slice_get history i ≡ Some entry → IsNext (take i history) entry
@@ -115,7 +116,8 @@ module _ {C R I S : Type 0} (meaning : Meaning C R I S) (form : StrForm) where
   abbrev pub stands_after : List (Entry C R) → ConnId → ℕ → Bool
   stands_after history conn index = meaning.stands (replay history).content conn index
 
-  -- a test of a bit that answers with the number n, by a connector that has seen the calls up to q complete: what stood at the call n;
+  -- a test of a bit that answers with the number n, by a connector that has seen the calls up to q complete: what
+  -- stood at the call n;
   -- or, where n is a call that it hasn't seen complete, what stood before that call
   pub record Tells (history : List (Entry C R)) (n q : ℕ) (conn : ConnId) (index : ℕ) (bit : Bool) : Type 0 where
     pub point : IsPoint history n

@@ -75,7 +75,14 @@ module _ {C R I S : Type 0} (meaning : Meaning C R I S) (form : StrForm) where
   command_done machine by cmd =
       let gone = leaving (leaver machine.shell by cmd) machine in
       let acted = shell_done form (posting gone.letters machine.shell) by cmd in
-      record { reply = reply.Shell acted.reply; machine = record { shell = acted.shell; content = with_deeds acted.deeds gone.state } }
+      record {
+        reply = reply.Shell acted.reply;
+        machine = record {
+          shell = acted.shell;
+          content = with_deeds
+              acted.deeds gone.state;
+        };
+      }
 
   abbrev pub unless : Option Refusal → Machine S → Answered R S → Answered R S
   unless None machine done = done
@@ -83,5 +90,6 @@ module _ {C R I S : Type 0} (meaning : Meaning C R I S) (form : StrForm) where
 
   -- the step of a call
   abbrev pub step : Machine S → ConnId → Ask C → Answered R S
-  step machine by (ask.Shell cmd) = unless (shell_cause form machine.shell by cmd) machine (command_done machine by cmd)
+  step machine by (ask.Shell cmd) = unless (shell_cause form machine.shell by cmd) machine
+      (command_done machine by cmd)
   step machine by (ask.Content cmd) = unless (content_cause machine.shell by) machine (content_done machine by cmd)

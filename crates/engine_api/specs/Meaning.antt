@@ -17,7 +17,8 @@ pub record Departure (S : Type 0) : Type 0 where
   pub state : S
   pub letters : List Letter
 
--- commands C, replies R, items I and contents S. A command is two columns: the first refusal that holds, and what the command does where
+-- commands C, replies R, items I and contents S. A command is two columns: the first refusal that holds, and what the
+-- command does where
 -- none holds
 pub record Meaning (C R I S : Type 0) : Type 0 where
   pub empty : Shape → S
@@ -46,7 +47,12 @@ pub record Stepped (R S : Type 0) : Type 0 where
 
 -- a refused command changes nothing and sends nothing
 abbrev pub unless_refused : {R S : Type 0} → Option Refusal → S → Outcome R S → Stepped R S
-unless_refused None state outcome = record { reply = Ok outcome.reply; state = outcome.state; letters = outcome.letters }
+unless_refused None state outcome = record {
+  reply = Ok outcome.reply;
+  state = outcome.state;
+  letters =
+      outcome.letters;
+}
 unless_refused (Some refusal) state outcome = record { reply = Err refusal; state = state; letters = [] }
 
 -- what an engine holds: its shape, its capacity and its content

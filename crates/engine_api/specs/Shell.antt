@@ -1,4 +1,5 @@
--- What structures of every kind share: instances, connections and events, and the commands on them. A command is two columns: the first
+-- What structures of every kind share: instances, connections and events, and the commands on them. A command is two
+-- columns: the first
 -- refusal that holds, and what the command does where none holds.
 use Rattle.std.specs.Prelude.{ℕ, Bool, true, false, not, ◌&&◌, ◌==◌, nat_le, nat_lt, if◌then◌else◌, List, [], ◌∷◌, Option, None, Some, is_none, is_some, unwrap_or}
 use Rattle.cf_types.specs.declared.forms.StrForm.{StrForm}
@@ -53,7 +54,8 @@ if_connected None = None
 -- one that is gone can't where the structure has all the connections that it admits
 abbrev pub if_too_many : StrForm → Shell → ConnId → Option Refusal
 if_too_many form shell by =
-    when (is_none (state_of shell.conns by) && nat_le form.conns (defined_count shell.conns)) (refusal.TooManyConns form.conns)
+    when (is_none (state_of shell.conns by) && nat_le form.conns (defined_count shell.conns))
+    (refusal.TooManyConns form.conns)
 
 -- no facility can hold an instance, or none is large enough
 abbrev pub if_no_place : ℕ → List Pref → Option Refusal
@@ -63,7 +65,8 @@ if_no_place units (pref ∷ prefs) =
 
 abbrev pub unless_placed : StrForm → Shell → Option Refusal
 unless_placed form shell =
-    if is_none shell.instances.primary then if_no_place (units_of form.caps) (candidates form.prefs shell.instances) else None
+    if is_none shell.instances.primary then if_no_place (units_of form.caps) (candidates form.prefs shell.instances)
+    else None
 
 -- only a failed connection can be forced away
 abbrev pub unless_failed : Option ConnState → Option Refusal
@@ -170,7 +173,8 @@ unless_gone form shell = if goes form shell.conns then record shell { instances 
 -- the facility of the primary; where none stands one is made in the first place that is large enough
 abbrev pub made_at : StrForm → Shell → Option CfId
 made_at form shell =
-    if is_none shell.instances.primary then place_for (units_of form.caps) (candidates form.prefs shell.instances) else None
+    if is_none shell.instances.primary then place_for (units_of form.caps) (candidates form.prefs shell.instances)
+    else None
 
 abbrev pub with_primary : Option CfId → Instances → Instances
 with_primary None instances = instances
@@ -194,7 +198,12 @@ connect form shell by keep =
     let shell' = connecting form shell by keep in
     let primary = facility_of shell'.instances.primary in
     if is_some (state_of shell.conns by)
-    then record { reply = reply.Reconnected primary; shell = shell'; deeds = record no_deeds { back = Some by; make = made_at form shell } }
+    then record {
+      reply = reply.Reconnected primary;
+      shell = shell';
+      deeds = record no_deeds
+          { back = Some by; make = made_at form shell };
+    }
     else record { reply = reply.OkNew primary; shell = shell'; deeds = record no_deeds { make = made_at form shell } }
 
 -- a connector departs: its events end, nobody awaits it any more, and the connectors that are active then are told
@@ -258,7 +267,12 @@ force_connection form shell other =
 -- the structure is deallocated
 abbrev pub force_structure : Shell → Acted
 force_structure shell =
-    record { reply = reply.Ok; shell = record shell { instances = no_instance }; deeds = record no_deeds { drop_all = true } }
+    record {
+      reply = reply.Ok;
+      shell = record shell { instances = no_instance };
+      deeds = record no_deeds
+          { drop_all = true };
+    }
 
 abbrev pub idle : Shell → Acted
 idle shell = record { reply = reply.Ok; shell = shell; deeds = no_deeds }

@@ -65,8 +65,8 @@ pub trait Engine: Sized + Send + Drop {
         ensures bits { out.new.bits.items ≡ out.old.bits.items }
         ensures mail { out.new.mail.items ≡ out.old.mail.items };
 
-    /// Does the command, or refuses it; a refused command changes nothing. The bits that changed and
-    /// the letters to send are appended to the effects.
+    /// Does the command, or refuses it; a refused command changes nothing. The bits that changed
+    /// and the letters to send are appended to the effects.
     fn apply(
         &mut self,
         by: ConnId,
@@ -75,10 +75,12 @@ pub trait Engine: Sized + Send + Drop {
     ) -> Result<Self::Reply, Refusal>
         requires caller { IsCaller by }
         requires ready { is_ready self.old (ForCmd by cmd.now) out.old }
-        ensures step { record { reply = result; held = held self.new } ≡ answer meaning (held self.old) by cmd.now }
+        ensures step { record { reply = result; held = held self.new } ≡ answer meaning
+            (held self.old) by cmd.now }
         ensures bits { Gains (stands_in meaning (held self.old)) (stands_in meaning (held self.new))
             out.old.bits.items out.new.bits.items }
-        ensures mail { out.new.mail.items ≡ out.old.mail.items ++ letters_of meaning (held self.old) by cmd.now }
+        ensures mail { out.new.mail.items ≡ out.old.mail.items ++ letters_of meaning (held self.old)
+            by cmd.now }
         ensures fits { length (letters_of meaning (held self.old) by cmd.now) ≤ out.old.mail.room };
 
     /// Takes all memory that a departure of the connector needs.
@@ -98,7 +100,8 @@ pub trait Engine: Sized + Send + Drop {
             out.old.bits.items out.new.bits.items }
         ensures mail { out.new.mail.items
             ≡ out.old.mail.items ++ (departure meaning (held self.old) conn keep).letters }
-        ensures fits { length (departure meaning (held self.old) conn keep).letters ≤ out.old.mail.room };
+        ensures fits { length (departure meaning (held self.old) conn keep).letters ≤
+            out.old.mail.room };
 
     /// A failed connection is taken up again.
     fn back(&mut self, conn: ConnId)
@@ -158,19 +161,23 @@ pub trait Engine: Sized + Send + Drop {
         ensures { result ≡ stands_in meaning (held self.now) conn index };
 
     /// Nothing is a content, in which no bit stands, and whose items are none.
-    ghost content_empty: { (shape : Shape) (caps : Caps) → is_content shape caps (meaning.empty shape) };
+    ghost content_empty: { (shape : Shape) (caps : Caps) → is_content shape caps
+        (meaning.empty shape) };
 
-    ghost clear_empty: { (shape : Shape) (conn : ConnId) (index : ℕ) → meaning.stands (meaning.empty shape) conn index ≡ false };
+    ghost clear_empty: { (shape : Shape) (conn : ConnId) (index : ℕ)
+        → meaning.stands (meaning.empty shape) conn index ≡ false };
 
     ghost items_empty: { (shape : Shape) → meaning.items shape (meaning.empty shape) ≡ [] };
 
     /// Commands and departures lead from content to content.
     ghost content_step: { (shape : Shape) (caps : Caps) (state : Self.State) (by : ConnId) (cmd : Self.Cmd)
         → is_content shape caps state
-        → is_content shape caps (stepped meaning (record { shape = shape; caps = caps; state = state }) by cmd).state };
+        → is_content shape caps (stepped meaning
+        (record { shape = shape; caps = caps; state = state }) by cmd).state };
 
     ghost content_leave: { (shape : Shape) (caps : Caps) (state : Self.State) (conn : ConnId) (keep : Bool)
-        → is_content shape caps state → is_content shape caps (meaning.leave shape state conn keep).state };
+        → is_content shape caps state → is_content shape caps
+        (meaning.leave shape state conn keep).state };
 
     ghost content_back: { (shape : Shape) (caps : Caps) (state : Self.State) (conn : ConnId)
         → is_content shape caps state → is_content shape caps (meaning.back state conn) };
@@ -180,24 +187,28 @@ pub trait Engine: Sized + Send + Drop {
 
     /// The items of a content make the content again, without its registrations.
     ghost made_again: { (shape : Shape) (caps : Caps) (state : Self.State)
-        → is_content shape caps state → made meaning shape (meaning.items shape state) ≡ meaning.forget state };
+        → is_content shape caps state → made meaning shape (meaning.items shape state) ≡
+        meaning.forget state };
 
     /// An item that is placed is the last, and goes with `unplace`.
     ghost items_place: { (shape : Shape) (caps : Caps) (state : Self.State) (item : Self.Item)
         → IsNextItem meaning (is_content shape caps) shape state item
-        → meaning.items shape (meaning.place shape state item) ≡ meaning.items shape state ++ item ∷ [] };
+        → meaning.items shape (meaning.place shape state item) ≡ meaning.items shape state
+        ++ item ∷ [] };
 
     ghost unplace_place: { (shape : Shape) (caps : Caps) (state : Self.State) (item : Self.Item)
         → IsNextItem meaning (is_content shape caps) shape state item
         → meaning.unplace shape (meaning.place shape state item) ≡ state };
 
     /// The first items need no more than all.
-    ghost need_first: { (items others : List Self.Item) → IsNoMore (meaning.need items) (meaning.need (items ++ others)) };
+    ghost need_first: { (items others : List Self.Item) → IsNoMore (meaning.need items)
+        (meaning.need (items ++ others)) };
 
     /// A departure, and the end of registrations, never raise the need.
     ghost need_leave: { (shape : Shape) (caps : Caps) (state : Self.State) (conn : ConnId) (keep : Bool)
         → is_content shape caps state
-        → IsNoMoreOf shape.kind (meaning.need (meaning.items shape (meaning.leave shape state conn keep).state))
+        → IsNoMoreOf shape.kind (meaning.need
+        (meaning.items shape (meaning.leave shape state conn keep).state))
         (meaning.need (meaning.items shape state)) };
 
     ghost need_forget: { (shape : Shape) (caps : Caps) (state : Self.State)

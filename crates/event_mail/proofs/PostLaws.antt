@@ -9,7 +9,8 @@ use Rattle.cf_types.specs.Mailboxes.{Mailbox, Mailboxes, no_events, mailbox_of}
 use Rattle.event_mail.specs.Post.{Box, mailboxes_of}
 
 -- one mailbox changes
-pub mailboxes_of-set : (boxes : List Box) (mail : Mailboxes) (conn : ConnId) (at : ℕ) (old new : Box) (change : Mailbox
+pub mailboxes_of-set : (boxes : List Box) (mail : Mailboxes) (conn : ConnId) (at : ℕ) (old new : Box)
+    (change : Mailbox
     → Mailbox) → mailboxes_of boxes ≡ mail → at ≡ conn.0 → at < length boxes → old ≡ get_or boxes at old
     → new.mailbox ≡ change old.mailbox → mailboxes_of (slice_set boxes at new)
     ≡ slice_set mail conn.0 (change (mailbox_of mail conn))

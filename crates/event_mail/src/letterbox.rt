@@ -23,7 +23,13 @@ impl Model for Letterbox {
 
     ghost Value = { Box };
 
-    ghost view = { λ b. record { mailbox = record { waiting = drop b.owed b.events.items; owed = take b.owed b.events.items }; room = deque_capacity b.events - deque_len b.events } };
+    ghost view = { λ b. record {
+      mailbox = record {
+        waiting = drop b.owed b.events.items;
+        owed = take b.owed b.events.items;
+      };
+      room = deque_capacity b.events - deque_len b.events;
+    } };
 
     ghost invariant = { λ b. b.owed ≤ deque_len b.events };
 }

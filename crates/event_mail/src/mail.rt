@@ -13,8 +13,8 @@ const PLACES: usize = 33;
 /// For how many letters a connector's mailbox has room at the start.
 const FIRST_LETTERS: usize = 8;
 
-/// The mailboxes of a structure. Contracts see what each has, by the connectors' numbers from 0, and
-/// for how many letters to each connector room is taken.
+/// The mailboxes of a structure. Contracts see what each has, by the connectors' numbers from 0,
+/// and for how many letters to each connector room is taken.
 #[derive(Debug, Drop)]
 pub struct Mail {
     boxes: Vec<Letterbox>,

@@ -12,14 +12,16 @@ use Rattle.list_model.specs.Commands.Move.{moved}
 use Rattle.list_core.specs.Keeping.{put_back}
 use Rattle.list_core.specs.Found.{IsFound}
 
-pub found-any : (lists : Lists) (at : At) → IsFound lists at → list_any (is_id (the_record lists at).id) (all_records lists) ≡ true
+pub found-any : (lists : Lists) (at : At) → IsFound lists at → list_any (is_id (the_record lists at).id)
+    (all_records lists) ≡ true
 found-any lists at is =
     any_is_found (is_id (the_record lists at).id) (all_records lists)
     ∙ ap (λ (o : Option Rec). is_some o) is.by_id ∙ is.there
 
 -- it is the record that is taken out and put back
 pub found-put_back : (head : Bool) (header : ℕ) (key : Option Key16) (lists : Lists) (at : At) → IsFound lists at
-    → put_back head header key (record_of (the_record lists at).id lists) (lists_without (the_record lists at).id lists)
+    → put_back head header key (record_of (the_record lists at).id lists) (lists_without (the_record lists at).id
+    lists)
     ≡ with_record head header (moved key (the_record lists at)) (lists_without (the_record lists at).id lists)
 found-put_back head header key lists at is =
     ap (λ (o : Option Rec). put_back head header key o (lists_without (the_record lists at).id lists)) is.by_id

@@ -35,5 +35,6 @@ same_first n [] = refl
 same_first n (records ∷ lists) = ap (λ (l : Lists). take n records ∷ l) (same_first (n - length records) lists)
 
 pub last-gone : (lists : Lists) (header : ℕ) → IsLastFull header lists
-    → with_records lists header (take (length (records_of lists header) - 1) (records_of lists header)) ≡ first_records (count_of lists - 1) lists
+    → with_records lists header (take (length (records_of lists header) - 1) (records_of lists header)) ≡
+    first_records (count_of lists - 1) lists
 last-gone lists header is = popped lists header is ∙ same_first (count_of lists - 1) lists

@@ -24,14 +24,17 @@ use Rattle.list_core.specs.Found.{IsFound}
 use Rattle.list_core.specs.Plans.{body_of, plan_unless, plan_for, IsPossible}
 
 -- the plan that is taken is the one that was wanted
-pub plan_taken : (taken kept : Option Plan) (plan wanted : Plan) → taken ≡ kept → taken ≡ Some plan → kept ≡ Some wanted → plan ≡ wanted
+pub plan_taken : (taken kept : Option Plan) (plan wanted : Plan) → taken ≡ kept → taken ≡ Some plan
+    → kept ≡ Some wanted → plan ≡ wanted
 plan_taken taken kept plan wanted e f g = let same : Some plan ≡ Some wanted = sym f ∙ e ∙ g in cc
 
-pub record IsAccepted (shape : Shape) (caps : Caps) (content : Content) (by : ConnId) (cmd : ListCmd) (plan : Plan) : Type 0 where
+pub record IsAccepted (shape : Shape) (caps : Caps) (content : Content) (by : ConnId) (cmd : ListCmd) (plan : Plan) :
+    Type 0 where
   pub none : cause shape caps content by cmd ≡ None
   pub body : plan.body ≡ body_of content cmd
 
-accepted_step : (shape : Shape) (caps : Caps) (content : Content) (by : ConnId) (cmd : ListCmd) (plan : Plan) (told : ListReply) (o : Option Refusal)
+accepted_step : (shape : Shape) (caps : Caps) (content : Content) (by : ConnId) (cmd : ListCmd) (plan : Plan)
+    (told : ListReply) (o : Option Refusal)
     → cause shape caps content by cmd ≡ o → plan ≡ plan_unless o content by cmd → plan.reply ≡ Ok told
     → IsAccepted shape caps content by cmd plan
 accepted_step shape caps content by cmd plan told None e is h =
@@ -39,14 +42,16 @@ accepted_step shape caps content by cmd plan told None e is h =
 accepted_step shape caps content by cmd plan told (Some refusal) e is h =
     let wrong : Ok told ≡ Err refusal = sym h ∙ ap (λ (p : Plan). p.reply) is in absurd (cc)
 
-pub plan_accepted : (shape : Shape) (caps : Caps) (content : Content) (by : ConnId) (cmd : ListCmd) (plan : Plan) (told : ListReply)
+pub plan_accepted : (shape : Shape) (caps : Caps) (content : Content) (by : ConnId) (cmd : ListCmd) (plan : Plan)
+    (told : ListReply)
     → plan ≡ plan_for shape caps content by cmd → plan.reply ≡ Ok told → IsAccepted shape caps content by cmd plan
 plan_accepted shape caps content by cmd plan told is h =
     accepted_step shape caps content by cmd plan told (cause shape caps content by cmd) refl is h
 
 -- ---- what a command names is there
 
-found : (lists : Lists) (at : At) → pairwise ids_apart (all_records lists) ≡ true → record_refusal (record_at lists at) ≡ None → IsFound lists at
+found : (lists : Lists) (at : At) → pairwise ids_apart (all_records lists) ≡ true
+    → record_refusal (record_at lists at) ≡ None → IsFound lists at
 found lists at apart h = go (record_at lists at) refl h
   where
     go : (o : Option Rec) → record_at lists at ≡ o → record_refusal o ≡ None → IsFound lists at
@@ -54,34 +59,43 @@ found lists at apart h = go (record_at lists at) refl h
     go (Some rec) e f =
         record {
           there = ap (λ (o : Option Rec). is_some o) e;
-          by_id = ap (λ (o : Option Rec). record_of (unwrap_or o no_record).id lists) e ∙ record_of-at lists at rec apart e ∙ sym e;
+          by_id = ap (λ (o : Option Rec). record_of (unwrap_or o no_record).id lists) e
+              ∙ record_of-at lists at rec apart e ∙ sym e;
         }
 
 lock_there : (locks lock : ℕ) → lock_refusal locks lock ≡ None → lock < locks
 lock_there locks lock h = header_there locks lock (same (nat_le locks lock) h)
   where
-    same : (b : Bool) → (if b then Some (BadLock lock locks) else None) ≡ None → (if b then Some (BadHeader lock locks) else None) ≡ None
+    same : (b : Bool) → (if b then Some (BadLock lock locks) else None) ≡ None
+        → (if b then Some (BadHeader lock locks) else None) ≡ None
     same true e = absurd (cc)
     same false e = refl
 
 at_most : (a n m : ℕ) → m ≡ n → a < n → a < m
 at_most a n m e h = subst (λ (k : ℕ). a < k) (sym e) h
 
-pub possible : (shape : Shape) (caps : Caps) (content : Content) (by : ConnId) (cmd : ListCmd) → IsContent shape caps content
+pub possible : (shape : Shape) (caps : Caps) (content : Content) (by : ConnId) (cmd : ListCmd)
+    → IsContent shape caps content
     → cause shape caps content by cmd ≡ None → IsPossible content cmd
 possible shape caps content by (Write header head name key body adj cond) is h =
-    let none = none_hold (causes shape caps content by (Write header head name key body adj cond)) h in
-    (at_most header (headers_of shape.kind) (length content.lists) is.headers (header_there (headers_of shape.kind) header none.1.1.0), new-alone shape caps content is)
+    let none = none_hold (causes shape caps content by (Write header head name key body adj cond)) h in (
+      at_most header (headers_of shape.kind) (length content.lists) is.headers (header_there (headers_of shape.kind)
+          header none.1.1.0),
+      new-alone shape caps content is,
+    )
 possible shape caps content by (Update at body adj cond) is h =
-    let none = none_hold (causes shape caps content by (Update at body adj cond)) h in found content.lists at is.one_for_id none.1.1.1.1.0
+    let none = none_hold (causes shape caps content by (Update at body adj cond)) h in found content.lists at
+    is.one_for_id none.1.1.1.1.0
 possible shape caps content by (Read at cond) is h = tt
 possible shape caps content by (Move at header head key cond) is h =
     let none = none_hold (causes shape caps content by (Move at header head key cond)) h in (
       found content.lists at is.one_for_id none.1.1.1.1.0,
-      at_most header (headers_of shape.kind) (length content.lists) is.headers (header_there (headers_of shape.kind) header none.1.1.1.1.1.0),
+      at_most header (headers_of shape.kind) (length content.lists) is.headers (header_there (headers_of shape.kind)
+          header none.1.1.1.1.1.0),
     )
 possible shape caps content by (Delete at cond) is h =
-    let none = none_hold (causes shape caps content by (Delete at cond)) h in found content.lists at is.one_for_id none.1.1.1.1.0
+    let none = none_hold (causes shape caps content by (Delete at cond)) h in found content.lists at is.one_for_id
+    none.1.1.1.1.0
 possible shape caps content by (ReadList header) is h = tt
 possible shape caps content by (LockSet lock) is h =
     let none = none_hold (causes shape caps content by (LockSet lock)) h in
@@ -93,12 +107,14 @@ possible shape caps content by (LockTest lock) is h = tt
 possible shape caps content by (LControls header) is h = tt
 possible shape caps content by (SetLimit header n) is h =
     let none = none_hold (causes shape caps content by (SetLimit header n)) h in
-    at_most header (headers_of shape.kind) (length content.limits) is.limits (header_there (headers_of shape.kind) header none.0)
+    at_most header (headers_of shape.kind) (length content.limits) is.limits (header_there (headers_of shape.kind)
+    header none.0)
 possible shape caps content by (Monitor header index) is h = tt
 possible shape caps content by (Unmonitor header) is h = tt
 
 -- what holds either way
-pub either_way : {X E Y : Type 0} (P : Y → Type 0) (r : Result X E) (old more now : Y) → OnOk r (now ≡ more) → OnErr r (now ≡ old)
+pub either_way : {X E Y : Type 0} (P : Y → Type 0) (r : Result X E) (old more now : Y) → OnOk r (now ≡ more)
+    → OnErr r (now ≡ old)
     → P more → P old → P now
 either_way P (Ok x) old more now e f a b = subst P (sym e) a
 either_way P (Err x) old more now e f a b = subst P (sym f) b

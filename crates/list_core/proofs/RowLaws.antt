@@ -12,19 +12,23 @@ use Rattle.list_model.specs.Items.{Triple, triple_of, monitor_of}
 use Rattle.list_core.specs.Told.{is_told}
 use Rattle.list_core.specs.Rows.{told_row}
 
-pub map-triples : (rows : List Watched) → map (λ (row : Watched). triple_of row.monitor) rows ≡ map triple_of (monitors_of rows)
+pub map-triples : (rows : List Watched) → map (λ (row : Watched). triple_of row.monitor) rows ≡ map triple_of
+    (monitors_of rows)
 map-triples [] = refl
 map-triples (row ∷ rows) = ap (λ (l : List Triple). triple_of row.monitor ∷ l) (map-triples rows)
 
-pub monitors-told_rows : (lists : Lists) (watches : List Triple) → monitors_of (map (told_row lists) watches) ≡ map monitor_of watches
+pub monitors-told_rows : (lists : Lists) (watches : List Triple) → monitors_of (map (told_row lists) watches) ≡ map
+    monitor_of watches
 monitors-told_rows lists [] = refl
-monitors-told_rows lists (watch ∷ watches) = ap (λ (l : List Monitor). monitor_of watch ∷ l) (monitors-told_rows lists watches)
+monitors-told_rows lists (watch ∷ watches) = ap (λ (l : List Monitor). monitor_of watch ∷ l)
+    (monitors-told_rows lists watches)
 
 same : (a : Bool) → not (differs a a) ≡ true
 same true = refl
 same false = refl
 
-pub told-told_rows : (lists : Lists) (watches : List Triple) → list_all (is_told lists) (map (told_row lists) watches) ≡ true
+pub told-told_rows : (lists : Lists) (watches : List Triple) → list_all (is_told lists) (map (told_row lists) watches)
+    ≡ true
 told-told_rows lists [] = refl
 told-told_rows lists (watch ∷ watches) =
     and_from (is_told lists (told_row lists watch)) (list_all (is_told lists) (map (told_row lists) watches))

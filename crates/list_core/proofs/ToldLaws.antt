@@ -39,7 +39,8 @@ same : (a : Bool) → not (differs a a) ≡ true
 same true = refl
 same false = refl
 
-pub told-stands : (lists : Lists) (rows : List Watched) → list_all (is_told lists) rows ≡ true → (conn : ConnId) (index : ℕ)
+pub told-stands : (lists : Lists) (rows : List Watched) → list_all (is_told lists) rows ≡ true
+    → (conn : ConnId) (index : ℕ)
     → watch.stands (monitors_of rows) (has_records lists) conn index ≡ lit rows conn index
 told-stands lists [] h conn index = refl
 told-stands lists (row ∷ rows) h conn index =
@@ -50,21 +51,25 @@ told-stands lists (row ∷ rows) h conn index =
 
 -- the same bits by other words
 pub gains_agree : (before after old new : Bits) (bits more : List BitChange)
-    → ((conn : ConnId) (index : ℕ) → before conn index ≡ old conn index) → ((conn : ConnId) (index : ℕ) → after conn index ≡ new conn index)
+    → ((conn : ConnId) (index : ℕ) → before conn index ≡ old conn index) → ((conn : ConnId) (index : ℕ)
+    → after conn index ≡ new conn index)
     → Gains old new bits more → Gains before after bits more
 gains_agree before after old new bits more e f gains =
     record {
       added = gains.added;
       behind = gains.behind;
-      exactly = λ conn index. gains.exactly conn index ∙ sym (ap (λ b. difference b (after conn index)) (e conn index) ∙ ap (λ b. difference (old conn index) b) (f conn index));
+      exactly = λ conn index. gains.exactly conn index ∙ sym (ap (λ b. difference b (after conn index)) (e conn index)
+          ∙ ap (λ b. difference (old conn index) b) (f conn index));
     }
 
 pub gains-told : (lists later : Lists) (rows next : List Watched) (bits more : List BitChange)
     → list_all (is_told lists) rows ≡ true → list_all (is_told later) next ≡ true
     → Gains (lit rows) (lit next) bits more
-    → Gains (watch.stands (monitors_of rows) (has_records lists)) (watch.stands (monitors_of next) (has_records later)) bits more
+    → Gains (watch.stands (monitors_of rows) (has_records lists)) (watch.stands (monitors_of next)
+    (has_records later)) bits more
 gains-told lists later rows next bits more h k gains =
-    gains_agree (watch.stands (monitors_of rows) (has_records lists)) (watch.stands (monitors_of next) (has_records later))
+    gains_agree (watch.stands (monitors_of rows) (has_records lists)) (watch.stands (monitors_of next)
+    (has_records later))
     (lit rows) (lit next) bits more (told-stands lists rows h) (told-stands later next k) gains
 
 -- ---- told of all headers but some
@@ -88,12 +93,15 @@ told-but spared lists later (row ∷ rows) same h =
     (but_step spared lists later row (spared row.monitor.header) refl (same row.monitor.header) parts.0)
     (told-but spared lists later rows same parts.1)
 
-turn_step : (header : ℕ) (spared : ℕ → Bool) (lists : Lists) (row : Watched) (b : Bool) → (row.monitor.header == header) ≡ b
+turn_step : (header : ℕ) (spared : ℕ → Bool) (lists : Lists) (row : Watched) (b : Bool)
+    → (row.monitor.header == header) ≡ b
     → (b || spared row.monitor.header) || is_told lists row ≡ true
     → is_told_but spared lists (if b then record row { full = has_records lists header } else row) ≡ true
 turn_step header spared lists row true e h =
-    let there : has_records lists row.monitor.header ≡ has_records lists header = ap (has_records lists) (eqb-true row.monitor.header header e) in
-    either (spared row.monitor.header) (not (differs (has_records lists header) (has_records lists row.monitor.header)))
+    let there : has_records lists row.monitor.header ≡ has_records lists header = ap (has_records lists)
+    (eqb-true row.monitor.header header e) in
+    either (spared row.monitor.header) (not (differs (has_records lists header)
+    (has_records lists row.monitor.header)))
     (ap (λ t. not (differs (has_records lists header) t)) there ∙ same (has_records lists header))
   where
     either : (a b : Bool) → b ≡ true → a || b ≡ true
@@ -107,7 +115,8 @@ pub told-turned : (header : ℕ) (spared : ℕ → Bool) (lists : Lists) (rows :
     → list_all (is_told_but spared lists) (rows_turned header (has_records lists header) rows) ≡ true
 told-turned header spared lists [] h = refl
 told-turned header spared lists (row ∷ rows) h =
-    let parts = and_parts (is_told_but (λ k. (k == header) || spared k) lists row) (list_all (is_told_but (λ k. (k == header) || spared k) lists) rows) h in
+    let parts = and_parts (is_told_but (λ k. (k == header) || spared k) lists row)
+    (list_all (is_told_but (λ k. (k == header) || spared k) lists) rows) h in
     and_from (is_told_but spared lists (turned header (has_records lists header) row))
     (list_all (is_told_but spared lists) (rows_turned header (has_records lists header) rows))
     (turn_step header spared lists row (row.monitor.header == header) refl parts.0)
@@ -128,9 +137,11 @@ told-one header lists later rows same h =
 
 -- two headers changed
 pub told-two : (from to : ℕ) (lists later : Lists) (rows : List Watched)
-    → ((other : ℕ) → (other == from) ≡ false → (other == to) ≡ false → has_records later other ≡ has_records lists other)
+    → ((other : ℕ) → (other == from) ≡ false → (other == to) ≡ false → has_records later other ≡ has_records lists
+    other)
     → list_all (is_told lists) rows ≡ true
-    → list_all (is_told later) (rows_turned to (has_records later to) (rows_turned from (has_records later from) rows)) ≡ true
+    → list_all (is_told later) (rows_turned to (has_records later to) (rows_turned from (has_records later from)
+    rows)) ≡ true
 told-two from to lists later rows same h =
     told-turned to (λ k. false) later (rows_turned from (has_records later from) rows)
     (told-turned from (λ k. (k == to) || false) later rows
@@ -147,7 +158,8 @@ told-two from to lists later rows same h =
     second false false e = refl
 
 -- no header changed
-pub told-same : (lists later : Lists) (rows : List Watched) → ((header : ℕ) → has_records later header ≡ has_records lists header)
+pub told-same : (lists later : Lists) (rows : List Watched)
+    → ((header : ℕ) → has_records later header ≡ has_records lists header)
     → list_all (is_told lists) rows ≡ true → list_all (is_told later) rows ≡ true
 told-same lists later rows same h = told-but (λ k. false) lists later rows (λ k e. same k) h
 
@@ -157,17 +169,24 @@ pub told-filter : (p : Watched → Bool) (lists : Lists) (rows : List Watched) �
     → list_all (is_told lists) (filter p rows) ≡ true
 told-filter p lists rows h = list_all-filter (is_told lists) p rows h
 
-pub told-with : (conn : ConnId) (index header : ℕ) (lists : Lists) (rows : List Watched) → list_all (is_told lists) rows ≡ true
+pub told-with : (conn : ConnId) (index header : ℕ) (lists : Lists) (rows : List Watched)
+    → list_all (is_told lists) rows ≡ true
     → list_all (is_told lists) (rows_with conn index header (has_records lists header) rows) ≡ true
 told-with conn index header lists rows h =
-    let new : Watched = record { monitor = record { conn = conn; index = index; header = header }; full = has_records lists header } in
+    let new : Watched = record {
+      monitor = record { conn = conn; index = index; header = header };
+      full = has_records
+          lists header;
+    } in
     let others = filter (λ row. not (is_replaced conn index header row.monitor)) rows in
     list_all-append (is_told lists) others (new ∷ [])
-    ∙ and_from (list_all (is_told lists) others) (is_told lists new && true) (told-filter (λ row. not (is_replaced conn index header row.monitor)) lists rows h)
+    ∙ and_from (list_all (is_told lists) others) (is_told lists new && true)
+    (told-filter (λ row. not (is_replaced conn index header row.monitor)) lists rows h)
     (and_from (is_told lists new) true (same (has_records lists header)) refl)
 
 -- the same headers have records
-pub stands-agree : (monitors : List Monitor) (f g : ℕ → Bool) → ((header : ℕ) → f header ≡ g header) → (conn : ConnId) (index : ℕ)
+pub stands-agree : (monitors : List Monitor) (f g : ℕ → Bool) → ((header : ℕ) → f header ≡ g header)
+    → (conn : ConnId) (index : ℕ)
     → watch.stands monitors f conn index ≡ watch.stands monitors g conn index
 stands-agree [] f g same conn index = refl
 stands-agree (m ∷ monitors) f g same conn index =
@@ -184,15 +203,19 @@ pub sym_test : (a b : ℕ) → (a == b) ≡ false → (b == a) ≡ false
 sym_test a b e = grind (arith, nat_tests)
 
 -- where a record is taken out of one header and comes to another
-pub full-put_back : (head : Bool) (id : EntryId) (header : ℕ) (key : Option Key16) (lists : Lists) (spot : Spot) (other : ℕ)
+pub full-put_back : (head : Bool) (id : EntryId) (header : ℕ) (key : Option Key16) (lists : Lists) (spot : Spot)
+    (other : ℕ)
     → pairwise ids_apart (all_records lists) ≡ true → spot_of id lists ≡ Some spot
     → (other == spot.header) ≡ false → (other == header) ≡ false
-    → has_records (put_back head header key (record_of id lists) (lists_without id lists)) other ≡ has_records lists other
+    → has_records (put_back head header key (record_of id lists) (lists_without id lists)) other ≡ has_records lists
+    other
 full-put_back head id header key lists spot other apart there e f = go (record_of id lists)
   where
     out : has_records (lists_without id lists) other ≡ has_records lists other
     out = full-others id lists spot other apart there (sym_test other spot.header e)
 
-    go : (o : Option Rec) → has_records (put_back head header key o (lists_without id lists)) other ≡ has_records lists other
+    go : (o : Option Rec) → has_records (put_back head header key o (lists_without id lists)) other ≡ has_records
+        lists other
     go None = out
-    go (Some rec) = full-elsewhere head header other (moved key rec) (lists_without id lists) (sym_test other header f) ∙ out
+    go (Some rec) = full-elsewhere head header other (moved key rec) (lists_without id lists)
+        (sym_test other header f) ∙ out

@@ -1,4 +1,5 @@
-//! The items of a copy: the controls, where they differ from those of an empty structure, and then the records.
+//! The items of a copy: the controls, where they differ from those of an empty structure, and then
+//! the records.
 ghost use Rattle.std.specs.Prelude.{◌≡◌, ◌+◌, ◌<◌, ◌++◌, ◌∷◌, [], IfOk, IfErr, OnOk, OnErr, Some, length, map, slice_get};
 ghost use Rattle.list_store.specs.Lists.{count_of};
 ghost use Rattle.list_watch.specs.declared.monitors.Watched.{Watched};
@@ -65,7 +66,8 @@ fn push_watch(list: &mut Vec<(ConnId, u32, u32)>, row: &Watched) -> Result<(), N
 
 // The monitors.
 fn watches_of(alloc: Global, rows: &[Watched]) -> Result<Vec<(ConnId, u32, u32)>, NoMemory>
-    ensures { IfOk result (λ list. list.items ≡ map (λ (row : Watched). triple_of row.monitor) rows.now) }
+    ensures { IfOk result (λ list. list.items ≡ map (λ (row : Watched). triple_of row.monitor)
+        rows.now) }
 {
     let mut list = Vec::new(alloc);
     for row in rows {
@@ -141,7 +143,8 @@ pub(crate) fn copy_item(
 
 // One monitor more, with its bit.
 fn push_row(kept: &Kept, rows: &mut Vec<Watched>, watch: (ConnId, u32, u32)) -> Result<(), NoMemory>
-    ensures { OnOk result (rows.new.items ≡ rows.old.items ++ told_row kept.now.content.lists watch ∷ []) }
+    ensures { OnOk result (rows.new.items ≡ rows.old.items ++ told_row kept.now.content.lists watch
+        ∷ []) }
 {
     let (conn, index, header) = watch;
     let monitor = Monitor {
@@ -160,7 +163,8 @@ fn rows_of(
     kept: &Kept,
     watches: &[(ConnId, u32, u32)],
 ) -> Result<Vec<Watched>, NoMemory>
-    ensures rows { IfOk result (λ rows. rows.items ≡ map (told_row kept.now.content.lists) watches.now) }
+    ensures rows { IfOk result (λ rows. rows.items ≡ map (told_row kept.now.content.lists)
+        watches.now) }
     ensures few { OnOk result (length watches.now < 4294967296) }
 {
     if watches.len() > u32::MAX as usize {

@@ -14,8 +14,8 @@ use list_watch::{Watch, Watched};
 use std::alloc::Global;
 use std::marker::Model;
 
-/// What a list structure contains. Contracts see the content, and for how many more records and monitors there is
-/// room. Each connector was told of the headers that it monitors.
+/// What a list structure contains. Contracts see the content, and for how many more records and
+/// monitors there is room. Each connector was told of the headers that it monitors.
 #[derive(Drop)]
 pub(crate) struct Kept {
     store: Store,
@@ -203,7 +203,8 @@ fn put_again(store: &mut Store, id: EntryId, header: u32, head: bool, key: Optio
 
 // A connector that departs lets go of its list locks, unless they are kept for it.
 fn release_unless(locks: &mut Vec<Option<ConnId>>, keep: bool, conn: ConnId)
-    ensures { locks.new.items ≡ (if keep then locks.old.items else map (released conn) locks.old.items) }
+    ensures { locks.new.items ≡ (if keep then locks.old.items else map (released conn)
+        locks.old.items) }
 {
     if !keep {
         release_all(locks, conn);
@@ -390,7 +391,8 @@ impl Kept {
           lists = with_record head header rec self.old.content.lists;
           next = self.old.content.next + 1;
         } }
-        ensures bits { Gains (stands self.old.content) (stands self.new.content) out.old.bits.items out.new.bits.items }
+        ensures bits { Gains (stands self.old.content) (stands self.new.content) out.old.bits.items
+            out.new.bits.items }
         ensures mail { out.new.mail ≡ out.old.mail }
     {
         put(&mut self.store, header, head, rec);
@@ -414,7 +416,8 @@ impl Kept {
         requires there { list_any (is_id id) (all_records self.old.content.lists) ≡ true }
         ensures content { self.new.content
             ≡ record self.old.content { lists = lists_without id self.old.content.lists } }
-        ensures bits { Gains (stands self.old.content) (stands self.new.content) out.old.bits.items out.new.bits.items }
+        ensures bits { Gains (stands self.old.content) (stands self.new.content) out.old.bits.items
+            out.new.bits.items }
         ensures mail { out.new.mail ≡ out.old.mail }
     {
         match self.store.whereabouts(id) {
@@ -427,7 +430,8 @@ impl Kept {
         }
     }
 
-    /// Takes the record with an id, which is there, to its place in a header, with a new key if one is given.
+    /// Takes the record with an id, which is there, to its place in a header, with a new key if one
+    /// is given.
     pub(crate) fn shift(
         &mut self,
         id: EntryId,
@@ -443,7 +447,8 @@ impl Kept {
           lists = put_back head header key (record_of id self.old.content.lists)
               (lists_without id self.old.content.lists);
         } }
-        ensures bits { Gains (stands self.old.content) (stands self.new.content) out.old.bits.items out.new.bits.items }
+        ensures bits { Gains (stands self.old.content) (stands self.new.content) out.old.bits.items
+            out.new.bits.items }
         ensures mail { out.new.mail ≡ out.old.mail }
     {
         match self.store.whereabouts(id) {
@@ -482,7 +487,8 @@ impl Kept {
         ensures content { self.new.content ≡ record self.old.content {
           monitors = monitors_with conn index header self.old.content.monitors;
         } }
-        ensures bits { Gains (stands self.old.content) (stands self.new.content) out.old.bits.items out.new.bits.items }
+        ensures bits { Gains (stands self.old.content) (stands self.new.content) out.old.bits.items
+            out.new.bits.items }
         ensures mail { out.new.mail ≡ out.old.mail }
     {
         let full = has_records(&self.store, header);
@@ -495,7 +501,8 @@ impl Kept {
         ensures content { self.new.content ≡ record self.old.content {
           monitors = monitors_without conn header self.old.content.monitors;
         } }
-        ensures bits { Gains (stands self.old.content) (stands self.new.content) out.old.bits.items out.new.bits.items }
+        ensures bits { Gains (stands self.old.content) (stands self.new.content) out.old.bits.items
+            out.new.bits.items }
         ensures mail { out.new.mail ≡ out.old.mail }
     {
         let _ = self.watch.clear(conn, header, out);
@@ -522,7 +529,8 @@ impl Kept {
         }
     }
 
-    /// Takes over limits, list locks, monitors and the next id. The monitors were told of the headers' records.
+    /// Takes over limits, list locks, monitors and the next id. The monitors were told of the
+    /// headers' records.
     pub(crate) fn take_over(
         &mut self,
         next: u64,
@@ -580,7 +588,8 @@ impl Kept {
         }
     }
 
-    /// Takes the last record away, or where there is none the limits, list locks, monitors and the next id.
+    /// Takes the last record away, or where there is none the limits, list locks, monitors and the
+    /// next id.
     pub(crate) fn pop(&mut self, shape: Shape)
         requires limits { length self.old.content.limits ≡ headers_of shape.kind }
         requires locks { length self.old.content.locks ≡ locks_of shape.kind }
@@ -595,7 +604,8 @@ impl Kept {
     pub(crate) fn leave(&mut self, conn: ConnId, keep: bool, out: &mut Effects)
         requires { length self.old.content.monitors ≤ out.old.bits.room }
         ensures content { self.new.content ≡ content_without self.old.content conn keep }
-        ensures bits { Gains (stands self.old.content) (stands self.new.content) out.old.bits.items out.new.bits.items }
+        ensures bits { Gains (stands self.old.content) (stands self.new.content) out.old.bits.items
+            out.new.bits.items }
         ensures mail { out.new.mail ≡ out.old.mail }
     {
         release_unless(&mut self.locks, keep, conn);

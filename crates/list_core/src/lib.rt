@@ -1,5 +1,5 @@
-//! The list structure of a coupling facility: lists of records with names or keys, list locks, and monitors that tell
-//! connectors which lists have records.
+//! The list structure of a coupling facility: lists of records with names or keys, list locks, and
+//! monitors that tell connectors which lists have records.
 #![tactic(auto)]
 
 mod commands;

@@ -31,7 +31,8 @@ pub(crate) struct Plan {
 fn refusal(shape: Shape, caps: Caps, kept: &Kept, by: ConnId, cmd: &ListCmd) -> Option<Refusal>
     requires few { count_of kept.now.content.lists < 2 ^ 32 }
     requires elements { elements_in (all_records kept.now.content.lists) < 2 ^ 32 }
-    requires alone { list_any (is_id (write.new_id kept.now.content)) (all_records kept.now.content.lists) ≡ false }
+    requires alone { list_any (is_id (write.new_id kept.now.content))
+        (all_records kept.now.content.lists) ≡ false }
     ensures { result ≡ cause shape caps kept.now.content by cmd.now }
 {
     match cmd {
@@ -125,7 +126,8 @@ pub(crate) fn make_plan(
 ) -> Result<Plan, NoMemory>
     requires few { count_of kept.now.content.lists < 2 ^ 32 }
     requires elements { elements_in (all_records kept.now.content.lists) < 2 ^ 32 }
-    requires alone { list_any (is_id (write.new_id kept.now.content)) (all_records kept.now.content.lists) ≡ false }
+    requires alone { list_any (is_id (write.new_id kept.now.content))
+        (all_records kept.now.content.lists) ≡ false }
     ensures { IfOk result (λ plan. plan ≡ plan_for shape caps kept.now.content by cmd.now) }
 {
     match refusal(shape, caps, kept, by, cmd) {
@@ -143,7 +145,8 @@ pub(crate) fn act(kept: &mut Kept, body: Option<Body>, by: ConnId, cmd: &ListCmd
     requires possible { IsPossible kept.old.content cmd.now }
     requires copied { body ≡ body_of kept.old.content cmd.now }
     ensures content { kept.new.content ≡ after kept.old.content by cmd.now }
-    ensures bits { Gains (stands kept.old.content) (stands kept.new.content) out.old.bits.items out.new.bits.items }
+    ensures bits { Gains (stands kept.old.content) (stands kept.new.content) out.old.bits.items
+        out.new.bits.items }
     ensures mail { out.new.mail ≡ out.old.mail }
 {
     match cmd {

@@ -93,7 +93,8 @@ fn keyed_in<'a>(recs: &'a [Rec], key: &Key16) -> Option<&'a Rec>
 
 /// The record with a name.
 pub(crate) fn named<'a>(kept: &'a Kept, name: &Name16) -> Option<&'a Rec>
-    ensures { option_map (λ rec. rec.now) result ≡ find (has_name name.now) (all_records kept.now.content.lists) }
+    ensures { option_map (λ rec. rec.now) result ≡ find (has_name name.now)
+        (all_records kept.now.content.lists) }
 {
     for header in 0..kept.headers() {
         match named_in(kept.records(header), name) {
@@ -106,7 +107,8 @@ pub(crate) fn named<'a>(kept: &'a Kept, name: &Name16) -> Option<&'a Rec>
 
 // The first record of a header.
 fn first(kept: &Kept, header: u32) -> Option<&Rec>
-    ensures { option_map (λ rec. rec.now) result ≡ slice_get (records_of kept.now.content.lists header) 0 }
+    ensures { option_map (λ rec. rec.now) result ≡ slice_get
+        (records_of kept.now.content.lists header) 0 }
 {
     if header < kept.headers() {
         kept.records(header).get(0)
@@ -117,7 +119,8 @@ fn first(kept: &Kept, header: u32) -> Option<&Rec>
 
 // The last record of a header.
 fn last(kept: &Kept, header: u32) -> Option<&Rec>
-    ensures { option_map (λ rec. rec.now) result ≡ last_record (records_of kept.now.content.lists header) }
+    ensures { option_map (λ rec. rec.now) result ≡ last_record
+        (records_of kept.now.content.lists header) }
 {
     if header < kept.headers() {
         let recs = kept.records(header);
@@ -133,7 +136,8 @@ fn last(kept: &Kept, header: u32) -> Option<&Rec>
 
 // The first record of a header with a key.
 fn keyed<'a>(kept: &'a Kept, header: u32, key: &Key16) -> Option<&'a Rec>
-    ensures { option_map (λ rec. rec.now) result ≡ find (has_key key.now) (records_of kept.now.content.lists header) }
+    ensures { option_map (λ rec. rec.now) result ≡ find (has_key key.now)
+        (records_of kept.now.content.lists header) }
 {
     if header < kept.headers() {
         keyed_in(kept.records(header), key)

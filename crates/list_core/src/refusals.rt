@@ -270,7 +270,8 @@ ghost use Rattle.list_store.specs.Lists.{count_of};
 /// The data need more elements than records leave free, but for the record with an id.
 pub(crate) fn elements_refusal(caps: Caps, need: u32, kept: &Kept, id: EntryId) -> Option<Refusal>
     requires { elements_in (all_records kept.now.content.lists) < 2 ^ 32 }
-    ensures { result ≡ elements_refusal caps need (records_without id (all_records kept.now.content.lists)) }
+    ensures { result ≡ elements_refusal caps need
+        (records_without id (all_records kept.now.content.lists)) }
 {
     let free = caps.elements.saturating_sub(elements_of_others(kept, id));
     if need <= free {

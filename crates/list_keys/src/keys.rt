@@ -9,8 +9,8 @@ use cf_types::{EntryId, Key16, Name16, NoMemory};
 use std::alloc::Global;
 use std::marker::Model;
 
-/// The names of a list structure's records, one record at most for a name. Contracts see the names with the records'
-/// ids, and for how many more there is room.
+/// The names of a list structure's records, one record at most for a name. Contracts see the names
+/// with the records' ids, and for how many more there is room.
 #[derive(Debug, Drop)]
 pub struct Keys {
     names: Vec<Named>,
@@ -24,7 +24,11 @@ impl Model for Keys {
 
     ghost Value = { NameBatch };
 
-    ghost view = { λ k. record { names = k.names.items; room = vec_capacity k.names - vec_len k.names } };
+    ghost view = { λ k. record {
+      names = k.names.items;
+      room = vec_capacity k.names - vec_len
+          k.names;
+    } };
 
     ghost invariant = { λ k. IsTrue (pairwise names_apart k.names.items) };
 }
@@ -101,8 +105,8 @@ impl Keys {
         self.names.clear();
     }
 
-    /// Where a key comes to stand among keys in ascending order: before its equals at the head, and behind them at
-    /// the tail.
+    /// Where a key comes to stand among keys in ascending order: before its equals at the head, and
+    /// behind them at the tail.
     pub fn place(&self, keys: &[Key16], key: &Key16, head: bool) -> u32
         requires ascending { IsTrue (pairwise keys_up_to keys.now) }
         requires few { length keys.now ≤ 4096 }

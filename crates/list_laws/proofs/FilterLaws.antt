@@ -60,7 +60,8 @@ kept_step p true x ys e ih = and_from (p x) (list_all p ys) e ih
 kept_step p false x ys e ih = ih
 
 -- a filter keeps what holds of all elements
-pub list_all-filter : {X : Type 0} (p q : X → Bool) (xs : List X) → list_all p xs ≡ true → list_all p (filter q xs) ≡ true
+pub list_all-filter : {X : Type 0} (p q : X → Bool) (xs : List X) → list_all p xs ≡ true
+    → list_all p (filter q xs) ≡ true
 list_all-filter p q [] h = refl
 list_all-filter p q (x ∷ xs) h =
     let parts = and_parts (p x) (list_all p xs) h in
@@ -98,7 +99,8 @@ list_all-filter_same q [] = refl
 list_all-filter_same q (x ∷ xs) = passes_step q (q x) x (filter q xs) refl (list_all-filter_same q xs)
 
 -- what holds of none, and of not all
-pub none_from_all : {X : Type 0} (p : X → Bool) (xs : List X) → list_all (λ x. not (p x)) xs ≡ true → list_any p xs ≡ false
+pub none_from_all : {X : Type 0} (p : X → Bool) (xs : List X) → list_all (λ x. not (p x)) xs ≡ true
+    → list_any p xs ≡ false
 none_from_all p [] h = refl
 none_from_all p (x ∷ xs) h =
     let parts = and_parts (not (p x)) (list_all (λ y. not (p y)) xs) h in
@@ -108,7 +110,8 @@ none_from_all p (x ∷ xs) h =
     rest true b e f = absurd (false≢true e)
     rest false b e f = f
 
-pub all_from_none : {X : Type 0} (p : X → Bool) (xs : List X) → list_any p xs ≡ false → list_all (λ x. not (p x)) xs ≡ true
+pub all_from_none : {X : Type 0} (p : X → Bool) (xs : List X) → list_any p xs ≡ false → list_all (λ x. not (p x)) xs ≡
+    true
 all_from_none p [] h = refl
 all_from_none p (x ∷ xs) h = step (p x) (list_any p xs) h (all_from_none p xs)
   where
@@ -120,7 +123,8 @@ all_from_none p (x ∷ xs) h = step (p x) (list_any p xs) h (all_from_none p xs)
 pub none_filtered : {X : Type 0} (p : X → Bool) (xs : List X) → list_any p (filter (λ x. not (p x)) xs) ≡ false
 none_filtered p xs = none_from_all p (filter (λ x. not (p x)) xs) (list_all-filter_same (λ x. not (p x)) xs)
 
-leave_step : {X : Type 0} (b c : Bool) (x : X) (ys : List X) → b || c ≡ false → (c ≡ false → ys ≡ []) → cond b (x ∷ ys) ys ≡ []
+leave_step : {X : Type 0} (b c : Bool) (x : X) (ys : List X) → b || c ≡ false → (c ≡ false → ys ≡ [])
+    → cond b (x ∷ ys) ys ≡ []
 leave_step true c x ys e ih = absurd (false≢true (sym e))
 leave_step false c x ys e ih = ih e
 
@@ -150,14 +154,16 @@ any-filter p q [] h = h
 any-filter p q (x ∷ xs) h = any_step p (q x) x (filter q xs) (list_any p xs) (any-filter p q xs) h
 
 -- nothing new comes by a filter
-pub none-filter : {X : Type 0} (p q : X → Bool) (xs : List X) → list_any p xs ≡ false → list_any p (filter q xs) ≡ false
+pub none-filter : {X : Type 0} (p q : X → Bool) (xs : List X) → list_any p xs ≡ false
+    → list_any p (filter q xs) ≡ false
 none-filter p q xs h = contra (list_any p (filter q xs)) (list_any p xs) (any-filter p q xs) h
   where
     contra : (a b : Bool) → (a ≡ true → b ≡ true) → b ≡ false → a ≡ false
     contra true b f e = absurd (false≢true (sym e ∙ f refl))
     contra false b f e = refl
 
-pub list_any-map : {X Y : Type 0} (p : X → Bool) (f : Y → X) (ys : List Y) → list_any p (map f ys) ≡ list_any (λ y. p (f y)) ys
+pub list_any-map : {X Y : Type 0} (p : X → Bool) (f : Y → X) (ys : List Y) → list_any p (map f ys) ≡ list_any
+    (λ y. p (f y)) ys
 list_any-map p f [] = refl
 list_any-map p f (y ∷ ys) = ap (λ b. p (f y) || b) (list_any-map p f ys)
 
@@ -172,7 +178,8 @@ pub any_is_found : {X : Type 0} (p : X → Bool) (xs : List X) → list_any p xs
 any_is_found p [] = refl
 any_is_found p (x ∷ xs) = found_step (p x) (list_any p xs) x (find p xs) (any_is_found p xs)
 
-find_step : {X : Type 0} (p : X → Bool) (a b : Bool) (x : X) (ys : List X) (o : Option X) → p x ≡ a → (a ≡ true → b ≡ true)
+find_step : {X : Type 0} (p : X → Bool) (a b : Bool) (x : X) (ys : List X) (o : Option X) → p x ≡ a
+    → (a ≡ true → b ≡ true)
     → find p ys ≡ o → find p (cond b (x ∷ ys) ys) ≡ cond a (Some x) o
 find_step p true true x ys o e h ih = rw e refl
 find_step p true false x ys o e h ih = absurd (false≢true (h refl))
@@ -195,19 +202,22 @@ pub find_none : {X : Type 0} (p : X → Bool) (xs : List X) → list_any p xs �
 find_none p [] h = refl
 find_none p (x ∷ xs) h = unfound_step (p x) (list_any p xs) x (find p xs) h (find_none p xs)
 
-all_found_step : {X : Type 0} (q : X → Bool) (b : Bool) (x y : X) (o : Option X) → q x ≡ true → (o ≡ Some y → q y ≡ true)
+all_found_step : {X : Type 0} (q : X → Bool) (b : Bool) (x y : X) (o : Option X) → q x ≡ true
+    → (o ≡ Some y → q y ≡ true)
     → cond b (Some x) o ≡ Some y → q y ≡ true
 all_found_step q true x y o e ih h = let same : x ≡ y = cc in subst (λ z. q z ≡ true) same e
 all_found_step q false x y o e ih h = ih h
 
 -- what is found has what all have
-pub all_found : {X : Type 0} (p q : X → Bool) (xs : List X) (y : X) → list_all q xs ≡ true → find p xs ≡ Some y → q y ≡ true
+pub all_found : {X : Type 0} (p q : X → Bool) (xs : List X) (y : X) → list_all q xs ≡ true → find p xs ≡ Some y
+    → q y ≡ true
 all_found p q [] y h e = absurd (cc)
 all_found p q (x ∷ xs) y h e =
     let parts = and_parts (q x) (list_all q xs) h in
     all_found_step q (p x) x y (find p xs) parts.0 (all_found p q xs y parts.1) e
 
-found_passes_step : {X : Type 0} (p : X → Bool) (b : Bool) (x y : X) (o : Option X) → p x ≡ b → (o ≡ Some y → p y ≡ true)
+found_passes_step : {X : Type 0} (p : X → Bool) (b : Bool) (x y : X) (o : Option X) → p x ≡ b
+    → (o ≡ Some y → p y ≡ true)
     → cond b (Some x) o ≡ Some y → p y ≡ true
 found_passes_step p true x y o e ih h = let same : x ≡ y = cc in subst (λ z. p z ≡ true) same e
 found_passes_step p false x y o e ih h = ih h

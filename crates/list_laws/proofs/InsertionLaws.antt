@@ -57,9 +57,11 @@ long_step : {X : Type 0} (b : Bool) (x y : X) (ys zs : List X) → length zs ≡
 long_step true x y ys zs ih = omega arith
 long_step false x y ys zs ih = omega arith
 
-pub length-insertion : {X : Type 0} (before : X → Bool) (x : X) (xs : List X) → length (insertion before x xs) ≡ length xs + 1
+pub length-insertion : {X : Type 0} (before : X → Bool) (x : X) (xs : List X) → length (insertion before x xs) ≡
+    length xs + 1
 length-insertion before x [] = refl
-length-insertion before x (y ∷ ys) = long_step (before y) x y ys (insertion before x ys) (length-insertion before x ys)
+length-insertion before x (y ∷ ys) = long_step (before y) x y ys (insertion before x ys)
+    (length-insertion before x ys)
 
 sum_step : {X : Type 0} (f : X → ℕ) (b : Bool) (x y : X) (ys zs : List X) → sum_by f zs ≡ f x + sum_by f ys
     → sum_by f (cond b (y ∷ zs) (x ∷ y ∷ ys)) ≡ f x + sum_by f (y ∷ ys)
@@ -103,13 +105,16 @@ here_step p false true c x y ys zs e f h ih = rw f (ih h)
 here_step p false false c x y ys zs e f h ih = rw e refl
 
 -- a search for the element, where no other passes
-pub find-insertion_here : {X : Type 0} (p before : X → Bool) (x : X) (xs : List X) → p x ≡ true → list_any p xs ≡ false
+pub find-insertion_here : {X : Type 0} (p before : X → Bool) (x : X) (xs : List X) → p x ≡ true
+    → list_any p xs ≡ false
     → find p (insertion before x xs) ≡ Some x
 find-insertion_here p before x [] e h = rw e refl
 find-insertion_here p before x (y ∷ ys) e h =
-    here_step p (p y) (before y) (list_any p ys) x y ys (insertion before x ys) e refl h (find-insertion_here p before x ys e)
+    here_step p (p y) (before y) (list_any p ys) x y ys (insertion before x ys) e refl h
+    (find-insertion_here p before x ys e)
 
-kept_step : {X : Type 0} (p q : X → Bool) (a b : Bool) (x y : X) (ys zs : List X) → p x ≡ true → q x ≡ true → list_any p (filter q zs) ≡ true
+kept_step : {X : Type 0} (p q : X → Bool) (a b : Bool) (x y : X) (ys zs : List X) → p x ≡ true → q x ≡ true
+    → list_any p (filter q zs) ≡ true
     → q y ≡ b → list_any p (filter q (cond a (y ∷ zs) (x ∷ y ∷ ys))) ≡ true
 kept_step p q true true x y ys zs e f ih g = rw g (or_right (p y) (list_any p (filter q zs)) ih)
 kept_step p q true false x y ys zs e f ih g = rw g ih
@@ -120,4 +125,5 @@ pub list_any-insertion_kept : {X : Type 0} (p q before : X → Bool) (x : X) (xs
     → list_any p (filter q (insertion before x xs)) ≡ true
 list_any-insertion_kept p q before x [] e f = rw (f, e) refl
 list_any-insertion_kept p q before x (y ∷ ys) e f =
-    kept_step p q (before y) (q y) x y ys (insertion before x ys) e f (list_any-insertion_kept p q before x ys e f) refl
+    kept_step p q (before y) (q y) x y ys (insertion before x ys) e f (list_any-insertion_kept p q before x ys e f)
+    refl

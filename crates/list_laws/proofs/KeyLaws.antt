@@ -21,7 +21,8 @@ any_step true c k n e = sym (lt-ltb 0 (suc n) (omega arith))
 any_step false c k n e = e ∙ lt-suc k n
 
 -- something passes exactly where its place is within the list
-pub any_is_placed : {X : Type 0} (p : X → Bool) (xs : List X) → list_any p xs ≡ nat_lt (position_or_len p xs) (length xs)
+pub any_is_placed : {X : Type 0} (p : X → Bool) (xs : List X) → list_any p xs ≡ nat_lt (position_or_len p xs)
+    (length xs)
 any_is_placed p [] = refl
 any_is_placed p (x ∷ xs) = any_step (p x) (list_any p xs) (position_or_len p xs) (length xs) (any_is_placed p xs)
 
@@ -34,12 +35,14 @@ place_past true k h = absurd (cc)
 place_past false k h = refl
 
 -- what stands at the place is what is found
-pub find_placed : {X : Type 0} (p : X → Bool) (xs : List X) (i : ℕ) (x : X) → position p xs ≡ Some i → x ≡ get_or xs i x
+pub find_placed : {X : Type 0} (p : X → Bool) (xs : List X) (i : ℕ) (x : X) → position p xs ≡ Some i
+    → x ≡ get_or xs i x
     → Some x ≡ find p xs
 find_placed p xs i x h read =
     let at = place_within (nat_lt (position_or_len p xs) (length xs)) (position_or_len p xs) i h in
     let within = position-Some p xs i x h in
-    sym (find_at p xs ∙ ap (λ (k : ℕ). slice_get xs k) at.1 ∙ slice_get-get_or xs i x within.0 ∙ ap (λ y. Some y) (sym read))
+    sym (find_at p xs ∙ ap (λ (k : ℕ). slice_get xs k) at.1 ∙ slice_get-get_or xs i x within.0
+    ∙ ap (λ y. Some y) (sym read))
 
 -- no place, and nothing passes
 pub none_placed : {X : Type 0} (p : X → Bool) (xs : List X) → position p xs ≡ None → list_any p xs ≡ false
@@ -83,7 +86,8 @@ module _ {X K : Type 0} (key : X → K) (same : K → K → Bool)
 
   -- what is left when the one with a key is taken out
   removed_step : (k : K) (x : X) (xs : List X) → pairwise apart (x ∷ xs) ≡ true
-      → (list_any (is_keyed k) xs ≡ true → remove xs (position_or_len (is_keyed k) xs) ≡ filter (λ y. not (is_keyed k y)) xs)
+      → (list_any (is_keyed k) xs ≡ true → remove xs (position_or_len (is_keyed k) xs) ≡ filter
+      (λ y. not (is_keyed k y)) xs)
       → (b : Bool) → same (key x) k ≡ b → list_any (is_keyed k) (x ∷ xs) ≡ true
       → remove (x ∷ xs) (position_or_len (is_keyed k) (x ∷ xs)) ≡ filter (λ y. not (is_keyed k y)) (x ∷ xs)
   removed_step k x xs u ih true e h =
@@ -101,7 +105,8 @@ module _ {X K : Type 0} (key : X → K) (same : K → K → Bool)
   pub remove_placed : (k : K) (xs : List X) (i : ℕ) → pairwise apart xs ≡ true → position (is_keyed k) xs ≡ Some i
       → remove xs i ≡ filter (λ y. not (is_keyed k y)) xs
   remove_placed k xs i u h =
-      let at = place_within (nat_lt (position_or_len (is_keyed k) xs) (length xs)) (position_or_len (is_keyed k) xs) i h in
+      let at = place_within (nat_lt (position_or_len (is_keyed k) xs) (length xs)) (position_or_len (is_keyed k) xs) i
+      h in
       subst (λ (n : ℕ). remove xs n ≡ filter (λ y. not (is_keyed k y)) xs) at.1
       (remove_keyed k xs u (any_is_placed (is_keyed k) xs ∙ at.0))
 
@@ -121,7 +126,8 @@ module _ {X K : Type 0} (key : X → K) (same : K → K → Bool)
       let others = filter (λ z. not (is_keyed k z)) xs in
       rw e (omega (arith, ih found, sum_by-cons f x others, sum_by-cons f x xs))
 
-  pub sum_by_without : (f : X → ℕ) (k : K) (xs : List X) (y : X) → pairwise apart xs ≡ true → find (is_keyed k) xs ≡ Some y
+  pub sum_by_without : (f : X → ℕ) (k : K) (xs : List X) (y : X) → pairwise apart xs ≡ true
+      → find (is_keyed k) xs ≡ Some y
       → sum_by f (filter (λ z. not (is_keyed k z)) xs) + f y ≡ sum_by f xs
   sum_by_without f k [] y u h = absurd (cc)
   sum_by_without f k (x ∷ xs) y u h =
@@ -168,10 +174,12 @@ module _ {X K : Type 0} (key : X → K) (same : K → K → Bool)
   AllFound [] xs = Unit {0}
   AllFound (v ∷ vs) xs = (find (is_keyed (key v)) xs ≡ Some v) × AllFound vs xs
 
-  other_key : (x w v : X) → same (key x) (key w) ≡ true → not (same (key v) (key w)) ≡ true → not (same (key x) (key v)) ≡ true
+  other_key : (x w v : X) → same (key x) (key w) ≡ true → not (same (key v) (key w)) ≡ true
+      → not (same (key x) (key v)) ≡ true
   other_key x w v h e =
       let apart' : same (key w) (key v) ≡ false = same_sym (key v) (key w) (not-true (same (key v) (key w)) e) in
-      let it : same (key x) (key v) ≡ false = subst (λ n. same n (key v) ≡ false) (sym (same-eq (key x) (key w) h)) apart' in
+      let it : same (key x) (key v) ≡ false = subst (λ n. same n (key v) ≡ false) (sym (same-eq (key x) (key w) h))
+      apart' in
       ap not it
 
   pub found_without : (v : X) (vs xs : List X) → list_all (apart v) vs ≡ true → AllFound vs xs
@@ -188,25 +196,29 @@ module _ {X K : Type 0} (key : X → K) (same : K → K → Bool)
   not_or false b c e = rw (← e) refl
 
   -- the first key goes, and then the others
-  spared-cons : (k : K) (ks : List K) (xs : List X) → spared ks (filter (λ x. not (is_keyed k x)) xs) ≡ spared (k ∷ ks) xs
+  spared-cons : (k : K) (ks : List K) (xs : List X) → spared ks (filter (λ x. not (is_keyed k x)) xs) ≡ spared
+      (k ∷ ks) xs
   spared-cons k ks xs =
       filter-filter (λ x. not (is_among ks (key x))) (λ x. not (is_keyed k x)) xs
       ∙ filter_agree (λ x. not (is_keyed k x) && not (is_among ks (key x))) (λ x. not (is_among (k ∷ ks) (key x)))
       (λ x. not_or (same k (key x)) (is_among ks (key x)) (same (key x) k) (same_swap k (key x))) xs
 
   spared-nil : (xs : List X) → spared [] xs ≡ xs
-  spared-nil xs = filter_all (λ x. not (is_among [] (key x))) xs (list_all_always (λ x. not (is_among [] (key x))) (λ x. refl) xs)
+  spared-nil xs = filter_all (λ x. not (is_among [] (key x))) xs (list_all_always (λ x. not (is_among [] (key x)))
+      (λ x. refl) xs)
 
   apart_filter : (q : X → Bool) (xs : List X) → pairwise apart xs ≡ true → pairwise apart (filter q xs) ≡ true
   apart_filter q xs u = pairwise-filter apart q xs u
 
-  pub sum_by_spared : (f : X → ℕ) (vs xs : List X) → pairwise apart xs ≡ true → pairwise apart vs ≡ true → AllFound vs xs
+  pub sum_by_spared : (f : X → ℕ) (vs xs : List X) → pairwise apart xs ≡ true → pairwise apart vs ≡ true
+      → AllFound vs xs
       → sum_by f (spared (map key vs) xs) + sum_by f vs ≡ sum_by f xs
   sum_by_spared f [] xs u w h = rw (spared-nil xs) (omega arith)
   sum_by_spared f (v ∷ vs) xs u w h =
       let rest = filter (λ x. not (is_keyed (key v) x)) xs in
       let later = and_parts (list_all (apart v) vs) (pairwise apart vs) w in
-      let ih = sum_by_spared f vs rest (apart_filter (λ x. not (is_keyed (key v) x)) xs u) later.1 (found_without v vs xs later.0 h.1) in
+      let ih = sum_by_spared f vs rest (apart_filter (λ x. not (is_keyed (key v) x)) xs u) later.1
+      (found_without v vs xs later.0 h.1) in
       let one = sum_by_without f (key v) xs v u h.0 in
       rw (← spared-cons (key v) (map key vs) xs) (omega (arith, ih, one, sum_by-cons f v vs))
 
@@ -216,12 +228,14 @@ module _ {X K : Type 0} (key : X → K) (same : K → K → Bool)
   length_spared (v ∷ vs) xs u w h =
       let rest = filter (λ x. not (is_keyed (key v) x)) xs in
       let later = and_parts (list_all (apart v) vs) (pairwise apart vs) w in
-      let ih = length_spared vs rest (apart_filter (λ x. not (is_keyed (key v) x)) xs u) later.1 (found_without v vs xs later.0 h.1) in
+      let ih = length_spared vs rest (apart_filter (λ x. not (is_keyed (key v) x)) xs u) later.1
+      (found_without v vs xs later.0 h.1) in
       let one = length_without (key v) xs v u h.0 in
       rw (← spared-cons (key v) (map key vs) xs) (omega (arith, ih, one))
 
   -- what has another key is found as before
-  pub find-spared : (k : K) (ks : List K) (xs : List X) → is_among ks k ≡ false → find (is_keyed k) (spared ks xs) ≡ find (is_keyed k) xs
+  pub find-spared : (k : K) (ks : List K) (xs : List X) → is_among ks k ≡ false → find (is_keyed k) (spared ks xs) ≡
+      find (is_keyed k) xs
   find-spared k ks xs h =
       find-filter (is_keyed k) (λ x. not (is_among ks (key x)))
       (λ x e. ap not (subst (λ n. is_among ks n ≡ false) (sym (same-eq (key x) k e)) h)) xs
@@ -253,7 +267,8 @@ module _ {X K : Type 0} (key : X → K) (same : K → K → Bool)
   found_prefix_step true v vs xs e h = tt
   found_prefix_step false v vs xs e h = (e, h)
 
-  pub found_prefix : (enough : List X → Bool) (vs xs : List X) → AllFound vs xs → AllFound (shortest_prefix enough vs) xs
+  pub found_prefix : (enough : List X → Bool) (vs xs : List X) → AllFound vs xs → AllFound (shortest_prefix enough vs)
+      xs
   found_prefix enough [] xs h = tt
   found_prefix enough (v ∷ vs) xs h =
       found_prefix_step (enough []) v (shortest_prefix (λ prefix. enough (v ∷ prefix)) vs) xs h.0

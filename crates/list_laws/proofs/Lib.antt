@@ -4,3 +4,4 @@ pub mod PairwiseLaws
 pub mod PrefixLaws
 pub mod KeyLaws
 pub mod MapLaws
+pub mod TableLaws

@@ -8,12 +8,14 @@ use Rattle.list_laws.specs.Pairwise.{pairwise}
 use Rattle.list_laws.proofs.FilterLaws.{list_all-filter, list_all_both, list_all_weaker}
 use Rattle.list_laws.proofs.InsertionLaws.{list_all-insertion}
 
-filter_step : {X : Type 0} (relation : X → X → Bool) (b : Bool) (x : X) (ys : List X) → list_all (relation x) ys ≡ true
+filter_step : {X : Type 0} (relation : X → X → Bool) (b : Bool) (x : X) (ys : List X)
+    → list_all (relation x) ys ≡ true
     → pairwise relation ys ≡ true → pairwise relation (cond b (x ∷ ys) ys) ≡ true
 filter_step relation true x ys first rest = and_from (list_all (relation x) ys) (pairwise relation ys) first rest
 filter_step relation false x ys first rest = rest
 
-pub pairwise-filter : {X : Type 0} (relation : X → X → Bool) (q : X → Bool) (xs : List X) → pairwise relation xs ≡ true
+pub pairwise-filter : {X : Type 0} (relation : X → X → Bool) (q : X → Bool) (xs : List X)
+    → pairwise relation xs ≡ true
     → pairwise relation (filter q xs) ≡ true
 pairwise-filter relation q [] h = refl
 pairwise-filter relation q (x ∷ xs) h =
@@ -50,7 +52,8 @@ pairwise_append relation (x ∷ xs) ys h k e =
     let parts = and_parts (list_all (relation x) xs) (pairwise relation xs) h in
     let before = and_parts (list_all (relation x) ys) (list_all (λ z. list_all (relation z) ys) xs) e in
     and_from (list_all (relation x) (xs ++ ys)) (pairwise relation (xs ++ ys))
-    (list_all-append (relation x) xs ys ∙ and_from (list_all (relation x) xs) (list_all (relation x) ys) parts.0 before.0)
+    (list_all-append (relation x) xs ys ∙ and_from (list_all (relation x) xs) (list_all (relation x) ys) parts.0
+    before.0)
     (pairwise_append relation xs ys parts.1 k before.1)
 
 -- a front of a list
@@ -59,8 +62,10 @@ pub pairwise_front : {X : Type 0} (relation : X → X → Bool) (xs ys : List X)
 pairwise_front relation [] ys h = refl
 pairwise_front relation (x ∷ xs) ys h =
     let parts = and_parts (list_all (relation x) (xs ++ ys)) (pairwise relation (xs ++ ys)) h in
-    let each : list_all (relation x) xs && list_all (relation x) ys ≡ true = sym (list_all-append (relation x) xs ys) ∙ parts.0 in
-    and_from (list_all (relation x) xs) (pairwise relation xs) (and_parts (list_all (relation x) xs) (list_all (relation x) ys) each).0
+    let each : list_all (relation x) xs && list_all (relation x) ys ≡ true = sym (list_all-append (relation x) xs ys)
+    ∙ parts.0 in
+    and_from (list_all (relation x) xs) (pairwise relation xs) (and_parts (list_all (relation x) xs)
+    (list_all (relation x) ys) each).0
     (pairwise_front relation xs ys parts.1)
 
 any_place_step : {X : Type 0} (relation : X → X → Bool) (b : Bool) (x y : X) (ys zs : List X)
@@ -127,7 +132,8 @@ pairwise-insertion relation before among x (y ∷ ys) finds there h =
 
 -- ---- those that pass a test first, then the others
 
-cross_step : {X : Type 0} (relation : X → X → Bool) → ((x y : X) → relation x y ≡ true → relation y x ≡ true) → (b : Bool) (x : X)
+cross_step : {X : Type 0} (relation : X → X → Bool) → ((x y : X) → relation x y ≡ true → relation y x ≡ true)
+    → (b : Bool) (x : X)
     (passing others : List X) → list_all (relation x) passing ≡ true → list_all (relation x) others ≡ true
     → list_all (λ z. list_all (relation z) others) passing ≡ true
     → list_all (λ z. list_all (relation z) (cond (not b) (x ∷ others) others)) (cond b (x ∷ passing) passing) ≡ true
@@ -137,15 +143,19 @@ cross_step relation turn false x passing others p o ih =
     list_all_both (λ z. relation z x) (λ z. list_all (relation z) others) passing
     (list_all_weaker (relation x) (λ z. relation z x) (turn x) passing p) ih
 
-cross : {X : Type 0} (relation : X → X → Bool) → ((x y : X) → relation x y ≡ true → relation y x ≡ true) → (s : X → Bool) (xs : List X)
-    → pairwise relation xs ≡ true → list_all (λ x. list_all (relation x) (filter (λ z. not (s z)) xs)) (filter s xs) ≡ true
+cross : {X : Type 0} (relation : X → X → Bool) → ((x y : X) → relation x y ≡ true → relation y x ≡ true)
+    → (s : X → Bool) (xs : List X)
+    → pairwise relation xs ≡ true → list_all (λ x. list_all (relation x) (filter (λ z. not (s z)) xs)) (filter s xs) ≡
+    true
 cross relation turn s [] h = refl
 cross relation turn s (x ∷ xs) h =
     let parts = and_parts (list_all (relation x) xs) (pairwise relation xs) h in
-    cross_step relation turn (s x) x (filter s xs) (filter (λ z. not (s z)) xs) (list_all-filter (relation x) s xs parts.0)
+    cross_step relation turn (s x) x (filter s xs) (filter (λ z. not (s z)) xs)
+    (list_all-filter (relation x) s xs parts.0)
     (list_all-filter (relation x) (λ z. not (s z)) xs parts.0) (cross relation turn s xs parts.1)
 
-pub pairwise_split : {X : Type 0} (relation : X → X → Bool) → ((x y : X) → relation x y ≡ true → relation y x ≡ true) → (s : X → Bool)
+pub pairwise_split : {X : Type 0} (relation : X → X → Bool) → ((x y : X) → relation x y ≡ true → relation y x ≡ true)
+    → (s : X → Bool)
     (xs : List X) → pairwise relation xs ≡ true → pairwise relation (filter s xs ++ filter (λ x. not (s x)) xs) ≡ true
 pairwise_split relation turn s xs h =
     pairwise_append relation (filter s xs) (filter (λ x. not (s x)) xs) (pairwise-filter relation s xs h)
@@ -157,7 +167,8 @@ list_all_agree : {X : Type 0} (p q : X → Bool) → ((x : X) → p x ≡ q x) �
 list_all_agree p q h [] = refl
 list_all_agree p q h (x ∷ xs) = ap (λ b. b && list_all p xs) (h x) ∙ ap (λ b. q x && b) (list_all_agree p q h xs)
 
-pub pairwise-map : {X : Type 0} (relation : X → X → Bool) (f : X → X) → ((x y : X) → relation (f x) (f y) ≡ relation x y)
+pub pairwise-map : {X : Type 0} (relation : X → X → Bool) (f : X → X)
+    → ((x y : X) → relation (f x) (f y) ≡ relation x y)
     → (xs : List X) → pairwise relation (map f xs) ≡ pairwise relation xs
 pairwise-map relation f h [] = refl
 pairwise-map relation f h (x ∷ xs) =

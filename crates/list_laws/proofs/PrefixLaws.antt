@@ -11,7 +11,8 @@ all_step p true x ys e ih = refl
 all_step p false x ys e ih = and_from (p x) (list_all p ys) e ih
 
 -- a prefix has what all elements have
-pub list_all-shortest_prefix : {X : Type 0} (p : X → Bool) (enough : List X → Bool) (xs : List X) → list_all p xs ≡ true
+pub list_all-shortest_prefix : {X : Type 0} (p : X → Bool) (enough : List X → Bool) (xs : List X)
+    → list_all p xs ≡ true
     → list_all p (shortest_prefix enough xs) ≡ true
 list_all-shortest_prefix p enough [] h = refl
 list_all-shortest_prefix p enough (x ∷ xs) h =
@@ -48,22 +49,28 @@ shortest_prefix-enough enough (x ∷ xs) h =
     (shortest_prefix-enough (λ prefix. enough (x ∷ prefix)) xs h)
 
 -- where nothing is enough already
-pub shortest_prefix-nil : {X : Type 0} (enough : List X → Bool) (xs : List X) → enough [] ≡ true → shortest_prefix enough xs ≡ []
+pub shortest_prefix-nil : {X : Type 0} (enough : List X → Bool) (xs : List X) → enough [] ≡ true
+    → shortest_prefix enough xs ≡ []
 shortest_prefix-nil enough [] h = refl
 shortest_prefix-nil enough (x ∷ xs) h = rw h refl
 
-agree_step : {X : Type 0} (a b : Bool) (x : X) (xs ys : List X) → a ≡ b → xs ≡ ys → cond a [] (x ∷ xs) ≡ cond b [] (x ∷ ys)
+agree_step : {X : Type 0} (a b : Bool) (x : X) (xs ys : List X) → a ≡ b → xs ≡ ys → cond a [] (x ∷ xs) ≡ cond b []
+    (x ∷ ys)
 agree_step a b x xs ys e f = rw (e, f) refl
 
 -- two tests that agree have the same shortest prefix
-pub shortest_prefix_agree : {X : Type 0} (enough also : List X → Bool) → ((prefix : List X) → enough prefix ≡ also prefix) → (xs : List X)
+pub shortest_prefix_agree : {X : Type 0} (enough also : List X → Bool)
+    → ((prefix : List X) → enough prefix ≡ also prefix) → (xs : List X)
     → shortest_prefix enough xs ≡ shortest_prefix also xs
 shortest_prefix_agree enough also h [] = refl
 shortest_prefix_agree enough also h (x ∷ xs) =
-    agree_step (enough []) (also []) x (shortest_prefix (λ prefix. enough (x ∷ prefix)) xs) (shortest_prefix (λ prefix. also (x ∷ prefix)) xs)
-    (h []) (shortest_prefix_agree (λ prefix. enough (x ∷ prefix)) (λ prefix. also (x ∷ prefix)) (λ prefix. h (x ∷ prefix)) xs)
+    agree_step (enough []) (also []) x (shortest_prefix (λ prefix. enough (x ∷ prefix)) xs)
+    (shortest_prefix (λ prefix. also (x ∷ prefix)) xs)
+    (h []) (shortest_prefix_agree (λ prefix. enough (x ∷ prefix)) (λ prefix. also (x ∷ prefix))
+    (λ prefix. h (x ∷ prefix)) xs)
 
-map_step : {X Y : Type 0} (f : X → Y) (b : Bool) (x : X) (xs : List X) (ys : List Y) → ys ≡ map f xs → cond b [] (f x ∷ ys) ≡ map f (cond b [] (x ∷ xs))
+map_step : {X Y : Type 0} (f : X → Y) (b : Bool) (x : X) (xs : List X) (ys : List Y) → ys ≡ map f xs
+    → cond b [] (f x ∷ ys) ≡ map f (cond b [] (x ∷ xs))
 map_step f true x xs ys e = refl
 map_step f false x xs ys e = ap (λ l. f x ∷ l) e
 
@@ -71,5 +78,6 @@ pub shortest_prefix-map : {X Y : Type 0} (f : X → Y) (enough : List Y → Bool
     → shortest_prefix enough (map f xs) ≡ map f (shortest_prefix (λ prefix. enough (map f prefix)) xs)
 shortest_prefix-map f enough [] = refl
 shortest_prefix-map f enough (x ∷ xs) =
-    map_step f (enough []) x (shortest_prefix (λ prefix. enough (f x ∷ map f prefix)) xs) (shortest_prefix (λ prefix. enough (f x ∷ prefix)) (map f xs))
+    map_step f (enough []) x (shortest_prefix (λ prefix. enough (f x ∷ map f prefix)) xs)
+    (shortest_prefix (λ prefix. enough (f x ∷ prefix)) (map f xs))
     (shortest_prefix-map f (λ prefix. enough (f x ∷ prefix)) xs)

@@ -203,7 +203,8 @@ content-write shape caps content by header head name key body adj cond is h =
       known = all-with (is_known (refs_of shape.kind)) rec all (all_records lists) w
           (unless_false (is_reference (refs_of shape.kind) name key) _ none.1.1.1.0) is.known;
       ordered = each-records (pairwise may_precede) content.lists header records
-          (ordered-with head rec (records_of content.lists header) (one-records (pairwise may_precede) content.lists header refl is.ordered))
+          (ordered-with head rec (records_of content.lists header) (one-records (pairwise may_precede) content.lists
+          header refl is.ordered))
           is.ordered;
       entries = omega (arith, length-with rec all (all_records lists) w, entry_fits caps all none.1.1.1.1.1.1.0);
       elements = omega (
@@ -452,7 +453,8 @@ content-move shape caps content by at header head key cond is h =
     let w = with-without old all (the_record-in content.lists at none.1.1.1.1.0) is.one_for_id in
     let v : IsWith rec rest (all_records lists) =
     subst (λ (l : List Rec). IsWith rec l (all_records lists)) (all-without old.id content.lists)
-    (with-records rec left header records within (with-insertion (stands_before head rec) rec (records_of left header))) in
+    (with-records rec left header records within (with-insertion (stands_before head rec) rec
+    (records_of left header))) in
     let ordered = ordered_without old.id content.lists is.ordered in
     record {
       headers = length-set left header records ∙ few ∙ is.headers;
@@ -468,10 +470,12 @@ content-move shape caps content by at header head key cond is h =
           (pairwise-filter names_apart kept all is.one_for_name)
           (with-pairwise names_apart names_apart-sym old rest all w is.one_for_name);
       known = all-with (is_known (refs_of shape.kind)) rec rest (all_records lists) v
-          (moved_known (refs_of shape.kind) key old none.1.1.1.1.1.1.0 (with-all (is_known (refs_of shape.kind)) old rest all w is.known))
+          (moved_known (refs_of shape.kind) key old none.1.1.1.1.1.1.0 (with-all (is_known (refs_of shape.kind)) old
+          rest all w is.known))
           (list_all-filter (is_known (refs_of shape.kind)) kept all is.known);
       ordered = each-records (pairwise may_precede) left header records
-          (ordered-with head rec (records_of left header) (one-records (pairwise may_precede) left header refl ordered)) ordered;
+          (ordered-with head rec (records_of left header) (one-records (pairwise may_precede) left header refl
+          ordered)) ordered;
       entries = omega (arith, length-with rec rest (all_records lists) v, length-with old rest all w, is.entries);
       elements = omega
           (arith, sum-with size rec rest (all_records lists) v, sum-with size old rest all w, is.elements);

@@ -91,12 +91,14 @@ no-controls shape =
     let nobody : Option ConnId = None in
     let held = list_any is_some (replicate (locks_of shape.kind) nobody) in
     or_from (false || limited || held) false
-    (or_from (false || limited) held (or_from false limited refl (no_limits (headers_of shape.kind) shape.caps.entries))
+    (or_from (false || limited) held (or_from false limited refl
+    (no_limits (headers_of shape.kind) shape.caps.entries))
     (no_holders (locks_of shape.kind))) refl
 
 pub items-nothing : (shape : Shape) → items_of shape (nothing shape) ≡ []
 items-nothing shape =
-    ap (λ (b : Bool). cond b (controls_of (nothing shape) ∷ rows_from 0 (nothing shape).lists) (rows_from 0 (nothing shape).lists)) (no-controls shape)
+    ap (λ (b : Bool). cond b (controls_of (nothing shape) ∷ rows_from 0 (nothing shape).lists)
+    (rows_from 0 (nothing shape).lists)) (no-controls shape)
     ∙ no_rows (headers_of shape.kind) 0
 
 -- ---- commands and departures
@@ -216,8 +218,12 @@ elements_of_map : (header : ℕ) (records : List Rec)
     → sum_by elements_for (map (row_of header) records) ≡ elements_in records
 elements_of_map header [] = refl
 elements_of_map header (rec ∷ records) =
-    omega
-    (arith, sum_by-cons elements_for (row_of header rec) (map (row_of header) records), sum_by-cons size rec records, elements_of_map header records)
+    omega (
+      arith,
+      sum_by-cons elements_for (row_of header rec) (map (row_of header) records),
+      sum_by-cons size rec records,
+      elements_of_map header records,
+    )
 
 entries_of_rows : (header : ℕ) (lists : Lists) → sum_by entries_for (rows_from header lists) ≡ count_of lists
 entries_of_rows header [] = refl
@@ -250,14 +256,20 @@ either_sum f false item rows h = refl
 -- the items of a content need as much as its records
 pub need-items : (shape : Shape) (content : Content)
     → need_of
-    (items_of shape content) ≡ record { entries = count_of content.lists; elements = elements_in (all_records content.lists) }
+    (items_of shape content) ≡ record {
+      entries = count_of content.lists;
+      elements = elements_in
+          (all_records content.lists);
+    }
 need-items shape content =
     let rows = rows_from 0 content.lists in
     let caps : ℕ → ℕ → Caps = λ entries elements. record { entries = entries; elements = elements } in
     ap (λ (n : ℕ). caps n (sum_by elements_for (items_of shape content)))
-    (either_sum entries_for (has_controls shape content) (controls_of content) rows refl ∙ entries_of_rows 0 content.lists)
+    (either_sum entries_for (has_controls shape content) (controls_of content) rows refl
+    ∙ entries_of_rows 0 content.lists)
     ∙ ap (λ (n : ℕ). caps (count_of content.lists) n)
-    (either_sum elements_for (has_controls shape content) (controls_of content) rows refl ∙ elements_of_rows 0 content.lists)
+    (either_sum elements_for (has_controls shape content) (controls_of content) rows refl
+    ∙ elements_of_rows 0 content.lists)
 
 same_need : (kind : Kind) (need other : Caps) → need ≡ other → IsNoMoreOf kind need other
 same_need kind.Cache need other e =
@@ -318,8 +330,12 @@ first_ordered n (records ∷ lists) h =
 
 sum_taken : (n : ℕ) (records : List Rec) → elements_in (take n records) ≤ elements_in records
 sum_taken n records =
-    omega
-    (arith, sum_by-append size (take n records) (drop n records), ap (λ (l : List Rec). sum_by size l) (take-append-drop n records))
+    omega (
+      arith,
+      sum_by-append size (take n records) (drop n records),
+      ap (λ (l : List Rec). sum_by size l)
+          (take-append-drop n records),
+    )
 
 -- the first records of a content are a content
 pub content-front : (shape : Shape) (caps : Caps) (content : Content) (n : ℕ) → IsContent shape caps content
@@ -390,7 +406,8 @@ fits_next shape caps whole state item is next placed =
       alone = none_from_all (is_id rec.id) all
           (list_all_weaker (λ other. ids_apart rec other && ids_apart other rec) (λ other. not (is_id rec.id other))
           (λ other k. (and_parts (ids_apart rec other) (ids_apart other rec) k).0) all
-          (with-pairwise ids_apart ids_apart-sym rec all (all_records (with_records state.lists (header_in item) records)) w apart));
+          (with-pairwise ids_apart ids_apart-sym rec all
+          (all_records (with_records state.lists (header_in item) records)) w apart));
     }
 
 fits : (shape : Shape) (caps : Caps) (whole state : Content) (header : ℕ) (id : EntryId) (name : Option Name16)

@@ -144,7 +144,8 @@ pub record IsNext (header n : ℕ) (lists : Lists) (item : ListItem) : Type 0 wh
   pub place : ℕ
   pub within : place < length lists
   pub is_row : item ≡ row_of (header + place) (record_in item)
-  pub placed : with_records (first_records n lists) place (records_of (first_records n lists) place ++ record_in item ∷ [])
+  pub placed : with_records (first_records n lists) place (records_of (first_records n lists) place
+      ++ record_in item ∷ [])
       ≡ first_records (n + 1) lists
 
 row_there : (header : ℕ) (o : Option Rec) (item : ListItem) → option_map (row_of header) o ≡ Some item
@@ -160,7 +161,8 @@ next_here header n records lists item within h =
     let long : n < length (map (row_of header) records) =
     omega (arith, within, length-map records (row_of header)) in
     let there = row_there header (slice_get records n) item
-    (sym (slice_get-map (row_of header) records n) ∙ sym (slice_left (map (row_of header) records) (rows_from (header + 1) lists) n long) ∙ h) in
+    (sym (slice_get-map (row_of header) records n) ∙ sym (slice_left (map (row_of header) records)
+    (rows_from (header + 1) lists) n long) ∙ h) in
     let none : n - length records ≡ (n + 1) - length records = omega (arith, within) in
     let at : header + 0 ≡ header = omega arith in
     record {
@@ -217,7 +219,8 @@ row-later header n records lists past =
 
 next_step : (header n : ℕ) (records : List Rec) (lists : Lists) (item : ListItem)
     → slice_get (rows_from header (records ∷ lists)) n ≡ Some item
-    → (slice_get (rows_from (header + 1) lists) (n - length records) ≡ Some item → IsNext (header + 1) (n - length records) lists item)
+    → (slice_get (rows_from (header + 1) lists) (n - length records) ≡ Some item → IsNext (header + 1)
+    (n - length records) lists item)
     → (b : Bool) → nat_lt n (length records) ≡ b → IsNext header n (records ∷ lists) item
 next_step header n records lists item h ih true e =
     next_here header n records lists item (is_below n (length records) e) h
@@ -272,8 +275,10 @@ made-front content zero h = refl
 made-front content (suc n) h =
     let e : n + 1 ≡ suc n = omega arith in
     subst
-    (λ (k : ℕ). fold content_with (content_front 0 content) (take k (rows_from 0 content.lists)) ≡ content_front k content) e
-    (made_step n content (omega (arith, h)) (made-front content n (omega (arith, h))) (slice_get (rows_from 0 content.lists) n) refl)
+    (λ (k : ℕ). fold content_with (content_front 0 content) (take k (rows_from 0 content.lists)) ≡ content_front k
+    content) e
+    (made_step n content (omega (arith, h)) (made-front content n (omega (arith, h)))
+    (slice_get (rows_from 0 content.lists) n) refl)
 
 -- ---- the controls
 
@@ -333,7 +338,13 @@ pub controls-absent : (shape : Shape) (caps : Caps) (content : Content) → IsCo
     → has_controls shape content ≡ false → nothing shape ≡ content_front 0 content
 controls-absent shape caps content is h =
     let put : Lists → List ℕ → List (Option ConnId) → List Monitor → ℕ → Content =
-    λ lists limits locks monitors next. record { lists = lists; limits = limits; locks = locks; monitors = monitors; next = next } in
+    λ lists limits locks monitors next. record {
+      lists = lists;
+      limits = limits;
+      locks = locks;
+      monitors = monitors;
+      next = next;
+    } in
     let lists = first_records 0 content.lists in
     let nobody : Option ConnId = None in
     let free = replicate (locks_of shape.kind) nobody in
@@ -344,7 +355,8 @@ controls-absent shape caps content is h =
     let second = or_parts (given || limited) held first.0 in
     let third = or_parts given limited second.0 in
     let limits : replicate (headers_of shape.kind) shape.caps.entries ≡ content.limits =
-    sym (all_limits shape.caps.entries content.limits third.1 ∙ ap (λ (k : ℕ). replicate k shape.caps.entries) is.limits) in
+    sym (all_limits shape.caps.entries content.limits third.1 ∙ ap (λ (k : ℕ). replicate k shape.caps.entries)
+    is.limits) in
     let locks : free ≡ content.locks =
     sym (all_free content.locks second.1 ∙ ap (λ (k : ℕ). replicate k nobody) is.locks) in
     ap (λ (l : Lists). put l (replicate (headers_of shape.kind) shape.caps.entries) free [] 1)
@@ -397,7 +409,8 @@ pub made-again : (shape : Shape) (caps : Caps) (content : Content) → IsContent
 made-again shape caps content is =
     let rows = rows_from 0 content.lists in
     ap (λ (l : List ListItem). fold content_with (nothing shape) l)
-    (items-split shape content ∙ ap (λ (l : List ListItem). controls_in shape content ++ l) (sym (take_all (length rows) rows (omega arith))))
+    (items-split shape content ∙ ap (λ (l : List ListItem). controls_in shape content ++ l)
+    (sym (take_all (length rows) rows (omega arith))))
     ∙ made-first shape caps content (length rows) is (omega arith)
     ∙ ap (λ (l : Lists). record content { lists = l })
     (first-all (length rows) content.lists (omega (arith, length-rows 0 content.lists)))
@@ -418,8 +431,12 @@ items_length false item rows = omega arith
 pub length-items : (shape : Shape) (content : Content)
     → length (items_of shape content) ≡ cond (has_controls shape content) 1 0 + count_of content.lists
 length-items shape content =
-    omega
-    (arith, items_length (has_controls shape content) (controls_of content) (rows_from 0 content.lists), length-rows 0 content.lists)
+    omega (
+      arith,
+      items_length (has_controls shape content) (controls_of content) (rows_from 0 content.lists),
+      length-rows 0
+          content.lists,
+    )
 
 -- the first item, where the controls differ, and the others
 pub item-controls : (shape : Shape) (content : Content) → has_controls shape content ≡ true
@@ -436,7 +453,8 @@ item-row shape content k h = rw h refl
 
 -- ---- one item more
 
--- the first items are those of the first records and the item is the next row, or there are none and the item is the controls
+-- the first items are those of the first records and the item is the next row, or there are none and the item is the
+-- controls
 pub record ComesNext (shape : Shape) (whole state : Content) (item : ListItem) : Type 0 where
   pub count : ℕ
   pub front : state ≡ content_front count whole
@@ -479,9 +497,11 @@ comes shape caps whole state item (first ∷ items) others is true e split made 
     let same : controls_of whole ≡ first = cc in
     let rest : rows_from 0 whole.lists ≡ items ++ item ∷ others = cc in
     inr (row_comes shape caps whole state item (first ∷ []) items others is
-    (ap (λ (c : ListItem). c ∷ []) (sym same) ∙ ap (λ (b : Bool). cond b (controls_of whole ∷ []) []) (sym e)) rest made)
+    (ap (λ (c : ListItem). c ∷ []) (sym same) ∙ ap (λ (b : Bool). cond b (controls_of whole ∷ []) []) (sym e)) rest
+    made)
 comes shape caps whole state item items others is false e split made =
-    inr (row_comes shape caps whole state item [] items others is (ap (λ (b : Bool). cond b (controls_of whole ∷ []) []) (sym e)) split made)
+    inr (row_comes shape caps whole state item [] items others is
+    (ap (λ (b : Bool). cond b (controls_of whole ∷ []) []) (sym e)) split made)
 
 pub item-comes : (shape : Shape) (caps : Caps) (whole state : Content) (item : ListItem)
     (items others : List ListItem)

@@ -90,7 +90,8 @@ pair_front : {X : Type 0} (relation : X → X → Bool) (x : X) (front back : Li
     → pairwise relation (front ++ x ∷ back) ≡ true
 pair_front relation x [] back h e =
     and_from (list_all (relation x) back) (pairwise relation back)
-    (list_all_weaker (λ y. relation x y && relation y x) (relation x) (λ y k. (and_parts (relation x y) (relation y x) k).0) back e) h
+    (list_all_weaker (λ y. relation x y && relation y x) (relation x)
+    (λ y k. (and_parts (relation x y) (relation y x) k).0) back e) h
 pair_front relation x (y ∷ front) back h e =
     let parts = and_parts (list_all (relation y) (front ++ back)) (pairwise relation (front ++ back)) h in
     let ends =

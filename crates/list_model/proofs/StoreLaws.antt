@@ -1,4 +1,5 @@
--- What an engine over a store of records goes by: the record that is named by its id, where a record comes to stand, which
+-- What an engine over a store of records goes by: the record that is named by its id, where a record comes to stand,
+-- which
 -- headers have records then, and how many records and elements there are.
 use Rattle.std.proofs.Common.{◌≡◌, ℕ, zero, suc, ◌+◌, ◌<◌, ◌≤◌, ◌==◌, ◌&&◌, ◌||◌, Bool, true, false, not, cond, List, [], ◌∷◌, ◌++◌, Option, Some, None, is_none, unwrap_or, option_map, length, find, map, position, nat_lt, sum_by, refl, sym, ap, ◌∙◌, subst, arith}
 use Rattle.std.specs.List.{list_all, list_any, position_or_len, prefix_len}
@@ -150,7 +151,8 @@ pub full-absent : (id : EntryId) (lists : Lists) (header : ℕ) → has_id id (r
 full-absent id lists header h =
     let records = records_of lists header in
     ap (λ (l : List Rec). not (length l == 0))
-    (records-without id lists header ∙ filter_all (λ rec. not (is_id id rec)) records (all_from_none (is_id id) records h))
+    (records-without id lists header ∙ filter_all (λ rec. not (is_id id rec)) records
+    (all_from_none (is_id id) records h))
 
 -- ---- a record is in one header alone
 
@@ -185,10 +187,12 @@ one-header id [] a b apart e h = refl
 one-header id (first ∷ lists) zero zero apart e h = absurd (false≢true (sym e))
 one-header id (first ∷ lists) zero (suc b) apart e h =
     is_false (has_id id (records_of lists b))
-    (λ k. false≢true (sym (none_behind ids_apart (is_id id) (once id) first (all_records lists) apart h) ∙ any-header (is_id id) lists b k))
+    (λ k. false≢true (sym (none_behind ids_apart (is_id id) (once id) first (all_records lists) apart h)
+    ∙ any-header (is_id id) lists b k))
 one-header id (first ∷ lists) (suc a) zero apart e h =
     is_false (has_id id first)
-    (λ k. false≢true (sym (none_behind ids_apart (is_id id) (once id) first (all_records lists) apart k) ∙ any-header (is_id id) lists a h))
+    (λ k. false≢true (sym (none_behind ids_apart (is_id id) (once id) first (all_records lists) apart k)
+    ∙ any-header (is_id id) lists a h))
 one-header id (first ∷ lists) (suc a) (suc b) apart e h =
     one-header id lists a b (pairwise_back ids_apart first (all_records lists) apart) (less a b ∙ e) h
   where
@@ -282,7 +286,8 @@ key_step : (head : Bool) (rec other : Rec) (key first : Key16) → rec.key ≡ S
 key_step true rec other key first e f = rw (e, f) refl
 key_step false rec other key first e f = rw (e, f) refl
 
-pub place-keyed : (head : Bool) (rec : Rec) (key : Key16) (records : List Rec) (keys : List Key16) → rec.key ≡ Some key
+pub place-keyed : (head : Bool) (rec : Rec) (key : Key16) (records : List Rec) (keys : List Key16)
+    → rec.key ≡ Some key
     → map (λ other. other.key) records ≡ map (λ k. Some k) keys
     → prefix_len (key_stands_before head key) keys ≡ prefix_len (stands_before head rec) records
 place-keyed head rec key [] [] e h = refl
@@ -292,7 +297,8 @@ place-keyed head rec key (other ∷ records) (first ∷ keys) e h =
     let here : other.key ≡ Some first = cc in
     let rest : map (λ (r : Rec). r.key) records ≡ map (λ (k : Key16). Some k) keys = cc in
     let choose : Bool → ℕ → ℕ = λ b n. cond b (1 + n) 0 in
-    ap (λ (b : Bool). choose b (prefix_len (key_stands_before head key) keys)) (key_step head rec other key first e here)
+    ap (λ (b : Bool). choose b (prefix_len (key_stands_before head key) keys))
+    (key_step head rec other key first e here)
     ∙ ap (λ (n : ℕ). choose (stands_before head rec other) n) (place-keyed head rec key records keys e rest)
 
 key_ordered : (rec : Rec) (key : Key16) (records : List Rec) (keys : List Key16) → rec.key ≡ Some key
@@ -309,7 +315,8 @@ key_ordered rec key (other ∷ records) (first ∷ keys) e h =
     ∙ ap (λ (b : Bool). may_precede rec other && b) (key_ordered rec key records keys e rest)
 
 -- the keys ascend where the records do
-pub keys-ordered : (records : List Rec) (keys : List Key16) → map (λ other. other.key) records ≡ map (λ k. Some k) keys
+pub keys-ordered : (records : List Rec) (keys : List Key16) → map (λ other. other.key) records ≡ map (λ k. Some k)
+    keys
     → pairwise (λ a b. key_up_to (Some a) (Some b)) keys ≡ pairwise may_precede records
 keys-ordered [] [] h = refl
 keys-ordered [] (first ∷ keys) h = absurd (cc)
@@ -317,7 +324,8 @@ keys-ordered (other ∷ records) [] h = absurd (cc)
 keys-ordered (other ∷ records) (first ∷ keys) h =
     let here : other.key ≡ Some first = cc in
     let rest : map (λ (r : Rec). r.key) records ≡ map (λ (k : Key16). Some k) keys = cc in
-    ap (λ (b : Bool). b && pairwise (λ (a c : Key16). key_up_to (Some a) (Some c)) keys) (key_ordered other first records keys here rest)
+    ap (λ (b : Bool). b && pairwise (λ (a c : Key16). key_up_to (Some a) (Some c)) keys)
+    (key_ordered other first records keys here rest)
     ∙ ap (λ (b : Bool). list_all (may_precede other) records && b) (keys-ordered records keys rest)
 
 -- ---- ids
@@ -360,8 +368,12 @@ pub count-without : (lists : Lists) (at : At) (rec : Rec) → pairwise ids_apart
 count-without lists at rec apart h =
     let all = all_records lists in
     let w = with-without rec all (record_at-in lists at rec h) apart in
-    omega
-    (arith, length-with rec (records_without rec.id all) all w, ap (λ (l : List Rec). length l) (all-without rec.id lists))
+    omega (
+      arith,
+      length-with rec (records_without rec.id all) all w,
+      ap (λ (l : List Rec). length l)
+          (all-without rec.id lists),
+    )
 
 pub elements-without : (lists : Lists) (at : At) (rec : Rec) → pairwise ids_apart (all_records lists) ≡ true
     → record_at lists at ≡ Some rec
@@ -370,5 +382,9 @@ pub elements-without : (lists : Lists) (at : At) (rec : Rec) → pairwise ids_ap
 elements-without lists at rec apart h =
     let all = all_records lists in
     let w = with-without rec all (record_at-in lists at rec h) apart in
-    omega
-    (arith, sum-with size rec (records_without rec.id all) all w, ap (λ (l : List Rec). sum_by size l) (all-without rec.id lists))
+    omega (
+      arith,
+      sum-with size rec (records_without rec.id all) all w,
+      ap (λ (l : List Rec). sum_by size l)
+          (all-without rec.id lists),
+    )

@@ -1,6 +1,6 @@
-//! What a list structure of a coupling facility is: its records, limits, locks and monitors, what each command means,
-//! and the laws of it. There is no code but the type of its items: contracts cite `specs/`, and the engine's laws
-//! stand in `proofs/`.
+//! What a list structure of a coupling facility is: its records, limits, locks and monitors, what
+//! each command means, and the laws of it. There is no code but the type of its items: contracts
+//! cite `specs/`, and the engine's laws stand in `proofs/`.
 #![tactic(auto)]
 
 mod items;

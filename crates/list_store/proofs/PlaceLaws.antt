@@ -37,30 +37,38 @@ pub record IsPlaced (id : EntryId) (lists : List (List Rec)) (h p : ℕ) : Type 
 pub placed : (id : EntryId) (lists : List (List Rec)) (h p : ℕ) → position (has_any id) lists ≡ Some h
     → position (is_id id) (list_of h lists) ≡ Some p → IsPlaced id lists h p
 placed id lists h p e f =
-    let first = placed_in (nat_lt (position_or_len (has_any id) lists) (length lists)) (position_or_len (has_any id) lists) h e in
+    let first = placed_in (nat_lt (position_or_len (has_any id) lists) (length lists))
+    (position_or_len (has_any id) lists) h e in
     let recs = list_of h lists in
-    let second = placed_in (nat_lt (position_or_len (is_id id) recs) (length recs)) (position_or_len (is_id id) recs) p f in
+    let second = placed_in (nat_lt (position_or_len (is_id id) recs) (length recs)) (position_or_len (is_id id) recs)
+    p f in
     record {
       any = any_is_placed (has_any id) lists ∙ first.0;
       header_is = first.1;
-      header_in = subst (λ (n : ℕ). n < length lists) first.1 (ltb-true (position_or_len (has_any id) lists) (length lists) first.0);
+      header_in = subst (λ (n : ℕ). n < length lists) first.1 (ltb-true (position_or_len (has_any id) lists)
+          (length lists) first.0);
       here = any_is_placed (is_id id) recs ∙ second.0;
       place_is = second.1;
-      place_in = subst (λ (n : ℕ). n < length recs) second.1 (ltb-true (position_or_len (is_id id) recs) (length recs) second.0);
+      place_in = subst (λ (n : ℕ). n < length recs) second.1 (ltb-true (position_or_len (is_id id) recs) (length recs)
+          second.0);
     }
 
-pub placed_from : (id : EntryId) (vs : List (Vec Rec Global)) (h p : ℕ) → places_of id vs ≡ Some (h, p) → IsPlaced id (lists_in vs) h p
+pub placed_from : (id : EntryId) (vs : List (Vec Rec Global)) (h p : ℕ) → places_of id vs ≡ Some (h, p)
+    → IsPlaced id (lists_in vs) h p
 placed_from id vs h p e =
-    go (position (λ (recs : Vec Rec Global). list_any (is_id id) recs.items) vs) (position-map (has_any id) (λ (recs : Vec Rec Global). recs.items) vs) e
+    go (position (λ (recs : Vec Rec Global). list_any (is_id id) recs.items) vs)
+    (position-map (has_any id) (λ (recs : Vec Rec Global). recs.items) vs) e
   where
-    inner : (k : ℕ) (o : Option ℕ) → position (has_any id) (lists_in vs) ≡ Some k → position (is_id id) (list_of k (lists_in vs)) ≡ o
+    inner : (k : ℕ) (o : Option ℕ) → position (has_any id) (lists_in vs) ≡ Some k → position (is_id id)
+        (list_of k (lists_in vs)) ≡ o
         → option_map {U = ℕ × ℕ} (λ (place : ℕ). (k, place)) o ≡ Some (h, p) → IsPlaced id (lists_in vs) h p
     inner k None f g same = absurd (cc)
     inner k (Some q) f g same =
         let pair : (k, q) ≡ (h, p) = cc in
         subst (λ (s : ℕ × ℕ). IsPlaced id (lists_in vs) s.0 s.1) pair (placed id (lists_in vs) k q f g)
 
-    go : (o : Option ℕ) → position (has_any id) (lists_in vs) ≡ o → place_within id vs o ≡ Some (h, p) → IsPlaced id (lists_in vs) h p
+    go : (o : Option ℕ) → position (has_any id) (lists_in vs) ≡ o → place_within id vs o ≡ Some (h, p)
+        → IsPlaced id (lists_in vs) h p
     go None f same = absurd (cc)
     go (Some k) f same = inner k (position (is_id id) (list_of k (lists_in vs))) f refl same
 
@@ -69,17 +77,22 @@ some_place : (id : EntryId) (lists : List (List Rec)) (h : ℕ) → position (ha
     → has_any id (list_of h lists) ≡ true
 some_place id lists h e = ap (has_any id) (list_of-get_or lists h) ∙ (position-Some (has_any id) lists h [] e).1
 
-pub unplaced_from : (id : EntryId) (vs : List (Vec Rec Global)) → places_of id vs ≡ None → list_any (has_any id) (lists_in vs) ≡ false
+pub unplaced_from : (id : EntryId) (vs : List (Vec Rec Global)) → places_of id vs ≡ None → list_any (has_any id)
+    (lists_in vs) ≡ false
 unplaced_from id vs e =
-    go (position (λ (recs : Vec Rec Global). list_any (is_id id) recs.items) vs) (position-map (has_any id) (λ (recs : Vec Rec Global). recs.items) vs) e
+    go (position (λ (recs : Vec Rec Global). list_any (is_id id) recs.items) vs)
+    (position-map (has_any id) (λ (recs : Vec Rec Global). recs.items) vs) e
   where
-    inner : (k : ℕ) (o : Option ℕ) → position (has_any id) (lists_in vs) ≡ Some k → position (is_id id) (list_of k (lists_in vs)) ≡ o
+    inner : (k : ℕ) (o : Option ℕ) → position (has_any id) (lists_in vs) ≡ Some k → position (is_id id)
+        (list_of k (lists_in vs)) ≡ o
         → option_map {U = ℕ × ℕ} (λ (place : ℕ). (k, place)) o ≡ None → list_any (has_any id) (lists_in vs) ≡ false
     inner k None f g same =
-        absurd (false≢true (sym (none_placed (is_id id) (list_of k (lists_in vs)) g) ∙ some_place id (lists_in vs) k f))
+        absurd (false≢true (sym (none_placed (is_id id) (list_of k (lists_in vs)) g) ∙ some_place id (lists_in vs) k
+        f))
     inner k (Some q) f g same = absurd (cc)
 
-    go : (o : Option ℕ) → position (has_any id) (lists_in vs) ≡ o → place_within id vs o ≡ None → list_any (has_any id) (lists_in vs) ≡ false
+    go : (o : Option ℕ) → position (has_any id) (lists_in vs) ≡ o → place_within id vs o ≡ None
+        → list_any (has_any id) (lists_in vs) ≡ false
     go None f same = none_placed (has_any id) (lists_in vs) f
     go (Some k) f same = inner k (position (is_id id) (list_of k (lists_in vs))) f refl same
 
@@ -87,12 +100,15 @@ unplaced_from id vs e =
 abbrev pub as_spot : ℕ × ℕ → Spot
 as_spot place = record { header = place.0; place = place.1 }
 
-pub spot-places : (id : EntryId) (vs : List (Vec Rec Global)) → spot_of id (lists_in vs) ≡ option_map as_spot (places_of id vs)
+pub spot-places : (id : EntryId) (vs : List (Vec Rec Global)) → spot_of id (lists_in vs) ≡ option_map as_spot
+    (places_of id vs)
 spot-places id vs =
-    ap (λ (o : Option ℕ). spot_in id (lists_in vs) o) (position-map (has_any id) (λ (recs : Vec Rec Global). recs.items) vs)
+    ap (λ (o : Option ℕ). spot_in id (lists_in vs) o) (position-map (has_any id)
+    (λ (recs : Vec Rec Global). recs.items) vs)
     ∙ go (position (λ (recs : Vec Rec Global). list_any (is_id id) recs.items) vs)
   where
-    inner : (k : ℕ) (o : Option ℕ) → option_map (λ (place : ℕ). as_spot (k, place)) o ≡ option_map as_spot (option_map {U = ℕ × ℕ} (λ (place : ℕ). (k, place)) o)
+    inner : (k : ℕ) (o : Option ℕ) → option_map (λ (place : ℕ). as_spot (k, place)) o ≡ option_map as_spot
+        (option_map {U = ℕ × ℕ} (λ (place : ℕ). (k, place)) o)
     inner k None = refl
     inner k (Some q) = refl
 
@@ -113,11 +129,13 @@ placed_at id lists spot e = go (position (has_any id) lists) refl e
         let pair : made ≡ spot = cc in
         subst (λ (s : Spot). IsPlaced id lists s.header s.place) pair (placed id lists k q f g)
 
-    go : (o : Option ℕ) → position (has_any id) lists ≡ o → spot_in id lists o ≡ Some spot → IsPlaced id lists spot.header spot.place
+    go : (o : Option ℕ) → position (has_any id) lists ≡ o → spot_in id lists o ≡ Some spot
+        → IsPlaced id lists spot.header spot.place
     go None f same = absurd (cc)
     go (Some k) f same = inner k (position (is_id id) (list_of k lists)) f refl same
 
-pub unplaced : (id : EntryId) (lists : List (List Rec)) → spot_of id lists ≡ None → list_any (has_any id) lists ≡ false
+pub unplaced : (id : EntryId) (lists : List (List Rec)) → spot_of id lists ≡ None → list_any (has_any id) lists ≡
+    false
 unplaced id lists e = go (position (has_any id) lists) refl e
   where
     inner : (k : ℕ) (o : Option ℕ) → position (has_any id) lists ≡ Some k → position (is_id id) (list_of k lists) ≡ o
@@ -126,7 +144,8 @@ unplaced id lists e = go (position (has_any id) lists) refl e
         absurd (false≢true (sym (none_placed (is_id id) (list_of k lists) g) ∙ some_place id lists k f))
     inner k (Some q) f g same = absurd (cc)
 
-    go : (o : Option ℕ) → position (has_any id) lists ≡ o → spot_in id lists o ≡ None → list_any (has_any id) lists ≡ false
+    go : (o : Option ℕ) → position (has_any id) lists ≡ o → spot_in id lists o ≡ None → list_any (has_any id) lists ≡
+        false
     go None f same = none_placed (has_any id) lists f
     go (Some k) f same = inner k (position (is_id id) (list_of k lists)) f refl same
 
@@ -141,7 +160,8 @@ pairwise_back relation (x ∷ xs) ys h =
 pub apart-list : (lists : List (List Rec)) (h : ℕ) → h < length lists → pairwise ids_apart (all_records lists) ≡ true
     → pairwise ids_apart (list_of h lists) ≡ true
 apart-list lists h lt apart =
-    let split : pairwise ids_apart (all_records (take h lists) ++ (list_of h lists ++ all_records (drop (suc h) lists))) ≡ true =
+    let split : pairwise ids_apart (all_records (take h lists)
+    ++ (list_of h lists ++ all_records (drop (suc h) lists))) ≡ true =
     ap (λ (l : List Rec). pairwise ids_apart l) (sym (all-split lists h lt)) ∙ apart in
     pairwise_front ids_apart (list_of h lists) (all_records (drop (suc h) lists))
     (pairwise_back ids_apart (all_records (take h lists)) (list_of h lists ++ all_records (drop (suc h) lists)) split)
@@ -159,16 +179,20 @@ only_here : (id : EntryId) (f : List Rec → List Rec) → ((recs : List Rec) �
 only_here id f same lists h p is apart =
     ap (λ (n : ℕ). set lists n (f (list_of n lists))) (sym is.header_is) ∙ only_there id f same lists apart is.any
 
-without_none : (id : EntryId) (recs : List Rec) → has_any id recs ≡ false → filter (λ rec. not (is_id id rec)) recs ≡ recs
+without_none : (id : EntryId) (recs : List Rec) → has_any id recs ≡ false → filter (λ rec. not (is_id id rec)) recs ≡
+    recs
 without_none id recs e = filter_all (λ rec. not (is_id id rec)) recs (all_from_none (is_id id) recs e)
 
-position-Some_from : (id : EntryId) (recs : List Rec) (p : ℕ) → has_any id recs ≡ true → position_or_len (is_id id) recs ≡ p
+position-Some_from : (id : EntryId) (recs : List Rec) (p : ℕ) → has_any id recs ≡ true
+    → position_or_len (is_id id) recs ≡ p
     → position (is_id id) recs ≡ Some p
 position-Some_from id recs p e f =
-    let within : nat_lt (position_or_len (is_id id) recs) (length recs) ≡ true = sym (any_is_placed (is_id id) recs) ∙ e in
+    let within : nat_lt (position_or_len (is_id id) recs) (length recs) ≡ true = sym (any_is_placed (is_id id) recs)
+    ∙ e in
     rw within (ap (λ (n : ℕ). Some n) f)
 
-turned : (recs : List Rec) → pairwise ids_apart recs ≡ true → pairwise (λ (rec other : Rec). not (rec.id.0 == other.id.0)) recs ≡ true
+turned : (recs : List Rec) → pairwise ids_apart recs ≡ true
+    → pairwise (λ (rec other : Rec). not (rec.id.0 == other.id.0)) recs ≡ true
 turned recs h =
     pairwise_weaker ids_apart (λ rec other. not (rec.id.0 == other.id.0)) (λ x y e. other_way x.id.0 y.id.0 e) recs h
   where
@@ -176,7 +200,8 @@ turned recs h =
     other_way a b e = grind (arith, nat_tests)
 
 pub taken_there : (id : EntryId) (lists : List (List Rec)) (h p : ℕ) → IsPlaced id lists h p
-    → pairwise ids_apart (all_records lists) ≡ true → set lists h (remove (list_of h lists) p) ≡ lists_without id lists
+    → pairwise ids_apart (all_records lists) ≡ true → set lists h (remove (list_of h lists) p) ≡ lists_without id
+    lists
 taken_there id lists h p is apart =
     let recs = list_of h lists in
     ap (λ (l : List Rec). set lists h l)
@@ -184,7 +209,8 @@ taken_there id lists h p is apart =
     (turned recs (apart-list lists h is.header_in apart)) (position-Some_from id recs p is.here is.place_is))
     ∙ only_here id (λ l. filter (λ rec. not (is_id id rec)) l) (without_none id) lists h p is apart
 
-pub without_absent : (id : EntryId) (lists : List (List Rec)) → list_any (has_any id) lists ≡ false → lists_without id lists ≡ lists
+pub without_absent : (id : EntryId) (lists : List (List Rec)) → list_any (has_any id) lists ≡ false
+    → lists_without id lists ≡ lists
 without_absent id lists e = map_same id (λ recs. filter (λ rec. not (is_id id rec)) recs) (without_none id) lists e
 
 -- ---- a record is replaced
@@ -193,7 +219,8 @@ unchanged : (rec : Rec) (recs : List Rec) → has_any rec.id recs ≡ false → 
 unchanged rec [] e = refl
 unchanged rec (x ∷ xs) e = go (is_id rec.id x) refl e (unchanged rec xs)
   where
-    go : (b : Bool) → is_id rec.id x ≡ b → b || has_any rec.id xs ≡ false → (has_any rec.id xs ≡ false → map (changed rec) xs ≡ xs)
+    go : (b : Bool) → is_id rec.id x ≡ b → b || has_any rec.id xs ≡ false
+        → (has_any rec.id xs ≡ false → map (changed rec) xs ≡ xs)
         → changed rec x ∷ map (changed rec) xs ≡ x ∷ xs
     go true f e rest = absurd (false≢true (sym e))
     go false f e rest = rw f (ap (λ (l : List Rec). x ∷ l) (rest e))
@@ -210,18 +237,22 @@ changed_there rec (x ∷ xs) h e =
 
     go : (b : Bool) → is_id rec.id x ≡ b → b || has_any rec.id xs ≡ true → list_all (ids_apart x) xs ≡ true
         → (has_any rec.id xs ≡ true → set xs (position_or_len (is_id rec.id) xs) rec ≡ map (changed rec) xs)
-        → set (x ∷ xs) (cond (not b) (1 + position_or_len (is_id rec.id) xs) 0) rec ≡ (if b then rec else x) ∷ map (changed rec) xs
+        → set (x ∷ xs) (cond (not b) (1 + position_or_len (is_id rec.id) xs) 0) rec ≡ (if b then rec else x) ∷ map
+        (changed rec) xs
     go true f e apart rest =
         ap (λ (l : List Rec). rec ∷ l)
-        (sym (unchanged rec xs (none_from_all (is_id rec.id) xs (list_all_weaker (ids_apart x) (λ y. not (is_id rec.id y)) (λ y. once rec.id x y f) xs apart))))
+        (sym (unchanged rec xs (none_from_all (is_id rec.id) xs (list_all_weaker (ids_apart x)
+        (λ y. not (is_id rec.id y)) (λ y. once rec.id x y f) xs apart))))
     go false f e apart rest = later (position_or_len (is_id rec.id) xs) ∙ ap (λ (l : List Rec). x ∷ l) (rest e)
 
 pub replaced_there : (rec : Rec) (lists : List (List Rec)) (h p : ℕ) → IsPlaced rec.id lists h p
-    → pairwise ids_apart (all_records lists) ≡ true → set lists h (set (list_of h lists) p rec) ≡ lists_replaced rec lists
+    → pairwise ids_apart (all_records lists) ≡ true → set lists h (set (list_of h lists) p rec) ≡ lists_replaced rec
+    lists
 replaced_there rec lists h p is apart =
     let recs = list_of h lists in
     ap (λ (l : List Rec). set lists h l)
-    (ap (λ (n : ℕ). set recs n rec) (sym is.place_is) ∙ changed_there rec recs (apart-list lists h is.header_in apart) is.here)
+    (ap (λ (n : ℕ). set recs n rec) (sym is.place_is) ∙ changed_there rec recs (apart-list lists h is.header_in apart)
+    is.here)
     ∙ only_here rec.id (λ l. map (changed rec) l) (unchanged rec) lists h p is apart
 
 -- ---- a record more
@@ -252,10 +283,12 @@ apart-with lists h p rec lt within apart alone =
     ∙ pairwise_middle ids_apart (front ++ take p recs) (drop p recs ++ back) rec
     (ap (λ (l : List Rec). pairwise ids_apart l) (sym split) ∙ apart)
     (ap (λ (l : List Rec). list_all (λ x. ids_apart rec x && ids_apart x rec) l) (sym split)
-    ∙ list_all_weaker (λ x. not (is_id rec.id x)) (λ x. ids_apart rec x && ids_apart x rec) (fresh_apart rec) (all_records lists)
+    ∙ list_all_weaker (λ x. not (is_id rec.id x)) (λ x. ids_apart rec x && ids_apart x rec) (fresh_apart rec)
+    (all_records lists)
     (all_from_none (is_id rec.id) (all_records lists) alone))
 
-pub apart-pushed : (lists : List (List Rec)) (h : ℕ) (rec : Rec) → h < length lists → pairwise ids_apart (all_records lists) ≡ true
+pub apart-pushed : (lists : List (List Rec)) (h : ℕ) (rec : Rec) → h < length lists → pairwise ids_apart
+    (all_records lists) ≡ true
     → list_any (is_id rec.id) (all_records lists) ≡ false
     → pairwise ids_apart (all_records (set lists h (list_of h lists ++ rec ∷ []))) ≡ true
 apart-pushed lists h rec lt apart alone =
@@ -276,14 +309,21 @@ none-first (recs ∷ lists) e =
     let here : length recs ≡ 0 = omega (arith, long, length-append recs (all_records lists)) in
     let rest : length (all_records lists) ≡ 0 = omega (arith, long, length-append recs (all_records lists)) in
     let none : 0 - length recs ≡ 0 = omega arith in
-    rw (none, none-first lists (nil_from_length (all_records lists) rest)) (ap (λ (l : List Rec). l ∷ lists) (sym (nil_from_length recs here)))
+    rw (none, none-first lists (nil_from_length (all_records lists) rest)) (ap (λ (l : List Rec). l ∷ lists)
+    (sym (nil_from_length recs here)))
 
 pub popped : (lists : List (List Rec)) (h : ℕ) → IsLastFull h lists
-    → set lists h (take (length (list_of h lists) - 1) (list_of h lists)) ≡ first_records (length (all_records lists) - 1) lists
+    → set lists h (take (length (list_of h lists) - 1) (list_of h lists)) ≡ first_records
+    (length (all_records lists) - 1) lists
 popped [] h is = absurd (omega (arith, is.within))
 popped (recs ∷ lists) zero is =
     let count = ap (λ (l : List Rec). length l) is.last in
-    let all : length (recs ++ all_records lists) ≡ length recs = omega (arith, count, length-append recs (all_records lists)) in
+    let all : length (recs ++ all_records lists) ≡ length recs = omega (
+      arith,
+      count,
+      length-append recs
+          (all_records lists),
+    ) in
     let none : (length (recs ++ all_records lists) - 1) - length recs ≡ 0 = omega (arith, all) in
     rw (none, all, none-first lists is.last) refl
 popped (recs ∷ lists) (suc h) is =
@@ -299,7 +339,8 @@ popped (recs ∷ lists) (suc h) is =
     let left : (length (recs ++ all_records lists) - 1) - length recs ≡ length (all_records lists) - 1 =
     omega (arith, some, length-append recs (all_records lists)) in
     let whole : take (length (recs ++ all_records lists) - 1) recs ≡ recs =
-    take_all (length (recs ++ all_records lists) - 1) recs (omega (arith, some, length-append recs (all_records lists))) in
+    take_all (length (recs ++ all_records lists) - 1) recs
+    (omega (arith, some, length-append recs (all_records lists))) in
     rw (left, whole) (ap (λ (l : List (List Rec)). recs ∷ l) (popped lists h rest))
 
 all-first : (n : ℕ) (lists : List (List Rec)) → all_records (first_records n lists) ≡ take n (all_records lists)
@@ -311,7 +352,8 @@ all-first n (recs ∷ lists) =
     front : (n : ℕ) (xs ys : List Rec) → take n xs ++ take (n - length xs) ys ≡ take n (xs ++ ys)
     front zero xs ys = let e : 0 - length xs ≡ 0 = omega arith in rw e refl
     front (suc n) [] ys = let e : suc n - 0 ≡ suc n = omega arith in rw e refl
-    front (suc n) (x ∷ xs) ys = let e : suc n - suc (length xs) ≡ n - length xs = omega arith in rw e (ap (λ (l : List Rec). x ∷ l) (front n xs ys))
+    front (suc n) (x ∷ xs) ys = let e : suc n - suc (length xs) ≡ n - length xs = omega arith in rw e
+        (ap (λ (l : List Rec). x ∷ l) (front n xs ys))
 
 pub apart-first : (n : ℕ) (lists : List (List Rec)) → pairwise ids_apart (all_records lists) ≡ true
     → pairwise ids_apart (all_records (first_records n lists)) ≡ true
@@ -324,6 +366,7 @@ apart-first n lists apart =
 pub gone : (id : EntryId) (lists : List (List Rec)) (rec : Rec) → is_id id rec ≡ true
     → list_any (is_id rec.id) (all_records (lists_without id lists)) ≡ false
 gone id lists rec e =
-    subst (λ n. list_any (λ (r : Rec). r.id.0 == n) (all_records (lists_without id lists)) ≡ false) (sym (eqb-true rec.id.0 id.0 e))
+    subst (λ n. list_any (λ (r : Rec). r.id.0 == n) (all_records (lists_without id lists)) ≡ false)
+    (sym (eqb-true rec.id.0 id.0 e))
     (ap (λ (l : List Rec). list_any (is_id id) l) (all-filter (λ r. not (is_id id r)) lists)
     ∙ none_filtered (is_id id) (all_records lists))

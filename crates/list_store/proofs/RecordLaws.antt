@@ -37,7 +37,8 @@ pub list_all-get_or : {X : Type 0} (p : X → Bool) (xs : List X) (i : ℕ) (d :
     → p (get_or xs i d) ≡ true
 list_all-get_or p [] i d h lt = absurd (omega (arith, lt))
 list_all-get_or p (x ∷ xs) zero d h lt = (and_parts (p x) (list_all p xs) h).0
-list_all-get_or p (x ∷ xs) (suc i) d h lt = list_all-get_or p xs i d (and_parts (p x) (list_all p xs) h).1 (omega (arith, lt))
+list_all-get_or p (x ∷ xs) (suc i) d h lt = list_all-get_or p xs i d (and_parts (p x) (list_all p xs) h).1
+    (omega (arith, lt))
 
 pub position_or_len-map : {X Y : Type 0} (p : Y → Bool) (f : X → Y) (xs : List X)
     → position_or_len p (map f xs) ≡ position_or_len (λ x. p (f x)) xs
@@ -66,7 +67,8 @@ none_behind relation p once (x ∷ xs) ys h e =
         → (list_any p xs ≡ true → list_any p ys ≡ false) → list_any p ys ≡ false
     go true here each e later =
         none_from_all p ys (list_all_weaker (relation x) (λ y. not (p y)) (λ y. once x y here) ys
-        (and_parts (list_all (relation x) xs) (list_all (relation x) ys) (sym (list_all-append (relation x) xs ys) ∙ each)).1)
+        (and_parts (list_all (relation x) xs) (list_all (relation x) ys) (sym (list_all-append (relation x) xs ys)
+        ∙ each)).1)
     go false apart each e later = later e
 
 -- ---- the list that has an id
@@ -74,7 +76,8 @@ none_behind relation p once (x ∷ xs) ys h e =
 abbrev pub has_any : EntryId → List Rec → Bool
 has_any id recs = list_any (is_id id) recs
 
-pub any_all : (p : Rec → Bool) (lists : List (List Rec)) → list_any p (all_records lists) ≡ list_any (λ recs. list_any p recs) lists
+pub any_all : (p : Rec → Bool) (lists : List (List Rec)) → list_any p (all_records lists) ≡ list_any
+    (λ recs. list_any p recs) lists
 any_all p [] = refl
 any_all p (recs ∷ lists) =
     list_any-append p recs (all_records lists) ∙ ap (λ b. list_any p recs || b) (any_all p lists)
@@ -85,7 +88,8 @@ once id x y h e = numbers x.id.0 y.id.0 id.0 h e
     numbers : (a b c : ℕ) → (a == c) ≡ true → not (b == a) ≡ true → not (b == c) ≡ true
     numbers a b c h e = grind (arith, nat_tests)
 
-pub map_same : (id : EntryId) (f : List Rec → List Rec) → ((recs : List Rec) → has_any id recs ≡ false → f recs ≡ recs)
+pub map_same : (id : EntryId) (f : List Rec → List Rec) → ((recs : List Rec) → has_any id recs ≡ false
+    → f recs ≡ recs)
     → (lists : List (List Rec)) → list_any (has_any id) lists ≡ false → map f lists ≡ lists
 map_same id f same [] h = refl
 map_same id f same (recs ∷ lists) h = go (has_any id recs) refl h (map_same id f same lists)
@@ -97,17 +101,21 @@ map_same id f same (recs ∷ lists) h = go (has_any id recs) refl h (map_same id
         ap (λ (r : List Rec). r ∷ map f lists) (same recs e) ∙ ap (λ (l : List (List Rec)). recs ∷ l) (later h)
 
 -- what changes the list that has the id alone changes that one list
-pub only_there : (id : EntryId) (f : List Rec → List Rec) → ((recs : List Rec) → has_any id recs ≡ false → f recs ≡ recs)
+pub only_there : (id : EntryId) (f : List Rec → List Rec) → ((recs : List Rec) → has_any id recs ≡ false
+    → f recs ≡ recs)
     → (lists : List (List Rec)) → pairwise ids_apart (all_records lists) ≡ true → list_any (has_any id) lists ≡ true
-    → set lists (position_or_len (has_any id) lists) (f (list_of (position_or_len (has_any id) lists) lists)) ≡ map f lists
+    → set lists (position_or_len (has_any id) lists) (f (list_of (position_or_len (has_any id) lists) lists)) ≡ map f
+    lists
 only_there id f same [] h e = absurd (false≢true e)
 only_there id f same (recs ∷ lists) h e =
     go (has_any id recs) refl e (only_there id f same lists (behind recs h))
   where
-    behind : (xs : List Rec) → pairwise ids_apart (xs ++ all_records lists) ≡ true → pairwise ids_apart (all_records lists) ≡ true
+    behind : (xs : List Rec) → pairwise ids_apart (xs ++ all_records lists) ≡ true → pairwise ids_apart
+        (all_records lists) ≡ true
     behind [] k = k
     behind (x ∷ xs) k =
-        behind xs (and_parts (list_all (ids_apart x) (xs ++ all_records lists)) (pairwise ids_apart (xs ++ all_records lists)) k).1
+        behind xs (and_parts (list_all (ids_apart x) (xs ++ all_records lists))
+        (pairwise ids_apart (xs ++ all_records lists)) k).1
 
     later : (k : ℕ) → set (recs ∷ lists) (1 + k) (f (list_of (1 + k) (recs ∷ lists)))
         ≡ recs ∷ set lists k (f (list_of k lists))
@@ -115,7 +123,8 @@ only_there id f same (recs ∷ lists) h e =
 
     go : (b : Bool) → has_any id recs ≡ b → b || list_any (has_any id) lists ≡ true
         → (list_any (has_any id) lists ≡ true
-        → set lists (position_or_len (has_any id) lists) (f (list_of (position_or_len (has_any id) lists) lists)) ≡ map f lists)
+        → set lists (position_or_len (has_any id) lists) (f (list_of (position_or_len (has_any id) lists) lists)) ≡
+        map f lists)
         → set (recs ∷ lists) (cond (not b) (1 + position_or_len (has_any id) lists) 0)
         (f (list_of (cond (not b) (1 + position_or_len (has_any id) lists) 0) (recs ∷ lists)))
         ≡ f recs ∷ map f lists
@@ -141,7 +150,8 @@ found_there id [] e = absurd (false≢true e)
 found_there id (recs ∷ lists) e =
     find-append (is_id id) recs (all_records lists) ∙ go (has_any id recs) refl e (found_there id lists)
   where
-    later : (k : ℕ) → slice_get (list_of (1 + k) (recs ∷ lists)) (position_or_len (is_id id) (list_of (1 + k) (recs ∷ lists)))
+    later : (k : ℕ) → slice_get (list_of (1 + k) (recs ∷ lists))
+        (position_or_len (is_id id) (list_of (1 + k) (recs ∷ lists)))
         ≡ slice_get (list_of k lists) (position_or_len (is_id id) (list_of k lists))
     later k = let s : 1 + k ≡ suc k = omega arith in rw s refl
 
@@ -152,9 +162,11 @@ found_there id (recs ∷ lists) e =
         (position_or_len (is_id id) (list_of (position_or_len (has_any id) lists) lists)))
         → option_or (find (is_id id) recs) (find (is_id id) (all_records lists))
         ≡ slice_get (list_of (cond (not b) (1 + position_or_len (has_any id) lists) 0) (recs ∷ lists))
-        (position_or_len (is_id id) (list_of (cond (not b) (1 + position_or_len (has_any id) lists) 0) (recs ∷ lists)))
+        (position_or_len (is_id id) (list_of (cond (not b) (1 + position_or_len (has_any id) lists) 0)
+        (recs ∷ lists)))
     go true here e rest =
-        option_left (find (is_id id) recs) (find (is_id id) (all_records lists)) (sym (any_is_found (is_id id) recs) ∙ here)
+        option_left (find (is_id id) recs) (find (is_id id) (all_records lists)) (sym (any_is_found (is_id id) recs)
+        ∙ here)
         ∙ find_at (is_id id) recs
     go false apart e rest =
         ap (λ (o : Option Rec). option_or o (find (is_id id) (all_records lists))) (find_none (is_id id) recs apart)
@@ -162,12 +174,14 @@ found_there id (recs ∷ lists) e =
 
 -- ---- no two records have one id
 
-pub all-filter : (p : Rec → Bool) (lists : List (List Rec)) → all_records (map (λ recs. filter p recs) lists) ≡ filter p (all_records lists)
+pub all-filter : (p : Rec → Bool) (lists : List (List Rec)) → all_records (map (λ recs. filter p recs) lists) ≡ filter
+    p (all_records lists)
 all-filter p [] = refl
 all-filter p (recs ∷ lists) =
     ap (λ (l : List Rec). filter p recs ++ l) (all-filter p lists) ∙ sym (filter-append p recs (all_records lists))
 
-pub all-map : (f : Rec → Rec) (lists : List (List Rec)) → all_records (map (λ recs. map f recs) lists) ≡ map f (all_records lists)
+pub all-map : (f : Rec → Rec) (lists : List (List Rec)) → all_records (map (λ recs. map f recs) lists) ≡ map f
+    (all_records lists)
 all-map f [] = refl
 all-map f (recs ∷ lists) =
     ap (λ (l : List Rec). map f recs ++ l) (all-map f lists) ∙ sym (map-append f recs (all_records lists))
@@ -192,26 +206,32 @@ pub apart-changed : (rec : Rec) (lists : List (List Rec)) → pairwise ids_apart
     → pairwise ids_apart (all_records (lists_replaced rec lists)) ≡ true
 apart-changed rec lists h =
     ap (λ (l : List Rec). pairwise ids_apart l) (all-map (changed rec) lists)
-    ∙ pairwise-map ids_apart (changed rec) (λ x y. both (changed rec y).id.0 y.id.0 (changed rec x).id.0 x.id.0 (same_id rec y) (same_id rec x)) (all_records lists)
+    ∙ pairwise-map ids_apart (changed rec) (λ x y. both (changed rec y).id.0 y.id.0 (changed rec x).id.0 x.id.0
+    (same_id rec y) (same_id rec x)) (all_records lists)
     ∙ h
   where
     both : (a b c d : ℕ) → a ≡ b → c ≡ d → not (a == c) ≡ not (b == d)
     both a b c d e f = rw (e, f) refl
 
 -- one more in the middle
-pub pairwise_middle : {X : Type 0} (relation : X → X → Bool) (xs ys : List X) (z : X) → pairwise relation (xs ++ ys) ≡ true
+pub pairwise_middle : {X : Type 0} (relation : X → X → Bool) (xs ys : List X) (z : X) → pairwise relation (xs ++ ys) ≡
+    true
     → list_all (λ x. relation z x && relation x z) (xs ++ ys) ≡ true → pairwise relation (xs ++ z ∷ ys) ≡ true
 pairwise_middle relation [] ys z h e =
     and_from (list_all (relation z) ys) (pairwise relation ys)
-    (list_all_weaker (λ x. relation z x && relation x z) (relation z) (λ x k. (and_parts (relation z x) (relation x z) k).0) ys e) h
+    (list_all_weaker (λ x. relation z x && relation x z) (relation z)
+    (λ x k. (and_parts (relation z x) (relation x z) k).0) ys e) h
 pairwise_middle relation (x ∷ xs) ys z h e =
     let parts = and_parts (list_all (relation x) (xs ++ ys)) (pairwise relation (xs ++ ys)) h in
-    let others = and_parts (relation z x && relation x z) (list_all (λ y. relation z y && relation y z) (xs ++ ys)) e in
-    let halves = and_parts (list_all (relation x) xs) (list_all (relation x) ys) (sym (list_all-append (relation x) xs ys) ∙ parts.0) in
+    let others = and_parts (relation z x && relation x z) (list_all (λ y. relation z y && relation y z) (xs ++ ys)) e
+    in
+    let halves = and_parts (list_all (relation x) xs) (list_all (relation x) ys)
+    (sym (list_all-append (relation x) xs ys) ∙ parts.0) in
     and_from (list_all (relation x) (xs ++ z ∷ ys)) (pairwise relation (xs ++ z ∷ ys))
     (list_all-append (relation x) xs (z ∷ ys)
     ∙ and_from (list_all (relation x) xs) (list_all (relation x) (z ∷ ys)) halves.0
-    (and_from (relation x z) (list_all (relation x) ys) (and_parts (relation z x) (relation x z) others.0).1 halves.1))
+    (and_from (relation x z) (list_all (relation x) ys) (and_parts (relation z x) (relation x z) others.0).1
+    halves.1))
     (pairwise_middle relation xs ys z parts.1 others.1)
 
 -- where a list is replaced, the records before and behind it stay

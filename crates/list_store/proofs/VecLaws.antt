@@ -13,25 +13,30 @@ use Rattle.list_store.specs.Stored.{lists_in, has_place, is_few}
 use Rattle.list_store.proofs.RecordLaws.{list_of, list_of-get_or, list_all-set, list_all-get_or}
 
 -- the vector of a header holds its records
-pub list_of-in : (lists : List (Vec Rec Global)) (h : ℕ) (recs : Vec Rec Global) → h < length lists → recs ≡ get_or lists h recs
+pub list_of-in : (lists : List (Vec Rec Global)) (h : ℕ) (recs : Vec Rec Global) → h < length lists
+    → recs ≡ get_or lists h recs
     → list_of h (lists_in lists) ≡ recs.items
 list_of-in lists h recs lt read =
-    list_of-get_or (lists_in lists) h ∙ get_or-map (λ (v : Vec Rec Global). v.items) lists h recs [] lt ∙ ap (λ (v : Vec Rec Global). v.items) (sym read)
+    list_of-get_or (lists_in lists) h ∙ get_or-map (λ (v : Vec Rec Global). v.items) lists h recs [] lt
+    ∙ ap (λ (v : Vec Rec Global). v.items) (sym read)
 
 pub lists_in-set : (lists : List (Vec Rec Global)) (h : ℕ) (recs : Vec Rec Global)
     → lists_in (set lists h recs) ≡ set (lists_in lists) h recs.items
 lists_in-set lists h recs = map-set (λ (v : Vec Rec Global). v.items) lists h recs
 
 -- as many or fewer are few
-pub few-less : (lists : List (List Rec)) (h : ℕ) (recs : List Rec) → h < length lists → length recs ≤ length (list_of h lists)
+pub few-less : (lists : List (List Rec)) (h : ℕ) (recs : List Rec) → h < length lists → length recs ≤ length
+    (list_of h lists)
     → list_all is_few lists ≡ true → list_all is_few (set lists h recs) ≡ true
 few-less lists h recs lt less few =
-    let was : is_few (list_of h lists) ≡ true = ap is_few (list_of-get_or lists h) ∙ list_all-get_or is_few lists h [] few lt in
+    let was : is_few (list_of h lists) ≡ true = ap is_few (list_of-get_or lists h) ∙ list_all-get_or is_few lists h
+    [] few lt in
     list_all-set is_few lists h recs few
     (lt-ltb (length recs) 4294967296 (omega (arith, less, ltb-true (length (list_of h lists)) 4294967296 was)))
 
 -- a place in one fewer stays
-pub place-less : (lists : List (Vec Rec Global)) (h : ℕ) (old new : Vec Rec Global) → h < length lists → old ≡ get_or lists h old
+pub place-less : (lists : List (Vec Rec Global)) (h : ℕ) (old new : Vec Rec Global) → h < length lists
+    → old ≡ get_or lists h old
     → vec_len new ≤ vec_len old → vec_capacity old ≤ vec_capacity new → list_all has_place lists ≡ true
     → list_all has_place (set lists h new) ≡ true
 place-less lists h old new lt read less more places =
@@ -45,7 +50,8 @@ place-less lists h old new lt read less more places =
     (lt-ltb (vec_len new) 4294967295 (omega (arith, less, bound))))
 
 -- a place is room for one more
-pub few-more : (lists : List (Vec Rec Global)) (h : ℕ) (old new : Vec Rec Global) → h < length lists → old ≡ get_or lists h old
+pub few-more : (lists : List (Vec Rec Global)) (h : ℕ) (old new : Vec Rec Global) → h < length lists
+    → old ≡ get_or lists h old
     → vec_len new ≡ vec_len old + 1 → list_all has_place lists ≡ true → list_all is_few (lists_in lists) ≡ true
     → list_all is_few (lists_in (set lists h new)) ≡ true
 few-more lists h old new lt read more places few =
@@ -56,11 +62,13 @@ few-more lists h old new lt read more places few =
     (lt-ltb (length new.items) 4294967296 (omega (arith, more, new.ok.0, ltb-true (vec_len old) 4294967295 parts.1)))
 
 -- room taken in a header changes no records
-pub lists_in-kept : (lists : List (Vec Rec Global)) (h : ℕ) (old new : Vec Rec Global) → h < length lists → old ≡ get_or lists h old
+pub lists_in-kept : (lists : List (Vec Rec Global)) (h : ℕ) (old new : Vec Rec Global) → h < length lists
+    → old ≡ get_or lists h old
     → new.items ≡ old.items → lists_in (set lists h new) ≡ lists_in lists
 lists_in-kept lists h old new lt read same =
     lists_in-set lists h new
-    ∙ ap (λ (recs : List Rec). set (lists_in lists) h recs) (same ∙ sym (list_of-in lists h old lt read) ∙ list_of-get_or (lists_in lists) h)
+    ∙ ap (λ (recs : List Rec). set (lists_in lists) h recs) (same ∙ sym (list_of-in lists h old lt read)
+    ∙ list_of-get_or (lists_in lists) h)
     ∙ set-get_or (lists_in lists) h []
 
 pub few-replicate : (n : ℕ) → list_all is_few (replicate n []) ≡ true
@@ -71,9 +79,11 @@ pub all-replicate : (n : ℕ) → all_records (replicate n []) ≡ []
 all-replicate zero = refl
 all-replicate (suc n) = all-replicate n
 
-pub places-more : (lists : List (Vec Rec Global)) (h : ℕ) (new : Vec Rec Global) → h < length lists → has_place new ≡ true
+pub places-more : (lists : List (Vec Rec Global)) (h : ℕ) (new : Vec Rec Global) → h < length lists
+    → has_place new ≡ true
     → list_all has_place (take h lists) ≡ true → list_all has_place (take (h + 1) (set lists h new)) ≡ true
 places-more lists h new lt place before =
     ap (λ (l : List (Vec Rec Global)). list_all has_place l) (take_more_set lists h new lt)
     ∙ list_all-append has_place (take h lists) (new ∷ [])
-    ∙ and_from (list_all has_place (take h lists)) (has_place new && true) before (and_from (has_place new) true place refl)
+    ∙ and_from (list_all has_place (take h lists)) (has_place new && true) before
+    (and_from (has_place new) true place refl)

@@ -56,7 +56,8 @@ pub(crate) fn put(lists: &mut Vec<Vec<Rec>>, header: usize, place: usize, rec: R
     requires place { place ≤ length (records_of (lists_in lists.old.items) header) }
     requires room { IsTrue (list_all has_place lists.old.items) }
     requires few { IsTrue (list_all is_few (lists_in lists.old.items)) }
-    ensures lists { lists_in lists.new.items ≡ lists_with header place rec (lists_in lists.old.items) }
+    ensures lists { lists_in lists.new.items ≡ lists_with header place rec
+        (lists_in lists.old.items) }
     ensures len { vec_len lists.new ≡ vec_len lists.old }
     ensures few { IsTrue (list_all is_few (lists_in lists.new.items)) }
 {
@@ -68,7 +69,8 @@ pub(crate) fn push(lists: &mut Vec<Vec<Rec>>, header: usize, rec: Rec) -> Result
     requires header { header < vec_len lists.old }
     requires few { IsTrue (list_all is_few (lists_in lists.old.items)) }
     ensures ok { OnOk result (lists_in lists.new.items
-        ≡ slice_set (lists_in lists.old.items) header (records_of (lists_in lists.old.items) header ++ rec ∷ [])) }
+        ≡ slice_set (lists_in lists.old.items) header (records_of (lists_in lists.old.items) header
+        ++ rec ∷ [])) }
     ensures err { OnErr result (lists_in lists.new.items ≡ lists_in lists.old.items) }
     ensures handed_back { IfErr result (λ back. back ≡ rec) }
     ensures few { IsTrue (list_all is_few (lists_in lists.new.items)) }
@@ -104,8 +106,10 @@ pub(crate) fn take_at(lists: &mut Vec<Vec<Rec>>, header: usize, place: usize) ->
     requires place { place < length (records_of (lists_in lists.old.items) header) }
     ensures record { slice_get (records_of (lists_in lists.old.items) header) place ≡ Some result }
     ensures lists { lists_in lists.new.items
-        ≡ slice_set (lists_in lists.old.items) header (remove (records_of (lists_in lists.old.items) header) place) }
-    ensures room { list_all has_place lists.old.items ≡ true → list_all has_place lists.new.items ≡ true }
+        ≡ slice_set (lists_in lists.old.items) header
+        (remove (records_of (lists_in lists.old.items) header) place) }
+    ensures room { list_all has_place lists.old.items ≡ true → list_all has_place lists.new.items ≡
+        true }
     ensures len { vec_len lists.new ≡ vec_len lists.old }
 {
     lists[header].remove(place)
@@ -127,8 +131,10 @@ pub(crate) fn set_at(lists: &mut Vec<Vec<Rec>>, header: usize, place: usize, rec
     requires place { place < length (records_of (lists_in lists.old.items) header) }
     ensures record { slice_get (records_of (lists_in lists.old.items) header) place ≡ Some result }
     ensures lists { lists_in lists.new.items
-        ≡ slice_set (lists_in lists.old.items) header (slice_set (records_of (lists_in lists.old.items) header) place rec) }
-    ensures room { list_all has_place lists.old.items ≡ true → list_all has_place lists.new.items ≡ true }
+        ≡ slice_set (lists_in lists.old.items) header
+        (slice_set (records_of (lists_in lists.old.items) header) place rec) }
+    ensures room { list_all has_place lists.old.items ≡ true → list_all has_place lists.new.items ≡
+        true }
     ensures len { vec_len lists.new ≡ vec_len lists.old }
 {
     std::mem::replace(&mut lists[header][place], rec)

@@ -12,8 +12,8 @@ use cf_types::{EntryId, NoMemory};
 use std::alloc::Global;
 use std::marker::Model;
 
-/// The records of a list structure. Contracts see a list of records for each header, and for how many more there is
-/// room.
+/// The records of a list structure. Contracts see a list of records for each header, and for how
+/// many more there is room.
 #[derive(Debug, Drop)]
 pub struct Store {
     lists: Vec<Vec<Rec>>,
@@ -87,7 +87,8 @@ impl Store {
     /// The record at a place of a header, from 0.
     pub fn at(&self, header: u32, place: u32) -> Option<&Rec>
         requires { header < length self.now.lists }
-        ensures { option_map (λ rec. rec.now) result ≡ slice_get (records_of self.now.lists header) place }
+        ensures { option_map (λ rec. rec.now) result ≡ slice_get (records_of self.now.lists header)
+            place }
     {
         self.records(header).get(place as usize)
     }
@@ -127,7 +128,8 @@ impl Store {
         put(&mut self.lists, header as usize, place as usize, rec);
     }
 
-    /// Puts a record in place of the one with this id, which is there and is the record's own; gives that one.
+    /// Puts a record in place of the one with this id, which is there and is the record's own;
+    /// gives that one.
     pub fn set(&mut self, id: EntryId, rec: Rec) -> Rec
         requires there { list_any (is_id id) (all_records self.old.lists) ≡ true }
         requires same { id ≡ rec.id }
@@ -168,7 +170,8 @@ impl Store {
         }
     }
 
-    /// Puts a record behind the others of a header, where there is memory; else hands it back. No record has its id.
+    /// Puts a record behind the others of a header, where there is memory; else hands it back. No
+    /// record has its id.
     pub fn push(&mut self, header: u32, rec: Rec) -> Result<(), Rec>
         requires header { header < length self.old.lists }
         requires alone { list_any (is_id rec.id) (all_records self.old.lists) ≡ false }

@@ -23,60 +23,74 @@ use Rattle.list_watch.specs.Ends.{change_to, differs, is_turned, turn_changes, r
 abbrev pub stands_at : ConnId → ℕ → Watched → Bool
 stands_at conn index row = is_at conn index row.monitor
 
-same_place : (c i d j k n : ℕ) → (c == k) && (i == n) ≡ true → not ((c == d) && (i == j)) ≡ true → not ((d == k) && (j == n)) ≡ true
+same_place : (c i d j k n : ℕ) → (c == k) && (i == n) ≡ true → not ((c == d) && (i == j)) ≡ true
+    → not ((d == k) && (j == n)) ≡ true
 same_place c i d j k n h e = grind (arith, nat_tests)
 
 -- where one stands at an index, no later one does
-none_later : (row : Watched) (rows : List Watched) (conn : ConnId) (index : ℕ) → pairwise places_apart (monitors_of (row ∷ rows)) ≡ true
+none_later : (row : Watched) (rows : List Watched) (conn : ConnId) (index : ℕ) → pairwise places_apart
+    (monitors_of (row ∷ rows)) ≡ true
     → stands_at conn index row ≡ true → list_any (stands_at conn index) rows ≡ false
 none_later row rows conn index apart here =
     none_from_all (stands_at conn index) rows
     (list_all_weaker (λ other. places_apart row.monitor other.monitor) (λ other. not (stands_at conn index other))
-    (λ other h. same_place row.monitor.conn.0 row.monitor.index other.monitor.conn.0 other.monitor.index conn.0 index here h) rows
+    (λ other h. same_place row.monitor.conn.0 row.monitor.index other.monitor.conn.0 other.monitor.index conn.0 index
+    here h) rows
     (sym (list_all-map (places_apart row.monitor) (λ (r : Watched). r.monitor) rows)
-    ∙ (and_parts (list_all (places_apart row.monitor) (monitors_of rows)) (pairwise places_apart (monitors_of rows)) apart).0))
+    ∙ (and_parts (list_all (places_apart row.monitor) (monitors_of rows)) (pairwise places_apart (monitors_of rows))
+    apart).0))
 
 rest_apart : (row : Watched) (rows : List Watched) → pairwise places_apart (monitors_of (row ∷ rows)) ≡ true
     → pairwise places_apart (monitors_of rows) ≡ true
-rest_apart row rows apart = (and_parts (list_all (places_apart row.monitor) (monitors_of rows)) (pairwise places_apart (monitors_of rows)) apart).1
+rest_apart row rows apart = (and_parts (list_all (places_apart row.monitor) (monitors_of rows))
+    (pairwise places_apart (monitors_of rows)) apart).1
 
 -- nobody there, so no bit and nothing told
-dark : (conn : ConnId) (index : ℕ) (rows : List Watched) → list_any (stands_at conn index) rows ≡ false → lit rows conn index ≡ false
+dark : (conn : ConnId) (index : ℕ) (rows : List Watched) → list_any (stands_at conn index) rows ≡ false
+    → lit rows conn index ≡ false
 dark conn index [] e = refl
 dark conn index (row ∷ rows) e = go (stands_at conn index row) refl e (dark conn index rows)
   where
     go : (b : Bool) → stands_at conn index row ≡ b → b || list_any (stands_at conn index) rows ≡ false
-        → (list_any (stands_at conn index) rows ≡ false → lit rows conn index ≡ false) → lit (row ∷ rows) conn index ≡ false
+        → (list_any (stands_at conn index) rows ≡ false → lit rows conn index ≡ false) → lit (row ∷ rows) conn index ≡
+        false
     go true f e rest = absurd (false≢true (sym e))
     go false f e rest = rw f (rest e)
 
-dark_filter : (p : Watched → Bool) (conn : ConnId) (index : ℕ) (rows : List Watched) → list_any (stands_at conn index) rows ≡ false
+dark_filter : (p : Watched → Bool) (conn : ConnId) (index : ℕ) (rows : List Watched) → list_any (stands_at conn index)
+    rows ≡ false
     → lit (filter p rows) conn index ≡ false
 dark_filter p conn index [] e = refl
-dark_filter p conn index (row ∷ rows) e = go (stands_at conn index row) (p row) refl refl e (dark_filter p conn index rows)
+dark_filter p conn index (row ∷ rows) e = go (stands_at conn index row) (p row) refl refl e
+    (dark_filter p conn index rows)
   where
     go : (b d : Bool) → stands_at conn index row ≡ b → p row ≡ d → b || list_any (stands_at conn index) rows ≡ false
-        → (list_any (stands_at conn index) rows ≡ false → lit (filter p rows) conn index ≡ false) → lit (filter p (row ∷ rows)) conn index ≡ false
+        → (list_any (stands_at conn index) rows ≡ false → lit (filter p rows) conn index ≡ false)
+        → lit (filter p (row ∷ rows)) conn index ≡ false
     go true d f g e rest = absurd (false≢true (sym e))
     go false true f g e rest = rw (g, f) (rest e)
     go false false f g e rest = rw g (rest e)
 
-dark_map : (f : Watched → Watched) → ((row : Watched) → (f row).monitor ≡ row.monitor) → (conn : ConnId) (index : ℕ) (rows : List Watched)
+dark_map : (f : Watched → Watched) → ((row : Watched) → (f row).monitor ≡ row.monitor) → (conn : ConnId) (index : ℕ)
+    (rows : List Watched)
     → list_any (stands_at conn index) rows ≡ false → lit (map f rows) conn index ≡ false
 dark_map f same conn index [] e = refl
 dark_map f same conn index (row ∷ rows) e = go (stands_at conn index row) refl e (dark_map f same conn index rows)
   where
     go : (b : Bool) → stands_at conn index row ≡ b → b || list_any (stands_at conn index) rows ≡ false
-        → (list_any (stands_at conn index) rows ≡ false → lit (map f rows) conn index ≡ false) → lit (map f (row ∷ rows)) conn index ≡ false
+        → (list_any (stands_at conn index) rows ≡ false → lit (map f rows) conn index ≡ false)
+        → lit (map f (row ∷ rows)) conn index ≡ false
     go true g e rest = absurd (false≢true (sym e))
     go false g e rest =
         let here : stands_at conn index (f row) ≡ false = ap (is_at conn index) (same row) ∙ g in
         rw here (rest e)
 
-quiet : (bit : Bool) (p : Watched → Bool) (conn : ConnId) (index : ℕ) (rows : List Watched) → list_any (stands_at conn index) rows ≡ false
+quiet : (bit : Bool) (p : Watched → Bool) (conn : ConnId) (index : ℕ) (rows : List Watched)
+    → list_any (stands_at conn index) rows ≡ false
     → told (map (change_to bit) (filter p rows)) conn index ≡ []
 quiet bit p conn index [] e = refl
-quiet bit p conn index (row ∷ rows) e = go (stands_at conn index row) (p row) refl refl e (quiet bit p conn index rows)
+quiet bit p conn index (row ∷ rows) e = go (stands_at conn index row) (p row) refl refl e
+    (quiet bit p conn index rows)
   where
     go : (b d : Bool) → stands_at conn index row ≡ b → p row ≡ d → b || list_any (stands_at conn index) rows ≡ false
         → (list_any (stands_at conn index) rows ≡ false → told (map (change_to bit) (filter p rows)) conn index ≡ [])
@@ -88,35 +102,63 @@ quiet bit p conn index (row ∷ rows) e = go (stands_at conn index row) (p row) 
 -- ---- monitors end
 
 ended_step : (p : Watched → Bool) (conn : ConnId) (index : ℕ) (row : Watched) (rows : List Watched) (a b c : Bool)
-    → stands_at conn index row ≡ a → p row ≡ b → row.full ≡ c → (a ≡ true → list_any (stands_at conn index) rows ≡ false)
+    → stands_at conn index row ≡ a → p row ≡ b → row.full ≡ c
+    → (a ≡ true → list_any (stands_at conn index) rows ≡ false)
     → told (map (change_to false) (filter (λ r. r.full && p r) rows)) conn index
     ≡ difference (lit rows conn index) (lit (filter (λ r. not (p r)) rows) conn index)
     → told (map (change_to false) (filter (λ r. r.full && p r) (row ∷ rows))) conn index
     ≡ difference (lit (row ∷ rows) conn index) (lit (filter (λ r. not (p r)) (row ∷ rows)) conn index)
 ended_step p conn index row rows true true true e f g none ih =
-    rw (f, g, e, quiet false (λ r. r.full && p r) conn index rows (none refl), dark_filter (λ r. not (p r)) conn index rows (none refl)) refl
+    rw (
+      f,
+      g,
+      e,
+      quiet false (λ r. r.full && p r) conn index rows (none refl),
+      dark_filter (λ r. not (p r)) conn index
+          rows (none refl),
+    ) refl
 ended_step p conn index row rows true true false e f g none ih =
-    rw (f, g, e, quiet false (λ r. r.full && p r) conn index rows (none refl), dark_filter (λ r. not (p r)) conn index rows (none refl), dark conn index rows (none refl)) refl
+    rw (
+      f,
+      g,
+      e,
+      quiet false (λ r. r.full && p r) conn index rows (none refl),
+      dark_filter (λ r. not (p r)) conn index
+          rows (none refl),
+      dark conn index rows (none refl),
+    ) refl
 ended_step p conn index row rows true false true e f g none ih =
     rw (f, g, e, quiet false (λ r. r.full && p r) conn index rows (none refl)) refl
 ended_step p conn index row rows true false false e f g none ih =
-    rw (f, g, e, quiet false (λ r. r.full && p r) conn index rows (none refl), dark_filter (λ r. not (p r)) conn index rows (none refl), dark conn index rows (none refl)) refl
+    rw (
+      f,
+      g,
+      e,
+      quiet false (λ r. r.full && p r) conn index rows (none refl),
+      dark_filter (λ r. not (p r)) conn index
+          rows (none refl),
+      dark conn index rows (none refl),
+    ) refl
 ended_step p conn index row rows false true true e f g none ih = rw (f, g, e) ih
 ended_step p conn index row rows false true false e f g none ih = rw (f, g, e) ih
 ended_step p conn index row rows false false true e f g none ih = rw (f, g, e) ih
 ended_step p conn index row rows false false false e f g none ih = rw (f, g, e) ih
 
-ended_told : (p : Watched → Bool) (conn : ConnId) (index : ℕ) (rows : List Watched) → pairwise places_apart (monitors_of rows) ≡ true
+ended_told : (p : Watched → Bool) (conn : ConnId) (index : ℕ) (rows : List Watched) → pairwise places_apart
+    (monitors_of rows) ≡ true
     → told (map (change_to false) (filter (λ r. r.full && p r) rows)) conn index
     ≡ difference (lit rows conn index) (lit (filter (λ r. not (p r)) rows) conn index)
 ended_told p conn index [] apart = refl
 ended_told p conn index (row ∷ rows) apart =
-    ended_step p conn index row rows (stands_at conn index row) (p row) row.full refl refl refl (none_later row rows conn index apart)
+    ended_step p conn index row rows (stands_at conn index row) (p row) row.full refl refl refl
+    (none_later row rows conn index apart)
     (ended_told p conn index rows (rest_apart row rows apart))
 
 -- each monitor that ends clears its bit
-pub gains_ended : (p : Watched → Bool) (rows : List Watched) (bits : List BitChange) → pairwise places_apart (monitors_of rows) ≡ true
-    → Gains (lit rows) (lit (filter (λ row. not (p row)) rows)) bits (bits ++ map (change_to false) (filter (λ row. row.full && p row) rows))
+pub gains_ended : (p : Watched → Bool) (rows : List Watched) (bits : List BitChange) → pairwise places_apart
+    (monitors_of rows) ≡ true
+    → Gains (lit rows) (lit (filter (λ row. not (p row)) rows)) bits (bits ++ map (change_to false)
+    (filter (λ row. row.full && p row) rows))
 gains_ended p rows bits apart =
     record {
       added = map (change_to false) (filter (λ row. row.full && p row) rows);
@@ -133,20 +175,30 @@ same_monitor header full row = go (row.monitor.header == header)
     go true = refl
     go false = refl
 
-turned_step : (header : ℕ) (full : Bool) (conn : ConnId) (index : ℕ) (row : Watched) (rows : List Watched) (a b c : Bool)
+turned_step : (header : ℕ) (full : Bool) (conn : ConnId) (index : ℕ) (row : Watched) (rows : List Watched)
+    (a b c : Bool)
     → stands_at conn index row ≡ a → (row.monitor.header == header) ≡ b → row.full ≡ c
     → (a ≡ true → list_any (stands_at conn index) rows ≡ false)
-    → told (turn_changes header full rows) conn index ≡ difference (lit rows conn index) (lit (map (turned header full) rows) conn index)
+    → told (turn_changes header full rows) conn index ≡ difference (lit rows conn index)
+    (lit (map (turned header full) rows) conn index)
     → told (turn_changes header full (row ∷ rows)) conn index
     ≡ difference (lit (row ∷ rows) conn index) (lit (map (turned header full) (row ∷ rows)) conn index)
 turned_step header true conn index row rows true true true e f g none ih =
     rw (f, g, e, quiet true (is_turned header true) conn index rows (none refl)) refl
 turned_step header true conn index row rows true true false e f g none ih =
-    rw (f, g, e, quiet true (is_turned header true) conn index rows (none refl), dark conn index rows (none refl)) refl
+    rw (f, g, e, quiet true (is_turned header true) conn index rows (none refl), dark conn index rows (none refl))
+    refl
 turned_step header true conn index row rows true false true e f g none ih =
     rw (f, g, e, quiet true (is_turned header true) conn index rows (none refl)) refl
 turned_step header true conn index row rows true false false e f g none ih =
-    rw (f, g, e, quiet true (is_turned header true) conn index rows (none refl), dark conn index rows (none refl), dark_map (turned header true) (same_monitor header true) conn index rows (none refl)) refl
+    rw (
+      f,
+      g,
+      e,
+      quiet true (is_turned header true) conn index rows (none refl),
+      dark conn index rows (none refl),
+      dark_map (turned header true) (same_monitor header true) conn index rows (none refl),
+    ) refl
 turned_step header true conn index row rows false true true e f g none ih =
     rw (f, g, e) ih
 turned_step header true conn index row rows false true false e f g none ih =
@@ -156,13 +208,34 @@ turned_step header true conn index row rows false false true e f g none ih =
 turned_step header true conn index row rows false false false e f g none ih =
     rw (f, g, e) ih
 turned_step header false conn index row rows true true true e f g none ih =
-    rw (f, g, e, quiet false (is_turned header false) conn index rows (none refl), dark_map (turned header false) (same_monitor header false) conn index rows (none refl)) refl
+    rw (
+      f,
+      g,
+      e,
+      quiet false (is_turned header false) conn index rows (none refl),
+      dark_map (turned header false)
+          (same_monitor header false) conn index rows (none refl),
+    ) refl
 turned_step header false conn index row rows true true false e f g none ih =
-    rw (f, g, e, quiet false (is_turned header false) conn index rows (none refl), dark conn index rows (none refl), dark_map (turned header false) (same_monitor header false) conn index rows (none refl)) refl
+    rw (
+      f,
+      g,
+      e,
+      quiet false (is_turned header false) conn index rows (none refl),
+      dark conn index rows (none refl),
+      dark_map (turned header false) (same_monitor header false) conn index rows (none refl),
+    ) refl
 turned_step header false conn index row rows true false true e f g none ih =
     rw (f, g, e, quiet false (is_turned header false) conn index rows (none refl)) refl
 turned_step header false conn index row rows true false false e f g none ih =
-    rw (f, g, e, quiet false (is_turned header false) conn index rows (none refl), dark conn index rows (none refl), dark_map (turned header false) (same_monitor header false) conn index rows (none refl)) refl
+    rw (
+      f,
+      g,
+      e,
+      quiet false (is_turned header false) conn index rows (none refl),
+      dark conn index rows (none refl),
+      dark_map (turned header false) (same_monitor header false) conn index rows (none refl),
+    ) refl
 turned_step header false conn index row rows false true true e f g none ih =
     rw (f, g, e) ih
 turned_step header false conn index row rows false true false e f g none ih =
@@ -172,14 +245,18 @@ turned_step header false conn index row rows false false true e f g none ih =
 turned_step header false conn index row rows false false false e f g none ih =
     rw (f, g, e) ih
 
-turned_told : (header : ℕ) (full : Bool) (conn : ConnId) (index : ℕ) (rows : List Watched) → pairwise places_apart (monitors_of rows) ≡ true
-    → told (turn_changes header full rows) conn index ≡ difference (lit rows conn index) (lit (map (turned header full) rows) conn index)
+turned_told : (header : ℕ) (full : Bool) (conn : ConnId) (index : ℕ) (rows : List Watched) → pairwise places_apart
+    (monitors_of rows) ≡ true
+    → told (turn_changes header full rows) conn index ≡ difference (lit rows conn index)
+    (lit (map (turned header full) rows) conn index)
 turned_told header full conn index [] apart = refl
 turned_told header full conn index (row ∷ rows) apart =
-    turned_step header full conn index row rows (stands_at conn index row) (row.monitor.header == header) row.full refl refl refl
+    turned_step header full conn index row rows (stands_at conn index row) (row.monitor.header == header) row.full
+    refl refl refl
     (none_later row rows conn index apart) (turned_told header full conn index rows (rest_apart row rows apart))
 
-pub gains_turned : (header : ℕ) (full : Bool) (rows : List Watched) (bits : List BitChange) → pairwise places_apart (monitors_of rows) ≡ true
+pub gains_turned : (header : ℕ) (full : Bool) (rows : List Watched) (bits : List BitChange) → pairwise places_apart
+    (monitors_of rows) ≡ true
     → Gains (lit rows) (lit (map (turned header full) rows)) bits (bits ++ turn_changes header full rows)
 gains_turned header full rows bits apart =
     record {
@@ -189,7 +266,8 @@ gains_turned header full rows bits apart =
     }
 
 -- the monitors stay
-pub monitors-turned : (header : ℕ) (full : Bool) (rows : List Watched) → monitors_of (map (turned header full) rows) ≡ monitors_of rows
+pub monitors-turned : (header : ℕ) (full : Bool) (rows : List Watched) → monitors_of (map (turned header full) rows) ≡
+    monitors_of rows
 monitors-turned header full [] = refl
 monitors-turned header full (row ∷ rows) =
     ap (λ (m : Monitor). m ∷ monitors_of (map (turned header full) rows)) (same_monitor header full row)
@@ -200,8 +278,10 @@ monitors-turned header full (row ∷ rows) =
 same_test : (a b c d x y : ℕ) → (a == c) && (b == d) ≡ true → not ((a == x) && (b == y)) ≡ not ((x == c) && (y == d))
 same_test a b c d x y e = grind (arith, nat_tests)
 
-elsewhere_step : (conn : ConnId) (i : ℕ) (by : ConnId) (index : ℕ) (row : Watched) (rows : List Watched) (a b d : Bool)
-    → stands_at conn i row ≡ a → not (is_at by index row.monitor) ≡ b → not ((by.0 == conn.0) && (index == i)) ≡ d → (a ≡ true → b ≡ d)
+elsewhere_step : (conn : ConnId) (i : ℕ) (by : ConnId) (index : ℕ) (row : Watched) (rows : List Watched)
+    (a b d : Bool)
+    → stands_at conn i row ≡ a → not (is_at by index row.monitor) ≡ b → not ((by.0 == conn.0) && (index == i)) ≡ d
+    → (a ≡ true → b ≡ d)
     → lit (filter (λ r. not (is_at by index r.monitor)) rows) conn i ≡ (d && lit rows conn i)
     → lit (filter (λ r. not (is_at by index r.monitor)) (row ∷ rows)) conn i ≡ (d && lit (row ∷ rows) conn i)
 elsewhere_step conn i by index row rows a true true e f g h ih = rw f (ap (λ b. is_lit conn i row || b) ih)
@@ -213,15 +293,18 @@ elsewhere_step conn i by index row rows false false true e f g h ih = rw (f, e) 
 
 -- without what stood at an index
 lit_elsewhere : (rows : List Watched) (by conn : ConnId) (index i : ℕ)
-    → lit (filter (λ r. not (is_at by index r.monitor)) rows) conn i ≡ (not ((by.0 == conn.0) && (index == i)) && lit rows conn i)
+    → lit (filter (λ r. not (is_at by index r.monitor)) rows) conn i ≡ (not ((by.0 == conn.0) && (index == i))
+    && lit rows conn i)
 lit_elsewhere [] by conn index i = none (not ((by.0 == conn.0) && (index == i)))
   where
     none : (b : Bool) → false ≡ b && false
     none true = refl
     none false = refl
 lit_elsewhere (row ∷ rows) by conn index i =
-    elsewhere_step conn i by index row rows (stands_at conn i row) (not (is_at by index row.monitor)) (not ((by.0 == conn.0) && (index == i)))
-    refl refl refl (λ e. same_test row.monitor.conn.0 row.monitor.index conn.0 i by.0 index e) (lit_elsewhere rows by conn index i)
+    elsewhere_step conn i by index row rows (stands_at conn i row) (not (is_at by index row.monitor))
+    (not ((by.0 == conn.0) && (index == i)))
+    refl refl refl (λ e. same_test row.monitor.conn.0 row.monitor.index conn.0 i by.0 index e)
+    (lit_elsewhere rows by conn index i)
 
 -- with the new one behind
 lit_put : (new : Watched) (rows : List Watched) (conn : ConnId) (i : ℕ)
@@ -229,8 +312,10 @@ lit_put : (new : Watched) (rows : List Watched) (conn : ConnId) (i : ℕ)
     ≡ (not ((new.monitor.conn.0 == conn.0) && (new.monitor.index == i)) && lit rows conn i)
     || ((((new.monitor.conn.0 == conn.0) && (new.monitor.index == i)) && new.full) || false)
 lit_put new rows conn i =
-    list_any-append (is_lit conn i) (filter (λ r. not (is_at new.monitor.conn new.monitor.index r.monitor)) rows) (new ∷ [])
-    ∙ ap (λ b. b || ((((new.monitor.conn.0 == conn.0) && (new.monitor.index == i)) && new.full) || false)) (lit_elsewhere rows new.monitor.conn conn new.monitor.index i)
+    list_any-append (is_lit conn i) (filter (λ r. not (is_at new.monitor.conn new.monitor.index r.monitor)) rows)
+    (new ∷ [])
+    ∙ ap (λ b. b || ((((new.monitor.conn.0 == conn.0) && (new.monitor.index == i)) && new.full) || false))
+    (lit_elsewhere rows new.monitor.conn conn new.monitor.index i)
 
 other_bits : (a x y : Bool) → a ≡ false → (not a && x) || ((a && y) || false) ≡ x
 other_bits false true y e = refl
@@ -242,26 +327,33 @@ own_bit true x true e = refl
 own_bit true x false e = refl
 own_bit false x y e = absurd (false≢true e)
 
-lit_put-other : (new : Watched) (rows : List Watched) (conn : ConnId) (i : ℕ) → (new.monitor.conn.0 == conn.0) && (new.monitor.index == i) ≡ false
+lit_put-other : (new : Watched) (rows : List Watched) (conn : ConnId) (i : ℕ) → (new.monitor.conn.0 == conn.0)
+    && (new.monitor.index == i) ≡ false
     → lit (rows_put new rows) conn i ≡ lit rows conn i
 lit_put-other new rows conn i e =
-    lit_put new rows conn i ∙ other_bits ((new.monitor.conn.0 == conn.0) && (new.monitor.index == i)) (lit rows conn i) new.full e
+    lit_put new rows conn i ∙ other_bits ((new.monitor.conn.0 == conn.0) && (new.monitor.index == i))
+    (lit rows conn i) new.full e
 
 self : (a b : ℕ) → (a == a) && (b == b) ≡ true
 self a b = grind (arith, nat_tests)
 
-lit_put-here : (new : Watched) (rows : List Watched) → lit (rows_put new rows) new.monitor.conn new.monitor.index ≡ new.full
+lit_put-here : (new : Watched) (rows : List Watched) → lit (rows_put new rows) new.monitor.conn new.monitor.index ≡
+    new.full
 lit_put-here new rows =
     lit_put new rows new.monitor.conn new.monitor.index
-    ∙ own_bit ((new.monitor.conn.0 == new.monitor.conn.0) && (new.monitor.index == new.monitor.index)) (lit rows new.monitor.conn new.monitor.index) new.full
+    ∙ own_bit ((new.monitor.conn.0 == new.monitor.conn.0) && (new.monitor.index == new.monitor.index))
+    (lit rows new.monitor.conn new.monitor.index) new.full
     (self new.monitor.conn.0 new.monitor.index)
 
-same_pair : (new : Watched) (rows : List Watched) (conn : ConnId) (i : ℕ) (b : Bool) → (new.monitor.conn.0 == conn.0) && (new.monitor.index == i) ≡ b
+same_pair : (new : Watched) (rows : List Watched) (conn : ConnId) (i : ℕ) (b : Bool) → (new.monitor.conn.0 == conn.0)
+    && (new.monitor.index == i) ≡ b
     → lit rows new.monitor.conn new.monitor.index ≡ new.full → lit (rows_put new rows) conn i ≡ lit rows conn i
 same_pair new rows conn i true e stood =
     let parts = and_parts (new.monitor.conn.0 == conn.0) (new.monitor.index == i) e in
-    subst₂ (λ (c n : ℕ). list_any (is_lit (record { 0 = c }) n) (rows_put new rows) ≡ list_any (is_lit (record { 0 = c }) n) rows)
-    (eqb-true new.monitor.conn.0 conn.0 parts.0) (eqb-true new.monitor.index i parts.1) (lit_put-here new rows ∙ sym stood)
+    subst₂ (λ (c n : ℕ). list_any (is_lit (record { 0 = c }) n) (rows_put new rows) ≡ list_any
+    (is_lit (record { 0 = c }) n) rows)
+    (eqb-true new.monitor.conn.0 conn.0 parts.0) (eqb-true new.monitor.index i parts.1) (lit_put-here new rows
+    ∙ sym stood)
 same_pair new rows conn i false e stood = lit_put-other new rows conn i e
 
 unequal : (a b : Bool) → differs a b ≡ true → a ≡ b → ⊥
@@ -286,11 +378,13 @@ gains_put new rows bits = go (differs (lit rows new.monitor.conn new.monitor.ind
   where
     go : (b : Bool) → differs (lit rows new.monitor.conn new.monitor.index) new.full ≡ b
         → Gains (lit rows) (lit (rows_put new rows)) bits
-        (if b then bits ++ record { conn = new.monitor.conn; index = new.monitor.index; bit = new.full } ∷ [] else bits)
+        (if b then bits ++ record { conn = new.monitor.conn; index = new.monitor.index; bit = new.full } ∷
+        [] else bits)
     go true e =
         let now = lit_put-here new rows in
         let one = gains_one new.monitor.conn new.monitor.index (lit rows) (lit (rows_put new rows)) bits
-        (λ same. unequal (lit rows new.monitor.conn new.monitor.index) new.full e (same ∙ now)) (λ conn i f. lit_put-other new rows conn i f) in
+        (λ same. unequal (lit rows new.monitor.conn new.monitor.index) new.full e (same ∙ now))
+        (λ conn i f. lit_put-other new rows conn i f) in
         rw now at one
     go false e =
         gains_none (lit rows) (lit (rows_put new rows)) bits
@@ -306,14 +400,17 @@ spared true false e = absurd (false≢true e)
 
 at_index : (f c full : Bool) (j i n : ℕ) → (c && (j == i)) && full ≡ true → n ≡ i → not (f && not (j == n)) ≡ true
 at_index f c full j i n h e =
-    spared f (j == n) (eq-eqb j n (eqb-true j i (and_parts c (j == i) (and_parts (c && (j == i)) full h).0).1 ∙ sym e))
+    spared f (j == n) (eq-eqb j n (eqb-true j i (and_parts c (j == i) (and_parts (c && (j == i)) full h).0).1
+    ∙ sym e))
 
 abbrev pub is_elsewhere : Watched → Watched → Bool
-is_elsewhere new row = is_for new.monitor.conn new.monitor.header row.monitor && not (row.monitor.index == new.monitor.index)
+is_elsewhere new row = is_for new.monitor.conn new.monitor.header row.monitor
+    && not (row.monitor.index == new.monitor.index)
 
 pub gains_with : (new : Watched) (rows : List Watched) (xs ys zs : List BitChange)
     → let middle = filter (λ row. not (is_elsewhere new row)) rows in
-    Gains (lit rows) (lit middle) xs ys → Gains (lit middle) (lit (rows_put new middle)) ys zs → Gains (lit rows) (lit (rows_put new middle)) xs zs
+    Gains (lit rows) (lit middle) xs ys → Gains (lit middle) (lit (rows_put new middle)) ys zs
+    → Gains (lit rows) (lit (rows_put new middle)) xs zs
 gains_with new rows xs ys zs first second =
     let middle = filter (λ row. not (is_elsewhere new row)) rows in
     gains_then (lit rows) (lit middle) (lit (rows_put new middle)) xs ys zs
@@ -321,10 +418,12 @@ gains_with new rows xs ys zs first second =
   where
     once : (conn : ConnId) (i : ℕ) (b : Bool) → (new.monitor.conn.0 == conn.0) && (new.monitor.index == i) ≡ b
         → (lit (filter (λ row. not (is_elsewhere new row)) rows) conn i ≡ lit rows conn i)
-        ⊎ (lit (rows_put new (filter (λ row. not (is_elsewhere new row)) rows)) conn i ≡ lit (filter (λ row. not (is_elsewhere new row)) rows) conn i)
+        ⊎ (lit (rows_put new (filter (λ row. not (is_elsewhere new row)) rows)) conn i ≡ lit
+        (filter (λ row. not (is_elsewhere new row)) rows) conn i)
     once conn i true e =
         inl (any-filter_same (is_lit conn i) (λ row. not (is_elsewhere new row)) true
-        (λ row h. at_index (is_for new.monitor.conn new.monitor.header row.monitor) (row.monitor.conn.0 == conn.0) row.full row.monitor.index i new.monitor.index h
+        (λ row h. at_index (is_for new.monitor.conn new.monitor.header row.monitor) (row.monitor.conn.0 == conn.0)
+        row.full row.monitor.index i new.monitor.index h
         (eqb-true new.monitor.index i (and_parts (new.monitor.conn.0 == conn.0) (new.monitor.index == i) e).1)) rows)
     once conn i false e = inr (lit_put-other new (filter (λ row. not (is_elsewhere new row)) rows) conn i e)
 
@@ -343,8 +442,10 @@ row_two a b x y same row = go (row.monitor.header == a) (row.monitor.header == b
     go true true e f = inr (rw (e, f) (same (both row.monitor.header a b e f)))
     go true false e f = inr (rw (e, f) refl)
 
-alone : (f : Watched → Watched) → ((row : Watched) → (f row).monitor ≡ row.monitor) → (conn : ConnId) (index : ℕ) (row : Watched) (rows : List Watched)
-    → stands_at conn index row ≡ true → list_any (stands_at conn index) rows ≡ false → lit (map f (row ∷ rows)) conn index ≡ (f row).full
+alone : (f : Watched → Watched) → ((row : Watched) → (f row).monitor ≡ row.monitor) → (conn : ConnId) (index : ℕ)
+    (row : Watched) (rows : List Watched)
+    → stands_at conn index row ≡ true → list_any (stands_at conn index) rows ≡ false → lit (map f (row ∷ rows)) conn
+    index ≡ (f row).full
 alone f same conn index row rows here none =
     let there : is_at conn index (f row).monitor ≡ true = ap (is_at conn index) (same row) ∙ here in
     ap (λ b. is_lit conn index (f row) || b) (dark_map f same conn index rows none)
@@ -354,7 +455,8 @@ alone f same conn index row rows here none =
     end true = refl
     end false = refl
 
-absent : (f : Watched → Watched) → ((row : Watched) → (f row).monitor ≡ row.monitor) → (conn : ConnId) (index : ℕ) (row : Watched) (rows : List Watched)
+absent : (f : Watched → Watched) → ((row : Watched) → (f row).monitor ≡ row.monitor) → (conn : ConnId) (index : ℕ)
+    (row : Watched) (rows : List Watched)
     → stands_at conn index row ≡ false → lit (map f (row ∷ rows)) conn index ≡ lit (map f rows) conn index
 absent f same conn index row rows apart =
     let there : is_at conn index (f row).monitor ≡ false = ap (is_at conn index) (same row) ∙ apart in
@@ -366,7 +468,8 @@ two_once : (a b : ℕ) (x y : Bool) → ((a == b) ≡ true → y ≡ x) → (con
     ⊎ (lit (map (λ r. turned b y (turned a x r)) rows) conn index ≡ lit (map (turned a x) rows) conn index)
 two_once a b x y same conn index [] apart = inl refl
 two_once a b x y same conn index (row ∷ rows) apart =
-    go (stands_at conn index row) refl (none_later row rows conn index apart) (two_once a b x y same conn index rows (rest_apart row rows apart))
+    go (stands_at conn index row) refl (none_later row rows conn index apart) (two_once a b x y same conn index rows
+    (rest_apart row rows apart))
     (row_two a b x y same row)
   where
     twice : (r : Watched) → (turned b y (turned a x r)).monitor ≡ r.monitor
@@ -377,7 +480,8 @@ two_once a b x y same conn index (row ∷ rows) apart =
         ⊎ (lit (map (λ r. turned b y (turned a x r)) rows) conn index ≡ lit (map (turned a x) rows) conn index)
         → ((turned a x row).full ≡ row.full) ⊎ ((turned b y (turned a x row)).full ≡ (turned a x row).full)
         → (lit (map (turned a x) (row ∷ rows)) conn index ≡ lit (map (λ r. r) (row ∷ rows)) conn index)
-        ⊎ (lit (map (λ r. turned b y (turned a x r)) (row ∷ rows)) conn index ≡ lit (map (turned a x) (row ∷ rows)) conn index)
+        ⊎ (lit (map (λ r. turned b y (turned a x r)) (row ∷ rows)) conn index ≡ lit (map (turned a x) (row ∷ rows))
+        conn index)
     go true e none rest (inl h) =
         inl (alone (turned a x) (same_monitor a x) conn index row rows e (none refl) ∙ h
         ∙ sym (alone (λ r. r) (λ r. refl) conn index row rows e (none refl)))
@@ -385,7 +489,8 @@ two_once a b x y same conn index (row ∷ rows) apart =
         inr (alone (λ r. turned b y (turned a x r)) twice conn index row rows e (none refl) ∙ h
         ∙ sym (alone (turned a x) (same_monitor a x) conn index row rows e (none refl)))
     go false e none (inl h) own =
-        inl (absent (turned a x) (same_monitor a x) conn index row rows e ∙ h ∙ sym (absent (λ r. r) (λ r. refl) conn index row rows e))
+        inl (absent (turned a x) (same_monitor a x) conn index row rows e ∙ h
+        ∙ sym (absent (λ r. r) (λ r. refl) conn index row rows e))
     go false e none (inr h) own =
         inr (absent (λ r. turned b y (turned a x r)) twice conn index row rows e ∙ h
         ∙ sym (absent (turned a x) (same_monitor a x) conn index row rows e))
@@ -410,4 +515,5 @@ gains_two a b x y rows xs ys zs same apart first second =
         → (lit (map (turned a x) rows) conn index ≡ lit rows conn index)
         ⊎ (lit (map (turned b y) (map (turned a x) rows)) conn index ≡ lit (map (turned a x) rows) conn index)
     once conn index (inl h) = inl (h ∙ ap (λ (l : List Watched). lit l conn index) (map-id rows))
-    once conn index (inr h) = inr (ap (λ (l : List Watched). lit l conn index) (map-twice (turned a x) (turned b y) rows) ∙ h)
+    once conn index (inr h) = inr (ap (λ (l : List Watched). lit l conn index)
+        (map-twice (turned a x) (turned b y) rows) ∙ h)

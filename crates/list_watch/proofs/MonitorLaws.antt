@@ -19,21 +19,25 @@ use Rattle.list_watch.proofs.BitLaws.{is_elsewhere, monitors-turned}
 
 -- ---- rows as monitors
 
-pub find-map : {X Y : Type 0} (p : Y → Bool) (f : X → Y) (xs : List X) → find p (map f xs) ≡ option_map f (find (λ x. p (f x)) xs)
+pub find-map : {X Y : Type 0} (p : Y → Bool) (f : X → Y) (xs : List X) → find p (map f xs) ≡ option_map f
+    (find (λ x. p (f x)) xs)
 find-map p f [] = refl
 find-map p f (x ∷ xs) = go (p (f x)) (find-map p f xs)
   where
     go : (b : Bool) → find p (map f xs) ≡ option_map f (find (λ y. p (f y)) xs)
-        → cond b (Option.Some (f x)) (find p (map f xs)) ≡ option_map f (cond b (Option.Some x) (find (λ y. p (f y)) xs))
+        → cond b (Option.Some (f x)) (find p (map f xs)) ≡ option_map f
+        (cond b (Option.Some x) (find (λ y. p (f y)) xs))
     go true ih = refl
     go false ih = ih
 
-pub filter-map : {X Y : Type 0} (p : Y → Bool) (f : X → Y) (xs : List X) → filter p (map f xs) ≡ map f (filter (λ x. p (f x)) xs)
+pub filter-map : {X Y : Type 0} (p : Y → Bool) (f : X → Y) (xs : List X) → filter p (map f xs) ≡ map f
+    (filter (λ x. p (f x)) xs)
 filter-map p f [] = refl
 filter-map {Y = Y} p f (x ∷ xs) = go (p (f x)) (filter-map p f xs)
   where
     go : (b : Bool) → filter p (map f xs) ≡ map f (filter (λ y. p (f y)) xs)
-        → cond b (f x ∷ filter p (map f xs)) (filter p (map f xs)) ≡ map f (cond b (x ∷ filter (λ y. p (f y)) xs) (filter (λ y. p (f y)) xs))
+        → cond b (f x ∷ filter p (map f xs)) (filter p (map f xs)) ≡ map f (cond b (x ∷ filter (λ y. p (f y)) xs)
+        (filter (λ y. p (f y)) xs))
     go true ih = ap (λ (l : List Y). f x ∷ l) ih
     go false ih = ih
 
@@ -44,13 +48,16 @@ pairwise-of_map relation f (x ∷ xs) =
     ap (λ b. b && pairwise relation (map f xs)) (list_all-map (relation (f x)) f xs)
     ∙ ap (λ b. list_all (λ y. relation (f x) (f y)) xs && b) (pairwise-of_map relation f xs)
 
-monitor_at : (relation : Monitor → Monitor → Bool) (p : Watched → Bool) (rows : List Watched) → pairwise relation (monitors_of rows) ≡ true
+monitor_at : (relation : Monitor → Monitor → Bool) (p : Watched → Bool) (rows : List Watched)
+    → pairwise relation (monitors_of rows) ≡ true
     → pairwise relation (monitors_of (filter p rows)) ≡ true
 monitor_at relation p rows h =
     pairwise-of_map relation (λ (r : Watched). r.monitor) (filter p rows)
-    ∙ pairwise-filter (λ x y. relation x.monitor y.monitor) p rows (sym (pairwise-of_map relation (λ (r : Watched). r.monitor) rows) ∙ h)
+    ∙ pairwise-filter (λ x y. relation x.monitor y.monitor) p rows
+    (sym (pairwise-of_map relation (λ (r : Watched). r.monitor) rows) ∙ h)
 
-pub monitors-filter : (p : Watched → Bool) (rows : List Watched) → AreMonitors (monitors_of rows) → AreMonitors (monitors_of (filter p rows))
+pub monitors-filter : (p : Watched → Bool) (rows : List Watched) → AreMonitors (monitors_of rows)
+    → AreMonitors (monitors_of (filter p rows))
 monitors-filter p rows are =
     record {
       one_at_index = monitor_at places_apart p rows are.one_at_index;
@@ -78,22 +85,29 @@ rows-with conn index header full rows =
     let new : Watched = record { monitor = record { conn = conn; index = index; header = header }; full = full } in
     ap (λ (l : List Watched). l ++ new ∷ [])
     (filter-filter (λ row. not (is_at conn index row.monitor)) (λ row. not (is_elsewhere new row)) rows
-    ∙ filter_agree (λ row. not (is_elsewhere new row) && not (is_at conn index row.monitor)) (λ row. not (is_replaced conn index header row.monitor))
+    ∙ filter_agree (λ row. not (is_elsewhere new row) && not (is_at conn index row.monitor))
+    (λ row. not (is_replaced conn index header row.monitor))
     (λ row. split_test (is_of conn row.monitor) (row.monitor.index == index) (row.monitor.header == header)) rows)
 
-apart_index : (c k i j h g : ℕ) → not (((k == c) && (j == i)) || ((k == c) && (g == h))) ≡ true → not ((k == c) && (j == i)) ≡ true
+apart_index : (c k i j h g : ℕ) → not (((k == c) && (j == i)) || ((k == c) && (g == h))) ≡ true
+    → not ((k == c) && (j == i)) ≡ true
 apart_index c k i j h g e = grind (arith, nat_tests)
 
-apart_header : (c k i j h g : ℕ) → not (((k == c) && (j == i)) || ((k == c) && (g == h))) ≡ true → not ((k == c) && (g == h)) ≡ true
+apart_header : (c k i j h g : ℕ) → not (((k == c) && (j == i)) || ((k == c) && (g == h))) ≡ true
+    → not ((k == c) && (g == h)) ≡ true
 apart_header c k i j h g e = grind (arith, nat_tests)
 
-pushed : (relation : Monitor → Monitor → Bool) (rows : List Watched) (new : Watched) → pairwise relation (monitors_of rows) ≡ true
-    → list_all (λ row. relation row.monitor new.monitor) rows ≡ true → pairwise relation (monitors_of (rows ++ new ∷ [])) ≡ true
+pushed : (relation : Monitor → Monitor → Bool) (rows : List Watched) (new : Watched)
+    → pairwise relation (monitors_of rows) ≡ true
+    → list_all (λ row. relation row.monitor new.monitor) rows ≡ true
+    → pairwise relation (monitors_of (rows ++ new ∷ [])) ≡ true
 pushed relation rows new h e =
     ap (λ (l : List Monitor). pairwise relation l) (map-append (λ (r : Watched). r.monitor) rows (new ∷ []))
-    ∙ pairwise_push relation (monitors_of rows) new.monitor h (list_all-map (λ m. relation m new.monitor) (λ (r : Watched). r.monitor) rows ∙ e)
+    ∙ pairwise_push relation (monitors_of rows) new.monitor h (list_all-map (λ m. relation m new.monitor)
+    (λ (r : Watched). r.monitor) rows ∙ e)
 
-pub monitors-with : (conn : ConnId) (index header : ℕ) (full : Bool) (rows : List Watched) → AreMonitors (monitors_of rows)
+pub monitors-with : (conn : ConnId) (index header : ℕ) (full : Bool) (rows : List Watched)
+    → AreMonitors (monitors_of rows)
     → AreMonitors (monitors_of (rows_with conn index header full rows))
 monitors-with conn index header full rows are =
     let new : Watched = record { monitor = record { conn = conn; index = index; header = header }; full = full } in
@@ -103,12 +117,16 @@ monitors-with conn index header full rows are =
     record {
       one_at_index =
           pushed places_apart others new kept.one_at_index
-          (list_all_weaker (λ row. not (is_replaced conn index header row.monitor)) (λ row. places_apart row.monitor new.monitor)
-          (λ row. apart_index conn.0 row.monitor.conn.0 index row.monitor.index header row.monitor.header) others spared);
+          (list_all_weaker (λ row. not (is_replaced conn index header row.monitor))
+          (λ row. places_apart row.monitor new.monitor)
+          (λ row. apart_index conn.0 row.monitor.conn.0 index row.monitor.index header row.monitor.header) others
+          spared);
       one_for_header =
           pushed headers_apart others new kept.one_for_header
-          (list_all_weaker (λ row. not (is_replaced conn index header row.monitor)) (λ row. headers_apart row.monitor new.monitor)
-          (λ row. apart_header conn.0 row.monitor.conn.0 index row.monitor.index header row.monitor.header) others spared);
+          (list_all_weaker (λ row. not (is_replaced conn index header row.monitor))
+          (λ row. headers_apart row.monitor new.monitor)
+          (λ row. apart_header conn.0 row.monitor.conn.0 index row.monitor.index header row.monitor.header) others
+          spared);
     }
 
 -- ---- one at most of a connector for a header
@@ -118,16 +136,22 @@ same_for : (row other : Watched) (conn : ConnId) (header : ℕ) → is_for conn 
 same_for row other conn header h e =
     numbers row.monitor.conn.0 row.monitor.header other.monitor.conn.0 other.monitor.header conn.0 header h e
   where
-    numbers : (c i d j k n : ℕ) → (c == k) && (i == n) ≡ true → not ((c == d) && (i == j)) ≡ true → not ((d == k) && (j == n)) ≡ true
+    numbers : (c i d j k n : ℕ) → (c == k) && (i == n) ≡ true → not ((c == d) && (i == j)) ≡ true
+        → not ((d == k) && (j == n)) ≡ true
     numbers c i d j k n h e = grind (arith, nat_tests)
 
-one_step : (conn : ConnId) (header : ℕ) (b : Bool) (row : Watched) (rows : List Watched) → is_for conn header row.monitor ≡ b
-    → list_all (λ other. headers_apart row.monitor other.monitor) rows ≡ true → length (filter (λ r. is_for conn header r.monitor) rows) ≤ 1
-    → length (cond b (row ∷ filter (λ r. is_for conn header r.monitor) rows) (filter (λ r. is_for conn header r.monitor) rows)) ≤ 1
+one_step : (conn : ConnId) (header : ℕ) (b : Bool) (row : Watched) (rows : List Watched)
+    → is_for conn header row.monitor ≡ b
+    → list_all (λ other. headers_apart row.monitor other.monitor) rows ≡ true
+    → length (filter (λ r. is_for conn header r.monitor) rows) ≤ 1
+    → length (cond b (row ∷ filter (λ r. is_for conn header r.monitor) rows)
+    (filter (λ r. is_for conn header r.monitor) rows)) ≤ 1
 one_step conn header true row rows e apart ih =
     let none = none_from_all (λ (r : Watched). is_for conn header r.monitor) rows
-    (list_all_weaker (λ other. headers_apart row.monitor other.monitor) (λ other. not (is_for conn header other.monitor)) (λ other h. same_for row other conn header e h) rows apart) in
-    let empty : filter (λ (r : Watched). is_for conn header r.monitor) rows ≡ [] = filter_none (λ r. is_for conn header r.monitor) rows none in
+    (list_all_weaker (λ other. headers_apart row.monitor other.monitor)
+    (λ other. not (is_for conn header other.monitor)) (λ other h. same_for row other conn header e h) rows apart) in
+    let empty : filter (λ (r : Watched). is_for conn header r.monitor) rows ≡ [] = filter_none
+    (λ r. is_for conn header r.monitor) rows none in
     rw empty (omega arith)
 one_step conn header false row rows e apart ih = ih
 
@@ -135,17 +159,22 @@ pub one_for : (conn : ConnId) (header : ℕ) (rows : List Watched) → pairwise 
     → length (filter (λ r. is_for conn header r.monitor) rows) ≤ 1
 one_for conn header [] h = omega arith
 one_for conn header (row ∷ rows) h =
-    let parts = and_parts (list_all (headers_apart row.monitor) (monitors_of rows)) (pairwise headers_apart (monitors_of rows)) h in
+    let parts = and_parts (list_all (headers_apart row.monitor) (monitors_of rows))
+    (pairwise headers_apart (monitors_of rows)) h in
     one_step conn header (is_for conn header row.monitor) row rows refl
-    (sym (list_all-map (headers_apart row.monitor) (λ (r : Watched). r.monitor) rows) ∙ parts.0) (one_for conn header rows parts.1)
+    (sym (list_all-map (headers_apart row.monitor) (λ (r : Watched). r.monitor) rows) ∙ parts.0)
+    (one_for conn header rows parts.1)
 
 -- of those at another index that stand, too
-pub one_elsewhere : (conn : ConnId) (index header : ℕ) (rows : List Watched) → pairwise headers_apart (monitors_of rows) ≡ true
+pub one_elsewhere : (conn : ConnId) (index header : ℕ) (rows : List Watched) → pairwise headers_apart
+    (monitors_of rows) ≡ true
     → length (filter (λ r. r.full && (is_for conn header r.monitor && not (r.monitor.index == index))) rows) ≤ 1
 one_elsewhere conn index header rows h =
     let all = one_for conn header rows h in
-    let few = length-filter-le (λ (r : Watched). r.full && not (r.monitor.index == index)) (filter (λ r. is_for conn header r.monitor) rows) in
-    let same = filter-filter (λ (r : Watched). r.full && not (r.monitor.index == index)) (λ r. is_for conn header r.monitor) rows
+    let few = length-filter-le (λ (r : Watched). r.full && not (r.monitor.index == index))
+    (filter (λ r. is_for conn header r.monitor) rows) in
+    let same = filter-filter (λ (r : Watched). r.full && not (r.monitor.index == index))
+    (λ r. is_for conn header r.monitor) rows
     ∙ filter_agree (λ r. is_for conn header r.monitor && (r.full && not (r.monitor.index == index)))
     (λ r. r.full && (is_for conn header r.monitor && not (r.monitor.index == index)))
     (λ r. turn (is_for conn header r.monitor) r.full (not (r.monitor.index == index))) rows in
@@ -163,12 +192,15 @@ pub monitors_of-with : (conn : ConnId) (index header : ℕ) (full : Bool) (rows 
     → monitors_of (rows_with conn index header full rows) ≡ monitors_with conn index header (monitors_of rows)
 monitors_of-with conn index header full rows =
     let new : Watched = record { monitor = record { conn = conn; index = index; header = header }; full = full } in
-    map-append (λ (r : Watched). r.monitor) (filter (λ row. not (is_replaced conn index header row.monitor)) rows) (new ∷ [])
-    ∙ ap (λ (l : List Monitor). l ++ new.monitor ∷ []) (sym (filter-map (λ m. not (is_replaced conn index header m)) (λ (r : Watched). r.monitor) rows))
+    map-append (λ (r : Watched). r.monitor) (filter (λ row. not (is_replaced conn index header row.monitor)) rows)
+    (new ∷ [])
+    ∙ ap (λ (l : List Monitor). l ++ new.monitor ∷ []) (sym (filter-map (λ m. not (is_replaced conn index header m))
+    (λ (r : Watched). r.monitor) rows))
 
 pub monitors_of-without : (conn : ConnId) (header : ℕ) (rows : List Watched)
     → monitors_of (rows_without conn header rows) ≡ monitors_without conn header (monitors_of rows)
-monitors_of-without conn header rows = sym (filter-map (λ m. not (is_for conn header m)) (λ (r : Watched). r.monitor) rows)
+monitors_of-without conn header rows = sym (filter-map (λ m. not (is_for conn header m)) (λ (r : Watched). r.monitor)
+    rows)
 
 pub monitors_of-others : (conn : ConnId) (rows : List Watched)
     → monitors_of (rows_of_others conn rows) ≡ monitors_of_others conn (monitors_of rows)

@@ -1,4 +1,5 @@
--- Monitors: which connector watches which header, at which index of its vector. They stand in the order in which they were made.
+-- Monitors: which connector watches which header, at which index of its vector. They stand in the order in which they
+-- were made.
 use Rattle.std.specs.Prelude.{ℕ, Bool, IsTrue, not, ◌&&◌, ◌||◌, ◌==◌, List, [], ◌∷◌, ◌++◌, filter, find, Option, option_map}
 use Rattle.std.specs.List.{list_any}
 use Rattle.cf_types.specs.declared.numbers.ConnId.{ConnId}

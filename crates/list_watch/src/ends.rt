@@ -9,8 +9,8 @@ ghost use Rattle.list_watch.specs.Ends.{is_ended, is_cleared, rows_ended, clear_
 use crate::monitors::Watched;
 use cf_types::{BitChange, ConnId, Effects};
 
-/// Which monitors end: a connector's of a header, but not at this index; a connector's of a header; or all of a
-/// connector's.
+/// Which monitors end: a connector's of a header, but not at this index; a connector's of a header;
+/// or all of a connector's.
 #[derive(Clone, Copy)]
 pub(crate) enum Ends {
     Elsewhere {
@@ -49,7 +49,8 @@ impl Ends {
 fn tell(rows: &[Watched], ends: Ends, out: &mut Effects)
     requires { length (filter (is_cleared ends) rows.now) ≤ out.old.bits.room }
     ensures bits { out.new.bits.items ≡ out.old.bits.items ++ clear_changes ends rows.now }
-    ensures room { out.new.bits.room + length (filter (is_cleared ends) rows.now) ≡ out.old.bits.room }
+    ensures room { out.new.bits.room + length (filter (is_cleared ends) rows.now) ≡
+        out.old.bits.room }
     ensures mail { out.new.mail ≡ out.old.mail }
 {
     for row in rows {
@@ -68,10 +69,13 @@ pub(crate) fn end(rows: &mut Vec<Watched>, ends: Ends, out: &mut Effects)
     requires apart { AreMonitors (monitors_of rows.old.items) }
     requires room { length (filter (is_cleared ends) rows.old.items) ≤ out.old.bits.room }
     ensures rows { rows.new.items ≡ rows_ended ends rows.old.items }
-    ensures bits { Gains (lit rows.old.items) (lit rows.new.items) out.old.bits.items out.new.bits.items }
-    ensures room { out.new.bits.room + length (filter (is_cleared ends) rows.old.items) ≡ out.old.bits.room }
+    ensures bits { Gains (lit rows.old.items) (lit rows.new.items) out.old.bits.items
+        out.new.bits.items }
+    ensures room { out.new.bits.room + length (filter (is_cleared ends) rows.old.items) ≡
+        out.old.bits.room }
     ensures mail { out.new.mail ≡ out.old.mail }
-    ensures fewer { vec_len rows.new + length (filter (is_ended ends) rows.old.items) ≡ vec_len rows.old }
+    ensures fewer { vec_len rows.new + length (filter (is_ended ends) rows.old.items) ≡ vec_len
+        rows.old }
     ensures capacity { vec_capacity rows.new ≡ vec_capacity rows.old }
 {
     tell(rows, ends, out);

@@ -1,5 +1,5 @@
-//! The monitors of a list structure: which connector watches whether which header has records, and at which bit of
-//! its vector it is told.
+//! The monitors of a list structure: which connector watches whether which header has records, and
+//! at which bit of its vector it is told.
 #![tactic(auto)]
 
 mod ends;

@@ -1,7 +1,7 @@
 use cf_types::ConnId;
 
-/// A connector's monitor of a header (from 0): the bit at this index of its vector (from 0) tells whether the header
-/// has records.
+/// A connector's monitor of a header (from 0): the bit at this index of its vector (from 0) tells
+/// whether the header has records.
 #[derive(Clone, Copy, Debug, PartialEq, Eq)]
 pub struct Monitor {
     pub conn: ConnId,

@@ -12,9 +12,9 @@ use cf_types::{BitChange, ConnId, Effects, NoMemory};
 use std::alloc::Global;
 use std::marker::Model;
 
-/// The monitors of a list structure, one at most of a connector at an index, and one at most of a connector for a
-/// header. Contracts see them in the order in which they were made, with the bits that were told, and for how many
-/// more there is room.
+/// The monitors of a list structure, one at most of a connector at an index, and one at most of a
+/// connector for a header. Contracts see them in the order in which they were made, with the bits
+/// that were told, and for how many more there is room.
 #[derive(Debug, Drop)]
 pub struct Watch {
     rows: Vec<Watched>,
@@ -41,7 +41,8 @@ fn is_lit(rows: &[Watched], conn: ConnId, index: u32) -> bool
 fn tell(rows: &[Watched], header: u32, full: bool, out: &mut Effects)
     requires { length (filter (is_turned header full) rows.now) ≤ out.old.bits.room }
     ensures bits { out.new.bits.items ≡ out.old.bits.items ++ turn_changes header full rows.now }
-    ensures room { out.new.bits.room + length (filter (is_turned header full) rows.now) ≡ out.old.bits.room }
+    ensures room { out.new.bits.room + length (filter (is_turned header full) rows.now) ≡
+        out.old.bits.room }
     ensures mail { out.new.mail ≡ out.old.mail }
 {
     for row in rows {
@@ -91,7 +92,8 @@ fn say(stood: bool, conn: ConnId, index: u32, bit: bool, out: &mut Effects)
 
 // The header that a connector monitors at an index.
 fn header_at(rows: &[Watched], conn: ConnId, index: u32) -> Option<u32>
-    ensures { result ≡ option_map (λ row. row.monitor.header) (find (λ row. is_at conn index row.monitor) rows.now) }
+    ensures { result ≡ option_map (λ row. row.monitor.header)
+        (find (λ row. is_at conn index row.monitor) rows.now) }
 {
     rows.iter()
         .find(|row| row.monitor.conn == conn && row.monitor.index == index)
@@ -103,7 +105,8 @@ fn put(rows: &mut Vec<Watched>, new: Watched, out: &mut Effects)
     requires place { vec_len rows.old < vec_capacity rows.old }
     requires room { 1 ≤ out.old.bits.room }
     ensures rows { rows.new.items ≡ rows_put new rows.old.items }
-    ensures bits { Gains (lit rows.old.items) (lit rows.new.items) out.old.bits.items out.new.bits.items }
+    ensures bits { Gains (lit rows.old.items) (lit rows.new.items) out.old.bits.items
+        out.new.bits.items }
     ensures room { out.old.bits.room ≤ out.new.bits.room + 1 }
     ensures mail { out.new.mail ≡ out.old.mail }
     ensures more { vec_len rows.new ≤ vec_len rows.old + 1 }
@@ -116,7 +119,8 @@ fn put(rows: &mut Vec<Watched>, new: Watched, out: &mut Effects)
 }
 
 impl Watch {
-    /// No monitors, for structures of so many connections and of vectors of so many bits. It takes no memory yet.
+    /// No monitors, for structures of so many connections and of vectors of so many bits. It takes
+    /// no memory yet.
     pub fn new(alloc: Global, _conns: u8, _len: u32) -> Result<Watch, NoMemory>
         ensures { IfOk result (λ watch. watch.rows ≡ []) }
     {
@@ -156,12 +160,13 @@ impl Watch {
         is_lit(&self.rows, conn, index)
     }
 
-    /// Takes room for one more monitor, and room in the effects for what one command tells. Want of memory changes
-    /// nothing.
+    /// Takes room for one more monitor, and room in the effects for what one command tells. Want of
+    /// memory changes nothing.
     pub fn room(&mut self, out: &mut Effects) -> Result<(), NoMemory>
         ensures rows { self.new.rows ≡ self.old.rows }
         ensures place { OnOk result (1 ≤ self.new.room) }
-        ensures bits { OnOk result (length self.new.rows + length self.new.rows + 2 ≤ out.new.bits.room) }
+        ensures bits { OnOk result (length self.new.rows + length self.new.rows + 2 ≤
+            out.new.bits.room) }
         ensures told { out.new.bits.items ≡ out.old.bits.items }
         ensures mail { out.new.mail ≡ out.old.mail }
     {
@@ -173,13 +178,15 @@ impl Watch {
         out.bits.reserve(count)
     }
 
-    /// A connector monitors a header at an index: its monitor at that index, and its monitor of that header at
-    /// another one, end. `full` is whether the header has records. At most two bits change.
+    /// A connector monitors a header at an index: its monitor at that index, and its monitor of
+    /// that header at another one, end. `full` is whether the header has records. At most two bits
+    /// change.
     pub fn set(&mut self, conn: ConnId, index: u32, header: u32, full: bool, out: &mut Effects)
         requires place { 1 ≤ self.old.room }
         requires room { 2 ≤ out.old.bits.room }
         ensures rows { self.new.rows ≡ rows_with conn index header full self.old.rows }
-        ensures bits { Gains (lit self.old.rows) (lit self.new.rows) out.old.bits.items out.new.bits.items }
+        ensures bits { Gains (lit self.old.rows) (lit self.new.rows) out.old.bits.items
+            out.new.bits.items }
         ensures mail { out.new.mail ≡ out.old.mail }
     {
         end(
@@ -204,7 +211,8 @@ impl Watch {
         requires { length self.old.rows ≤ out.old.bits.room }
         ensures found { result ≡ list_any (λ row. is_for conn header row.monitor) self.old.rows }
         ensures rows { self.new.rows ≡ rows_without conn header self.old.rows }
-        ensures bits { Gains (lit self.old.rows) (lit self.new.rows) out.old.bits.items out.new.bits.items }
+        ensures bits { Gains (lit self.old.rows) (lit self.new.rows) out.old.bits.items
+            out.new.bits.items }
         ensures mail { out.new.mail ≡ out.old.mail }
     {
         let found = self.rows.iter().any(|row| row.monitor.conn == conn
@@ -217,7 +225,8 @@ impl Watch {
     pub fn turned(&mut self, header: u32, full: bool, out: &mut Effects)
         requires { length self.old.rows ≤ out.old.bits.room }
         ensures rows { self.new.rows ≡ rows_turned header full self.old.rows }
-        ensures bits { Gains (lit self.old.rows) (lit self.new.rows) out.old.bits.items out.new.bits.items }
+        ensures bits { Gains (lit self.old.rows) (lit self.new.rows) out.old.bits.items
+            out.new.bits.items }
         ensures mail { out.new.mail ≡ out.old.mail }
         ensures room { out.old.bits.room ≤ out.new.bits.room + length self.old.rows }
         ensures monitors { AreMonitors (monitors_of self.old.rows) }
@@ -237,7 +246,8 @@ impl Watch {
     pub fn drop_conn(&mut self, conn: ConnId, out: &mut Effects)
         requires { length self.old.rows ≤ out.old.bits.room }
         ensures rows { self.new.rows ≡ rows_of_others conn self.old.rows }
-        ensures bits { Gains (lit self.old.rows) (lit self.new.rows) out.old.bits.items out.new.bits.items }
+        ensures bits { Gains (lit self.old.rows) (lit self.new.rows) out.old.bits.items
+            out.new.bits.items }
         ensures mail { out.new.mail ≡ out.old.mail }
     {
         end(&mut self.rows, Ends::Conn { conn }, out);

@@ -21,13 +21,15 @@ use Rattle.lock_core.specs.Seen.{IsCounted}
 
 -- the need of a content is the number of its items, and of its record data
 pub need-content : (content : Content)
-    → record { entries = length content.interests + length content.waiters; elements = records_in content } ≡ need_of (items content)
+    → record { entries = length content.interests + length content.waiters; elements = records_in content } ≡ need_of
+    (items content)
 need-content content =
     let caps : ℕ → ℕ → Caps = λ (entries elements : ℕ). record { entries = entries; elements = elements } in
     ap (λ (n : ℕ). caps n (records_in content)) (sym (entries-items content))
     ∙ ap (λ (n : ℕ). caps (need_of (items content)).entries n) (sym (elements-items content))
 
-last_counted : (interests : List Interest) (waiters : List Waiter) → IsCounted (record { interests = interests; waiters = waiters })
+last_counted : (interests : List Interest) (waiters : List Waiter)
+    → IsCounted (record { interests = interests; waiters = waiters })
     → IsCounted (content_without_last (record { interests = interests; waiters = waiters }))
 last_counted interests [] h = omega (arith, h, length-take (length interests - 1) interests)
 last_counted interests (w ∷ ws) h = omega (arith, h, length-take (length (w ∷ ws) - 1) (w ∷ ws))
@@ -39,31 +41,40 @@ pub counted-returned : (conn : ConnId) (content : Content) → IsCounted content
 counted-returned conn content h = omega (arith, h, length-map content.interests (with_retained conn false))
 
 -- what was taken is what was there
-pub taken_is : {X : Type 0} (taken before : Option X) (x y : X) → taken ≡ before → taken ≡ Some x → before ≡ Some y → x ≡ y
+pub taken_is : {X : Type 0} (taken before : Option X) (x y : X) → taken ≡ before → taken ≡ Some x → before ≡ Some y
+    → x ≡ y
 taken_is taken before x y e f g = let same : Some x ≡ Some y = sym f ∙ e ∙ g in cc
 
 -- it isn't refused where the plan has no refusal
-pub plan_accepted : (caps : Caps) (content : Content) (by : ConnId) (cmd : LockCmd) (plan : Plan) → plan ≡ plan_for caps content by cmd
+pub plan_accepted : (caps : Caps) (content : Content) (by : ConnId) (cmd : LockCmd) (plan : Plan)
+    → plan ≡ plan_for caps content by cmd
     → plan.refusal ≡ None → cause caps content by cmd ≡ None
 plan_accepted caps content by cmd plan e h = sym (ap (λ (p : Plan). p.refusal) e) ∙ h
 
 -- ---- an item more
 
 -- the next item of a content goes behind the others
-pub placed-next : (caps : Caps) (content whole : Content) (item : LockItem) (others : List LockItem) → IsContent caps whole
+pub placed-next : (caps : Caps) (content whole : Content) (item : LockItem) (others : List LockItem)
+    → IsContent caps whole
     → items whole ≡ items content ++ item ∷ others → content_placed content item ≡ content_with content item
 placed-next caps content whole (Owner held rec) others is e =
     sym (owner-next caps content whole (record { held = held; rec = rec }) others is e)
 placed-next caps content whole (Waits w) others is e = sym (waiter-next caps content whole w others is e)
 
 placed_items : (content : Content) (item : LockItem) → items_in (content_with content item) ≤ items_in content + 1
-placed_items content (Owner held rec) = omega (arith, length-append content.interests (record { held = held; rec = rec } ∷ []))
+placed_items content (Owner held rec) = omega (
+  arith,
+  length-append content.interests
+      (record { held = held; rec = rec } ∷ []),
+)
 placed_items content (Waits w) = omega (arith, length-append content.waiters (w ∷ []))
 
 -- what is kept where the item is placed, and where it is handed back
 pub kept_either : (caps : Caps) (result : Result (Unit {0}) LockItem) (content now : Content) (item : LockItem)
-    → OnOk result (now ≡ content_with content item) → OnErr result (now ≡ content) → OnOk result (items_in content < 4294967295)
-    → IsContent caps (content_with content item) → IsContent caps content → IsCounted content → IsContent caps now × IsCounted now
+    → OnOk result (now ≡ content_with content item) → OnErr result (now ≡ content)
+    → OnOk result (items_in content < 4294967295)
+    → IsContent caps (content_with content item) → IsContent caps content → IsCounted content → IsContent caps now
+    × IsCounted now
 kept_either caps (Ok u) content now item placed same few next is counted = (
   subst (λ (k : Content). IsContent caps k) (sym placed) next,
   subst (λ (k : Content). IsCounted k) (sym placed) (omega (arith, few, placed_items content item)),

@@ -28,14 +28,16 @@ length-waits w waiters is h =
 pub records-waits : (w : Waiter) (waiters : List Waiter) → IsQueue waiters → waiter_of w.r w.conn waiters ≡ Some w
     → records_waiting (waiters_without w.r w.conn waiters) + records_of w.rec ≡ records_waiting waiters
 records-waits w waiters is h =
-    keys.sum_by_without part_of same_part same_part-eq same_part-refl (λ (v : Waiter). records_of v.rec) (part_of w) waiters w is.one_each h
+    keys.sum_by_without part_of same_part same_part-eq same_part-refl (λ (v : Waiter). records_of v.rec) (part_of w)
+    waiters w is.one_each h
 
 -- the first that passes, and the others that do
 pub record IsHead {X : Type 0} (x : X) (xs : List X) : Type 0 where
   pub rest : List X
   pub is : xs ≡ x ∷ rest
 
-head_step : {X : Type 0} (p : X → Bool) (b : Bool) (x y : X) (xs : List X) → (find p xs ≡ Some y → IsHead y (filter p xs))
+head_step : {X : Type 0} (p : X → Bool) (b : Bool) (x y : X) (xs : List X)
+    → (find p xs ≡ Some y → IsHead y (filter p xs))
     → cond b (Some x) (find p xs) ≡ Some y → IsHead y (cond b (x ∷ filter p xs) (filter p xs))
 head_step p true x y xs ih h =
     let same : x ≡ y = cc in
@@ -61,7 +63,8 @@ pub record IsNext (r : Resource) (content : Content) (w : Waiter) : Type 0 where
   pub first : first_of r content.waiters ≡ Some w
   pub may : may_own (held_by w) content.interests ≡ true
 
-next_step : (content : Content) (r : Resource) (w : Waiter) (o : Option Waiter) (b : Bool) → first_of r content.waiters ≡ o
+next_step : (content : Content) (r : Resource) (w : Waiter) (o : Option Waiter) (b : Bool)
+    → first_of r content.waiters ≡ o
     → grantable content.interests o ≡ Some w → IsNext r content w
 next_step content r w None b e h = absurd (cc)
 next_step content r w (Some v) b e h = go (may_own (held_by v) content.interests) refl h
@@ -69,17 +72,23 @@ next_step content r w (Some v) b e h = go (may_own (held_by v) content.interests
     go : (t : Bool) → may_own (held_by v) content.interests ≡ t → cond t (Some v) None ≡ Some w → IsNext r content w
     go true f g =
         let same : v ≡ w = cc in
-        record { first = e ∙ ap (λ u. Some u) same; may = subst (λ (u : Waiter). may_own (held_by u) content.interests ≡ true) same f }
+        record {
+          first = e ∙ ap (λ u. Some u) same;
+          may = subst (λ (u : Waiter). may_own (held_by u) content.interests
+              ≡ true) same f;
+        }
     go false f g = absurd (cc)
 
 pub next-is : (content : Content) (r : Resource) (w : Waiter) → next_of r content ≡ Some w → IsNext r content w
 next-is content r w h = next_step content r w (first_of r content.waiters) true refl h
 
-pub next-waits : (content : Content) (r : Resource) (w : Waiter) → IsQueue content.waiters → next_of r content ≡ Some w
+pub next-waits : (content : Content) (r : Resource) (w : Waiter) → IsQueue content.waiters
+    → next_of r content ≡ Some w
     → waiter_of w.r w.conn content.waiters ≡ Some w
 next-waits content r w is h =
     let head = head_of (is_on r) content.waiters w (next-is content r w h).first in
-    (subst (λ (l : List Waiter). keys.AllFound part_of same_part same_part-eq same_part-refl l content.waiters) head.is
+    (subst (λ (l : List Waiter). keys.AllFound part_of same_part same_part-eq same_part-refl l content.waiters)
+    head.is
     (keys.found_filter part_of same_part same_part-eq same_part-refl (is_on r) content.waiters is.one_each)).0
 
 grants_step : (w : Waiter) (rest : List Waiter) (content : Content) → may_own (held_by w) content.interests ≡ true
@@ -87,7 +96,8 @@ grants_step : (w : Waiter) (rest : List Waiter) (content : Content) → may_own 
 grants_step w rest content h = rw h refl
 
 -- it is granted, and then the others are
-pub grant-next : (content : Content) (r : Resource) (w : Waiter) → IsQueue content.waiters → next_of r content ≡ Some w
+pub grant-next : (content : Content) (r : Resource) (w : Waiter) → IsQueue content.waiters
+    → next_of r content ≡ Some w
     → grant r content ≡ sent_before (granted_letter w ∷ []) (grant r (content_granted w content))
 grant-next content r w is h =
     let next = next-is content r w h in
@@ -102,7 +112,8 @@ none_step : (content : Content) (r : Resource) (o : Option Waiter) → first_of 
 none_step content r None e h = ap (λ (l : List Waiter). grants l content) (nil_of (is_on r) content.waiters e)
 none_step content r (Some v) e h = go (may_own (held_by v) content.interests) refl h
   where
-    go : (t : Bool) → may_own (held_by v) content.interests ≡ t → cond t (Some v) None ≡ None → grant r content ≡ left_so content
+    go : (t : Bool) → may_own (held_by v) content.interests ≡ t → cond t (Some v) None ≡ None
+        → grant r content ≡ left_so content
     go true f g = absurd (cc)
     go false f g =
         let head = head_of (is_on r) content.waiters v e in
@@ -114,13 +125,15 @@ grant-none content r h = none_step content r (first_of r content.waiters) refl h
 
 -- ---- those that are left are no more
 
-pub fewer-without : (r : Resource) (conn : ConnId) (waiters : List Waiter) → (length (waiters_without r conn waiters) ≤ length waiters)
+pub fewer-without : (r : Resource) (conn : ConnId) (waiters : List Waiter)
+    → (length (waiters_without r conn waiters) ≤ length waiters)
     × (records_waiting (waiters_without r conn waiters) ≤ records_waiting waiters)
 fewer-without r conn waiters =
     let q : Waiter → Bool = λ w. not (is_waiter r conn w) in
     (length-filter-le q waiters, sum_by-filter-le (λ (w : Waiter). records_of w.rec) q waiters)
 
-pub fewer-left : (conn : ConnId) (waiters : List Waiter) → (length (waiters_without_conn conn waiters) ≤ length waiters)
+pub fewer-left : (conn : ConnId) (waiters : List Waiter)
+    → (length (waiters_without_conn conn waiters) ≤ length waiters)
     × (records_waiting (waiters_without_conn conn waiters) ≤ records_waiting waiters)
 fewer-left conn waiters =
     let q : Waiter → Bool = λ w. not (is_by conn w) in

@@ -32,7 +32,8 @@ fn place_of(list: &[Resource], r: &Resource) -> usize
 
 // A resource, in its place.
 fn insert(list: &mut Vec<Resource>, r: &Resource) -> Result<(), NoMemory>
-    ensures { OnOk result (list.new.items ≡ insertion (λ other. resource_before other r.now) r.now list.old.items) }
+    ensures { OnOk result (list.new.items ≡ insertion (λ other. resource_before other r.now) r.now
+        list.old.items) }
 {
     let at = place_of(list, r);
     list.insert(at, *r)?;

@@ -183,7 +183,8 @@ impl Engine for LockEngine {
 
     ghost content_step = { λ shape caps content by cmd. step-content shape caps content by cmd };
 
-    ghost content_leave = { λ shape caps content conn keep. leave-content shape caps content conn keep };
+    ghost content_leave = { λ shape caps content conn keep. leave-content shape caps content conn
+        keep };
 
     ghost content_back = { λ shape caps content conn. back-content caps content conn };
 
@@ -193,11 +194,13 @@ impl Engine for LockEngine {
 
     ghost items_place = { λ shape caps content item next. items-place shape caps content item next };
 
-    ghost unplace_place = { λ shape caps content item next. unplace-place shape caps content item next };
+    ghost unplace_place = { λ shape caps content item next. unplace-place shape caps content item
+        next };
 
     ghost need_first = { need-front };
 
-    ghost need_leave = { λ shape caps content conn keep is. need-leave shape caps content conn keep is };
+    ghost need_leave = { λ shape caps content conn keep is. need-leave shape caps content conn keep
+        is };
 
     ghost need_forget = { λ shape caps content is. need-same shape.kind content };
 }

@@ -1,5 +1,5 @@
-//! The grant rule: the first of those that wait for a resource becomes an owner, as long as it is compatible with all
-//! other owners.
+//! The grant rule: the first of those that wait for a resource becomes an owner, as long as it is
+//! compatible with all other owners.
 ghost use Rattle.std.specs.Prelude.{◌≡◌, ◌+◌, ◌++◌, length};
 ghost use Rattle.lock_model.specs.Grants.{grant, grant_each};
 ghost use Rattle.lock_core.specs.Stock.{HasRoom};
@@ -11,8 +11,10 @@ use cf_types::{Effects, Resource};
 pub(crate) fn grant(locks: &mut Locks, r: &Resource, out: &mut Effects)
     requires { HasRoom 0 locks.old out.old }
     ensures content { locks.new.content ≡ (grant r.now locks.old.content).content }
-    ensures mail { out.new.mail.items ≡ out.old.mail.items ++ (grant r.now locks.old.content).letters }
-    ensures letters { out.new.mail.room + length (grant r.now locks.old.content).letters ≡ out.old.mail.room }
+    ensures mail { out.new.mail.items ≡ out.old.mail.items
+        ++ (grant r.now locks.old.content).letters }
+    ensures letters { out.new.mail.room + length (grant r.now locks.old.content).letters ≡
+        out.old.mail.room }
     ensures bits { out.new.bits ≡ out.old.bits }
     ensures room { HasRoom 0 locks.new out.new }
     ensures limit { locks.new.limit ≡ locks.old.limit }
@@ -26,8 +28,10 @@ pub(crate) fn grant(locks: &mut Locks, r: &Resource, out: &mut Effects)
 pub(crate) fn grant_each(locks: &mut Locks, resources: &[Resource], out: &mut Effects)
     requires { HasRoom 0 locks.old out.old }
     ensures content { locks.new.content ≡ (grant_each resources.now locks.old.content).content }
-    ensures mail { out.new.mail.items ≡ out.old.mail.items ++ (grant_each resources.now locks.old.content).letters }
-    ensures letters { out.new.mail.room + length (grant_each resources.now locks.old.content).letters ≡ out.old.mail.room }
+    ensures mail { out.new.mail.items ≡ out.old.mail.items
+        ++ (grant_each resources.now locks.old.content).letters }
+    ensures letters { out.new.mail.room + length
+        (grant_each resources.now locks.old.content).letters ≡ out.old.mail.room }
     ensures bits { out.new.bits ≡ out.old.bits }
     ensures limit { locks.new.limit ≡ locks.old.limit }
 {

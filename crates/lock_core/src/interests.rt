@@ -22,8 +22,9 @@ use lock_table::{Held, Owners, Table};
 use std::alloc::Global;
 use std::marker::Model;
 
-/// The interests of a lock structure with their record data: the owners in a table, and what they left in a list of its
-/// own. Contracts see the list of interests, and for how many more there is room.
+/// The interests of a lock structure with their record data: the owners in a table, and what they
+/// left in a list of its own. Contracts see the list of interests, and for how many more there is
+/// room.
 #[derive(Debug, Drop)]
 pub(crate) struct Interests {
     owners: Table,
@@ -139,20 +140,24 @@ impl Interests {
     /// Tells the owners of a resource that aren't retained of a waiter, but not itself.
     pub(crate) fn notify(&self, r: &Resource, conn: ConnId, out: &mut Effects)
         requires { length self.now.interests ≤ out.old.mail.room }
-        ensures mail { out.new.mail.items ≡ out.old.mail.items ++ decide.notify_letters r.now conn self.now.interests }
-        ensures letters { out.new.mail.room + length (decide.notify_letters r.now conn self.now.interests) ≡ out.old.mail.room }
+        ensures mail { out.new.mail.items ≡ out.old.mail.items ++ decide.notify_letters r.now conn
+            self.now.interests }
+        ensures letters { out.new.mail.room + length
+            (decide.notify_letters r.now conn self.now.interests) ≡ out.old.mail.room }
         ensures bits { out.new.bits ≡ out.old.bits }
     {
         notify(self.owners.items(), r, conn, out);
     }
 
-    /// The resources of a connector's interests with record data, with their states and record data.
+    /// The resources of a connector's interests with record data, with their states and record
+    /// data.
     pub(crate) fn read(
         &self,
         alloc: Global,
         conn: ConnId,
     ) -> Result<Listing<(Resource, bool, Adjunct)>, NoMemory>
-        ensures { IfOk result (λ list. list ≡ filter_map rt_read.record_in (filter (is_by conn) self.now.interests)) }
+        ensures { IfOk result (λ list. list ≡ filter_map rt_read.record_in
+            (filter (is_by conn) self.now.interests)) }
     {
         let list = read(alloc, self.owners.items(), &self.records, conn)?;
         Ok(Listing::from_vec(list))
@@ -198,7 +203,8 @@ impl Interests {
         self.owners.len()
     }
 
-    /// Takes room for so many interests more, for as many record data as there may be, and for one more.
+    /// Takes room for so many interests more, for as many record data as there may be, and for one
+    /// more.
     pub(crate) fn reserve(&mut self, adds: u32) -> Result<(), NoMemory>
         ensures interests { self.new.interests ≡ self.old.interests }
         ensures limit { self.new.limit ≡ self.old.limit }
@@ -213,7 +219,8 @@ impl Interests {
     pub(crate) fn put(&mut self, held: Held, rec: Option<Adjunct>)
         requires owner_room { 1 ≤ self.old.owner_room }
         requires record_room { records_of rec ≤ self.old.record_room }
-        ensures interests { self.new.interests ≡ interests_with (record { held = held; rec = rec }) self.old.interests }
+        ensures interests { self.new.interests ≡ interests_with (record { held = held; rec = rec })
+            self.old.interests }
         ensures limit { self.new.limit ≡ self.old.limit }
         ensures owner_room { self.old.owner_room ≤ self.new.owner_room + 1 }
         ensures record_room { self.old.record_room ≤ self.new.record_room + records_of rec }
@@ -225,7 +232,8 @@ impl Interests {
     /// A connector's interest in a resource takes a state, and record data where they are given.
     fn change(&mut self, w: &Waiter)
         requires { records_of w.now.rec ≤ self.old.record_room }
-        ensures interests { self.new.interests ≡ interests_changed w.now.r w.now.conn (altered w.now) self.old.interests }
+        ensures interests { self.new.interests ≡ interests_changed w.now.r w.now.conn
+            (altered w.now) self.old.interests }
         ensures limit { self.new.limit ≡ self.old.limit }
         ensures owner_room { self.old.owner_room ≤ self.new.owner_room }
         ensures record_room { self.old.record_room ≤ self.new.record_room + records_of w.now.rec }
@@ -275,7 +283,8 @@ impl Interests {
 
     /// The record data of a connector's interest in a resource go.
     pub(crate) fn unrecord(&mut self, r: &Resource, conn: ConnId)
-        ensures interests { self.new.interests ≡ interests_changed r.now conn without_record self.old.interests }
+        ensures interests { self.new.interests ≡ interests_changed r.now conn without_record
+            self.old.interests }
         ensures limit { self.new.limit ≡ self.old.limit }
         ensures owner_room { self.old.owner_room ≤ self.new.owner_room }
         ensures record_room { self.old.record_room ≤ self.new.record_room }
@@ -291,7 +300,8 @@ impl Interests {
         self.owners.set_retained_of(conn, false);
     }
 
-    /// A connector departs: its interests go, but with `keep` those with record data stay, and are retained.
+    /// A connector departs: its interests go, but with `keep` those with record data stay, and are
+    /// retained.
     pub(crate) fn leave(&mut self, conn: ConnId, keep: bool)
         ensures interests { self.new.interests ≡ interests_left conn keep self.old.interests }
         ensures limit { self.new.limit ≡ self.old.limit }
@@ -360,7 +370,8 @@ fn are_all_compatible(owners: Owners<'_>, held: &Held) -> bool
 
 // The first of these that isn't retained.
 fn first_active<'a>(owners: Owners<'a>) -> Option<&'a Held>
-    ensures { option_map (λ held. held.now) result ≡ find (λ held. not held.retained) (iter_rest owners.entry) }
+    ensures { option_map (λ held. held.now) result ≡ find (λ held. not held.retained)
+        (iter_rest owners.entry) }
 {
     let mut others = owners;
     others.find(|held| !held.retained)
@@ -368,7 +379,8 @@ fn first_active<'a>(owners: Owners<'a>) -> Option<&'a Held>
 
 // Whose interest it is.
 fn conn_of(held: Option<&Held>) -> Option<ConnId>
-    ensures { result ≡ option_map (λ (held : Held). held.conn) (option_map (λ held. held.now) held.entry) }
+    ensures { result ≡ option_map (λ (held : Held). held.conn)
+        (option_map (λ held. held.now) held.entry) }
 {
     match held {
         Some(held) => Some(held.conn),
@@ -385,7 +397,8 @@ fn part_of<'a>(owners: &'a [Held], r: &Resource, conn: ConnId) -> Option<&'a Hel
 
 // Whether an interest of a connector has record data.
 fn is_any_recorded(owners: &[Held], records: &Records, conn: ConnId) -> bool
-    ensures { result ≡ list_any (λ held. (held.conn.0 == conn.0) && is_some (record_of held.r held.conn records.now.records)) owners.now }
+    ensures { result ≡ list_any (λ held. (held.conn.0 == conn.0)
+        && is_some (record_of held.r held.conn records.now.records)) owners.now }
 {
     owners
         .iter()
@@ -394,7 +407,8 @@ fn is_any_recorded(owners: &[Held], records: &Records, conn: ConnId) -> bool
 
 // Whether a connector's interest in a resource has record data.
 fn is_part_recorded(owners: &[Held], records: &Records, r: &Resource, conn: ConnId) -> bool
-    ensures { result ≡ list_any (λ held. is_interest r.now conn held && is_some (record_of held.r held.conn records.now.records)) owners.now }
+    ensures { result ≡ list_any (λ held. is_interest r.now conn held
+        && is_some (record_of held.r held.conn records.now.records)) owners.now }
 {
     owners.iter().any(|held| is_part(held, r, conn) && is_recorded(records, held))
 }
@@ -410,7 +424,8 @@ fn is_part_retained(owners: &[Held], r: &Resource, conn: ConnId) -> bool
 
 // How many owners have record data.
 fn count_recorded(owners: &[Held], records: &Records) -> usize
-    ensures { result ≡ length (filter (λ held. is_some (record_of held.r held.conn records.now.records)) owners.now) }
+    ensures { result ≡ length (filter (λ held. is_some
+        (record_of held.r held.conn records.now.records)) owners.now) }
 {
     owners
         .iter()
@@ -431,7 +446,8 @@ fn count_recorded_others(owners: &[Held], records: &Records, w: &Waiter) -> usiz
 
 // How many owners have record data once this waiter's interest is altered.
 fn count_recorded_altered(owners: &[Held], records: &Records, w: &Waiter) -> usize
-    ensures { result ≡ length (filter (λ held. is_interest w.now.r w.now.conn held && is_some w.now.rec
+    ensures { result ≡ length (filter (λ held. is_interest w.now.r w.now.conn held
+        && is_some w.now.rec
         || is_some (record_of held.r held.conn records.now.records)) owners.now) }
 {
     owners
@@ -444,7 +460,8 @@ fn count_recorded_altered(owners: &[Held], records: &Records, w: &Waiter) -> usi
 
 // Whether an owner is told of a waiter.
 fn is_told(held: &Held, r: &Resource, conn: ConnId) -> bool
-    ensures { result ≡ (is_on r.now held.now && not held.now.retained) && not (held.now.conn.0 == conn.0) }
+    ensures { result ≡ (is_on r.now held.now && not held.now.retained)
+        && not (held.now.conn.0 == conn.0) }
 {
     held.r == *r && !held.retained && held.conn != conn
 }
@@ -453,7 +470,8 @@ fn is_told(held: &Held, r: &Resource, conn: ConnId) -> bool
 fn notify(owners: &[Held], r: &Resource, conn: ConnId, out: &mut Effects)
     requires { length owners.now ≤ out.old.mail.room }
     ensures mail { out.new.mail.items ≡ out.old.mail.items ++ letters_told r.now conn owners.now }
-    ensures letters { out.new.mail.room + length (letters_told r.now conn owners.now) ≡ out.old.mail.room }
+    ensures letters { out.new.mail.room + length (letters_told r.now conn owners.now) ≡
+        out.old.mail.room }
     ensures bits { out.new.bits ≡ out.old.bits }
 {
     for held in owners {
@@ -473,7 +491,8 @@ fn push_record(
     rec: Option<&Adjunct>,
 ) -> Result<(), NoMemory>
     ensures { OnOk result (list.new.items
-        ≡ list.old.items ++ option_to_list (record_read held.now (option_map (λ rec. rec.now) rec.entry))) }
+        ≡ list.old.items ++ option_to_list (record_read held.now
+        (option_map (λ rec. rec.now) rec.entry))) }
 {
     if let Some(rec) = rec {
         list.push((held.r, held.excl, *rec))?;

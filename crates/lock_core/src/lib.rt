@@ -1,5 +1,5 @@
-//! The lock structure of a coupling facility: who owns which resource, who waits for it, and what owners left with
-//! their interests.
+//! The lock structure of a coupling facility: who owns which resource, who waits for it, and what
+//! owners left with their interests.
 #![tactic(auto)]
 
 mod commands;

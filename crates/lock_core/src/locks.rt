@@ -14,8 +14,8 @@ use lock_table::Held;
 use std::alloc::Global;
 use std::marker::Model;
 
-/// The interests and the waiters of a lock structure. Contracts see the content that they make, and for how many more
-/// there is room.
+/// The interests and the waiters of a lock structure. Contracts see the content that they make, and
+/// for how many more there is room.
 #[derive(Debug, Drop)]
 pub(crate) struct Locks {
     pub interests: Interests,
@@ -63,7 +63,8 @@ ghost use Rattle.lock_core.specs.Stock.{grantable, content_placed};
 fn tell_contention(manager: Option<ConnId>, w: &Waiter, out: &mut Effects)
     requires { 1 ≤ out.old.mail.room }
     ensures mail { out.new.mail.items ≡ out.old.mail.items ++ requests.contention w.now manager }
-    ensures letters { out.new.mail.room + length (requests.contention w.now manager) ≡ out.old.mail.room }
+    ensures letters { out.new.mail.room + length (requests.contention w.now manager) ≡
+        out.old.mail.room }
     ensures bits { out.new.bits ≡ out.old.bits }
 {
     if let Some(to) = manager {
@@ -97,7 +98,8 @@ fn count_waiting(waiters: &[Waiter]) -> usize
 
 // How many others than a waiter have record data.
 fn count_waiting_others(waiters: &[Waiter], w: &Waiter) -> usize
-    ensures { result ≡ length (filter (λ other. not (is_waiter w.now.r w.now.conn other) && is_some other.rec) waiters.now) }
+    ensures { result ≡ length (filter (λ other. not (is_waiter w.now.r w.now.conn other)
+        && is_some other.rec) waiters.now) }
 {
     waiters
         .iter()
@@ -185,8 +187,10 @@ impl Locks {
         requires mail_room { 1 ≤ out.old.mail.room }
         ensures reply { result ≡ requests.reply false w.now self.old.content }
         ensures content { self.new.content ≡ requests.content_asked false w.now self.old.content }
-        ensures mail { out.new.mail.items ≡ out.old.mail.items ++ requests.contention_letters w.now self.old.content }
-        ensures letters { out.new.mail.room + length (requests.contention_letters w.now self.old.content) ≡ out.old.mail.room }
+        ensures mail { out.new.mail.items ≡ out.old.mail.items ++ requests.contention_letters w.now
+            self.old.content }
+        ensures letters { out.new.mail.room + length
+            (requests.contention_letters w.now self.old.content) ≡ out.old.mail.room }
         ensures bits { out.new.bits ≡ out.old.bits }
         ensures limit { self.new.limit ≡ self.old.limit }
     {
@@ -197,7 +201,8 @@ impl Locks {
 
     /// A connector's interest in a resource goes.
     pub(crate) fn give_up(&mut self, conn: ConnId, r: &Resource)
-        ensures content { self.new.content ≡ record self.old.content { interests = interests_without r.now conn self.old.content.interests } }
+        ensures content { self.new.content ≡ record self.old.content
+            { interests = interests_without r.now conn self.old.content.interests } }
         ensures room { (out : Effects) → HasRoom 1 self.old out → HasRoom 0 self.new out }
         ensures limit { self.new.limit ≡ self.old.limit }
     {
@@ -208,7 +213,8 @@ impl Locks {
     pub(crate) fn deny(&mut self, r: &Resource, conn: ConnId, out: &mut Effects)
         requires { HasRoom 1 self.old out.old }
         ensures content { self.new.content ≡ decide.content_denied r.now conn self.old.content }
-        ensures mail { out.new.mail.items ≡ out.old.mail.items ++ decide.denied_letter r.now conn ∷ [] }
+        ensures mail { out.new.mail.items ≡ out.old.mail.items ++ decide.denied_letter r.now conn ∷
+            [] }
         ensures letters { out.new.mail.room + 1 ≡ out.old.mail.room }
         ensures bits { out.new.bits ≡ out.old.bits }
         ensures room { HasRoom 0 self.new out.new }
@@ -233,7 +239,8 @@ impl Locks {
 
     /// The record data of a connector's interest in a resource go.
     pub(crate) fn unrecord(&mut self, r: &Resource, conn: ConnId)
-        ensures content { self.new.content ≡ rt_delete.content_unrecorded r.now conn self.old.content }
+        ensures content { self.new.content ≡ rt_delete.content_unrecorded r.now conn
+            self.old.content }
         ensures limit { self.new.limit ≡ self.old.limit }
     {
         self.interests.unrecord(r, conn);
@@ -241,8 +248,10 @@ impl Locks {
 
     /// A connector departs: with `keep` its interests with record data stay, and are retained.
     pub(crate) fn leave(&mut self, conn: ConnId, keep: bool)
-        ensures interests { self.new.content.interests ≡ interests_left conn keep self.old.content.interests }
-        ensures waiters { self.new.content.waiters ≡ waiters_without_conn conn self.old.content.waiters }
+        ensures interests { self.new.content.interests ≡ interests_left conn keep
+            self.old.content.interests }
+        ensures waiters { self.new.content.waiters ≡ waiters_without_conn conn
+            self.old.content.waiters }
         ensures room { (out : Effects) → HasRoom 0 self.old out → HasRoom 0 self.new out }
         ensures limit { self.new.limit ≡ self.old.limit }
     {
@@ -263,9 +272,14 @@ impl Locks {
 
     /// How many own and wait, and how many of them have record data.
     pub(crate) fn need(&self) -> Caps
-        requires few { length self.now.content.interests + length self.now.content.waiters < 4294967296 }
+        requires few { length self.now.content.interests + length self.now.content.waiters <
+            4294967296 }
         requires records { records_in self.now.content < 4294967296 }
-        ensures { result ≡ record { entries = length self.now.content.interests + length self.now.content.waiters; elements = records_in self.now.content } }
+        ensures { result ≡ record {
+          entries = length self.now.content.interests + length
+              self.now.content.waiters;
+          elements = records_in self.now.content;
+        } }
     {
         let records = self.interests.count_records() + count_waiting(self.queue.items());
         Caps {
@@ -274,8 +288,8 @@ impl Locks {
         }
     }
 
-    /// Takes room for all that wait to be granted and be told, for one more to own or wait and be told, and to tell all
-    /// owners.
+    /// Takes room for all that wait to be granted and be told, for one more to own or wait and be
+    /// told, and to tell all owners.
     pub(crate) fn reserve(&mut self, out: &mut Effects) -> Result<(), NoMemory>
         requires { records_waiting self.old.content.waiters ≤ self.old.limit }
         ensures content { self.new.content ≡ self.old.content }
@@ -283,7 +297,8 @@ impl Locks {
         ensures room { OnOk result (HasRoom 1 self.new out.new) }
         ensures waiter { OnOk result (1 ≤ self.new.waiter_room) }
         ensures told { OnOk result (length self.new.content.interests ≤ out.new.mail.room) }
-        ensures few { OnOk result (length self.new.content.interests + length self.new.content.waiters < 4294967295) }
+        ensures few { OnOk result (length self.new.content.interests + length
+            self.new.content.waiters < 4294967295) }
         ensures bits { out.new.bits ≡ out.old.bits }
         ensures mail { out.new.mail.items ≡ out.old.mail.items }
     {
@@ -314,7 +329,8 @@ impl Locks {
         ensures ok { OnOk result (self.new.content ≡ content_placed self.old.content item) }
         ensures err { OnErr result (self.new.content ≡ self.old.content) }
         ensures handed_back { IfErr result (λ back. back ≡ item) }
-        ensures few { OnOk result (length self.old.content.interests + length self.old.content.waiters < 4294967295) }
+        ensures few { OnOk result (length self.old.content.interests + length
+            self.old.content.waiters < 4294967295) }
         ensures limit { self.new.limit ≡ self.old.limit }
     {
         match self.try_place(&item) {
@@ -327,7 +343,8 @@ impl Locks {
     fn try_place(&mut self, item: &LockItem) -> Result<(), NoMemory>
         ensures ok { OnOk result (self.new.content ≡ content_placed self.old.content item.now) }
         ensures err { OnErr result (self.new.content ≡ self.old.content) }
-        ensures few { OnOk result (length self.old.content.interests + length self.old.content.waiters < 4294967295) }
+        ensures few { OnOk result (length self.old.content.interests + length
+            self.old.content.waiters < 4294967295) }
         ensures limit { self.new.limit ≡ self.old.limit }
     {
         match item {
@@ -350,7 +367,8 @@ impl Locks {
           interests = interests_with (record { held = held.now; rec = rec.now }) self.old.content.interests;
         }) }
         ensures err { OnErr result (self.new.content ≡ self.old.content) }
-        ensures few { OnOk result (length self.old.content.interests + length self.old.content.waiters < 4294967295) }
+        ensures few { OnOk result (length self.old.content.interests + length
+            self.old.content.waiters < 4294967295) }
         ensures limit { self.new.limit ≡ self.old.limit }
     {
         if self.queue.len() >= u32::MAX - self.interests.len() {
@@ -363,9 +381,11 @@ impl Locks {
 
     // A waiter more, in its place.
     fn place_waiter(&mut self, w: &Waiter) -> Result<(), NoMemory>
-        ensures ok { OnOk result (self.new.content ≡ record self.old.content { waiters = waiters_with w.now self.old.content.waiters }) }
+        ensures ok { OnOk result (self.new.content ≡ record self.old.content
+            { waiters = waiters_with w.now self.old.content.waiters }) }
         ensures err { OnErr result (self.new.content ≡ self.old.content) }
-        ensures few { OnOk result (length self.old.content.interests + length self.old.content.waiters < 4294967295) }
+        ensures few { OnOk result (length self.old.content.interests + length
+            self.old.content.waiters < 4294967295) }
         ensures limit { self.new.limit ≡ self.old.limit }
     {
         if self.queue.len() >= u32::MAX - self.interests.len() {
@@ -393,7 +413,8 @@ impl Locks {
     // The last waiter goes.
     fn drop_last_waiter(&mut self)
         requires { 0 < length self.old.content.waiters }
-        ensures content { self.new.content ≡ record self.old.content { waiters = without_last self.old.content.waiters } }
+        ensures content { self.new.content ≡ record self.old.content
+            { waiters = without_last self.old.content.waiters } }
         ensures limit { self.new.limit ≡ self.old.limit }
     {
         let last = self.queue.items()[self.queue.len() as usize - 1];
@@ -404,7 +425,8 @@ impl Locks {
     fn drop_last_owner(&mut self)
         requires owners { AreInterests self.old.content.interests }
         requires some { 0 < length self.old.content.interests }
-        ensures content { self.new.content ≡ record self.old.content { interests = without_last self.old.content.interests } }
+        ensures content { self.new.content ≡ record self.old.content
+            { interests = without_last self.old.content.interests } }
         ensures limit { self.new.limit ≡ self.old.limit }
     {
         self.interests.drop_last();

@@ -82,8 +82,10 @@ pub(crate) fn act(
     requires read { records ≡ read_by cmd.now locks.old.content.interests }
     ensures reply { result ≡ reply locks.old.content by cmd.now }
     ensures content { locks.new.content ≡ (after locks.old.content by cmd.now).content }
-    ensures mail { out.new.mail.items ≡ out.old.mail.items ++ (after locks.old.content by cmd.now).letters }
-    ensures letters { out.new.mail.room + length (after locks.old.content by cmd.now).letters ≡ out.old.mail.room }
+    ensures mail { out.new.mail.items ≡ out.old.mail.items
+        ++ (after locks.old.content by cmd.now).letters }
+    ensures letters { out.new.mail.room + length (after locks.old.content by cmd.now).letters ≡
+        out.old.mail.room }
     ensures bits { out.new.bits ≡ out.old.bits }
     ensures limit { locks.new.limit ≡ locks.old.limit }
 {

@@ -59,7 +59,8 @@ pub(crate) fn waiter_refusal(queue: &Queue, r: &Resource, conn: ConnId) -> Optio
 
 // There is an interest.
 fn held_refusal(held: Option<&Held>) -> Option<Refusal>
-    ensures { result ≡ option_map (λ (held : Held). AlreadyInterested held.excl) (option_map (λ held. held.now) held.entry) }
+    ensures { result ≡ option_map (λ (held : Held). AlreadyInterested held.excl)
+        (option_map (λ held. held.now) held.entry) }
 {
     match held {
         Some(held) => Some(Refusal::AlreadyInterested { excl: held.excl }),
@@ -80,7 +81,8 @@ pub(crate) fn interested_refusal(
 
 // There is no interest.
 fn no_held_refusal(held: Option<&Held>) -> Option<Refusal>
-    ensures { result ≡ (if is_some (option_map (λ held. held.now) held.entry) then None else Some NotInterested) }
+    ensures { result ≡ (if is_some (option_map (λ held. held.now) held.entry) then None else Some
+        NotInterested) }
 {
     match held {
         Some(_) => None,
@@ -117,7 +119,8 @@ pub(crate) fn manager_refusal(interests: &Interests, by: ConnId, r: &Resource) -
     }
 }
 
-/// There would be more record data than the structure may have, where a request is granted at once or waits.
+/// There would be more record data than the structure may have, where a request is granted at once
+/// or waits.
 pub(crate) fn records_refusal(
     caps: Caps,
     locks: &Locks,

@@ -306,7 +306,8 @@ granted_items true w interests =
     omega (arith, length-map interests (λ x. cond (is_of w.r w.conn x) (grants.altered w x) x))
 granted_items false w interests = length-with (record { held = held_by w; rec = w.rec }) interests
 
-asked_items : (b : Bool) (w : Waiter) (content : Content) → items_in (content_asked b w content) ≤ items_in content + 1
+asked_items : (b : Bool) (w : Waiter) (content : Content) → items_in (content_asked b w content) ≤ items_in content +
+    1
 asked_items true w content = omega (arith, granted_items w.alter w content.interests)
 asked_items false w content =
     let rest = waiters_without w.r w.conn content.waiters in
@@ -345,7 +346,8 @@ deleted_items caps r conn content is true =
     )
 deleted_items caps r conn content is false = omega (arith, length-map content.interests (unrecorded r conn))
 
-decided_items : (caps : Caps) (r : Resource) (conn : ConnId) (content : Content) → IsContent caps content → (how : Decision)
+decided_items : (caps : Caps) (r : Resource) (conn : ConnId) (content : Content) → IsContent caps content
+    → (how : Decision)
     → items_in (decide.after how r conn content).content ≤ items_in content + 1
 decided_items caps r conn content is Keep = omega arith
 decided_items caps r conn content is Deny =

@@ -2,7 +2,8 @@ use cf_types::Adjunct;
 use lock_queue::Waiter;
 use lock_table::Held;
 
-/// What a copy of a lock structure is made of: first each interest with its record data, then each waiter.
+/// What a copy of a lock structure is made of: first each interest with its record data, then each
+/// waiter.
 #[derive(Clone, Copy, Debug)]
 pub enum LockItem {
     /// A connector owns a resource.

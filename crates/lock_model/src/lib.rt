@@ -1,5 +1,6 @@
-//! What a lock structure of a coupling facility is: its interests and waiters, what each command means, and the laws of
-//! it. There is no code but the types: contracts cite `specs/`, and the engine's laws stand in `proofs/`.
+//! What a lock structure of a coupling facility is: its interests and waiters, what each command
+//! means, and the laws of it. There is no code but the types: contracts cite `specs/`, and the
+//! engine's laws stand in `proofs/`.
 #![tactic(auto)]
 
 mod items;

@@ -21,7 +21,8 @@ queue-filter q waiters is =
 
 -- ---- the order
 
--- one stands before another where its resource is before the other's, or it is the same and the first alters or the second doesn't
+-- one stands before another where its resource is before the other's, or it is the same and the first alters or the
+-- second doesn't
 abbrev ranked : Ordering → Bool → Bool → Bool
 ranked Less a b = true
 ranked Equal a b = a || not b
@@ -34,7 +35,8 @@ ranked_step Greater a b = refl
 
 before_ranked : (x y : Waiter) → stands_before x y ≡ ranked (resource_cmp x.r y.r) x.alter y.alter
 before_ranked x y =
-    ap (λ o. not (is_lt o) && (is_lt (resource_cmp x.r y.r) || x.alter || not y.alter)) (resource_cmp_total.antisymm y.r x.r)
+    ap (λ o. not (is_lt o) && (is_lt (resource_cmp x.r y.r) || x.alter || not y.alter))
+    (resource_cmp_total.antisymm y.r x.r)
     ∙ ranked_step (resource_cmp x.r y.r) x.alter y.alter
 
 turned : (o : Ordering) (a b : Bool) → ranked o a b ≡ false → ranked (ordering_reverse o) b a ≡ true
@@ -61,7 +63,8 @@ chained x y z Less Less a b c e f h k = rw (resource_cmp_total.trans x y z e f) 
 chained x y z Less Equal a b c e f h k =
     let back : resource_cmp z y ≡ Equal = resource_cmp_total.antisymm z y ∙ ap ordering_reverse f in
     let same : resource_cmp x z ≡ Less =
-    resource_cmp_total.antisymm x z ∙ ap ordering_reverse (resource_cmp_total.congr z y x back) ∙ sym (resource_cmp_total.antisymm x y) ∙ e in
+    resource_cmp_total.antisymm x z ∙ ap ordering_reverse (resource_cmp_total.congr z y x back)
+    ∙ sym (resource_cmp_total.antisymm x y) ∙ e in
     rw same refl
 chained x y z Less Greater a b c e f h k = absurd (false≢true k)
 chained x y z Equal Less a b c e f h k = rw (resource_cmp_total.congr x y z e, f) refl
@@ -75,7 +78,8 @@ follows x y z h k =
     ∙ chained x.r y.r z.r (resource_cmp x.r y.r) (resource_cmp y.r z.r) x.alter y.alter z.alter refl refl
     (sym (before_ranked x y) ∙ h) (sym (before_ranked y z) ∙ k)
 
-finds_place : (waiter : Waiter) → FindsPlace stands_before (λ other. stands_before other waiter) (λ other. true) waiter
+finds_place : (waiter : Waiter) → FindsPlace stands_before (λ other. stands_before other waiter) (λ other. true)
+    waiter
 finds_place waiter =
     record {
       front = λ other h. h;
@@ -95,12 +99,15 @@ queue-with waiter waiters is =
     let kept = queue-filter (λ other. not (is_waiter waiter.r waiter.conn other)) waiters is in
     record {
       ordered =
-          pairwise-insertion stands_before (λ other. stands_before other waiter) (λ other. true) waiter others (finds_place waiter)
+          pairwise-insertion stands_before (λ other. stands_before other waiter) (λ other. true) waiter others
+          (finds_place waiter)
           (list_all_always (λ (other : Waiter). true) (λ other. refl) others) kept.ordered;
       one_each =
           pairwise-insertion_any apart (λ other. stands_before other waiter) waiter others kept.one_each
-          (list_all_weaker (λ other. not (is_waiter waiter.r waiter.conn other)) (λ other. apart waiter other && apart other waiter)
-          (apart_both waiter) others (list_all-filter_same (λ other. not (is_waiter waiter.r waiter.conn other)) waiters));
+          (list_all_weaker (λ other. not (is_waiter waiter.r waiter.conn other)) (λ other. apart waiter other
+          && apart other waiter)
+          (apart_both waiter) others (list_all-filter_same (λ other. not (is_waiter waiter.r waiter.conn other))
+          waiters));
     }
 
 -- a place is at most one past all

@@ -8,8 +8,8 @@ use cf_types::{ConnId, NoMemory, Resource};
 use std::alloc::Global;
 use std::marker::Model;
 
-/// The waiters of a lock structure. Contracts see them in the order of resources and, of one resource, in the order in
-/// which they are granted, with how many more there is room for.
+/// The waiters of a lock structure. Contracts see them in the order of resources and, of one
+/// resource, in the order in which they are granted, with how many more there is room for.
 ///
 /// They lie in one list in that order, so the number of table entries plays no part in any answer.
 #[derive(Debug, Drop)]
@@ -44,7 +44,8 @@ fn stands_before(other: &Waiter, waiter: &Waiter) -> bool
 
 // How many waiters for its resource stand before a waiter.
 fn count_before(waiters: &[Waiter], waiter: &Waiter) -> usize
-    ensures { result ≡ length (filter (λ other. is_on waiter.now.r other && (other.alter || not waiter.now.alter)) waiters.now) }
+    ensures { result ≡ length (filter (λ other. is_on waiter.now.r other
+        && (other.alter || not waiter.now.alter)) waiters.now) }
 {
     waiters
         .iter()
@@ -91,7 +92,8 @@ fn take_out_conn(waiters: &mut Vec<Waiter>, conn: ConnId)
     waiters.retain(|waiter| waiter.conn != conn);
 }
 
-// Puts a waiter in its place, where there is room for it; answers its place among those of its resource, from 1.
+// Puts a waiter in its place, where there is room for it; answers its place among those of its
+// resource, from 1.
 fn put(waiters: &mut Vec<Waiter>, waiter: Waiter) -> usize
     requires { vec_len waiters.old < vec_capacity waiters.old }
     ensures place { result ≡ place_of waiter waiters.old.items }
@@ -108,8 +110,8 @@ fn put(waiters: &mut Vec<Waiter>, waiter: Waiter) -> usize
 }
 
 impl Queue {
-    /// No waiters, for a structure of so many table entries, at least 1; their number changes no answer. It takes no
-    /// memory yet.
+    /// No waiters, for a structure of so many table entries, at least 1; their number changes no
+    /// answer. It takes no memory yet.
     pub fn new(alloc: Global, _entries: u32) -> Result<Queue, NoMemory>
         ensures { IfOk result (λ queue. queue.waiters ≡ []) }
     {
@@ -179,9 +181,10 @@ impl Queue {
         Ok(())
     }
 
-    /// One waiter more: where it alters, directly before the first of its resource that doesn't alter, and else as the
-    /// last of its resource. It takes the place of the connector's own, if it waits for the resource already. Answers
-    /// its place among those that wait for the resource, from 1.
+    /// One waiter more: where it alters, directly before the first of its resource that doesn't
+    /// alter, and else as the last of its resource. It takes the place of the connector's own, if
+    /// it waits for the resource already. Answers its place among those that wait for the resource,
+    /// from 1.
     pub fn push(&mut self, w: Waiter) -> u32
         requires { 1 ≤ self.old.room }
         ensures place { result ≡ place_of w self.old.waiters }

@@ -23,7 +23,8 @@ finds_place new =
       follows = λ y z h e. resource_up_to-trans new.r y.r z.r h e;
     }
 
-apart_both : (new other : Record) → not (is_record new.r new.conn other) ≡ true → apart new other && apart other new ≡ true
+apart_both : (new other : Record) → not (is_record new.r new.conn other) ≡ true → apart new other
+    && apart other new ≡ true
 apart_both new other h =
     and_from (apart new other) (apart other new)
     (ap not (same_part_comm (new.r, new.conn) (other.r, other.conn)) ∙ h) h
@@ -34,10 +35,12 @@ records-with new records is =
     let kept = records-filter (λ other. not (is_record new.r new.conn other)) records is in
     record {
       ordered =
-          pairwise-insertion in_order (λ other. resource_up_to other.r new.r) (λ other. true) new others (finds_place new)
+          pairwise-insertion in_order (λ other. resource_up_to other.r new.r) (λ other. true) new others
+          (finds_place new)
           (list_all_always (λ (other : Record). true) (λ other. refl) others) kept.ordered;
       one_each =
           pairwise-insertion_any apart (λ other. resource_up_to other.r new.r) new others kept.one_each
-          (list_all_weaker (λ other. not (is_record new.r new.conn other)) (λ other. apart new other && apart other new)
+          (list_all_weaker (λ other. not (is_record new.r new.conn other)) (λ other. apart new other
+          && apart other new)
           (apart_both new) others (list_all-filter_same (λ other. not (is_record new.r new.conn other)) records));
     }

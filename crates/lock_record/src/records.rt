@@ -10,8 +10,8 @@ use cf_types::{Adjunct, ConnId, NoMemory, Resource};
 use std::alloc::Global;
 use std::marker::Model;
 
-/// The record data of a lock structure. Contracts see them in the order of resources, with how many the structure may
-/// have, and how many more there is room for.
+/// The record data of a lock structure. Contracts see them in the order of resources, with how many
+/// the structure may have, and how many more there is room for.
 #[derive(Debug, Drop)]
 pub struct Records {
     records: Vec<Record>,
@@ -96,7 +96,8 @@ fn push_resource(list: &mut Vec<Resource>, recorded: &Record) -> Result<(), NoMe
 
 // The resources for which a connector has record data.
 fn resources_of(alloc: Global, records: &[Record], conn: ConnId) -> Result<Vec<Resource>, NoMemory>
-    ensures { IfOk result (λ list. list.items ≡ map (λ (recorded : Record). recorded.r) (records_of conn records.now)) }
+    ensures { IfOk result (λ list. list.items ≡ map (λ (recorded : Record). recorded.r)
+        (records_of conn records.now)) }
 {
     let mut list = Vec::new(alloc);
     for recorded in records {
@@ -154,13 +155,14 @@ impl Records {
 
     /// The resources for which a connector has record data, in resource order.
     pub fn of(&self, alloc: Global, conn: ConnId) -> Result<Vec<Resource>, NoMemory>
-        ensures { IfOk result (λ list. list.items ≡ map (λ (recorded : Record). recorded.r) (records_of conn self.now.records)) }
+        ensures { IfOk result (λ list. list.items ≡ map (λ (recorded : Record). recorded.r)
+            (records_of conn self.now.records)) }
     {
         resources_of(alloc, &self.records, conn)
     }
 
-    /// Takes room for as many `put` calls as the structure may have record data, and for one more. Want of memory
-    /// changes nothing.
+    /// Takes room for as many `put` calls as the structure may have record data, and for one more.
+    /// Want of memory changes nothing.
     pub fn room(&mut self) -> Result<(), NoMemory>
         ensures records { self.new.records ≡ self.old.records }
         ensures limit { self.new.limit ≡ self.old.limit }
@@ -174,10 +176,12 @@ impl Records {
         Ok(())
     }
 
-    /// Record data of a connector for a resource. They take the place of its own for that resource, if there are any.
+    /// Record data of a connector for a resource. They take the place of its own for that resource,
+    /// if there are any.
     pub fn put(&mut self, r: Resource, conn: ConnId, rec: Adjunct)
         requires { 1 ≤ self.old.room }
-        ensures records { self.new.records ≡ records_with (record { r = r; conn = conn; rec = rec }) self.old.records }
+        ensures records { self.new.records ≡ records_with (record { r = r; conn = conn; rec = rec })
+            self.old.records }
         ensures limit { self.new.limit ≡ self.old.limit }
         ensures room { self.old.room ≤ self.new.room + 1 }
     {

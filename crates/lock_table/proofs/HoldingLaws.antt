@@ -31,7 +31,8 @@ finds_place held =
       follows = λ y z h e. resource_up_to-trans held.r y.r z.r h e;
     }
 
-apart_both : (held other : Held) → not (is_interest held.r held.conn other) ≡ true → apart held other && apart other held ≡ true
+apart_both : (held other : Held) → not (is_interest held.r held.conn other) ≡ true → apart held other
+    && apart other held ≡ true
 apart_both held other h =
     and_from (apart held other) (apart other held)
     (ap not (same_part_comm (held.r, held.conn) (other.r, other.conn)) ∙ h) h
@@ -42,11 +43,13 @@ owners-with held owners is =
     let kept = owners-filter (λ other. not (is_interest held.r held.conn other)) owners is in
     record {
       ordered =
-          pairwise-insertion in_order (λ other. resource_up_to other.r held.r) (λ other. true) held others (finds_place held)
+          pairwise-insertion in_order (λ other. resource_up_to other.r held.r) (λ other. true) held others
+          (finds_place held)
           (list_all_always (λ (other : Held). true) (λ other. refl) others) kept.ordered;
       one_each =
           pairwise-insertion_any apart (λ other. resource_up_to other.r held.r) held others kept.one_each
-          (list_all_weaker (λ other. not (is_interest held.r held.conn other)) (λ other. apart held other && apart other held)
+          (list_all_weaker (λ other. not (is_interest held.r held.conn other)) (λ other. apart held other
+          && apart other held)
           (apart_both held) others (list_all-filter_same (λ other. not (is_interest held.r held.conn other)) owners));
     }
 
@@ -74,7 +77,8 @@ owners-in_retention_of conn retained owners is =
       one_each = pairwise-map apart (in_retention_of conn retained) (λ x y. refl) owners ∙ is.one_each;
     }
 
-all_kept : (p : Held → Bool) (bs : List Bool) (xs : List Held) → list_all p xs ≡ true → list_all p (items_where_true bs xs) ≡ true
+all_kept : (p : Held → Bool) (bs : List Bool) (xs : List Held) → list_all p xs ≡ true
+    → list_all p (items_where_true bs xs) ≡ true
 all_kept p [] xs h = refl
 all_kept p (b ∷ bs) [] h = refl
 all_kept p (true ∷ bs) (x ∷ xs) h =
@@ -113,7 +117,8 @@ pub before_not_same : (a b : Resource) → resource_before a b ≡ true → same
 before_not_same a b h = same_resource-is a b ∙ not_both (resource_cmp a b) h
 
 -- what comes behind a resource that isn't before another isn't before it
-pub not_before_later : (a b r : Resource) → resource_before a r ≡ false → resource_up_to a b ≡ true → resource_before b r ≡ false
+pub not_before_later : (a b r : Resource) → resource_before a r ≡ false → resource_up_to a b ≡ true
+    → resource_before b r ≡ false
 not_before_later a b r h e =
     not-true (resource_before b r) (resource_up_to-trans r a b (not_from_false (resource_before a r) h) e)
 
@@ -123,12 +128,14 @@ equal_from Equal h e = refl
 equal_from Greater h e = absurd (false≢true (sym e))
 
 -- two resources of which neither is before the other are the same
-neither_before : (a b : Resource) → resource_before a b ≡ false → resource_before b a ≡ false → same_resource a b ≡ true
+neither_before : (a b : Resource) → resource_before a b ≡ false → resource_before b a ≡ false
+    → same_resource a b ≡ true
 neither_before a b h e =
     same_resource-is a b
     ∙ equal_from (resource_cmp a b) h (sym (ap is_lt (resource_cmp_total.antisymm b a)) ∙ e)
 
-same_step : (t : Bool) (a b r : Resource) → resource_before a r ≡ false → same_resource a r ≡ false → resource_up_to a b ≡ true
+same_step : (t : Bool) (a b r : Resource) → resource_before a r ≡ false → same_resource a r ≡ false
+    → resource_up_to a b ≡ true
     → same_resource b r ≡ t → t ≡ false
 same_step false a b r h n e s = refl
 same_step true a b r h n e s =

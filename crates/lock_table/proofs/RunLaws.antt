@@ -5,7 +5,8 @@ use Rattle.std.proofs.lemmas.Bool.{and_parts, and_from, not-true}
 use Rattle.list_laws.specs.Pairwise.{pairwise}
 use Rattle.list_laws.proofs.FilterLaws.{filter_none, none_from_all, list_all_weaker}
 
--- nothing passes both; behind one that doesn't pass the first none does; and behind one that passes neither none passes the second
+-- nothing passes both; behind one that doesn't pass the first none does; and behind one that passes neither none
+-- passes the second
 pub record IsRun {X : Type 0} (relation : X → X → Bool) (before on : X → Bool) : Type 0 where
   pub apart : (x : X) → before x ≡ true → on x ≡ false
   pub later : (x y : X) → before x ≡ false → relation x y ≡ true → before y ≡ false
@@ -22,7 +23,8 @@ drop_later : {X : Type 0} (x : X) (xs : List X) (i : ℕ) → drop (1 + i) (x �
 drop_later x xs i = let e : 1 + i ≡ suc i = omega arith in rw e refl
 
 -- none is before: the run is a front
-front_step : {X : Type 0} (relation : X → X → Bool) (before on : X → Bool) (b : Bool) (x : X) (xs : List X) → IsRun relation before on
+front_step : {X : Type 0} (relation : X → X → Bool) (before on : X → Bool) (b : Bool) (x : X) (xs : List X)
+    → IsRun relation before on
     → before x ≡ false → on x ≡ b → list_all (relation x) xs ≡ true → take (prefix_len on xs) xs ≡ filter on xs
     → take (cond b (1 + prefix_len on xs) 0) (x ∷ xs) ≡ cond b (x ∷ filter on xs) (filter on xs)
 front_step relation before on true x xs is e f h ih = take_later x xs (prefix_len on xs) ∙ ap (λ l. x ∷ l) ih
@@ -31,7 +33,8 @@ front_step relation before on false x xs is e f h ih =
     (list_all_weaker (relation x) (λ y. not (on y)) (λ y r. ap not (is.past x y e f r)) xs h)))
 
 pub front : {X : Type 0} (relation : X → X → Bool) (before on : X → Bool) (xs : List X) → IsRun relation before on
-    → list_all (λ x. not (before x)) xs ≡ true → pairwise relation xs ≡ true → take (prefix_len on xs) xs ≡ filter on xs
+    → list_all (λ x. not (before x)) xs ≡ true → pairwise relation xs ≡ true → take (prefix_len on xs) xs ≡ filter on
+    xs
 front relation before on [] is n h = refl
 front relation before on (x ∷ xs) is n h =
     let here = and_parts (not (before x)) (list_all (λ y. not (before y)) xs) n in
@@ -39,9 +42,11 @@ front relation before on (x ∷ xs) is n h =
     front_step relation before on (on x) x xs is (not-true (before x) here.0) refl parts.0
     (front relation before on xs is here.1 parts.1)
 
-run_step : {X : Type 0} (relation : X → X → Bool) (before on : X → Bool) (b : Bool) (x : X) (xs : List X) → IsRun relation before on
+run_step : {X : Type 0} (relation : X → X → Bool) (before on : X → Bool) (b : Bool) (x : X) (xs : List X)
+    → IsRun relation before on
     → before x ≡ b → pairwise relation (x ∷ xs) ≡ true → run before on xs ≡ filter on xs
-    → (let rest = drop (cond b (1 + prefix_len before xs) 0) (x ∷ xs) in take (prefix_len on rest) rest) ≡ filter on (x ∷ xs)
+    → (let rest = drop (cond b (1 + prefix_len before xs) 0) (x ∷ xs) in take (prefix_len on rest) rest) ≡ filter on
+    (x ∷ xs)
 run_step relation before on true x xs is e h ih =
     rw (drop_later x xs (prefix_len before xs), is.apart x e) ih
 run_step relation before on false x xs is e h ih =
@@ -51,7 +56,8 @@ run_step relation before on false x xs is e h ih =
     (list_all_weaker (relation x) (λ y. not (before y)) (λ y r. ap not (is.later x y e r)) xs parts.0)) h
 
 -- the elements that pass stand together, behind those that are before
-pub run-filter : {X : Type 0} (relation : X → X → Bool) (before on : X → Bool) (xs : List X) → IsRun relation before on
+pub run-filter : {X : Type 0} (relation : X → X → Bool) (before on : X → Bool) (xs : List X)
+    → IsRun relation before on
     → pairwise relation xs ≡ true → run before on xs ≡ filter on xs
 run-filter relation before on [] is h = refl
 run-filter relation before on (x ∷ xs) is h =

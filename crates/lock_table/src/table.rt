@@ -17,8 +17,8 @@ use std::slice;
 /// The owners of a resource, in standing order.
 pub type Owners<'a> = slice::Iter<'a, Held>;
 
-/// The interests of a lock structure. Contracts see them in the order of resources and, of one resource, in the order
-/// in which they came to stand, with how many more there is room for.
+/// The interests of a lock structure. Contracts see them in the order of resources and, of one
+/// resource, in the order in which they came to stand, with how many more there is room for.
 ///
 /// They lie in one list in that order, so the number of table entries plays no part in any answer.
 #[derive(Debug, Drop)]
@@ -173,8 +173,8 @@ fn put_retentions_of(owners: &mut Vec<Held>, conn: ConnId, retained: bool)
 }
 
 impl Table {
-    /// No interests, for a structure of so many table entries, at least 1; their number changes no answer. It takes no
-    /// memory yet.
+    /// No interests, for a structure of so many table entries, at least 1; their number changes no
+    /// answer. It takes no memory yet.
     pub fn new(alloc: Global, _entries: u32) -> Result<Table, NoMemory>
         ensures { IfOk result (λ table. table.owners ≡ []) }
     {
@@ -234,8 +234,8 @@ impl Table {
         Ok(())
     }
 
-    /// One interest more, as the last of its resource. It takes the place of the connector's own interest in that
-    /// resource, if there is one.
+    /// One interest more, as the last of its resource. It takes the place of the connector's own
+    /// interest in that resource, if there is one.
     pub fn add(&mut self, held: Held)
         requires { 1 ≤ self.old.room }
         ensures owners { self.new.owners ≡ owners_with held self.old.owners }
@@ -244,7 +244,8 @@ impl Table {
         put(&mut self.owners, held);
     }
 
-    /// A connector's interest in a resource, if there is one, is retained from now on, or is so no more.
+    /// A connector's interest in a resource, if there is one, is retained from now on, or is so no
+    /// more.
     pub fn set_retained(&mut self, r: &Resource, conn: ConnId, retained: bool)
         ensures owners { self.new.owners ≡ owners_retained r.now conn retained self.old.owners }
         ensures room { self.new.room ≡ self.old.room }

@@ -12,15 +12,15 @@ use Rattle.plex_script.specs.declared.scripts.AnyAsk.{AnyAsk}
 use Rattle.plex_script.specs.declared.transcripts.AgentEnd.{AgentEnd}
 use Rattle.plex_script.specs.declared.transcripts.AgentEnd.TheVariants as ended
 use Rattle.plex_script.specs.declared.transcripts.Shown.{Shown}
-use Rattle.plex_script.specs.Agent.{most_asks, step_after}
+use Rattle.plex_script.specs.Agent.{most_asks, step_after, IsReady}
 use Rattle.any_cell.specs.Passes.{PassShown, with_call}
 use Rattle.any_cell.specs.Cells.{CellShown}
 use Rattle.desk_model.specs.Desks.{DeskShown, pass_at, with_pass, IsLaterOn}
 use Rattle.desk_model.specs.Boards.{BoardShown, IsDeskOf, cell_on}
 use Rattle.desk_model.proofs.DeskLaws.{pass_at-with_pass_same, with_pass-pass_at, desk-length}
 use Rattle.desk_model.specs.Turns.{AtWork, Asks, Steps, EndsAt, Halts, call_item}
-use Rattle.plex_agent.specs.Calls.{IsReady, IsAsked, at_work, end_of}
-use Rattle.plex_agent.proofs.StepLaws.{asks_some, fewer_asks, ready_after}
+use Rattle.plex_agent.specs.Calls.{IsAsked, at_work, end_of}
+use Rattle.plex_script.proofs.StepLaws.{asks_some, fewer_asks, ready_after}
 use Rattle.plex_agent.proofs.CellLaws.{some_is, cell_there}
 
 with_pass_twice : (on : StrNo) (first second : PassShown) (desk : DeskShown)
@@ -48,7 +48,8 @@ module _ (limit : ℕ) (kind : Kind) (line : Option AnyAsk) (on : StrNo) where
           one.asked,
           one.asks,
           one.later,
-          subst (λ (pass : PassShown). Steps kind line (step_after now told) pass rest.tolds rest.last rest.pass) passes
+          subst (λ (pass : PassShown). Steps kind line (step_after now told) pass rest.tolds rest.last rest.pass)
+              passes
               (subst (λ (at : Step). Steps kind line at (pass_at between.desk on) rest.tolds rest.last rest.pass)
               one.next_is rest.steps),
         );

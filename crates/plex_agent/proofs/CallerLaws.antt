@@ -48,7 +48,8 @@ module _ {L : Type 0} (board : BoardShown L) (before between after : AtWork) whe
         (for_board.cell, for_board.there, (between, some_is _ _ for_board.cell for_board.there turns, rest))
 
     -- a line of another caller is passed over
-    pub does_others : line.by.0 == owner.0 ≡ false → DoesLines board (lines_by owner (drop (i + 1) lines)) before after
+    pub does_others : line.by.0 == owner.0 ≡ false → DoesLines board (lines_by owner (drop (i + 1) lines)) before
+        after
         → DoesLines board (lines_by owner (drop i lines)) before after
     does_others other rest =
         let here : drop i lines ≡ line ∷ drop (i + 1) lines = drop_next lines i line d within value in

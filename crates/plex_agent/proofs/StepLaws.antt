@@ -1,5 +1,5 @@
--- The steps of a line: each call leaves fewer, what they ask may be asked, and only where nothing is left they rest.
-use Rattle.std.proofs.Common.{◌≡◌, ◌≢◌, ℕ, zero, suc, ◌+◌, ◌*◌, ◌≤◌, Bool, true, false, cond, Some, None, Option, refl, sym, subst, arith}
+-- What the steps of a line ask may be asked.
+use Rattle.std.proofs.Common.{◌≡◌, Some, None, Option, refl, sym, subst}
 use Rattle.std.specs.Prelude.{IsTrue}
 use Rattle.cf_types.specs.declared.forms.Kind.{Kind}
 use Rattle.cf_types.specs.declared.forms.Kind.TheVariants as kind
@@ -8,76 +8,14 @@ use Rattle.cf_types.specs.declared.shell_commands.ShellCmd.{ShellCmd}
 use Rattle.cf_types.specs.declared.shell_commands.ShellCmd.TheVariants as cmd
 use Rattle.engine_api.specs.Asking.{MayCommand}
 use Rattle.engine_api.specs.Shell.{is_built}
-use Rattle.engine_api.specs.declared.told.Told.{Told}
 use Rattle.plex_script.specs.declared.agents.Step.{Step}
 use Rattle.plex_script.specs.declared.agents.Step.TheVariants as step
 use Rattle.plex_script.specs.declared.scripts.AnyAsk.{AnyAsk}
-use Rattle.plex_script.specs.Agent.{step_after, most_asks, asks_behind, asked_by, taking, after_round, common}
+use Rattle.plex_script.specs.Agent.{asked_by, common}
 use Rattle.any_model.specs.Types.{type_of_kind}
 use Rattle.any_model.specs.Kinds.{MayAskAny}
 use Rattle.any_cell.specs.Cells.{CellShown, IsAskOf}
-use Rattle.plex_agent.specs.Calls.{IsAskable, IsReady}
-
--- ---- how many asks are left
-
-either_le : (b : Bool) (x y : Step) (n : ℕ) → suc (most_asks x) ≤ n → suc (most_asks y) ≤ n
-    → suc (most_asks (cond b x y)) ≤ n
-either_le true x y n first second = first
-either_le false x y n first second = second
-
-round_asks : (behind : Option ℕ) → most_asks (after_round behind) ≡ asks_behind behind
-round_asks None = refl
-round_asks (Some asks) = refl
-
-taking_asks : (left : ℕ) (behind : Option ℕ) → most_asks (taking left behind) ≤ 2 * left + asks_behind behind
-taking_asks zero behind = omega (arith, round_asks behind)
-taking_asks (suc left) behind = omega arith
-
--- each call leaves fewer
-pub fewer_asks : (now : Step) (told : Told) → now ≢ step.Rest → suc (most_asks (step_after now told)) ≤ most_asks now
-fewer_asks (step.Call zero) told goes = omega arith
-fewer_asks (step.Call (suc asks)) told goes =
-    either_le told.again (step.Next 63 (Some asks)) step.Rest (most_asks (step.Call (suc asks)))
-    (omega arith) (omega arith)
-fewer_asks (step.Next left behind) told goes =
-    either_le told.owes (step.Respond left behind) (cond told.event (taking left behind) (after_round behind))
-    (most_asks (step.Next left behind)) (omega arith)
-    (either_le told.event (taking left behind) (after_round behind) (most_asks (step.Next left behind))
-    (omega (arith, taking_asks left behind)) (omega (arith, round_asks behind)))
-fewer_asks (step.Respond left behind) told goes = omega (arith, taking_asks left behind)
-fewer_asks step.Rest told goes = absurd (goes refl)
-
--- ---- steps go with the line
-
-either_ready : (line : Option AnyAsk) (b : Bool) (x y : Step) → IsReady line x → IsReady line y
-    → IsReady line (cond b x y)
-either_ready line true x y first second = first
-either_ready line false x y first second = second
-
-taking_ready : (left : ℕ) → IsReady None (taking left None)
-taking_ready zero = tt
-taking_ready (suc left) = refl
-
-pub ready_after : (line : Option AnyAsk) (now : Step) (told : Told) → IsReady line now
-    → IsReady line (step_after now told)
-ready_after (Some asked) now told ready = tt
-ready_after None (step.Call asks) told ready = absurd ready
-ready_after None (step.Next left (Some asks)) told ready = absurd cc
-ready_after None (step.Next left None) told ready =
-    either_ready None told.owes (step.Respond left None) (cond told.event (taking left None) step.Rest) refl
-    (either_ready None told.event (taking left None) step.Rest (taking_ready left) tt)
-ready_after None (step.Respond left (Some asks)) told ready = absurd cc
-ready_after None (step.Respond left None) told ready = taking_ready left
-ready_after None step.Rest told ready = tt
-
--- a step that isn't the last asks something
-pub asks_some : (kind : Kind) (line : Option AnyAsk) (now : Step) → IsReady line now → now ≢ step.Rest
-    → (asked : AnyAsk) × (asked_by kind line now ≡ Some asked)
-asks_some kind (Some asked) (step.Call asks) ready goes = (asked, refl)
-asks_some kind None (step.Call asks) ready goes = absurd ready
-asks_some kind line (step.Next left behind) ready goes = (common kind cmd.Next, refl)
-asks_some kind line (step.Respond left behind) ready goes = (common kind cmd.Respond, refl)
-asks_some kind line step.Rest ready goes = absurd (goes refl)
+use Rattle.plex_agent.specs.Calls.{IsAskable}
 
 -- ---- what may be asked
 
@@ -95,7 +33,8 @@ common_may kind.Lock by command may built = (may, built)
 
 -- what a step asks, its caller may ask
 pub may_ask : {L : Type 0} (cell : CellShown L) (kind : Kind) (line : Option AnyAsk) (by : ConnId) (now : Step)
-    (asked : AnyAsk) → cell.str_type ≡ type_of_kind kind → IsAskable line by cell → Some asked ≡ asked_by kind line now
+    (asked : AnyAsk) → cell.str_type ≡ type_of_kind kind → IsAskable line by cell → Some asked ≡ asked_by kind line
+    now
     → IsAskOf cell asked × MayAskAny by asked
 may_ask cell kind None by (step.Call asks) asked type_is may asks' = absurd cc
 may_ask cell kind (Some call) by (step.Call asks) asked type_is may asks' =

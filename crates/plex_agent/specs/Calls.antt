@@ -1,5 +1,5 @@
 -- What the calls of a line owe, and what one of them does.
-use Rattle.std.specs.Prelude.{◌≡◌, ◌<◌, List, [], ◌∷◌, ◌++◌, Option, None, Some, IfSome}
+use Rattle.std.specs.Prelude.{◌≡◌, ◌<◌, List, [], ◌∷◌, ◌++◌, Option, Some, IfSome}
 use Rattle.cf_types.specs.declared.forms.Kind.{Kind}
 use Rattle.cf_types.specs.declared.numbers.ConnId.{ConnId}
 use Rattle.cf_types.specs.declared.numbers.StrNo.{StrNo}
@@ -8,7 +8,6 @@ use Rattle.engine_api.specs.declared.told.Told.{Told}
 use Rattle.struct_cell.specs.declared.refused.CallRefused.{CallRefused}
 use Rattle.struct_cell.specs.declared.refused.CallRefused.TheVariants as refused
 use Rattle.plex_script.specs.declared.agents.Step.{Step}
-use Rattle.plex_script.specs.declared.agents.Step.TheVariants as step
 use Rattle.plex_script.specs.declared.scripts.AnyAsk.{AnyAsk}
 use Rattle.plex_script.specs.declared.transcripts.AgentEnd.{AgentEnd}
 use Rattle.plex_script.specs.declared.transcripts.AgentEnd.TheVariants as ended
@@ -27,14 +26,6 @@ at_work desk items end = record { desk = desk; shown = record { items = items; e
 pub record IsAskable {L : Type 0} (line : Option AnyAsk) (by : ConnId) (cell : CellShown L) : Type 0 where
   pub caller : IsCaller by
   pub call : IfSome line (λ asked. IsAskOf cell asked × MayAskAny by asked)
-
--- where the line has no call, no step asks it
-abbrev pub IsReady : Option AnyAsk → Step → Type 0
-IsReady (Some asked) now = Unit {0}
-IsReady None (step.Call asks) = ⊥
-IsReady None (step.Next left behind) = behind ≡ None
-IsReady None (step.Respond left behind) = behind ≡ None
-IsReady None step.Rest = Unit {0}
 
 -- what a step asks was asked, and shown by its number; the step behind it
 pub record IsAsked (kind : Kind) (line : Option AnyAsk) (on : StrNo) (now next : Step) (before after : AtWork)

@@ -67,9 +67,9 @@ fn act<L: Link>(
 }
 
 /// Does a line of the script: its call, which is asked again, after an event round, as often as the
-/// line says while a rebuild holds it up; an event round; a test of the caller's own vector (IXLVECTR);
-/// a POST or a TAKE. What comes of it is shown. Where the caller's work has ended, by a full journal or
-/// for want of memory, nothing is done.
+/// line says while a rebuild holds it up; an event round; a test of the caller's own vector
+/// (IXLVECTR); a POST or a TAKE. What comes of it is shown. Where the caller's work has ended, by a
+/// full journal or for want of memory, nothing is done.
 pub fn turn<L: Link>(
     rt: &impl Wait,
     alloc: Global,
@@ -132,8 +132,9 @@ fn depart<L: Link>(
     };
 }
 
-/// A connector that has done its lines departs (DISCONNECT, IXLDISC) from each structure at which it is
-/// active by the replies to its own calls, in the order of the script. The operator has no closing.
+/// A connector that has done its lines departs (DISCONNECT, IXLDISC) from each structure at which
+/// it is active by the replies to its own calls, in the order of the script. The operator has no
+/// closing.
 pub fn closing<L: Link>(
     rt: &impl Wait,
     alloc: Global,
@@ -185,8 +186,8 @@ fn gated_turn<L: Link, G: Gate>(
     gate.after(line.by, line.at);
 }
 
-/// Does the lines of the desk's owner among those of the script, in order, and then its closing. The
-/// gate is told of each of the lines.
+/// Does the lines of the desk's owner among those of the script, in order, and then its closing.
+/// The gate is told of each of the lines.
 pub fn serve<L: Link, G: Gate>(
     rt: &impl Wait,
     alloc: Global,

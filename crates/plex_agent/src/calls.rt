@@ -7,7 +7,8 @@ ghost use Rattle.plex_script.specs.declared.transcripts.AgentEnd.TheVariants as 
 ghost use Rattle.desk_model.specs.Desks.{pass_at, IsLaterOn};
 ghost use Rattle.desk_model.specs.Boards.{IsDeskOf, cell_on};
 ghost use Rattle.desk_model.specs.Turns.{Asks};
-ghost use Rattle.plex_agent.specs.Calls.{IsAskable, IsReady, IsAsked, at_work, end_of};
+ghost use Rattle.plex_script.specs.Agent.{IsReady};
+ghost use Rattle.plex_agent.specs.Calls.{IsAskable, IsAsked, at_work, end_of};
 
 use crate::items::reserve_item;
 use cf_link::Link;
@@ -35,8 +36,8 @@ fn end_of(on: StrNo, refusal: CallRefused) -> AgentEnd
     }
 }
 
-// The call of a step, shown by its number; the step behind it. Where there is no memory for the item or
-// for the copy of the line's call, the call isn't made.
+// The call of a step, shown by its number; the step behind it. Where there is no memory for the
+// item or for the copy of the line's call, the call isn't made.
 fn ask_step<L: Link>(
     rt: &impl Wait,
     alloc: Global,
@@ -73,8 +74,9 @@ fn ask_step<L: Link>(
     Ok(now.after(&told))
 }
 
-/// Makes the calls of a line at a structure, from its first step on, till nothing is left to ask. Each
-/// answered call is shown by its number. A full journal, or want of memory, ends the caller's work.
+/// Makes the calls of a line at a structure, from its first step on, till nothing is left to ask.
+/// Each answered call is shown by its number. A full journal, or want of memory, ends the caller's
+/// work.
 pub(crate) fn ask_all<L: Link>(
     rt: &impl Wait,
     alloc: Global,

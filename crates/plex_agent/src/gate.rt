@@ -1,8 +1,8 @@
 //! What may hold a caller up round each line.
 use cf_types::ConnId;
 
-/// Is told of each line before and after it is done. A test lets threads wait for one another by it;
-/// nothing else is to be done in it.
+/// Is told of each line before and after it is done. A test lets threads wait for one another by
+/// it; nothing else is to be done in it.
 pub trait Gate: Sync {
     /// The caller is about to do the line with this number in the script's text.
     fn before(&self, who: ConnId, line: u32);

@@ -1,5 +1,5 @@
-//! The items that a caller is shown, as they come. Room for an item is taken before what it shows is
-//! done, so nothing is done that isn't shown.
+//! The items that a caller is shown, as they come. Room for an item is taken before what it shows
+//! is done, so nothing is done that isn't shown.
 ghost use Rattle.std.specs.Prelude.{◌≡◌, ◌<◌, OnOk, [], length};
 ghost use Rattle.std.specs.Vec.{vec_len, vec_capacity};
 ghost use Rattle.desk_model.specs.Turns.{is_done_as};

@@ -1,5 +1,5 @@
-//! A caller at work at a board: the lines of a script that are its own, one after another, and then its
-//! departures.
+//! A caller at work at a board: the lines of a script that are its own, one after another, and then
+//! its departures.
 #![tactic(auto)]
 
 mod agent;

@@ -13,8 +13,8 @@ use plex_board::{Board, Desk};
 use plex_script::Shown;
 use std::sync::Wait;
 
-/// Tests a bit of the caller's own vector, and shows the answer, or that the bit isn't in the vector.
-/// Want of memory changes nothing.
+/// Tests a bit of the caller's own vector, and shows the answer, or that the bit isn't in the
+/// vector. Want of memory changes nothing.
 pub(crate) fn test<L: Link>(
     board: &Board<L>,
     on: StrNo,
@@ -57,8 +57,8 @@ pub(crate) fn test<L: Link>(
     Ok(())
 }
 
-/// Tests the 32 bits of a word of the caller's own vector, and shows them, or that the word isn't in the
-/// vector. Want of memory changes nothing.
+/// Tests the 32 bits of a word of the caller's own vector, and shows them, or that the word isn't
+/// in the vector. Want of memory changes nothing.
 pub(crate) fn test_word<L: Link>(
     board: &Board<L>,
     on: StrNo,
@@ -124,8 +124,8 @@ pub(crate) fn post<L: Link>(
     Ok(())
 }
 
-/// Takes what the note in the structure's box tells, and shows the number that the caller has now seen
-/// complete. Want of memory changes nothing.
+/// Takes what the note in the structure's box tells, and shows the number that the caller has now
+/// seen complete. Want of memory changes nothing.
 pub(crate) fn take<L: Link>(
     rt: &impl Wait,
     board: &Board<L>,

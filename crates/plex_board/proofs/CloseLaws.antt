@@ -46,7 +46,8 @@ module _ {L : Type 0} (board seen : BoardShown L) (rest key : Rest L) (same : bo
   pub ready-homes : AreHomes (board.callers + 1) board.cells (homes_shown rest.homes.items)
   ready-homes =
       subst (λ (r : Rest L). AreHomes (board.callers + 1) board.cells (homes_shown r.homes.items)) (sym kept)
-      (subst (λ (b : BoardShown L). AreHomes (b.callers + 1) b.cells (homes_shown key.homes.items)) (sym same) is.homes)
+      (subst (λ (b : BoardShown L). AreHomes (b.callers + 1) b.cells (homes_shown key.homes.items)) (sym same)
+      is.homes)
 
   pub ready-empty : AreEmpty (homes_shown rest.homes.items)
   ready-empty = subst (λ (r : Rest L). AreEmpty (homes_shown r.homes.items)) (sym kept) is.empty

@@ -37,11 +37,13 @@ module _ {L : Type 0} where
       sym (map-append (λ (c : CellShown L). unused_pass c.str_type c.words owner) cells (cell ∷ [])) in
       let one : desk_with (unused_pass cell.str_type cell.words owner) (desk_at cells owner)
       ≡ desk_at (cells ++ cell ∷ []) owner =
-      ap (λ (p : List PassShown). let d : DeskShown = record { owner = record { 0 = owner }; passes = p } in d) passes in
+      ap (λ (p : List PassShown). let d : DeskShown = record { owner = record { 0 = owner }; passes = p } in d) passes
+      in
       cc (desks-column cells cell owners)
 
   pub homes-push : (more : ℕ) (cells : List (CellShown L)) (cell : CellShown L) (homes : List HomeShown)
-      (home : HomeShown) → AreHomes more cells homes → IsHomeOf more cell home → AreHomes more (cells ++ cell ∷ []) (homes ++ home ∷ [])
+      (home : HomeShown) → AreHomes more cells homes → IsHomeOf more cell home → AreHomes more (cells ++ cell ∷ [])
+      (homes ++ home ∷ [])
   homes-push more [] cell [] home are is = (is, tt)
   homes-push more [] cell (first ∷ homes) home are is = absurd are
   homes-push more (one ∷ cells) cell [] home are is = absurd are
@@ -111,7 +113,8 @@ module _ {L : Type 0} where
           → AreHomes n more (homes_shown after)
       more-homes n are is =
           subst (λ (hs : List HomeShown). AreHomes n more hs) (sym shown-push)
-          (subst (λ (cs : List (CellShown L)). AreHomes n cs (homes_shown homes ++ home_shown home ∷ [])) (sym more_is)
+          (subst (λ (cs : List (CellShown L)). AreHomes n cs (homes_shown homes ++ home_shown home ∷ []))
+          (sym more_is)
           (homes-push n cells cell (homes_shown homes) (home_shown home) are is))
 
       pub more-empty : AreEmpty (homes_shown homes) → passes_shown home ≡ [] → AreEmpty (homes_shown after)
@@ -133,7 +136,8 @@ module _ {L : Type 0} where
   -- a history more, whatever the rest will be
   pub ended-step : (cells left : List (CellShown L)) (homes at : List HomeShown) (histories : List AnyHistory)
       (cell : CellShown L) (home : HomeShown) (entries : AnyHistory)
-      → ((rest : List AnyHistory) → AreEnded (cell ∷ left) (home ∷ at) rest → AreEnded cells homes (histories ++ rest))
+      → ((rest : List AnyHistory) → AreEnded (cell ∷ left) (home ∷ at) rest → AreEnded cells homes (histories
+      ++ rest))
       → IsClosed cell entries → All (IsAccount cell entries) home.passes
       → (rest : List AnyHistory) → AreEnded left at rest → AreEnded cells homes ((histories ++ entries ∷ []) ++ rest)
   ended-step cells left homes at histories cell home entries so closed account rest are =

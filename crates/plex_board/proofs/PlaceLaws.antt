@@ -51,7 +51,8 @@ module _ {L : Type 0} where
         cell_is = cell;
         pass_is = pass;
         of_cell = subst (IsPassOf station) pass (desk-pass_is board desk on station of cell);
-        owner_is = subst (λ (p : PassShown). p.owner ≡ desk.owner) pass (desk-pass_owner board desk on station of cell);
+        owner_is = subst (λ (p : PassShown). p.owner ≡ desk.owner) pass (desk-pass_owner board desk on station of
+            cell);
       }
 
   -- what is known of the cell is known on the structure

@@ -46,7 +46,8 @@ module _ (homes : List AnyPasses) (all front : List PassShown) (pass : PassShown
           map-set home_shown homes k after
           ∙ ap (λ (n : ℕ). set (homes_shown homes) n (home_shown after)) k_is
           ∙ ap (λ (h : HomeShown). set (homes_shown homes) (length front) h)
-          (same-home (type_of_passes after) (type_of_passes home) (passes_shown after) (passes_shown home ++ pass ∷ [])
+          (same-home (type_of_passes after) (type_of_passes home) (passes_shown after) (passes_shown home
+          ++ pass ∷ [])
           (room_of after) (room_of home) type_is passes room)
 
       pub put-fits : Fits front (homes_shown (set homes k after))

@@ -5,7 +5,8 @@ use Rattle.plex_board.specs.Rests.{each_with, HomeShown, Fits}
 
 -- ---- the last partner first
 
-pub each_with-last : {A B : Type 0} (f : A → B → B) (xs : List A) (a : A) (ys : List B) (d : B) → length xs < length ys
+pub each_with-last : {A B : Type 0} (f : A → B → B) (xs : List A) (a : A) (ys : List B) (d : B)
+    → length xs < length ys
     → each_with f (xs ++ a ∷ []) ys ≡ each_with f xs (set ys (length xs) (f a (get_or ys (length xs) d)))
 each_with-last f [] a [] d below = absurd (omega (arith, below))
 each_with-last f [] a (b ∷ ys) d below = refl
@@ -22,11 +23,12 @@ each_with-length f (a ∷ xs) (b ∷ ys) same =
     ap (λ n. suc n) (each_with-length f xs ys (omega (arith, same)))
 
 -- what may be done with the last of the passes
-pub record FitsLast (passes : List PassShown) (pass : PassShown) (homes : List HomeShown) (d : HomeShown) : Type 0 where
-  pub there : length passes < length homes
-  pub type_is : pass.str_type ≡ (get_or homes (length passes) d).str_type
-  pub room : length (get_or homes (length passes) d).passes < (get_or homes (length passes) d).room
-  pub rest : (v : HomeShown) → Fits passes (set homes (length passes) v)
+pub record FitsLast (passes : List PassShown) (pass : PassShown) (homes : List HomeShown) (d : HomeShown) : Type 0
+  where
+    pub there : length passes < length homes
+    pub type_is : pass.str_type ≡ (get_or homes (length passes) d).str_type
+    pub room : length (get_or homes (length passes) d).passes < (get_or homes (length passes) d).room
+    pub rest : (v : HomeShown) → Fits passes (set homes (length passes) v)
 
 pub fits-last : (passes : List PassShown) (pass : PassShown) (homes : List HomeShown) (d : HomeShown)
     → Fits (passes ++ pass ∷ []) homes → FitsLast passes pass homes d

@@ -42,8 +42,10 @@ module _ {L : Type 0} (board : BoardShown L) where
           elim (element-after tray on.0 x (Some note) (Some n) its) [
             | inl e ↦
                 let same : n ≡ note = cc in
-                let cell' : cell ≡ other = let o : Some cell ≡ Some other = sym cell_is ∙ sym (ap (slice_get board.cells) e.1) ∙ at in cc in
-                subst (λ (m : NoteShown). IsNoteOf other m) (sym same) (subst (λ (c : CellShown L). IsNoteOf c note) cell' is)
+                let cell' : cell ≡ other = let o : Some cell ≡ Some other = sym cell_is
+                ∙ sym (ap (slice_get board.cells) e.1) ∙ at in cc in
+                subst (λ (m : NoteShown). IsNoteOf other m) (sym same) (subst (λ (c : CellShown L). IsNoteOf c note)
+                cell' is)
             | inr e ↦ of.notes x other n at e
           ];
     }

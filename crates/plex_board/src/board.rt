@@ -30,7 +30,8 @@ use std::sync::Wait;
 use struct_cell::CallRefused;
 use vec_words::{Tested, TestedWord};
 
-/// The structures of a script, which threads share by `&`. Contracts see what of them never changes.
+/// The structures of a script, which threads share by `&`. Contracts see what of them never
+/// changes.
 #[derive(Drop)]
 pub struct Board<L: Link> {
     stations: Vec<Station<L>>,
@@ -54,9 +55,9 @@ impl<L: Link> Model for Board<L> {
 }
 
 impl<L: Link> Board<L> {
-    /// The structures of a script without calls yet, and a desk for each caller from the operator, 0,
-    /// on. Each journal has at most `limit` entries. Structure `s`, from 0 in the order of the script,
-    /// has the links `4 * s` to `4 * s + 3`, one to each facility.
+    /// The structures of a script without calls yet, and a desk for each caller from the operator,
+    /// 0, on. Each journal has at most `limit` entries. Structure `s`, from 0 in the order of the
+    /// script, has the links `4 * s` to `4 * s + 3`, one to each facility.
     ///
     /// # Errors
     ///
@@ -138,13 +139,13 @@ impl<L: Link> Board<L> {
         self.stations[usize::from(on.0)].vector()
     }
 
-    /// A call of the desk's owner to a structure. It waits for its turn; then it is judged and done at
-    /// once, it stands in the journal, and the words of the vectors show what it did.
+    /// A call of the desk's owner to a structure. It waits for its turn; then it is judged and done
+    /// at once, it stands in the journal, and the words of the vectors show what it did.
     ///
     /// # Errors
     ///
-    /// `JournalFull` where the journal has `limit` entries; `NoMemory`, before anything was changed. In
-    /// both cases nothing happened to the structure.
+    /// `JournalFull` where the journal has `limit` entries; `NoMemory`, before anything was
+    /// changed. In both cases nothing happened to the structure.
     pub fn call(
         &self,
         rt: &impl Wait,
@@ -203,8 +204,8 @@ impl<L: Link> Board<L> {
         self.stations[usize::from(on.0)].test_word(&mut desk.places[usize::from(on.0)], word)
     }
 
-    /// Puts a note of what the owner has seen of a structure into the structure's box, in place of the
-    /// one there. It answers the number of a call that the owner has seen complete.
+    /// Puts a note of what the owner has seen of a structure into the structure's box, in place of
+    /// the one there. It answers the number of a call that the owner has seen complete.
     pub fn post(&self, rt: &impl Wait, desk: &mut Desk, on: StrNo) -> u32
         requires desk { IsDeskOf self.now desk.old }
         requires place { on.0 < length self.now.cells }
@@ -215,8 +216,8 @@ impl<L: Link> Board<L> {
         self.stations[usize::from(on.0)].post(rt, &mut desk.places[usize::from(on.0)])
     }
 
-    /// Tells the owner the note in a structure's box. It answers the number of a call that the owner has
-    /// now seen complete.
+    /// Tells the owner the note in a structure's box. It answers the number of a call that the
+    /// owner has now seen complete.
     pub fn take(&self, rt: &impl Wait, desk: &mut Desk, on: StrNo) -> u32
         requires desk { IsDeskOf self.now desk.old }
         requires place { on.0 < length self.now.cells }
@@ -240,7 +241,8 @@ impl<L: Link> Board<L> {
         Ok(Tray { slots })
     }
 
-    /// Puts a note of what the owner has seen of a structure into a tray, in place of the one there.
+    /// Puts a note of what the owner has seen of a structure into a tray, in place of the one
+    /// there.
     pub fn post_in(&self, desk: &mut Desk, tray: &mut Tray, on: StrNo) -> u32
         requires desk { IsDeskOf self.now desk.old }
         requires tray { IsTrayOf self.now tray.old }
@@ -276,8 +278,8 @@ impl<L: Link> Board<L> {
         )
     }
 
-    /// Tells one desk's owner what another's has seen of a structure, from hand to hand: no lock. It
-    /// answers the number of a call that the first has now seen complete.
+    /// Tells one desk's owner what another's has seen of a structure, from hand to hand: no lock.
+    /// It answers the number of a call that the first has now seen complete.
     pub fn hear(&self, desk: &mut Desk, from: &mut Desk, on: StrNo) -> u32
         requires desk { IsDeskOf self.now desk.old }
         requires from { IsDeskOf self.now from.old }
@@ -295,8 +297,8 @@ impl<L: Link> Board<L> {
         )
     }
 
-    /// Ends the board: the history of each structure, and the links as they came. It may wait for turns,
-    /// and takes no memory.
+    /// Ends the board: the history of each structure, and the links as they came. It may wait for
+    /// turns, and takes no memory.
     pub fn close(self, rt: &impl Wait, desks: Vec<Desk>) -> (Vec<AnyHistory>, Vec<L>)
         requires desks { All (IsDeskOf self) desks.items }
         requires owners { map (λ desk. desk.owner.0) desks.items

@@ -7,7 +7,8 @@ use cf_types::{ConnId, StrNo};
 use plex_station::Place;
 use std::marker::Model;
 
-/// What a caller has to use the structures of a board: a place at each. It may go to another thread.
+/// What a caller has to use the structures of a board: a place at each. It may go to another
+/// thread.
 #[derive(Drop)]
 pub struct Desk {
     pub(crate) owner: ConnId,

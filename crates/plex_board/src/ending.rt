@@ -68,8 +68,8 @@ pub(crate) fn push_left<L: Drop>(links: &mut Vec<L>, left: IntoIter<L>)
     }
 }
 
-/// Ends the structures, whose passes are at home: their histories, and all links, those of the first
-/// structure first and the spare ones last. It may wait for turns, and takes no memory.
+/// Ends the structures, whose passes are at home: their histories, and all links, those of the
+/// first structure first and the spare ones last. It may wait for turns, and takes no memory.
 pub(crate) fn end<L: Link>(
     rt: &impl Wait,
     stations: Vec<Station<L>>,

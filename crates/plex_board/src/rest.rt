@@ -5,8 +5,8 @@ use cf_turn::Keeps;
 use plex_script::AnyHistory;
 
 /// What a board keeps for its end, so that it ends without memory: for each structure the vector in
-/// which its passes go home, room for the histories and for the links, and the links that no structure
-/// has. It stays as it is till then.
+/// which its passes go home, room for the histories and for the links, and the links that no
+/// structure has. It stays as it is till then.
 #[derive(Drop)]
 pub struct Rest<L: Link> {
     pub(crate) homes: Vec<AnyPasses>,

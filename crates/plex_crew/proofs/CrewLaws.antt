@@ -175,6 +175,7 @@ module _ {L : Type 0} (limit : ℕ) (script : Script) (board : BoardShown L) (li
       → IfOk result (λ it. All HadMemory transcripts)
       → IfOk result (λ it. ShowsHistories limit script it.histories it.transcripts)
   finish_shows (Ok it) same_histories same_transcripts had =
-      subst (λ (histories : List AnyHistory). ShowsHistories limit script histories it.transcripts) (sym same_histories)
+      subst (λ (histories : List AnyHistory). ShowsHistories limit script histories it.transcripts)
+      (sym same_histories)
       (subst (ShowsHistories limit script histories) (sym same_transcripts) (work_shows had))
   finish_shows (Err e) same_histories same_transcripts had = tt

@@ -27,7 +27,8 @@ pub record Works {L : Type 0} (board : BoardShown L) (lines : List Line) (before
   pub owner : after.desk.owner ≡ before.desk.owner
 
 -- each caller does its whole work
-pub record WorkEach {L : Type 0} (board : BoardShown L) (lines : List Line) (before after : List AtWork) : Type 0 where
-  pub callers : length after ≡ length before
-  pub each : (c : ℕ) (worker : AtWork) → slice_get after c ≡ Some worker
-      → (idler : AtWork) × (slice_get before c ≡ Some idler) × Works board lines idler worker
+pub record WorkEach {L : Type 0} (board : BoardShown L) (lines : List Line) (before after : List AtWork) : Type 0
+  where
+    pub callers : length after ≡ length before
+    pub each : (c : ℕ) (worker : AtWork) → slice_get after c ≡ Some worker
+        → (idler : AtWork) × (slice_get before c ≡ Some idler) × Works board lines idler worker

@@ -111,8 +111,8 @@ impl Crew {
         })
     }
 
-    /// Each caller does its lines, in their order, and then its departures, on a thread of its own where
-    /// threads can be made. Where none can be made the callers work one after another.
+    /// Each caller does its lines, in their order, and then its departures, on a thread of its own
+    /// where threads can be made. Where none can be made the callers work one after another.
     pub(crate) fn work<R: Threads + Wait + Sync, L: Link, G: Gate>(
         &mut self,
         rt: &R,

@@ -20,11 +20,12 @@ use std::mem::drop;
 use std::sync::Wait;
 use std::thread::Threads;
 
-/// Runs a script with a worker for each caller, the operator's among them, each on a thread of its own
-/// where threads can be made: it does the caller's lines in their order, and then its departures. A
-/// journal takes `limit` entries; the caller whose call comes to a full one stops. The gate is told of
-/// each line before and after it. There are 64 links: structure `s`, from 0, has the links `4 * s` to
-/// `4 * s + 3`, one to each facility. They come back as they were, also where there was no memory.
+/// Runs a script with a worker for each caller, the operator's among them, each on a thread of its
+/// own where threads can be made: it does the caller's lines in their order, and then its
+/// departures. A journal takes `limit` entries; the caller whose call comes to a full one stops.
+/// The gate is told of each line before and after it. There are 64 links: structure `s`, from 0,
+/// has the links `4 * s` to `4 * s + 3`, one to each facility. They come back as they were, also
+/// where there was no memory.
 pub fn threads<R: Threads + Wait + Sync, L: Link, G: Gate>(
     rt: &R,
     alloc: Global,
@@ -36,8 +37,8 @@ pub fn threads<R: Threads + Wait + Sync, L: Link, G: Gate>(
     requires script { IsRunnable script.now }
     requires limit { (1 ≤ limit) × (limit ≤ 4294967000) }
     requires links { vec_len links ≡ 64 }
-    // Whatever the schedule was: a legal history of each structure, each caller's calls in it once and
-    // in their order, transcripts that follow the script, and tests that tell what stood.
+    // Whatever the schedule was: a legal history of each structure, each caller's calls in it once
+    // and in their order, transcripts that follow the script, and tests that tell what stood.
     ensures shows { IfOk result.0 (λ it.
         ShowsHistories limit script.now it.histories it.transcripts) }
     ensures links { result.1.items ≡ links.items }

@@ -40,7 +40,10 @@ module _ (floor : Floor) (desks : List DeskShown) (shown : List Transcript) (tra
 
     -- a caller at work, by its parts
     pub worker_parts : (by : ConnId)
-        → worker_of floor by ≡ (let it : AtWork = record { desk = desk_of desks by; shown = get_or shown by.0 no_items }
+        → worker_of floor by ≡ (let it : AtWork = record {
+          desk = desk_of desks by;
+          shown = get_or shown by.0 no_items;
+        }
         in it)
     worker_parts by =
         ap (λ (workers : List AtWork). get_or workers by.0 no_worker) (sym workers_are)
@@ -55,7 +58,8 @@ module _ (floor : Floor) (desks : List DeskShown) (shown : List Transcript) (tra
         record (with_worker by worker floor) { tray = tray'; last = last' })
     changed by at desk one tray' last' at_is =
         let worker : AtWork = record { desk = desk; shown = one } in
-        ap (λ (workers : List AtWork). (let it : Floor = record { workers = workers; tray = tray'; last = last' } in it))
+        ap (λ (workers : List AtWork). (let it : Floor = record { workers = workers; tray = tray'; last = last' }
+        in it))
         (set-at_work desks shown at desk one
         ∙ ap (λ (workers : List AtWork). set workers at worker) workers_are
         ∙ ap (λ (n : ℕ). set floor.workers n worker) at_is)
@@ -69,11 +73,13 @@ module _ (floor : Floor) (desks : List DeskShown) (shown : List Transcript) (tra
         changed by at desk one tray last at_is
         ∙ ap (λ (t : List (Option NoteShown)). (let it : Floor = record (with_worker by worker floor)
         { tray = t; last = last } in it)) tray_is
-        ∙ ap (λ (l : List (Option ConnId)). (let it : Floor = record (with_worker by worker floor) { last = l } in it))
+        ∙ ap (λ (l : List (Option ConnId)). (let it : Floor = record (with_worker by worker floor) { last = l }
+        in it))
         last_is
 
     -- the parts of the caller that changed
-    pub changed_worker : (by : ConnId) (at : ℕ) (desk : DeskShown) (one : Transcript) (tray' : List (Option NoteShown))
+    pub changed_worker : (by : ConnId) (at : ℕ) (desk : DeskShown) (one : Transcript)
+        (tray' : List (Option NoteShown))
         (last' : List (Option ConnId))
         → at ≡ by.0 → by.0 < length desks
         → worker_of (floor_of (set desks at desk) (set shown at one) tray' last') by
@@ -157,11 +163,13 @@ module _ (floor : Floor) (desks : List DeskShown) (shown : List Transcript) (tra
         desks = λ c worker at. are.each c worker.desk (desk-at_work desks' shown' c worker at);
         tray = tray_fits;
         places = ap (λ (l : List (Option ConnId)). length l) last_is ∙ fits.places;
-        actors = λ x conn at. fits.actors x conn (ap (λ (l : List (Option ConnId)). slice_get l x) (sym last_is) ∙ at);
+        actors = λ x conn at. fits.actors x conn (ap (λ (l : List (Option ConnId)). slice_get l x) (sym last_is)
+            ∙ at);
       }
 
       -- the last that acted on a structure is a caller
-      pub actor_is : (on : StrNo) (n : ℕ) (o : Option ConnId) → on.0 < length board.cells → n ≡ on.0 → o ≡ get_or last n o
+      pub actor_is : (on : StrNo) (n : ℕ) (o : Option ConnId) → on.0 < length board.cells → n ≡ on.0
+          → o ≡ get_or last n o
           → IfSome o (λ other. other.0 ≤ board.callers)
       actor_is on n None inside n_is o_is = tt
       actor_is on n (Some other) inside n_is o_is =
@@ -217,11 +225,13 @@ module _ (floor : Floor) (desks : List DeskShown) (shown : List Transcript) (tra
             (ap (λ (d : DeskShown). d.owner.0) (sym (own_desk_is desk desk_is))
             ∙ (own_desk board desks floor_desks by within).1)
 
-        pub worker_is : (desk : DeskShown) (one : Transcript) → desk ≡ get_or desks at desk → one ≡ get_or shown at one
+        pub worker_is : (desk : DeskShown) (one : Transcript) → desk ≡ get_or desks at desk
+            → one ≡ get_or shown at one
             → worker_of floor by ≡ (let it : AtWork = record { desk = desk; shown = one } in it)
         worker_is desk one desk_is one_is =
             worker_parts by
-            ∙ ap (λ (d : DeskShown). (let it : AtWork = record { desk = d; shown = get_or shown by.0 no_items } in it))
+            ∙ ap (λ (d : DeskShown). (let it : AtWork = record { desk = d; shown = get_or shown by.0 no_items }
+            in it))
             (own_desk_is desk desk_is)
             ∙ ap (λ (s : Transcript). (let it : AtWork = record { desk = desk; shown = s } in it))
             (own_shown_is one one_is)

@@ -68,7 +68,8 @@ pub plays_turn : {L : Type 0} (cell : CellShown L) (line : Line) (counted : Bool
     → after ≡ record worked { last = if counted then slice_set worked.last line.on.0 (Some line.by) else worked.last }
     → Turns cell.limit cell.form line (worker_of told line.by) (worker_of worked line.by)
     → PlaysAct cell line line.act before after
-plays_turn {L} cell line counted before told worked after is_turn counted_is inside told_is worked_is after_is turned =
+plays_turn {L} cell line counted before told worked after is_turn counted_is inside told_is worked_is after_is turned
+    =
     go line.act is_turn (worker, turned', after_is')
   where
     worker : AtWork
@@ -137,7 +138,8 @@ pub range_more : (k n : ℕ) → k < n → range_with_len k (n - k) ≡ k ∷ ra
 range_more k n below = let e : n - k ≡ suc (n - (k + 1)) = omega arith in ap (range_with_len k) e
 
 -- one structure more at which the caller heard
-pub hears_more : (start now next : Floor) (by : ConnId) (k n : ℕ) (whole : AtWork) → k < n → by.0 < length start.workers
+pub hears_more : (start now next : Floor) (by : ConnId) (k n : ℕ) (whole : AtWork) → k < n
+    → by.0 < length start.workers
     → now ≡ with_worker by (worker_of now by) start
     → fold (λ worker place. heard start by worker (record { 0 = place })) (worker_of now by)
     (range_with_len k (n - k)) ≡ whole
@@ -183,7 +185,8 @@ closes_one board by before told departed after works inside places told_is depar
           departed_is ∙ ap (λ (f : Floor). with_worker by (worker_of departed by) f) told_is
           ∙ put_twice before by (heard_all board before by) (worker_of departed by) in
           after_is
-          ∙ ap (λ (f : Floor). (let it : Floor = record f { last = replicate (length f.last) (Some by) } in it)) departed_from
+          ∙ ap (λ (f : Floor). (let it : Floor = record f { last = replicate (length f.last) (Some by) } in it))
+          departed_from
           ∙ ap (λ (n : ℕ). (let it : Floor = record (with_worker by (worker_of departed by) before)
           { last = replicate n (Some by) } in it)) places),
     )
@@ -191,7 +194,8 @@ closes_one board by before told departed after works inside places told_is depar
 -- ---- one after another
 
 -- one line more
-pub lines_more : {L : Type 0} (board : BoardShown L) (lines : List Line) (line : Line) (i : ℕ) (start now next : Floor)
+pub lines_more : {L : Type 0} (board : BoardShown L) (lines : List Line) (line : Line) (i : ℕ)
+    (start now next : Floor)
     → i < length lines → line ≡ get_or lines i line
     → ((after : Floor) → PlaysLines board (drop i lines) now after → PlaysLines board lines start after)
     → PlaysLine board line now next

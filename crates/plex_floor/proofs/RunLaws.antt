@@ -77,7 +77,8 @@ cell_there {L} cells forms x form are at = go (slice_get cells x) refl
 
     go : (o : Option (CellShown L)) → slice_get cells x ≡ o
         → (cell : CellShown L) × (slice_get cells x ≡ Some cell) × (cell.form ≡ form)
-    go None is = let none : None ≡ Some form = ap (option_map (λ (cell : CellShown L). cell.form)) (sym is) ∙ read in cc
+    go None is = let none : None ≡ Some form = ap (option_map (λ (cell : CellShown L). cell.form)) (sym is)
+        ∙ read in cc
     go (Some cell) is =
         let some : Some cell.form ≡ Some form = ap (option_map (λ (cell : CellShown L). cell.form)) (sym is) ∙ read in
         let same : cell.form ≡ form = cc in
@@ -113,7 +114,8 @@ fixed_as_new : {L : Type 0} (cells : List (CellShown L)) (owner : ℕ)
     → map fixed_of (map (λ cell. unused_pass cell.str_type cell.words owner) cells)
     ≡ map (λ cell. fixed_at cell (record { 0 = owner })) cells
 fixed_as_new [] owner = refl
-fixed_as_new (cell ∷ cells) owner = ap (λ rest. fixed_at cell (record { 0 = owner }) ∷ rest) (fixed_as_new cells owner)
+fixed_as_new (cell ∷ cells) owner = ap (λ rest. fixed_at cell (record { 0 = owner }) ∷ rest)
+    (fixed_as_new cells owner)
 
 -- the desks of a board that was started
 pub new_desks-are : {L : Type 0} (board : BoardShown L) (desks : List DeskShown)

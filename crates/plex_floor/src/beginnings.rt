@@ -9,7 +9,8 @@ use plex_board::{Board, Tray};
 use plex_script::{AgentEnd, Transcript};
 use std::alloc::Global;
 
-/// Transcripts that show nothing, a tray without notes, and for each structure that nobody acted on it.
+/// Transcripts that show nothing, a tray without notes, and for each structure that nobody acted on
+/// it.
 #[derive(Drop)]
 pub(crate) struct Beginning {
     pub(crate) shown: Vec<Transcript>,

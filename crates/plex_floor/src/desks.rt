@@ -27,8 +27,8 @@ fn tell<L: Link>(board: &Board<L>, desks: &mut [Desk], by: ConnId, other: ConnId
     }
 }
 
-/// Tells a caller's desk what the one who acted on a structure last knows of it: nothing where that is
-/// the caller itself, or was nobody.
+/// Tells a caller's desk what the one who acted on a structure last knows of it: nothing where that
+/// is the caller itself, or was nobody.
 pub(crate) fn hear<L: Link>(
     board: &Board<L>,
     desks: &mut [Desk],

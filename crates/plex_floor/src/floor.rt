@@ -60,7 +60,8 @@ impl Floor {
         is_done(self.shown[usize::from(by.0)].end)
     }
 
-    /// Before a caller acts on a structure it is told what the one who acted there last knows of it.
+    /// Before a caller acts on a structure it is told what the one who acted there last knows of
+    /// it.
     fn hear<L: Link>(&mut self, board: &Board<L>, by: ConnId, on: StrNo)
         requires floor { IsFloorOf board.now self.old }
         requires by { by.0 ≤ board.now.callers }
@@ -198,7 +199,8 @@ impl Floor {
         )
     }
 
-    // A line but for a POST and a TAKE, with what its caller hears before it, and who acted last behind it.
+    // A line but for a POST and a TAKE, with what its caller hears before it, and who acted last
+    // behind it.
     fn turn<L: Link>(
         &mut self,
         rt: &impl Wait,
@@ -361,8 +363,8 @@ impl Floor {
         Ok(())
     }
 
-    /// The whole of a script: its lines in their order, then the departures of its connectors in number
-    /// order.
+    /// The whole of a script: its lines in their order, then the departures of its connectors in
+    /// number order.
     pub fn play<L: Link>(
         &mut self,
         rt: &impl Wait,
@@ -384,8 +386,8 @@ impl Floor {
         self.closings(rt, alloc, board, script.connectors.items().len() as u8)
     }
 
-    /// The callers at a board where nobody has done anything. Where there is no memory the desks come
-    /// back.
+    /// The callers at a board where nobody has done anything. Where there is no memory the desks
+    /// come back.
     pub fn new<L: Link>(
         alloc: Global,
         board: &Board<L>,

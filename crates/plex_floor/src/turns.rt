@@ -18,8 +18,8 @@ use plex_script::{Act, AgentEnd, Line, Shown, Transcript};
 use std::alloc::Global;
 use std::sync::Wait;
 
-/// Whether an act is counted, at a structure whose vectors have `bits` bits: a call, an event round, and a
-/// test within the vector.
+/// Whether an act is counted, at a structure whose vectors have `bits` bits: a call, an event
+/// round, and a test within the vector.
 pub(crate) fn is_counted(act: &Act, bits: u32) -> bool
     ensures { (form : StrForm) → form.vector ≡ bits → result ≡ is_counted form act.now }
 {
@@ -94,8 +94,8 @@ pub(crate) fn depart<L: Link>(
     had_memory(shown.end)
 }
 
-/// Puts a note of what the caller has seen of a structure into the tray, and shows the number that it
-/// tells.
+/// Puts a note of what the caller has seen of a structure into the tray, and shows the number that
+/// it tells.
 pub(crate) fn post<L: Link>(
     board: &Board<L>,
     on: StrNo,
@@ -116,8 +116,8 @@ pub(crate) fn post<L: Link>(
     shown.items.push(Shown::Posted { on, sure })
 }
 
-/// Tells the caller the structure's note in the tray, if there is one, and shows the number of a call
-/// that it has now seen complete.
+/// Tells the caller the structure's note in the tray, if there is one, and shows the number of a
+/// call that it has now seen complete.
 pub(crate) fn take<L: Link>(
     board: &Board<L>,
     on: StrNo,

@@ -100,7 +100,8 @@ pub words_make : (connectors : List Name16) (header : ℕ) (head : Bool) (name :
     (codes "ADJ") text_words adj ++ (plain_words [] connectors (cond_tokens cond) ++ [])))))
 words_make connectors header head name key body adj cond =
     heads head ∙ ap (λ words. codes "WRITE" ∷ decimal header ∷ end_word head ∷ words)
-    (words_joined connectors (option_tokens (codes "NAME") name_tokens name ∷ option_tokens (codes "KEY") key_tokens key
+    (words_joined connectors (option_tokens (codes "NAME") name_tokens name ∷ option_tokens (codes "KEY") key_tokens
+    key
     ∷ option_tokens (codes "DATA") data_tokens body ∷ option_tokens
     (codes "ADJ") short_tokens adj ∷ cond_tokens cond ∷ [])
     ∙ simp (
@@ -249,7 +250,8 @@ list-same connectors (list.Write header head name key body adj cond) =
     ∙ (sym (words_make connectors header head name key body adj cond ∙ simp (cond-same connectors cond) refl))
 list-same connectors (list.Update ref body adj cond) =
     words_update [] ref body adj cond
-    ∙ (sym (words_update connectors ref body adj cond ∙ simp (at-same connectors ref, cond-same connectors cond) refl))
+    ∙ (sym (words_update connectors ref body adj cond ∙ simp (at-same connectors ref, cond-same connectors cond)
+    refl))
 list-same connectors (list.Read ref cond) = on-same connectors (codes "READ") ref cond
 list-same connectors (list.Move ref header head key cond) =
     words_move [] ref header head key cond

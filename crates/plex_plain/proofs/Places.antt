@@ -56,7 +56,8 @@ pub name-place : {X : Type 0} (name : X → Name16) (xs : List X) (i : ℕ) (d :
 name-place name xs i d h low =
     position-first (λ x. same_word (name_word (name x)) (name_word (name (get_or xs i d)))) xs i d low
     (same_word-refl (name_word (name (get_or xs i d))))
-    (λ k before. apart_words (name (get_or xs k d)) (name (get_or xs i d)) (h.named k d (omega arith)) (h.named i d low)
+    (λ k before. apart_words (name (get_or xs k d)) (name (get_or xs i d)) (h.named k d (omega arith))
+    (h.named i d low)
     (h.apart k i d before low))
 
 -- a connector by its name

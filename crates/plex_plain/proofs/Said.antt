@@ -68,7 +68,8 @@ resource-said r named least =
 pub name-said : (name : Name16) → IsNamed name → IsName Names (name_word name)
 name-said name h = (h.1, h.0.0.short)
 
-pub connectors-named : (connectors : List Name16) → AreNames connectors → HaveNames (λ (name : Name16). name) connectors
+pub connectors-named : (connectors : List Name16) → AreNames connectors → HaveNames (λ (name : Name16). name)
+    connectors
 connectors-named connectors h = record { named = h.0; apart = h.1 }
 
 no_name : Name16

@@ -51,60 +51,79 @@ itself n = grind (arith, nat_tests)
 -- the works of a caller at a structure
 abbrev pub IsPlayedAt : Script → StrNo → Kind → List AnyCall → Type 0
 IsPlayedAt script on k calls =
-    (by : ConnId) → by.0 ≤ length script.connectors → Plays k (works k (lines_at on (lines_of script by))) (own_calls calls by)
+    (by : ConnId) → by.0 ≤ length script.connectors → Plays k (works k (lines_at on (lines_of script by)))
+    (own_calls calls by)
 
 -- ---- one history
 
-module _ {C R I S : Type 0} (meaning : Meaning C R I S) (form : StrForm) (of : Ask C → AnyAsk) (script : Script) (on : StrNo) where
+module _ {C R I S : Type 0} (meaning : Meaning C R I S) (form : StrForm) (of : Ask C → AnyAsk) (script : Script)
+    (on : StrNo) where
   -- what a caller asks next
   abbrev next : List (Entry C R) → ConnId → Option AnyAsk
-  next before by = next_ask form.kind (works form.kind (lines_at on (lines_of script by))) (own_calls (map (any_call of) (calls before)) by)
+  next before by = next_ask form.kind (works form.kind (lines_at on (lines_of script by)))
+      (own_calls (map (any_call of) (calls before)) by)
 
   abbrev told_call : Entry C R → Ask C → AnyCall
-  told_call entry asked = record { no = entry.no; by = entry.by; ask = of asked; told = told entry.no asked entry.reply }
+  told_call entry asked = record {
+    no = entry.no;
+    by = entry.by;
+    ask = of asked;
+    told = told entry.no asked
+        entry.reply;
+  }
 
   call_first : (entry : Entry C R) (entries : List (Entry C R)) (asked : Ask C) → entry.what ≡ what.Call asked
       → map (any_call of) (calls (entry ∷ entries)) ≡ told_call entry asked ∷ map (any_call of) (calls entries)
   call_first entry entries asked is = rw is refl
 
-  own_split : (before : List (Entry C R)) (entry : Entry C R) (entries : List (Entry C R)) (asked : Ask C) → entry.what ≡ what.Call asked
+  own_split : (before : List (Entry C R)) (entry : Entry C R) (entries : List (Entry C R)) (asked : Ask C)
+      → entry.what ≡ what.Call asked
       → own_calls (map (any_call of) (calls (before ++ entry ∷ entries))) entry.by
       ≡ own_calls (map (any_call of) (calls before)) entry.by
       ++ told_call entry asked ∷ own_calls (map (any_call of) (calls entries)) entry.by
   own_split before entry entries asked is =
       ap (λ (cs : List (Call C R)). own_calls (map (any_call of) cs) entry.by) (calls-append before (entry ∷ entries))
-      ∙ ap (λ (cs : List AnyCall). own_calls cs entry.by) (map-append (any_call of) (calls before) (calls (entry ∷ entries)))
-      ∙ filter-append (λ (call : AnyCall). call.by.0 == entry.by.0) (map (any_call of) (calls before)) (map (any_call of) (calls (entry ∷ entries)))
+      ∙ ap (λ (cs : List AnyCall). own_calls cs entry.by) (map-append (any_call of) (calls before)
+      (calls (entry ∷ entries)))
+      ∙ filter-append (λ (call : AnyCall). call.by.0 == entry.by.0) (map (any_call of) (calls before))
+      (map (any_call of) (calls (entry ∷ entries)))
       ∙ rw (is, itself entry.by.0) refl
 
   module _ (one_ask : (a b : Ask C) → Some (of a) ≡ Some (of b) → a ≡ b) (cmd_words : Script → C → List (List ℕ))
       (answer_words : Script → R → List (List ℕ)) where
-    asked_all : (whole before entries : List (Entry C R)) → IsPlayedAt script on form.kind (map (any_call of) (calls whole))
+    asked_all : (whole before entries : List (Entry C R)) → IsPlayedAt script on form.kind
+        (map (any_call of) (calls whole))
         → before ++ entries ≡ whole → Continues meaning form before entries
         → AllByRecursion (λ call. call.by.0 ≤ length script.connectors) (map (any_call of) (calls entries))
         → Asked meaning form of one_ask cmd_words answer_words script next before entries
     asked_all whole before [] plays is goes callers = tt
     asked_all whole before (entry ∷ entries) plays is goes callers =
         let call = next_is meaning form before entry entry.what goes.0 in
-        let split : map (any_call of) (calls (entry ∷ entries)) ≡ told_call entry call.ask ∷ map (any_call of) (calls entries) =
+        let split : map (any_call of) (calls (entry ∷ entries)) ≡ told_call entry call.ask ∷ map (any_call of)
+        (calls entries) =
         call_first entry entries call.ask call.is in
         let both : AllByRecursion (λ (c : AnyCall). c.by.0 ≤ length script.connectors)
         (told_call entry call.ask ∷ map (any_call of) (calls entries)) =
         subst (AllByRecursion (λ (c : AnyCall). c.by.0 ≤ length script.connectors)) split callers in (
           (λ asked same. next_of form.kind (works form.kind (lines_at on (lines_of script entry.by)))
-              (own_calls (map (any_call of) (calls whole)) entry.by) (own_calls (map (any_call of) (calls before)) entry.by)
+              (own_calls (map (any_call of) (calls whole)) entry.by) (own_calls (map (any_call of) (calls before))
+              entry.by)
               (told_call entry asked) (own_calls (map (any_call of) (calls entries)) entry.by) (plays entry.by both.0)
-              (ap (λ (h : List (Entry C R)). own_calls (map (any_call of) (calls h)) entry.by) (sym is) ∙ own_split before entry entries asked same)),
+              (ap (λ (h : List (Entry C R)). own_calls (map (any_call of) (calls h)) entry.by) (sym is)
+              ∙ own_split before entry entries asked same)),
           both.0,
-          asked_all whole (before ++ entry ∷ []) entries plays (append_assoc before (entry ∷ []) entries ∙ is) goes.1 both.1,
+          asked_all whole (before ++ entry ∷ []) entries plays (append_assoc before (entry ∷ []) entries ∙ is) goes.1
+              both.1,
         )
 
     pub same_history : (n : ℕ) (one other : List (Entry C R)) (xs ys : List (List ℕ)) → AreApart script.connectors
         → length one < 2 ^ 64 → length other < 2 ^ 64 → IsLegal meaning form one → IsLegal meaning form other
-        → IsPlayedAt script on form.kind (map (any_call of) (calls one)) → IsPlayedAt script on form.kind (map (any_call of) (calls other))
+        → IsPlayedAt script on form.kind (map (any_call of) (calls one)) → IsPlayedAt script on form.kind
+        (map (any_call of) (calls other))
         → AllByRecursion (λ call. call.by.0 ≤ length script.connectors) (map (any_call of) (calls one))
         → AllByRecursion (λ call. call.by.0 ≤ length script.connectors) (map (any_call of) (calls other))
-        → text_of (entry_lines cmd_words answer_words script n one ++ xs) ≡ text_of (entry_lines cmd_words answer_words script n other ++ ys)
+        → text_of (entry_lines cmd_words answer_words script n one ++ xs) ≡ text_of
+        (entry_lines cmd_words answer_words script n other ++ ys)
         → (one ≡ other) × (text_of xs ≡ text_of ys)
     same_history n one other xs ys apart small small' legal legal' plays plays' callers callers' e =
         let line : Entry C R → List ℕ = entry_line cmd_words answer_words script in
@@ -112,7 +131,8 @@ module _ {C R I S : Type 0} (meaning : Meaning C R I S) (form : StrForm) (of : A
         (map line one ++ xs) (map line other ++ ys) small small' e in
         let goes = continues_legal meaning form one legal in
         let goes' = continues_legal meaning form other legal' in
-        same_entries meaning form of one_ask cmd_words answer_words script next [] one other xs ys apart counts.0 goes goes'
+        same_entries meaning form of one_ask cmd_words answer_words script next [] one other xs ys apart counts.0 goes
+        goes'
         (asked_all one [] one plays refl goes callers) (asked_all other [] other plays' refl goes' callers') counts.1
 
 -- ---- histories of whatever kind
@@ -137,7 +157,8 @@ abbrev pub AreRight : Script → ℕ → List AnyHistory → Type 0
 AreRight script n [] = Unit {0}
 AreRight script n (entries ∷ histories) = IsRight script n entries × AreRight script (n + 1) histories
 
-same_form : (script : Script) (n : ℕ) (a b : StrForm) → slice_get script.structures n ≡ Some a → slice_get script.structures n ≡ Some b → a ≡ b
+same_form : (script : Script) (n : ℕ) (a b : StrForm) → slice_get script.structures n ≡ Some a
+    → slice_get script.structures n ≡ Some b → a ≡ b
 same_form script n a b e f = let both : Some a ≡ Some b = sym e ∙ f in cc
 
 -- of one kind
@@ -169,37 +190,52 @@ of_other_kind kind.Lock (history.Lock a) (history.Cache b) of_one of_other = abs
 of_other_kind kind.Lock (history.Lock a) (history.List b) of_one of_other = absurd of_other
 of_other_kind kind.Lock (history.Lock a) (history.Lock b) of_one of_other = tt
 
-callers_of : (script : Script) (entries : AnyHistory) → All (λ call. call.by.0 ≤ length script.connectors) (any_calls entries)
+callers_of : (script : Script) (entries : AnyHistory) → All (λ call. call.by.0 ≤ length script.connectors)
+    (any_calls entries)
     → AllByRecursion (λ call. call.by.0 ≤ length script.connectors) (any_calls entries)
-callers_of script entries h = recursion_from_All (λ (call : AnyCall). call.by.0 ≤ length script.connectors) (any_calls entries) h
+callers_of script entries h = recursion_from_All (λ (call : AnyCall). call.by.0 ≤ length script.connectors)
+    (any_calls entries) h
 
-any_same : (script : Script) (n : ℕ) (form : StrForm) (one other : AnyHistory) (xs ys : List (List ℕ)) → AreApart script.connectors
+any_same : (script : Script) (n : ℕ) (form : StrForm) (one other : AnyHistory) (xs ys : List (List ℕ))
+    → AreApart script.connectors
     → IsSameKind one other → any_length one < 2 ^ 64 → any_length other < 2 ^ 64
     → IsHistoryOf script form one → IsHistoryOf script form other
-    → IsPlayedAt script (record { 0 = n }) form.kind (any_calls one) → IsPlayedAt script (record { 0 = n }) form.kind (any_calls other)
+    → IsPlayedAt script (record { 0 = n }) form.kind (any_calls one) → IsPlayedAt script (record { 0 = n }) form.kind
+    (any_calls other)
     → text_of (history_lines script n one ++ xs) ≡ text_of (history_lines script n other ++ ys)
     → (one ≡ other) × (text_of xs ≡ text_of ys)
-any_same script n form (history.Cache one) (history.Cache other) xs ys apart kinds small small' right right' plays plays' e =
-    let parts = same_history cache_meaning form ask.Cache script (record { 0 = n }) one_cache cache_words cache_reply_words
+any_same script n form (history.Cache one) (history.Cache other) xs ys apart kinds small small' right right' plays
+    plays' e =
+    let parts = same_history cache_meaning form ask.Cache script (record { 0 = n }) one_cache cache_words
+    cache_reply_words
     n one other xs ys apart small small' right.legal right'.legal plays plays'
-    (callers_of script (history.Cache one) right.callers) (callers_of script (history.Cache other) right'.callers) e in
+    (callers_of script (history.Cache one) right.callers) (callers_of script (history.Cache other) right'.callers) e
+    in
     (ap history.Cache parts.0, parts.1)
-any_same script n form (history.List one) (history.List other) xs ys apart kinds small small' right right' plays plays' e =
+any_same script n form (history.List one) (history.List other) xs ys apart kinds small small' right right' plays
+    plays' e =
     let parts = same_history list_meaning form ask.List script (record { 0 = n }) one_list list_words list_reply_words
     n one other xs ys apart small small' right.legal right'.legal plays plays'
     (callers_of script (history.List one) right.callers) (callers_of script (history.List other) right'.callers) e in
     (ap history.List parts.0, parts.1)
-any_same script n form (history.Lock one) (history.Lock other) xs ys apart kinds small small' right right' plays plays' e =
+any_same script n form (history.Lock one) (history.Lock other) xs ys apart kinds small small' right right' plays
+    plays' e =
     let parts = same_history lock_meaning form ask.Lock script (record { 0 = n }) one_lock lock_words lock_reply_words
     n one other xs ys apart small small' right.legal right'.legal plays plays'
     (callers_of script (history.Lock one) right.callers) (callers_of script (history.Lock other) right'.callers) e in
     (ap history.Lock parts.0, parts.1)
-any_same script n form (history.Cache one) (history.List other) xs ys apart kinds small small' right right' plays plays' e = absurd kinds
-any_same script n form (history.Cache one) (history.Lock other) xs ys apart kinds small small' right right' plays plays' e = absurd kinds
-any_same script n form (history.List one) (history.Cache other) xs ys apart kinds small small' right right' plays plays' e = absurd kinds
-any_same script n form (history.List one) (history.Lock other) xs ys apart kinds small small' right right' plays plays' e = absurd kinds
-any_same script n form (history.Lock one) (history.Cache other) xs ys apart kinds small small' right right' plays plays' e = absurd kinds
-any_same script n form (history.Lock one) (history.List other) xs ys apart kinds small small' right right' plays plays' e = absurd kinds
+any_same script n form (history.Cache one) (history.List other) xs ys apart kinds small small' right right' plays
+    plays' e = absurd kinds
+any_same script n form (history.Cache one) (history.Lock other) xs ys apart kinds small small' right right' plays
+    plays' e = absurd kinds
+any_same script n form (history.List one) (history.Cache other) xs ys apart kinds small small' right right' plays
+    plays' e = absurd kinds
+any_same script n form (history.List one) (history.Lock other) xs ys apart kinds small small' right right' plays
+    plays' e = absurd kinds
+any_same script n form (history.Lock one) (history.Cache other) xs ys apart kinds small small' right right' plays
+    plays' e = absurd kinds
+any_same script n form (history.Lock one) (history.List other) xs ys apart kinds small small' right right' plays
+    plays' e = absurd kinds
 
 -- ---- the histories of all structures
 
@@ -210,23 +246,30 @@ abbrev pub AreShort : List AnyHistory → Type 0
 AreShort [] = Unit {0}
 AreShort (entries ∷ histories) = (any_length entries < 2 ^ 64) × AreShort histories
 
-pub histories_same : (script : Script) (n : ℕ) (one other : List AnyHistory) (xs ys : List (List ℕ)) → AreApart script.connectors
+pub histories_same : (script : Script) (n : ℕ) (one other : List AnyHistory) (xs ys : List (List ℕ))
+    → AreApart script.connectors
     → length one ≡ length other → AreShort one → AreShort other → AreRight script n one → AreRight script n other
-    → text_of (histories_from script n one ++ xs) ≡ text_of (histories_from script n other ++ ys) → (one ≡ other) × (text_of xs ≡ text_of ys)
+    → text_of (histories_from script n one ++ xs) ≡ text_of (histories_from script n other ++ ys) → (one ≡ other)
+    × (text_of xs ≡ text_of ys)
 histories_same script n [] [] xs ys apart same short short' right right' e = (refl, e)
 histories_same script n [] (b ∷ other) xs ys apart same short short' right right' e = absurd (omega (arith, same))
 histories_same script n (a ∷ one) [] xs ys apart same short short' right right' e = absurd (omega (arith, same))
 histories_same script n (a ∷ one) (b ∷ other) xs ys apart same short short' right right' e =
-    let forms : right'.0.form ≡ right.0.form = same_form script n right'.0.form right.0.form right'.0.known right.0.known in
+    let forms : right'.0.form ≡ right.0.form = same_form script n right'.0.form right.0.form right'.0.known
+    right.0.known in
     let form : StrForm = right.0.form in
-    let history_right : IsHistoryOf script form b = subst (λ (f : StrForm). IsHistoryOf script f b) forms right'.0.right in
+    let history_right : IsHistoryOf script form b = subst (λ (f : StrForm). IsHistoryOf script f b) forms
+    right'.0.right in
     let played : IsPlayedAt script (record { 0 = n }) form.kind (any_calls b) =
     subst (λ (f : StrForm). IsPlayedAt script (record { 0 = n }) f.kind (any_calls b)) forms right'.0.plays in
-    let first = any_same script n form a b (histories_from script (n + 1) one ++ xs) (histories_from script (n + 1) other ++ ys) apart
-    (of_other_kind form.kind a b right.0.right.kind history_right.kind) short.0 short'.0 right.0.right history_right right.0.plays played
+    let first = any_same script n form a b (histories_from script (n + 1) one ++ xs)
+    (histories_from script (n + 1) other ++ ys) apart
+    (of_other_kind form.kind a b right.0.right.kind history_right.kind) short.0 short'.0 right.0.right history_right
+    right.0.plays played
     (sym (joined (history_lines script n a) (histories_from script (n + 1) one) xs) ∙ e
     ∙ joined (history_lines script n b) (histories_from script (n + 1) other) ys) in
-    let more = histories_same script (n + 1) one other xs ys apart (omega (arith, same)) short.1 short'.1 right.1 right'.1 first.1 in
+    let more = histories_same script (n + 1) one other xs ys apart (omega (arith, same)) short.1 short'.1 right.1
+    right'.1 first.1 in
     let here : a ≡ b = first.0 in
     let rest : one ≡ other = more.0 in
     (cc, more.1)
@@ -236,7 +279,8 @@ histories_same script n (a ∷ one) (b ∷ other) xs ys apart same short short' 
 
 -- ---- the numbers of calls, and points
 
-module _ {C R I S : Type 0} (meaning : Meaning C R I S) (of : Ask C → AnyAsk) (form : StrForm) (entries : List (Entry C R))
+module _ {C R I S : Type 0} (meaning : Meaning C R I S) (of : Ask C → AnyAsk) (form : StrForm)
+    (entries : List (Entry C R))
     (legal : IsLegal meaning form entries) where
   numbers_legal : numbers entries ≡ numbers_from 1 (length entries)
   numbers_legal = counted_legal meaning form entries (continues_legal meaning form entries legal)
@@ -268,8 +312,12 @@ any_counted form (history.Cache entries) legal = counted_of cache_meaning ask.Ca
 any_counted form (history.List entries) legal = counted_of list_meaning ask.List form entries legal
 any_counted form (history.Lock entries) legal = counted_of lock_meaning ask.Lock form entries legal
 
-pub legal_point : (form : StrForm) (entries : AnyHistory) (at sure : ℕ) (conn : ConnId) (index : ℕ) (bit : Bool) → IsAnyLegal form entries
+pub legal_point : (form : StrForm) (entries : AnyHistory) (at sure : ℕ) (conn : ConnId) (index : ℕ) (bit : Bool)
+    → IsAnyLegal form entries
     → AnyTells form entries at sure conn index bit → at ≤ any_length entries
-legal_point form (history.Cache entries) at sure conn index bit legal tells = point_of cache_meaning ask.Cache form entries legal at tells.point
-legal_point form (history.List entries) at sure conn index bit legal tells = point_of list_meaning ask.List form entries legal at tells.point
-legal_point form (history.Lock entries) at sure conn index bit legal tells = point_of lock_meaning ask.Lock form entries legal at tells.point
+legal_point form (history.Cache entries) at sure conn index bit legal tells = point_of cache_meaning ask.Cache form
+    entries legal at tells.point
+legal_point form (history.List entries) at sure conn index bit legal tells = point_of list_meaning ask.List form
+    entries legal at tells.point
+legal_point form (history.Lock entries) at sure conn index bit legal tells = point_of lock_meaning ask.Lock form
+    entries legal at tells.point

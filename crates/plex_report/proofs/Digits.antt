@@ -14,7 +14,8 @@ pub digits_more : (count rest n : ℕ) → count ≡ rest + 1
     → binary_digits count n ≡ (48 + n % 2) ∷ binary_digits rest (n / 2)
 digits_more zero rest n e = absurd (omega arith)
 digits_more (suc count) rest n e =
-    let same : count ≡ rest = omega arith in digits_next count n ∙ ap (λ k. (48 + n % 2) ∷ binary_digits k (n / 2)) same
+    let same : count ≡ rest = omega arith in digits_next count n ∙ ap (λ k. (48 + n % 2) ∷ binary_digits k (n / 2))
+    same
 
 pub line_more : (line : List ℕ) (count rest n : ℕ) → count ≡ rest + 1
     → (line ++ (48 + n % 2) ∷ []) ++ binary_digits rest (n / 2) ≡ line ++ binary_digits count n

@@ -59,7 +59,8 @@ structures_after script rest k n =
 pub history_spot : (script : Script) (histories : List AnyHistory) (rest : List (List ℕ)) (i k j : ℕ)
     (history : AnyHistory)
     → i < length histories → history ≡ get_or histories i history
-    → k ≡ sum_by (λ x. any_length x + 1) (take i histories) + j → j ≤ option_map_or any_length (slice_get histories i) 0
+    → k ≡ sum_by (λ x. any_length x + 1) (take i histories) + j → j ≤ option_map_or any_length (slice_get histories i)
+    0
     → slice_get (histories_lines script histories ++ rest) k ≡ slice_get (history_lines script i history) j
 history_spot script histories rest i k j history =
     get_spot (λ i history. history_lines script i history) any_length

@@ -38,7 +38,8 @@ transcripts_lines script transcripts =
 
 abbrev pub report_lines : Script → List AnyHistory → List Transcript → List (List ℕ)
 report_lines script histories transcripts =
-    map facility_line (by_number script.facilities) ++ (structures_lines script ++ (map connector_line script.connectors
+    map facility_line (by_number script.facilities) ++ (structures_lines script
+    ++ (map connector_line script.connectors
     ++ (histories_lines script histories ++ (transcripts_lines script transcripts ++ codes "END" ∷ []))))
 
 -- each line of the report, with its line feed
@@ -47,7 +48,8 @@ report script histories transcripts = flat_map ended (report_lines script histor
 
 -- ---- places of lines
 
--- the k-th line is this one of this section, or it stands so far behind all sections; each has a heading and its items
+-- the k-th line is this one of this section, or it stands so far behind all sections; each has a heading and its
+-- items
 abbrev pub IsSpot : {X : Type 0} → (X → ℕ) → List X → ℕ → Spot → Type 0
 IsSpot size sections k (Within section line) =
     (section < length sections) × (k ≡ sum_by (λ x. size x + 1) (take section sections) + line)

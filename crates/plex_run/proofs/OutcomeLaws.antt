@@ -31,7 +31,8 @@ AreFresh =
 -- ---- words
 
 -- where the words say a way, they are one of both words
-pub said_by : (serial threads : Type 0) (said : Option Way) (by : Way) → said ≡ Some by → (said ≡ Some ways.InTurn) ↔ serial
+pub said_by : (serial threads : Type 0) (said : Option Way) (by : Way) → said ≡ Some by → (said ≡ Some ways.InTurn)
+    ↔ serial
     → (said ≡ Some ways.OnThreads) ↔ threads → serial ⊎ threads
 said_by serial threads said ways.InTurn is first second = inl (first.0 is)
 said_by serial threads said ways.OnThreads is first second = inr (second.0 is)
@@ -63,7 +64,8 @@ not_yet_exactly text line script status says e = refused_exactly text line _ sta
 
 served_unrefused : (text : List ℕ) (script : Script) (line : ℕ) (told : List ℕ) → SaysOne → IsExclusive
     → IsServed text script → IsRefused text line told → ⊥
-served_unrefused text script line told one never served (inl fault) = never text script line fault.0 served.says fault.1
+served_unrefused text script line told one never served (inl fault) = never text script line fault.0 served.says
+    fault.1
 served_unrefused text script line told one never served (inr other) =
     let same : script ≡ other.0 = one text script other.0 served.says other.1 in
     let none : not_yet other.0 ≡ None = subst (λ s. not_yet s ≡ None) same served.built in
@@ -131,7 +133,8 @@ full_written held held_now text script status served eight is gains = at_full (f
 
 -- what was written of a run shows histories
 pub histories_written : (held held_now : Option (List ℕ)) (text : List ℕ) (by : Way) (script : Script) (status : ℕ)
-    → IsServed text script → AreFresh → WritesRun by script status held held_now → WritesHistories status held held_now text
+    → IsServed text script → AreFresh → WritesRun by script status held held_now → WritesHistories status held
+    held_now text
 histories_written held held_now text by script status served fresh wrote =
     let shows = wrote.run.shows in (
       script,

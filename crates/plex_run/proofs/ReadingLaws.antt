@@ -34,7 +34,8 @@ found_within p first n (form ∷ forms) within passes none =
     by_test : (b : Bool) → p first ≡ b
         → (if b then Some (first, form) else find (λ (place : ℕ × StrForm). p place.0) later) ≡ None
         → (n : ℕ) → n < length (form ∷ forms) → p (first + n) ≡ true
-        → ((m : ℕ) → m < length forms → p ((first + 1) + m) ≡ true → find (λ (place : ℕ × StrForm). p place.0) later ≡ None → ⊥)
+        → ((m : ℕ) → m < length forms → p ((first + 1) + m) ≡ true → find (λ (place : ℕ × StrForm). p place.0) later ≡
+        None → ⊥)
         → ⊥
     by_test true here k m low found behind = cc
     by_test false past k zero low found behind =
@@ -58,38 +59,52 @@ all_done : (limit : ℕ) (script : Script) (histories : List AnyHistory) (transc
 all_done limit script histories transcripts some shows none c transcript there =
     by_end transcript.end refl (shows.ends c transcript there)
   where
-    nowhere : find (λ (place : ℕ × StrForm). is_full_at transcripts place.0) (enumerate_from 0 script.structures) ≡ None
+    nowhere : find (λ (place : ℕ × StrForm). is_full_at transcripts place.0) (enumerate_from 0 script.structures) ≡
+        None
     nowhere = none_mapped (λ (place : ℕ × StrForm). place.1.name) _ none
 
-    by_end : (end : AgentEnd) → transcript.end ≡ end → EndsRight limit script histories (record { 0 = c }) transcript.items end
+    by_end : (end : AgentEnd) → transcript.end ≡ end → EndsRight limit script histories (record { 0 = c })
+        transcript.items end
         → transcript.end ≡ ended.Done
     by_end ended.Done is right = is
     by_end ended.NoMemory is right = absurd right
     by_end (ended.JournalFull on) is right =
         let calls : 0 < length_on histories on = omega (arith, some, right.full) in
-        let within : on.0 < length script.structures = omega (arith, there_on histories on.0 calls, shows.structures) in
+        let within : on.0 < length script.structures = omega (arith, there_on histories on.0 calls, shows.structures)
+        in
         let itself : on.0 == on.0 ≡ true = grind (arith, nat_tests) in
         let stopped : ends_full_at on.0 transcript.end ≡ true = rw is itself in
-        let here : get_or transcripts c transcript ≡ transcript = get_or_from_slice_get transcripts c transcript transcript there in
+        let here : get_or transcripts c transcript ≡ transcript = get_or_from_slice_get transcripts c transcript
+        transcript there in
         let found : is_full_at transcripts on.0 ≡ true =
-        list_any_at (λ (t : Transcript). ends_full_at on.0 t.end) transcripts c transcript (slice_get_within transcripts c transcript there)
+        list_any_at (λ (t : Transcript). ends_full_at on.0 t.end) transcripts c transcript
+        (slice_get_within transcripts c transcript there)
         (rw here stopped) in
         let place : on.0 ≡ 0 + on.0 = omega arith in
-        absurd (found_within (is_full_at transcripts) 0 on.0 script.structures within (ap (is_full_at transcripts) (sym place) ∙ found) nowhere)
+        absurd (found_within (is_full_at transcripts) 0 on.0 script.structures within
+        (ap (is_full_at transcripts) (sym place) ∙ found) nowhere)
 
 -- the report of a run can be read in one way
-pub one_reading : (held held_now : Option (List ℕ)) (text : List ℕ) (script : Script) (reading : Reading) → IsServed text script
-    → IsOnlyReading → ShowsRun script reading → full_of script reading ≡ None → length (report_of script reading) < 2 ^ 64
+pub one_reading : (held held_now : Option (List ℕ)) (text : List ℕ) (script : Script) (reading : Reading)
+    → IsServed text script
+    → IsOnlyReading → ShowsRun script reading → full_of script reading ≡ None → length (report_of script reading) < 2
+    ^ 64
     → Appends held held_now (report_of script reading) → WritesOneReading held held_now text
 one_reading held held_now text script reading served only shows none short appends =
     let is : IsReading journal_limit script reading =
-    record { shows = shows; done = all_done journal_limit script reading.histories reading.transcripts (omega arith) shows none } in
+    record {
+      shows = shows;
+      done = all_done journal_limit script reading.histories reading.transcripts (omega arith)
+          shows none;
+    } in
     let the : IsTheReading journal_limit script reading =
-    λ other other_is same. sym (only text journal_limit script reading other served.says is other_is short (sym same)) in
+    λ other other_is same. sym (only text journal_limit script reading other served.says is other_is short (sym same))
+    in
     (script, (reading, served, is, the, appends))
 
 -- the status 0 tells that no journal got full
-pub reading_written : (held held_now : Option (List ℕ)) (text : List ℕ) (by : Way) (script : Script) (status : ℕ) → IsServed text script
+pub reading_written : (held held_now : Option (List ℕ)) (text : List ℕ) (by : Way) (script : Script) (status : ℕ)
+    → IsServed text script
     → IsOnlyReading → status ≡ 0 → WritesRun by script status held held_now → WritesOneReading held held_now text
 reading_written held held_now text by script status served only none wrote =
     by_full (full_of script wrote.reading) refl

@@ -50,7 +50,8 @@ built_ask (ask.Shell command) h = built (is_built command) h
     built false e = absurd (cc)
 built_ask (ask.Content command) h = tt
 
-may_ask : (by : ConnId) (asked : AnyAsk) → MayAskAny by asked → is_unbuilt_ask asked ≡ false → kinds.MayAskAny by asked
+may_ask : (by : ConnId) (asked : AnyAsk) → MayAskAny by asked → is_unbuilt_ask asked ≡ false
+    → kinds.MayAskAny by asked
 may_ask by (any.Cache asked) may h = (may, built_ask asked h)
 may_ask by (any.List asked) may h = (may, built_ask asked h)
 may_ask by (any.Lock asked) may h = (may, built_ask asked h)

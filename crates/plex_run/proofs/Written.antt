@@ -37,7 +37,8 @@ pub GainsPrefix-cut : (old new : Option (List ℕ)) (n : ℕ) (text : List ℕ) 
 GainsPrefix-cut old new n text gains = record { count = n; gained = gains }
 
 -- a first text was written, and then a second one, whose writing may have failed
-pub GainsPrefix-second : {T E : Type 0} (r : Result T E) (count : E → ℕ) (old mid new : Option (List ℕ)) (first second : List ℕ) → Appends old mid first
+pub GainsPrefix-second : {T E : Type 0} (r : Result T E) (count : E → ℕ) (old mid new : Option (List ℕ))
+    (first second : List ℕ) → Appends old mid first
     → IfErr r (λ e. Appends mid new (take (count e) second)) → OnErr r (GainsPrefix old new (first ++ second))
 GainsPrefix-second (Ok x) count old mid new first second whole more = tt
 GainsPrefix-second (Err e) count old mid new first second whole more =

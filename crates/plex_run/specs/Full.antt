@@ -19,4 +19,5 @@ is_full_at transcripts place = list_any (λ (transcript : Transcript). ends_full
 -- the name of the first structure at whose full journal a caller's work ended
 abbrev pub full_structure : List StrForm → List Transcript → Option Name16
 full_structure structures transcripts =
-    option_map (λ (place : ℕ × StrForm). place.1.name) (find (λ place. is_full_at transcripts place.0) (enumerate_from 0 structures))
+    option_map (λ (place : ℕ × StrForm). place.1.name) (find (λ place. is_full_at transcripts place.0)
+    (enumerate_from 0 structures))

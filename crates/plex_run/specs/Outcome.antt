@@ -94,7 +94,8 @@ served_text script = run_text script (serial_reading script)
 abbrev pub served_status : Script → ℕ
 served_status script = run_status script (serial_reading script)
 
--- legal histories of the structures, each caller's calls in them once and in their order, and tests that tell what stood
+-- legal histories of the structures, each caller's calls in them once and in their order, and tests that tell what
+-- stood
 abbrev pub ShowsRun : Script → Reading → Type 0
 ShowsRun script reading = ShowsHistories journal_limit script reading.histories reading.transcripts
 
@@ -121,23 +122,28 @@ pub record IsAnswerOf (by : Way) (script : Script) (status : ℕ) (heading told 
 -- the report of the text's script was written, whole and nothing else; no journal got full
 abbrev pub WritesReport : Option (List ℕ) → Option (List ℕ) → List ℕ → Type 0
 WritesReport held held_now text =
-    (script : Script) × IsServed text script × (full_in_run script ≡ None) × Appends held held_now (serial_report script)
+    (script : Script) × IsServed text script × (full_in_run script ≡ None) × Appends held held_now
+    (serial_report script)
 
--- a journal got full: its structure is told, and then the report of the text's script was written, whole and nothing else
+-- a journal got full: its structure is told, and then the report of the text's script was written, whole and nothing
+-- else
 abbrev pub WritesFull : Option (List ℕ) → Option (List ℕ) → List ℕ → Type 0
 WritesFull held held_now text =
     (script : Script) × (name : Name16) × IsServed text script × (full_in_run script ≡ Some name)
     × Appends held held_now (full_line (Some name) ++ serial_report script)
 
--- what was written shows histories: each is legal and holds each caller's calls once and in their order; each test tells what stood at a
--- numbered point of it; and a test of a cache that tells VALID tells a fresh copy at that point. The status says whether a journal got full.
+-- what was written shows histories: each is legal and holds each caller's calls once and in their order; each test
+-- tells what stood at a
+-- numbered point of it; and a test of a cache that tells VALID tells a fresh copy at that point. The status says
+-- whether a journal got full.
 abbrev pub WritesHistories : ℕ → Option (List ℕ) → Option (List ℕ) → List ℕ → Type 0
 WritesHistories status held held_now text =
     (script : Script) × ((reading : Reading) × IsServed text script × ShowsRun script reading
     × ShowsFresh script reading.histories reading.transcripts × (status ≡ run_status script reading)
     × Appends held held_now (run_text script reading))
 
--- the report was written of histories and transcripts that each caller's work was done in, and of no others could it have been
+-- the report was written of histories and transcripts that each caller's work was done in, and of no others could it
+-- have been
 abbrev pub WritesOneReading : Option (List ℕ) → Option (List ℕ) → List ℕ → Type 0
 WritesOneReading held held_now text =
     (script : Script) × ((reading : Reading) × IsServed text script × IsReading journal_limit script reading
@@ -151,7 +157,8 @@ WritesFront held held_now text =
 
 -- a front of what is written of the run on one thread was written
 abbrev pub WritesSerialFront : Option (List ℕ) → Option (List ℕ) → List ℕ → Type 0
-WritesSerialFront held held_now text = (script : Script) × IsServed text script × GainsPrefix held held_now (served_text script)
+WritesSerialFront held held_now text = (script : Script) × IsServed text script × GainsPrefix held held_now
+    (served_text script)
 
 -- what a script's run leaves was written, whole and nothing else
 pub record WritesRun (by : Way) (script : Script) (status : ℕ) (held held_now : Option (List ℕ)) : Type 0 where
@@ -170,7 +177,8 @@ pub record WritesRunFront (by : Way) (script : Script) (held held_now : Option (
 -- the line of the text that isn't served was told, and why
 abbrev pub WritesRefusal : Option (List ℕ) → Option (List ℕ) → ℕ → ℕ → List ℕ → Type 0
 WritesRefusal held held_now faults faults_now text =
-    (line : ℕ) × (told : List ℕ) × IsRefused text line told × Gains held held_now faults faults_now (script_line line told)
+    (line : ℕ) × (told : List ℕ) × IsRefused text line told × Gains held held_now faults faults_now
+    (script_line line told)
 
 -- ---- which status
 
@@ -181,7 +189,8 @@ IsExact text status =
 
 -- a script that is built has the status 0, or 8 where a journal got full
 abbrev pub IsComplete : List ℕ → ℕ → Type 0
-IsComplete text status = (script : Script) → IsServed text script → length text ≤ script_limit → status ≡ served_status script
+IsComplete text status = (script : Script) → IsServed text script → length text ≤ script_limit
+    → status ≡ served_status script
 
 -- a script that is built, run on threads, has the status 0, or 8 where a journal got full
 abbrev pub IsCompleteOnThreads : List ℕ → ℕ → Type 0

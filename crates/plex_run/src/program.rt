@@ -319,14 +319,15 @@ fn served<R: Threads + Wait + Sync, S: Source, K: Sink, L: Link, G: Gate>(
     judged(rt, alloc, way, &text, sink, links, gate)
 }
 
-/// Runs the program: `words` are its words, the script comes from `source`, and what it says goes to
-/// `sink`. The answer is the exit status. There are 64 links: structure `s` of the script, from 0, and
-/// facility `f`, from 1, use link `4 * s + f - 1`.
+/// Runs the program: `words` are its words, the script comes from `source`, and what it says goes
+/// to `sink`. The answer is the exit status. There are 64 links: structure `s` of the script, from
+/// 0, and facility `f`, from 1, use link `4 * s + f - 1`.
 ///
-/// With the one word `serial` the script's lines are done one after another, and its report is always
-/// the same. With `threads` each caller's lines are done on a thread of its own, where one can be made;
-/// the order in which the calls of several callers come to a structure, and so the report, may then
-/// differ from run to run. The gate is told of each line on threads, before and after it.
+/// With the one word `serial` the script's lines are done one after another, and its report is
+/// always the same. With `threads` each caller's lines are done on a thread of its own, where one
+/// can be made; the order in which the calls of several callers come to a structure, and so the
+/// report, may then differ from run to run. The gate is told of each line on threads, before and
+/// after it.
 ///
 /// | Status | Comes | Written to the sink |
 /// |---|---|---|
@@ -339,10 +340,10 @@ fn served<R: Threads + Wait + Sync, S: Source, K: Sink, L: Link, G: Gate>(
 /// | 7 | more than 1,048,576 bytes came | `TOOLONG 1048576` |
 /// | 8 | a journal of 65,536 calls got full | `JOURNALFULL structure 65536`, and the report |
 ///
-/// With 3 the line is the first faulty one, and why is LATE, SYNTAX, LIMIT, UNKNOWN, TWICE or SPACE;
-/// or else the first line that isn't built, and NOTYET. With 8 the structure is the first in the
-/// policy whose journal got full. Lines are counted from 1. The causes are tried in the order 2, 4,
-/// 7, 3, 5, 8; want of memory may stand in place of any but 2.
+/// With 3 the line is the first faulty one, and why is LATE, SYNTAX, LIMIT, UNKNOWN, TWICE or
+/// SPACE; or else the first line that isn't built, and NOTYET. With 8 the structure is the first in
+/// the policy whose journal got full. Lines are counted from 1. The causes are tried in the order
+/// 2, 4, 7, 3, 5, 8; want of memory may stand in place of any but 2.
 pub fn run<R: Threads + Wait + Sync, S: Source, K: Sink, L: Link, G: Gate>(
     rt: &R,
     alloc: Global,
@@ -363,9 +364,9 @@ pub fn run<R: Threads + Wait + Sync, S: Source, K: Sink, L: Link, G: Gate>(
         (WritesFull (K.held sink.old) (K.held sink.new)) }
     // With either word the bytes are such a script, and the report that is written, whole and
     // nothing else, shows a legal history of each structure, each caller's calls in them once and
-    // in their order, and tests that tell what stood at a numbered point; where a cache's test tells
-    // VALID, the connector's copy was fresh there. The status is 8 where one of the transcripts ends
-    // at a full journal, which is told before the report, and else 0.
+    // in their order, and tests that tell what stood at a numbered point; where a cache's test
+    // tells VALID, the connector's copy was fresh there. The status is 8 where one of the
+    // transcripts ends at a full journal, which is told before the report, and else 0.
     ensures headline { (result ≡ 0) ⊎ (result ≡ 8) → IfSome (S.left source.old)
         (WritesHistories result (K.held sink.old) (K.held sink.new)) }
     // And no other legal histories, with transcripts that follow the script, have that report.

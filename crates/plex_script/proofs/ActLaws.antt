@@ -31,7 +31,8 @@ use Rattle.plex_spell.specs.Patterns.{tokens_at}
 
 -- ---- once more
 
-first_read : {V : Type 0} (f : List ℕ → Option V) (ws rest : Words) (v : V) → on_first f ws ≡ Some (v, rest) → (w : List ℕ) × (f w ≡ Some v)
+first_read : {V : Type 0} (f : List ℕ → Option V) (ws rest : Words) (v : V) → on_first f ws ≡ Some (v, rest)
+    → (w : List ℕ) × (f w ≡ Some v)
 first_read f [] rest v h = absurd (cc)
 first_read {V} f (w ∷ ws) rest v h =
     let m = mapped (λ (x : V). (x, ws)) (f w) (v, rest) h in
@@ -40,9 +41,11 @@ first_read {V} f (w ∷ ws) rest v h =
 
 retry_number : (rigour : Rigour) (w : List ℕ) (n : ℕ) → number_of rigour 1 1000 w ≡ Some n → 0 < n
 retry_number rigour w n h =
-    pick h (λ _ k. at_test (nat_le 1 (digits_value 10 w) && nat_le (digits_value 10 w) 1000) rigour refl k) (λ _ k. not_some n k)
+    pick h (λ _ k. at_test (nat_le 1 (digits_value 10 w) && nat_le (digits_value 10 w) 1000) rigour refl k)
+    (λ _ k. not_some n k)
   where
-    at_test : (b : Bool) (r : Rigour) → (nat_le 1 (digits_value 10 w) && nat_le (digits_value 10 w) 1000) ≡ b → kept r b (digits_value 10 w) 1 ≡ Some n → 0 < n
+    at_test : (b : Bool) (r : Rigour) → (nat_le 1 (digits_value 10 w) && nat_le (digits_value 10 w) 1000) ≡ b
+        → kept r b (digits_value 10 w) 1 ≡ Some n → 0 < n
     at_test true r e k =
         let same : digits_value 10 w ≡ n = cc in
         let low = (and_parts (nat_le 1 (digits_value 10 w)) (nat_le (digits_value 10 w) 1000) e).0 in
@@ -57,19 +60,22 @@ retry-none n h = rw h refl
 positive_not : (n : ℕ) → 0 < n → (n == 0) ≡ false
 positive_not n h = grind (arith, nat_tests)
 
-nothing_there : (ws rest : Words) (n : ℕ) → (let q : Option ℕ × Words = (None, ws) in Some q) ≡ Some (Some n, rest) → 0 < n
+nothing_there : (ws rest : Words) (n : ℕ) → (let q : Option ℕ × Words = (None, ws) in Some q) ≡ Some (Some n, rest)
+    → 0 < n
 nothing_there ws rest n h =
     let wrong : (let q : Option ℕ × Words = (None, ws) in q) ≡ (Some n, rest) = cc in
     let no_number : None ≡ Some n = ap (λ (q : Option ℕ × Words). q.0) wrong in
     absurd (cc)
 
-retry-sound : (rigour : Rigour) (declared : Declared) (ws rest : Words) (o : Option ℕ) → retry_at rigour ws ≡ Some (o, rest)
+retry-sound : (rigour : Rigour) (declared : Declared) (ws rest : Words) (o : Option ℕ) → retry_at rigour ws ≡ Some
+    (o, rest)
     → Spells rigour declared (retry_tokens (unwrap_or o 0)) ws rest
 retry-sound rigour declared ws rest o h =
     let spelled = value-sound rigour declared (AnOption (codes "RETRY") (Amount 1 1000)) ws rest o (lit< tt) h in
     at_option o h spelled
   where
-    at_option : (x : Option ℕ) → retry_at rigour ws ≡ Some (x, rest) → Spells rigour declared (tokens_at (AnOption (codes "RETRY") (Amount 1 1000)) x) ws rest
+    at_option : (x : Option ℕ) → retry_at rigour ws ≡ Some (x, rest) → Spells rigour declared
+        (tokens_at (AnOption (codes "RETRY") (Amount 1 1000)) x) ws rest
         → Spells rigour declared (retry_tokens (unwrap_or x 0)) ws rest
     at_option None k spelled = spelled
     at_option (Some n) k spelled =
@@ -79,7 +85,8 @@ retry-sound rigour declared ws rest o h =
         let p = mapped f (on_first (number_of rigour 1 1000) (behind ws)) (Some n, rest) m in
         let v : Some p.value.0 ≡ Some n = ap (λ (q : Option ℕ × Words). q.0) p.made in
         let is : p.value.0 ≡ n = ap (λ (x : Option ℕ). unwrap_or x 0) v in
-        let w = first_read (number_of rigour 1 1000) (behind ws) p.value.1 n (p.read ∙ ap (λ (x : ℕ). (let q : ℕ × Words = (x, p.value.1) in Some q)) is) in
+        let w = first_read (number_of rigour 1 1000) (behind ws) p.value.1 n
+        (p.read ∙ ap (λ (x : ℕ). (let q : ℕ × Words = (x, p.value.1) in Some q)) is) in
         retry_number rigour w.0 n w.1)
         (λ _ m. nothing_there ws rest n m) in
         rw (retry-none n (positive_not n some)) spelled
@@ -92,24 +99,31 @@ told-unwrap : (n : ℕ) (b : Bool) → (n == 0) ≡ b → unwrap_or (cond b None
 told-unwrap n true e = let z : n ≡ 0 = grind (arith, nat_tests) in sym z
 told-unwrap n false e = refl
 
-retry-complete : (rigour : Rigour) (declared : Declared) (ws : Words) (retry : ℕ) → Spells rigour declared (retry_tokens retry) ws []
+retry-complete : (rigour : Rigour) (declared : Declared) (ws : Words) (retry : ℕ) → Spells rigour declared
+    (retry_tokens retry) ws []
     → (is_tail ws ≡ true) × FindsAll rigour (retry_at rigour ws) (told_retry retry) []
 retry-complete rigour declared ws retry h = at_test (retry == 0) refl h
   where
-    at_test : (b : Bool) → (retry == 0) ≡ b → Spells rigour declared (cond b [] (Literal (codes "RETRY") ∷ Number 1 1000 retry ∷ [])) ws []
+    at_test : (b : Bool) → (retry == 0) ≡ b → Spells rigour declared
+        (cond b [] (Literal (codes "RETRY") ∷ Number 1 1000 retry ∷ [])) ws []
         → (is_tail ws ≡ true) × FindsAll rigour (retry_at rigour ws) (told_retry retry) []
     at_test true e k =
         (rw k refl, rw (e, k) (record { found = None; read = refl; same = λ _. refl }))
-    at_test false e k =
-        (tail ws k, rw e (value-complete rigour declared (AnOption (codes "RETRY") (Amount 1 1000)) ws [] (Some retry) (lit< tt) (refl, tt) refl k))
+    at_test false e k = (
+      tail ws k,
+      rw e (value-complete rigour declared (AnOption (codes "RETRY") (Amount 1 1000)) ws [] (Some retry)
+          (lit< tt) (refl, tt) refl k),
+    )
       where
-        tail : (us : Words) → Spells rigour declared (Literal (codes "RETRY") ∷ Number 1 1000 retry ∷ []) us [] → is_tail us ≡ true
+        tail : (us : Words) → Spells rigour declared (Literal (codes "RETRY") ∷ Number 1 1000 retry ∷ []) us []
+            → is_tail us ≡ true
         tail [] m = absurd m
         tail (w ∷ us) m = same_word-of w (codes "RETRY") m.0
 
 -- ---- what a caller does
 
-pub record DoneTold (rigour : Rigour) (declared : Declared) (by : ConnId) (kind : Kind) (ws rest : Words) (told : Act × ℕ) : Type 0 where
+pub record DoneTold (rigour : Rigour) (declared : Declared) (by : ConnId) (kind : Kind) (ws rest : Words) (told : Act
+    × ℕ) : Type 0 where
   pub given : Option ℕ
   pub allowed : MayDo by kind given told.0 told.1
   pub spelled : Spells rigour declared (act_tokens given told.0 ++ retry_tokens told.1) ws rest
@@ -117,44 +131,70 @@ pub record DoneTold (rigour : Rigour) (declared : Declared) (by : ConnId) (kind 
 call-sound : (rigour : Rigour) (declared : Declared) (by : ConnId) (kind : Kind) (ws rest : Words) (told : Act × ℕ)
     → call_at rigour declared by kind ws ≡ Some (told, rest) → DoneTold rigour declared by kind ws rest told
 call-sound rigour declared by kind ws rest told h =
-    let b = bound (λ (asked : AnyAsk × Words). option_map (λ (read : Option ℕ × Words). (let p : (Act × ℕ) × Words = ((Call asked.0, unwrap_or read.0 0), read.1) in p)) (retry_at rigour asked.1))
+    let b = bound (λ (asked : AnyAsk × Words). option_map (λ (read : Option ℕ × Words). (let p : (Act × ℕ)
+    × Words = ((Call asked.0, unwrap_or read.0 0), read.1) in p)) (retry_at rigour asked.1))
     (any_ask_at rigour declared by kind ws) (told, rest) h in
-    let m = mapped (λ (read : Option ℕ × Words). (let p : (Act × ℕ) × Words = ((Call b.value.0, unwrap_or read.0 0), read.1) in p)) (retry_at rigour b.value.1) (told, rest) b.then_ in
-    let made : (let p : Act × ℕ = (Call b.value.0, unwrap_or m.value.0 0) in p) ≡ told = ap (λ (p : (Act × ℕ) × Words). p.0) m.made in
+    let m = mapped (λ (read : Option ℕ × Words). (let p : (Act × ℕ)
+    × Words = ((Call b.value.0, unwrap_or read.0 0), read.1) in p)) (retry_at rigour b.value.1) (told, rest)
+    b.then_ in
+    let made : (let p : Act × ℕ = (Call b.value.0, unwrap_or m.value.0 0) in p) ≡ told = ap
+    (λ (p : (Act × ℕ) × Words). p.0) m.made in
     let left : m.value.1 ≡ rest = ap (λ (p : (Act × ℕ) × Words). p.1) m.made in
     let ask = any_ask-sound rigour declared by kind ws b.value.1 b.value.0 b.read in
-    let retry = retry-sound rigour declared b.value.1 rest m.value.0 (m.read ∙ ap (λ (r : Words). (let p : Option ℕ × Words = (m.value.0, r) in Some p)) left) in
+    let retry = retry-sound rigour declared b.value.1 rest m.value.0
+    (m.read ∙ ap (λ (r : Words). (let p : Option ℕ × Words = (m.value.0, r) in Some p)) left) in
     rw (← made) (record {
       given = ask.1.given;
       allowed = (ask.0, ask.1.allowed);
-      spelled = Spells-append rigour declared (ask_tokens ask.1.given b.value.0) (retry_tokens (unwrap_or m.value.0 0)) ws b.value.1 rest ask.1.spelled retry;
+      spelled = Spells-append rigour declared (ask_tokens ask.1.given b.value.0)
+          (retry_tokens (unwrap_or m.value.0 0)) ws b.value.1 rest ask.1.spelled retry;
     })
 
-own-sound : (rigour : Rigour) (declared : Declared) (by : ConnId) (kind : Kind) (ws rest : Words) (told : Act × ℕ) → is_operator by ≡ false
+own-sound : (rigour : Rigour) (declared : Declared) (by : ConnId) (kind : Kind) (ws rest : Words) (told : Act × ℕ)
+    → is_operator by ≡ false
     → own_at rigour kind ws ≡ Some (told, rest) → DoneTold rigour declared by kind ws rest told
 own-sound rigour declared by kind ws rest told other h =
     let may = operator_not (is_operator by) other in
-    pick h (λ b k. pick k (λ v m. numbered (codes "TEST") Test (λ n s. record { given = None; allowed = (v, may, refl, refl); spelled = s }) b m) (λ _ n. not_some (let p : (Act × ℕ) × Words = (told, rest) in p) n))
-    (λ _ a. pick a (λ b k. pick k (λ v m. numbered (codes "TESTWORD") TestWord (λ n s. record { given = None; allowed = (v, may, refl, refl); spelled = s }) b m) (λ _ n. not_some (let p : (Act × ℕ) × Words = (told, rest) in p) n))
-    (λ _ c. pick c (λ b k. alone (codes "POST") Post (λ s. record { given = None; allowed = (may, refl, refl); spelled = s }) b k)
-    (λ _ d. pick d (λ b k. alone (codes "TAKE") Take (λ s. record { given = None; allowed = (may, refl, refl); spelled = s }) b k)
-    (λ _ e. pick e (λ b k. alone (codes "EVENTS") Events (λ s. record { given = None; allowed = (may, refl, refl); spelled = s }) b k)
+    pick h (λ b k. pick k (λ v m. numbered (codes "TEST") Test
+    (λ n s. record { given = None; allowed = (v, may, refl, refl); spelled = s }) b m)
+    (λ _ n. not_some (let p : (Act × ℕ) × Words = (told, rest) in p) n))
+    (λ _ a. pick a (λ b k. pick k (λ v m. numbered (codes "TESTWORD") TestWord
+    (λ n s. record { given = None; allowed = (v, may, refl, refl); spelled = s }) b m)
+    (λ _ n. not_some (let p : (Act × ℕ) × Words = (told, rest) in p) n))
+    (λ _ c. pick c (λ b k. alone (codes "POST") Post (λ s. record {
+      given = None;
+      allowed = (may, refl, refl);
+      spelled = s;
+    }) b k)
+    (λ _ d. pick d (λ b k. alone (codes "TAKE") Take (λ s. record {
+      given = None;
+      allowed = (may, refl, refl);
+      spelled = s;
+    }) b k)
+    (λ _ e. pick e (λ b k. alone (codes "EVENTS") Events
+    (λ s. record { given = None; allowed = (may, refl, refl); spelled = s }) b k)
     (λ _ n. not_some (let p : (Act × ℕ) × Words = (told, rest) in p) n)))))
   where
     numbered : (word : List ℕ) (made : ℕ → Act)
-        → ((n : ℕ) → Spells rigour declared (Literal word ∷ Number 0 4294967295 n ∷ []) ws rest → DoneTold rigour declared by kind ws rest (made n, 0))
+        → ((n : ℕ) → Spells rigour declared (Literal word ∷ Number 0 4294967295 n ∷ []) ws rest
+        → DoneTold rigour declared by kind ws rest (made n, 0))
         → begins_with word ws ≡ true
-        → option_map (λ (read : ℕ × Words). (let p : (Act × ℕ) × Words = ((made read.0, 0), read.1) in p)) (number_at rigour (behind ws)) ≡ Some (told, rest)
+        → option_map (λ (read : ℕ × Words). (let p : (Act × ℕ) × Words = ((made read.0, 0), read.1) in p))
+        (number_at rigour (behind ws)) ≡ Some (told, rest)
         → DoneTold rigour declared by kind ws rest told
     numbered word made f b k =
-        let m = mapped (λ (read : ℕ × Words). (let p : (Act × ℕ) × Words = ((made read.0, 0), read.1) in p)) (number_at rigour (behind ws)) (told, rest) k in
+        let m = mapped (λ (read : ℕ × Words). (let p : (Act × ℕ) × Words = ((made read.0, 0), read.1) in p))
+        (number_at rigour (behind ws)) (told, rest) k in
         let is : (let p : Act × ℕ = (made m.value.0, 0) in p) ≡ told = ap (λ (p : (Act × ℕ) × Words). p.0) m.made in
         let left : m.value.1 ≡ rest = ap (λ (p : (Act × ℕ) × Words). p.1) m.made in
-        let n = number_at-sound rigour declared (behind ws) rest m.value.0 (m.read ∙ ap (λ (r : Words). (let p : ℕ × Words = (m.value.0, r) in Some p)) left) in
+        let n = number_at-sound rigour declared (behind ws) rest m.value.0
+        (m.read ∙ ap (λ (r : Words). (let p : ℕ × Words = (m.value.0, r) in Some p)) left) in
         rw (← is) (f m.value.0 (led rigour declared word (Number 0 4294967295 m.value.0 ∷ []) ws rest b n))
 
-    alone : (word : List ℕ) (made : Act) → (Spells rigour declared (Literal word ∷ []) ws rest → DoneTold rigour declared by kind ws rest (made, 0))
-        → begins_with word ws ≡ true → (let p : (Act × ℕ) × Words = ((made, 0), behind ws) in Some p) ≡ Some (told, rest) → DoneTold rigour declared by kind ws rest told
+    alone : (word : List ℕ) (made : Act) → (Spells rigour declared (Literal word ∷ []) ws rest
+        → DoneTold rigour declared by kind ws rest (made, 0))
+        → begins_with word ws ≡ true → (let p : (Act × ℕ) × Words = ((made, 0), behind ws) in Some p) ≡ Some
+        (told, rest) → DoneTold rigour declared by kind ws rest told
     alone word made f b k =
         let same : (let p : (Act × ℕ) × Words = ((made, 0), behind ws) in p) ≡ (told, rest) = cc in
         let is : (let p : Act × ℕ = (made, 0) in p) ≡ told = ap (λ (p : (Act × ℕ) × Words). p.0) same in
@@ -164,7 +204,8 @@ own-sound rigour declared by kind ws rest told other h =
 done-sound : (rigour : Rigour) (declared : Declared) (by : ConnId) (kind : Kind) (ws rest : Words) (told : Act × ℕ)
     → done_at rigour declared by kind ws ≡ Some (told, rest) → DoneTold rigour declared by kind ws rest told
 done-sound rigour declared by kind ws rest told h =
-    pick h (λ _ k. pick k (λ _ n. not_some (let p : (Act × ℕ) × Words = (told, rest) in p) n) (λ other m. own-sound rigour declared by kind ws rest told other m))
+    pick h (λ _ k. pick k (λ _ n. not_some (let p : (Act × ℕ) × Words = (told, rest) in p) n)
+    (λ other m. own-sound rigour declared by kind ws rest told other m))
     (λ _ k. call-sound rigour declared by kind ws rest told k)
 
 pub ended-is : {V : Type 0} (value : V) (ws : Words) (v : V) → ended (value, ws) ≡ Some v → (value ≡ v) × (ws ≡ [])
@@ -188,8 +229,10 @@ pub record ActFinds (rigour : Rigour) (reading : Option (Act × ℕ)) (told : Ac
   pub read : reading ≡ Some found
   pub same : is_names rigour ≡ true → found ≡ told
 
-call-complete : (rigour : Rigour) (declared : Declared) (by : ConnId) (kind : Kind) (ws : Words) (given : Option ℕ) (ask : AnyAsk) (retry : ℕ)
-    → is_ask_of kind ask ≡ true → MayAsk by given ask → Spells rigour declared (ask_tokens given ask ++ retry_tokens retry) ws []
+call-complete : (rigour : Rigour) (declared : Declared) (by : ConnId) (kind : Kind) (ws : Words) (given : Option ℕ)
+    (ask : AnyAsk) (retry : ℕ)
+    → is_ask_of kind ask ≡ true → MayAsk by given ask → Spells rigour declared (ask_tokens given ask
+    ++ retry_tokens retry) ws []
     → ActFinds rigour (act_at rigour declared by kind ws) (Call ask, retry)
 call-complete rigour declared by kind ws given ask retry of may h =
     let s = Spells-split rigour declared (ask_tokens given ask) (retry_tokens retry) ws [] h in
@@ -197,7 +240,8 @@ call-complete rigour declared by kind ws given ask retry of may h =
     let a = any_ask-complete rigour declared by kind ws s.mid given ask r.0 of may s.front in
     let other = ask-not_own rigour declared ws s.mid given ask s.front in
     let made : AnyAsk → Option ℕ → Act × ℕ = λ x o. (Call x, unwrap_or o 0) in
-    let read : act_at rigour declared by kind ws ≡ Some (made a.found r.1.found) = rw (other, a.read, r.1.read) refl in
+    let read : act_at rigour declared by kind ws ≡ Some (made a.found r.1.found) = rw (other, a.read, r.1.read) refl
+    in
     record {
       found = made a.found r.1.found;
       read = read;
@@ -205,80 +249,114 @@ call-complete rigour declared by kind ws given ask retry of may h =
           ∙ ap (λ (n : ℕ). (let p : Act × ℕ = (Call ask, n) in p)) (told-unwrap retry (retry == 0) refl);
     }
 
-own_word : (word : List ℕ) (ws : Words) → begins_with word ws ≡ true → ((us : Words) → is_own (word ∷ us) ≡ true) → is_own ws ≡ true
+own_word : (word : List ℕ) (ws : Words) → begins_with word ws ≡ true → ((us : Words) → is_own (word ∷ us) ≡ true)
+    → is_own ws ≡ true
 own_word word [] h f = absurd (cc)
 own_word word (w ∷ ws) h f = let same = word-same w word h in rw same (f ws)
 
-first_apart : (word other : List ℕ) (us : Words) → begins_with word us ≡ true → same_word word other ≡ false → begins_with other us ≡ false
+first_apart : (word other : List ℕ) (us : Words) → begins_with word us ≡ true → same_word word other ≡ false
+    → begins_with other us ≡ false
 first_apart word other [] e apart = refl
 first_apart word other (w ∷ us) e apart = let same = word-same w word e in rw same apart
 
-test-complete : (rigour : Rigour) (declared : Declared) (by : ConnId) (kind : Kind) (ws : Words) (index : ℕ) → has_vectors kind ≡ true → is_operator by ≡ false
-    → Spells rigour declared (Literal (codes "TEST") ∷ Number 0 4294967295 index ∷ []) ws [] → ActFinds rigour (act_at rigour declared by kind ws) (Test index, 0)
+test-complete : (rigour : Rigour) (declared : Declared) (by : ConnId) (kind : Kind) (ws : Words) (index : ℕ)
+    → has_vectors kind ≡ true → is_operator by ≡ false
+    → Spells rigour declared (Literal (codes "TEST") ∷ Number 0 4294967295 index ∷ []) ws []
+    → ActFinds rigour (act_at rigour declared by kind ws) (Test index, 0)
 test-complete rigour declared by kind ws index vectors other h =
     let l = led-by rigour declared (codes "TEST") (Number 0 4294967295 index ∷ []) ws [] h in
     let n = number_at-complete rigour declared (behind ws) [] index l.rest_is in
     let own = own_word (codes "TEST") ws l.begins (λ us. refl) in
     let made : ℕ → Act × ℕ = λ i. (Test i, 0) in
-    record { found = made n.found; read = rw (own, other, l.begins, vectors, n.read) refl; same = λ e. ap made (n.same e) }
+    record {
+      found = made n.found;
+      read = rw (own, other, l.begins, vectors, n.read) refl;
+      same = λ e. ap made
+          (n.same e);
+    }
 
-word-complete : (rigour : Rigour) (declared : Declared) (by : ConnId) (kind : Kind) (ws : Words) (index : ℕ) → has_vectors kind ≡ true → is_operator by ≡ false
-    → Spells rigour declared (Literal (codes "TESTWORD") ∷ Number 0 4294967295 index ∷ []) ws [] → ActFinds rigour (act_at rigour declared by kind ws) (TestWord index, 0)
+word-complete : (rigour : Rigour) (declared : Declared) (by : ConnId) (kind : Kind) (ws : Words) (index : ℕ)
+    → has_vectors kind ≡ true → is_operator by ≡ false
+    → Spells rigour declared (Literal (codes "TESTWORD") ∷ Number 0 4294967295 index ∷ []) ws []
+    → ActFinds rigour (act_at rigour declared by kind ws) (TestWord index, 0)
 word-complete rigour declared by kind ws index vectors other h =
     let l = led-by rigour declared (codes "TESTWORD") (Number 0 4294967295 index ∷ []) ws [] h in
     let n = number_at-complete rigour declared (behind ws) [] index l.rest_is in
     let own = own_word (codes "TESTWORD") ws l.begins (λ us. refl) in
     let a = first_apart (codes "TESTWORD") (codes "TEST") ws l.begins refl in
     let made : ℕ → Act × ℕ = λ i. (TestWord i, 0) in
-    record { found = made n.found; read = rw (own, other, a, l.begins, vectors, n.read) refl; same = λ e. ap made (n.same e) }
+    record {
+      found = made n.found;
+      read = rw (own, other, a, l.begins, vectors, n.read) refl;
+      same = λ e. ap made
+          (n.same e);
+    }
 
-alone-complete : (rigour : Rigour) (declared : Declared) (by : ConnId) (kind : Kind) (ws : Words) (word : List ℕ) (act : Act) → is_operator by ≡ false
-    → ((us : Words) → is_own (word ∷ us) ≡ true) → ((us : Words) → begins_with word us ≡ true → own_at rigour kind us ≡ (let p : (Act × ℕ) × Words = ((act, 0), behind us) in Some p))
+alone-complete : (rigour : Rigour) (declared : Declared) (by : ConnId) (kind : Kind) (ws : Words) (word : List ℕ)
+    (act : Act) → is_operator by ≡ false
+    → ((us : Words) → is_own (word ∷ us) ≡ true) → ((us : Words) → begins_with word us ≡ true
+    → own_at rigour kind us ≡ (let p : (Act × ℕ) × Words = ((act, 0), behind us) in Some p))
     → Spells rigour declared (Literal word ∷ []) ws [] → ActFinds rigour (act_at rigour declared by kind ws) (act, 0)
 alone-complete rigour declared by kind ws word act other own does h =
     let l = led-by rigour declared word [] ws [] h in
     let is = own_word word ws l.begins own in
     record { found = (act, 0); read = rw (is, other, does ws l.begins, l.rest_is) refl; same = λ _. refl }
 
-post_at : (rigour : Rigour) (kind : Kind) (us : Words) → begins_with (codes "POST") us ≡ true → own_at rigour kind us ≡ (let p : (Act × ℕ) × Words = ((Post, 0), behind us) in Some p)
+post_at : (rigour : Rigour) (kind : Kind) (us : Words) → begins_with (codes "POST") us ≡ true
+    → own_at rigour kind us ≡ (let p : (Act × ℕ) × Words = ((Post, 0), behind us) in Some p)
 post_at rigour kind us e =
-    let a = first_apart (codes "POST") (codes "TEST") us e refl in let b = first_apart (codes "POST") (codes "TESTWORD") us e refl in rw (a, b, e) refl
+    let a = first_apart (codes "POST") (codes "TEST") us e refl in let b = first_apart (codes "POST")
+    (codes "TESTWORD") us e refl in rw (a, b, e) refl
 
-take_at : (rigour : Rigour) (kind : Kind) (us : Words) → begins_with (codes "TAKE") us ≡ true → own_at rigour kind us ≡ (let p : (Act × ℕ) × Words = ((Take, 0), behind us) in Some p)
+take_at : (rigour : Rigour) (kind : Kind) (us : Words) → begins_with (codes "TAKE") us ≡ true
+    → own_at rigour kind us ≡ (let p : (Act × ℕ) × Words = ((Take, 0), behind us) in Some p)
 take_at rigour kind us e =
-    let a = first_apart (codes "TAKE") (codes "TEST") us e refl in let b = first_apart (codes "TAKE") (codes "TESTWORD") us e refl in
+    let a = first_apart (codes "TAKE") (codes "TEST") us e refl in let b = first_apart (codes "TAKE")
+    (codes "TESTWORD") us e refl in
     let c = first_apart (codes "TAKE") (codes "POST") us e refl in rw (a, b, c, e) refl
 
-events_at : (rigour : Rigour) (kind : Kind) (us : Words) → begins_with (codes "EVENTS") us ≡ true → own_at rigour kind us ≡ (let p : (Act × ℕ) × Words = ((Events, 0), behind us) in Some p)
+events_at : (rigour : Rigour) (kind : Kind) (us : Words) → begins_with (codes "EVENTS") us ≡ true
+    → own_at rigour kind us ≡ (let p : (Act × ℕ) × Words = ((Events, 0), behind us) in Some p)
 events_at rigour kind us e =
-    let a = first_apart (codes "EVENTS") (codes "TEST") us e refl in let b = first_apart (codes "EVENTS") (codes "TESTWORD") us e refl in
-    let c = first_apart (codes "EVENTS") (codes "POST") us e refl in let d = first_apart (codes "EVENTS") (codes "TAKE") us e refl in rw (a, b, c, d, e) refl
+    let a = first_apart (codes "EVENTS") (codes "TEST") us e refl in let b = first_apart (codes "EVENTS")
+    (codes "TESTWORD") us e refl in
+    let c = first_apart (codes "EVENTS") (codes "POST") us e refl in let d = first_apart (codes "EVENTS")
+    (codes "TAKE") us e refl in rw (a, b, c, d, e) refl
 
-pub act-complete : (rigour : Rigour) (declared : Declared) (by : ConnId) (kind : Kind) (ws : Words) (act : Act) (retry : ℕ)
+pub act-complete : (rigour : Rigour) (declared : Declared) (by : ConnId) (kind : Kind) (ws : Words) (act : Act)
+    (retry : ℕ)
     → SaysDone rigour declared by kind ws act retry → ActFinds rigour (act_at rigour declared by kind ws) (act, retry)
-act-complete rigour declared by kind ws (Call ask) retry h = call-complete rigour declared by kind ws h.given ask retry h.allowed.0 h.allowed.1 h.spelled
+act-complete rigour declared by kind ws (Call ask) retry h = call-complete rigour declared by kind ws h.given ask
+    retry h.allowed.0 h.allowed.1 h.spelled
 act-complete rigour declared by kind ws (Test index) retry h =
     let zero : retry ≡ 0 = h.allowed.3 in
-    let P : ℕ → Type 0 = λ n. Spells rigour declared ((Literal (codes "TEST") ∷ number index ∷ []) ++ retry_tokens n) ws [] in
+    let P : ℕ → Type 0 = λ n. Spells rigour declared ((Literal (codes "TEST") ∷ number index ∷ []) ++ retry_tokens n)
+    ws [] in
     let spelled = subst P zero h.spelled in
-    rw zero (test-complete rigour declared by kind ws index h.allowed.0 (not_operator (is_operator by) h.allowed.1) spelled)
+    rw zero (test-complete rigour declared by kind ws index h.allowed.0 (not_operator (is_operator by) h.allowed.1)
+    spelled)
 act-complete rigour declared by kind ws (TestWord index) retry h =
     let zero : retry ≡ 0 = h.allowed.3 in
-    let P : ℕ → Type 0 = λ n. Spells rigour declared ((Literal (codes "TESTWORD") ∷ number index ∷ []) ++ retry_tokens n) ws [] in
+    let P : ℕ → Type 0 = λ n. Spells rigour declared ((Literal (codes "TESTWORD") ∷ number index ∷ [])
+    ++ retry_tokens n) ws [] in
     let spelled = subst P zero h.spelled in
-    rw zero (word-complete rigour declared by kind ws index h.allowed.0 (not_operator (is_operator by) h.allowed.1) spelled)
+    rw zero (word-complete rigour declared by kind ws index h.allowed.0 (not_operator (is_operator by) h.allowed.1)
+    spelled)
 act-complete rigour declared by kind ws Post retry h =
     let zero : retry ≡ 0 = h.allowed.2 in
     let P : ℕ → Type 0 = λ n. Spells rigour declared ((Literal (codes "POST") ∷ []) ++ retry_tokens n) ws [] in
     let spelled = subst P zero h.spelled in
-    rw zero (alone-complete rigour declared by kind ws (codes "POST") Post (not_operator (is_operator by) h.allowed.0) (λ us. refl) (post_at rigour kind) spelled)
+    rw zero (alone-complete rigour declared by kind ws (codes "POST") Post (not_operator (is_operator by) h.allowed.0)
+    (λ us. refl) (post_at rigour kind) spelled)
 act-complete rigour declared by kind ws Take retry h =
     let zero : retry ≡ 0 = h.allowed.2 in
     let P : ℕ → Type 0 = λ n. Spells rigour declared ((Literal (codes "TAKE") ∷ []) ++ retry_tokens n) ws [] in
     let spelled = subst P zero h.spelled in
-    rw zero (alone-complete rigour declared by kind ws (codes "TAKE") Take (not_operator (is_operator by) h.allowed.0) (λ us. refl) (take_at rigour kind) spelled)
+    rw zero (alone-complete rigour declared by kind ws (codes "TAKE") Take (not_operator (is_operator by) h.allowed.0)
+    (λ us. refl) (take_at rigour kind) spelled)
 act-complete rigour declared by kind ws Events retry h =
     let zero : retry ≡ 0 = h.allowed.2 in
     let P : ℕ → Type 0 = λ n. Spells rigour declared ((Literal (codes "EVENTS") ∷ []) ++ retry_tokens n) ws [] in
     let spelled = subst P zero h.spelled in
-    rw zero (alone-complete rigour declared by kind ws (codes "EVENTS") Events (not_operator (is_operator by) h.allowed.0) (λ us. refl) (events_at rigour kind) spelled)
+    rw zero (alone-complete rigour declared by kind ws (codes "EVENTS") Events
+    (not_operator (is_operator by) h.allowed.0) (λ us. refl) (events_at rigour kind) spelled)

@@ -30,21 +30,24 @@ use Rattle.plex_script.specs.LineWords.{ask_tokens, MayAsk, is_ask_of}
 use Rattle.plex_script.specs.LineReading.{ask_at, cache_ask_at, list_ask_at, lock_ask_at, any_ask_at}
 use Rattle.plex_script.proofs.FirstWords.{gives, shell-not_own, cache-content, list-content, lock-content}
 
-pub record AskTold (rigour : Rigour) (declared : Declared) (by : ConnId) (ws rest : Words) (ask : AnyAsk) : Type 0 where
-  pub given : Option ℕ
-  pub allowed : MayAsk by given ask
-  pub spelled : Spells rigour declared (ask_tokens given ask) ws rest
+pub record AskTold (rigour : Rigour) (declared : Declared) (by : ConnId) (ws rest : Words) (ask : AnyAsk) : Type 0
+  where
+    pub given : Option ℕ
+    pub allowed : MayAsk by given ask
+    pub spelled : Spells rigour declared (ask_tokens given ask) ws rest
 
 -- ---- asks, of a content that is told by its readings
 
-ask-sound : {C : Type 0} (by : ConnId) (rest : Words) (common : Option (ShellCmd × Words)) (content : Option (C × Words)) (ask : Ask C) (P : Ask C → Type 0)
+ask-sound : {C : Type 0} (by : ConnId) (rest : Words) (common : Option (ShellCmd × Words))
+    (content : Option (C × Words)) (ask : Ask C) (P : Ask C → Type 0)
     → ((cmd : ShellCmd) → common ≡ Some (cmd, rest) → may_give by cmd ≡ true → P (Shell cmd))
     → ((cmd : C) → content ≡ Some (cmd, rest) → is_operator by ≡ false → P (Content cmd))
     → ask_at by common content ≡ Some (ask, rest) → P ask
 ask-sound {C} by rest None content ask P f g h =
     pick h (λ _ k. not_some (let p : Ask C × Words = (ask, rest) in p) k)
     (λ e k.
-    let m = mapped (λ (read : C × Words). (let p : Ask C × Words = (Content read.0, read.1) in p)) content (ask, rest) k in
+    let m = mapped (λ (read : C × Words). (let p : Ask C × Words = (Content read.0, read.1) in p)) content (ask, rest)
+    k in
     let made : Content m.value.0 ≡ ask = ap (λ (p : Ask C × Words). p.0) m.made in
     let left : m.value.1 ≡ rest = ap (λ (p : Ask C × Words). p.1) m.made in
     rw (← made) (g m.value.0 (m.read ∙ ap (λ (r : Words). (let p : C × Words = (m.value.0, r) in Some p)) left) e))
@@ -56,12 +59,15 @@ ask-sound {C} by rest (Some read) content ask P f g h =
     rw (← made) (f read.0 (ap (λ (r : Words). (let p : ShellCmd × Words = (read.0, r) in Some p)) left) e))
     (λ _ k. not_some (let p : Ask C × Words = (ask, rest) in p) k)
 
-common-complete : {C : Type 0} (rigour : Rigour) (declared : Declared) (by : ConnId) (ws rest : Words) (content : Option (C × Words)) (cmd : ShellCmd) → is_tail rest ≡ true
-    → may_give by cmd ≡ true → Spells rigour declared (shell_tokens cmd) ws rest → FindsAll rigour (ask_at by (shell_at rigour declared ws) content) (Shell cmd) rest
+common-complete : {C : Type 0} (rigour : Rigour) (declared : Declared) (by : ConnId) (ws rest : Words)
+    (content : Option (C × Words)) (cmd : ShellCmd) → is_tail rest ≡ true
+    → may_give by cmd ≡ true → Spells rigour declared (shell_tokens cmd) ws rest
+    → FindsAll rigour (ask_at by (shell_at rigour declared ws) content) (Shell cmd) rest
 common-complete {C} rigour declared by ws rest content cmd tail may h =
     let f = shell-complete rigour declared ws rest cmd tail h in
     let given : may_give by f.found ≡ true =
-    gives rigour declared by ws rest f.found (shell-sound rigour declared ws rest f.found f.read) ∙ sym (gives rigour declared by ws rest cmd h) ∙ may in
+    gives rigour declared by ws rest f.found (shell-sound rigour declared ws rest f.found f.read)
+    ∙ sym (gives rigour declared by ws rest cmd h) ∙ may in
     let wrap : ShellCmd → Ask C = λ c. Shell c in
     rw f.read (record { found = wrap f.found; read = rw given refl; same = λ e. ap wrap (f.same e) })
 
@@ -73,8 +79,10 @@ pub operator_not : (b : Bool) → b ≡ false → not b ≡ true
 operator_not true h = absurd (cc)
 operator_not false h = refl
 
-content-complete : {C : Type 0} (rigour : Rigour) (by : ConnId) (common : Option (ShellCmd × Words)) (content : Option (C × Words)) (cmd : C) (rest : Words)
-    → common ≡ None → not (is_operator by) ≡ true → FindsAll rigour content cmd rest → FindsAll rigour (ask_at by common content) (Content cmd) rest
+content-complete : {C : Type 0} (rigour : Rigour) (by : ConnId) (common : Option (ShellCmd × Words))
+    (content : Option (C × Words)) (cmd : C) (rest : Words)
+    → common ≡ None → not (is_operator by) ≡ true → FindsAll rigour content cmd rest
+    → FindsAll rigour (ask_at by common content) (Content cmd) rest
 content-complete {C} rigour by common content cmd rest none may f =
     let other = not_operator (is_operator by) may in
     let wrap : C → Ask C = λ c. Content c in
@@ -84,17 +92,22 @@ content-complete {C} rigour by common content cmd rest none may f =
       same = λ e. ap wrap (f.same e);
     })
 
-wrapped-sound : {C : Type 0} (wrap : Ask C → AnyAsk) (reading : Option (Ask C × Words)) (ask : AnyAsk) (rest : Words) (P : AnyAsk → Type 0)
+wrapped-sound : {C : Type 0} (wrap : Ask C → AnyAsk) (reading : Option (Ask C × Words)) (ask : AnyAsk) (rest : Words)
+    (P : AnyAsk → Type 0)
     → ((a : Ask C) → reading ≡ Some (a, rest) → P (wrap a))
-    → option_map (λ (read : Ask C × Words). (let p : AnyAsk × Words = (wrap read.0, read.1) in p)) reading ≡ Some (ask, rest) → P ask
+    → option_map (λ (read : Ask C × Words). (let p : AnyAsk × Words = (wrap read.0, read.1) in p)) reading ≡ Some
+    (ask, rest) → P ask
 wrapped-sound {C} wrap reading ask rest P f h =
-    let m = mapped (λ (read : Ask C × Words). (let p : AnyAsk × Words = (wrap read.0, read.1) in p)) reading (ask, rest) h in
+    let m = mapped (λ (read : Ask C × Words). (let p : AnyAsk × Words = (wrap read.0, read.1) in p)) reading
+    (ask, rest) h in
     let made : wrap m.value.0 ≡ ask = ap (λ (p : AnyAsk × Words). p.0) m.made in
     let left : m.value.1 ≡ rest = ap (λ (p : AnyAsk × Words). p.1) m.made in
     rw (← made) (f m.value.0 (m.read ∙ ap (λ (r : Words). (let p : Ask C × Words = (m.value.0, r) in Some p)) left))
 
-wrapped-complete : {C : Type 0} (rigour : Rigour) (wrap : Ask C → AnyAsk) (reading : Option (Ask C × Words)) (ask : Ask C) (rest : Words) → FindsAll rigour reading ask rest
-    → FindsAll rigour (option_map (λ (read : Ask C × Words). (let p : AnyAsk × Words = (wrap read.0, read.1) in p)) reading) (wrap ask) rest
+wrapped-complete : {C : Type 0} (rigour : Rigour) (wrap : Ask C → AnyAsk) (reading : Option (Ask C × Words))
+    (ask : Ask C) (rest : Words) → FindsAll rigour reading ask rest
+    → FindsAll rigour (option_map (λ (read : Ask C × Words). (let p : AnyAsk × Words = (wrap read.0, read.1) in p))
+    reading) (wrap ask) rest
 wrapped-complete {C} rigour wrap reading ask rest f =
     record {
       found = wrap f.found;
@@ -106,58 +119,123 @@ wrapped-complete {C} rigour wrap reading ask rest f =
 abbrev pub AnyTold : Rigour → Declared → ConnId → Kind → Words → Words → AnyAsk → Type 0
 AnyTold rigour declared by kind ws rest ask = (is_ask_of kind ask ≡ true) × AskTold rigour declared by ws rest ask
 
-pub any_ask-sound : (rigour : Rigour) (declared : Declared) (by : ConnId) (kind : Kind) (ws rest : Words) (ask : AnyAsk)
+pub any_ask-sound : (rigour : Rigour) (declared : Declared) (by : ConnId) (kind : Kind) (ws rest : Words)
+    (ask : AnyAsk)
     → any_ask_at rigour declared by kind ws ≡ Some (ask, rest) → AnyTold rigour declared by kind ws rest ask
 any_ask-sound rigour declared by kind.Cache ws rest ask h =
     let P : AnyAsk → Type 0 = AnyTold rigour declared by kind.Cache ws rest in
     let wrap : Ask CacheCmd → AnyAsk = λ a. any.Cache a in
     wrapped-sound wrap (cache_ask_at rigour declared by ws) ask rest P
     (λ a k. ask-sound by rest (shell_at rigour declared ws) (cache_at rigour declared ws) a (λ x. P (wrap x))
-    (λ cmd m may. (refl, record { given = None; allowed = (may, refl); spelled = shell-sound rigour declared ws rest cmd m }))
-    (λ cmd m other. let t = cache-sound rigour declared ws rest cmd m in (refl, record { given = t.given; allowed = (operator_not (is_operator by) other, t.is_given); spelled = t.spelled })) k) h
+    (λ cmd m may. (
+      refl,
+      record {
+        given = None;
+        allowed = (may, refl);
+        spelled = shell-sound rigour declared ws rest
+            cmd m;
+      },
+    ))
+    (λ cmd m other. let t = cache-sound rigour declared ws rest cmd m
+    in (
+      refl,
+      record {
+        given = t.given;
+        allowed = (operator_not (is_operator by) other, t.is_given);
+        spelled =
+            t.spelled;
+      },
+    )) k) h
 any_ask-sound rigour declared by (kind.List headers locks refs) ws rest ask h =
     let P : AnyAsk → Type 0 = AnyTold rigour declared by (kind.List headers locks refs) ws rest in
     let wrap : Ask ListCmd → AnyAsk = λ a. any.List a in
     wrapped-sound wrap (list_ask_at rigour declared by ws) ask rest P
     (λ a k. ask-sound by rest (shell_at rigour declared ws) (list_at rigour declared ws) a (λ x. P (wrap x))
-    (λ cmd m may. (refl, record { given = None; allowed = (may, refl); spelled = shell-sound rigour declared ws rest cmd m }))
-    (λ cmd m other. let t = list-sound rigour declared ws rest cmd m in (refl, record { given = None; allowed = (operator_not (is_operator by) other, t.is_line, refl); spelled = t.spelled })) k) h
+    (λ cmd m may. (
+      refl,
+      record {
+        given = None;
+        allowed = (may, refl);
+        spelled = shell-sound rigour declared ws rest
+            cmd m;
+      },
+    ))
+    (λ cmd m other. let t = list-sound rigour declared ws rest cmd m
+    in (
+      refl,
+      record {
+        given = None;
+        allowed = (operator_not (is_operator by) other, t.is_line, refl);
+        spelled =
+            t.spelled;
+      },
+    )) k) h
 any_ask-sound rigour declared by kind.Lock ws rest ask h =
     let P : AnyAsk → Type 0 = AnyTold rigour declared by kind.Lock ws rest in
     let wrap : Ask LockCmd → AnyAsk = λ a. any.Lock a in
     wrapped-sound wrap (lock_ask_at rigour declared by ws) ask rest P
     (λ a k. ask-sound by rest (shell_at rigour declared ws) (lock_at rigour declared ws) a (λ x. P (wrap x))
-    (λ cmd m may. (refl, record { given = None; allowed = (may, refl); spelled = shell-sound rigour declared ws rest cmd m }))
-    (λ cmd m other. (refl, record { given = None; allowed = (operator_not (is_operator by) other, refl); spelled = lock-sound rigour declared ws rest cmd m })) k) h
+    (λ cmd m may. (
+      refl,
+      record {
+        given = None;
+        allowed = (may, refl);
+        spelled = shell-sound rigour declared ws rest
+            cmd m;
+      },
+    ))
+    (λ cmd m other. (
+      refl,
+      record {
+        given = None;
+        allowed = (operator_not (is_operator by) other, refl);
+        spelled =
+            lock-sound rigour declared ws rest cmd m;
+      },
+    )) k) h
 
-pub any_ask-complete : (rigour : Rigour) (declared : Declared) (by : ConnId) (kind : Kind) (ws rest : Words) (given : Option ℕ) (ask : AnyAsk) → is_tail rest ≡ true
+pub any_ask-complete : (rigour : Rigour) (declared : Declared) (by : ConnId) (kind : Kind) (ws rest : Words)
+    (given : Option ℕ) (ask : AnyAsk) → is_tail rest ≡ true
     → is_ask_of kind ask ≡ true → MayAsk by given ask → Spells rigour declared (ask_tokens given ask) ws rest
     → FindsAll rigour (any_ask_at rigour declared by kind ws) ask rest
 any_ask-complete rigour declared by kind.Cache ws rest given (any.Cache (Shell cmd)) tail of may h =
-    wrapped-complete rigour any.Cache (cache_ask_at rigour declared by ws) (Shell cmd) rest (common-complete rigour declared by ws rest (cache_at rigour declared ws) cmd tail may.0 h)
+    wrapped-complete rigour any.Cache (cache_ask_at rigour declared by ws) (Shell cmd) rest
+    (common-complete rigour declared by ws rest (cache_at rigour declared ws) cmd tail may.0 h)
 any_ask-complete rigour declared by kind.Cache ws rest given (any.Cache (Content cmd)) tail of may h =
     wrapped-complete rigour any.Cache (cache_ask_at rigour declared by ws) (Content cmd) rest
-    (content-complete rigour by (shell_at rigour declared ws) (cache_at rigour declared ws) cmd rest (cache-content rigour declared ws rest given cmd h).0 may.0 (cache-complete rigour declared ws rest given cmd tail may.1 h))
-any_ask-complete rigour declared by (kind.List headers locks refs) ws rest given (any.List (Shell cmd)) tail of may h =
-    wrapped-complete rigour any.List (list_ask_at rigour declared by ws) (Shell cmd) rest (common-complete rigour declared by ws rest (list_at rigour declared ws) cmd tail may.0 h)
-any_ask-complete rigour declared by (kind.List headers locks refs) ws rest given (any.List (Content cmd)) tail of may h =
+    (content-complete rigour by (shell_at rigour declared ws) (cache_at rigour declared ws) cmd rest
+    (cache-content rigour declared ws rest given cmd h).0 may.0 (cache-complete rigour declared ws rest given cmd tail
+    may.1 h))
+any_ask-complete rigour declared by (kind.List headers locks refs) ws rest given (any.List (Shell cmd)) tail of may h
+    =
+    wrapped-complete rigour any.List (list_ask_at rigour declared by ws) (Shell cmd) rest
+    (common-complete rigour declared by ws rest (list_at rigour declared ws) cmd tail may.0 h)
+any_ask-complete rigour declared by (kind.List headers locks refs) ws rest given (any.List (Content cmd)) tail of may
+    h =
     wrapped-complete rigour any.List (list_ask_at rigour declared by ws) (Content cmd) rest
-    (content-complete rigour by (shell_at rigour declared ws) (list_at rigour declared ws) cmd rest (list-content rigour declared ws rest cmd h).0 may.0 (list-complete rigour declared ws rest cmd tail may.1 h))
+    (content-complete rigour by (shell_at rigour declared ws) (list_at rigour declared ws) cmd rest
+    (list-content rigour declared ws rest cmd h).0 may.0 (list-complete rigour declared ws rest cmd tail may.1 h))
 any_ask-complete rigour declared by kind.Lock ws rest given (any.Lock (Shell cmd)) tail of may h =
-    wrapped-complete rigour any.Lock (lock_ask_at rigour declared by ws) (Shell cmd) rest (common-complete rigour declared by ws rest (lock_at rigour declared ws) cmd tail may.0 h)
+    wrapped-complete rigour any.Lock (lock_ask_at rigour declared by ws) (Shell cmd) rest
+    (common-complete rigour declared by ws rest (lock_at rigour declared ws) cmd tail may.0 h)
 any_ask-complete rigour declared by kind.Lock ws rest given (any.Lock (Content cmd)) tail of may h =
     wrapped-complete rigour any.Lock (lock_ask_at rigour declared by ws) (Content cmd) rest
-    (content-complete rigour by (shell_at rigour declared ws) (lock_at rigour declared ws) cmd rest (lock-content rigour declared ws rest cmd h).0 may.0 (lock-complete rigour declared ws rest cmd tail h))
+    (content-complete rigour by (shell_at rigour declared ws) (lock_at rigour declared ws) cmd rest
+    (lock-content rigour declared ws rest cmd h).0 may.0 (lock-complete rigour declared ws rest cmd tail h))
 any_ask-complete rigour declared by kind.Cache ws rest given (any.List ask) tail of may h = absurd (cc)
 any_ask-complete rigour declared by kind.Cache ws rest given (any.Lock ask) tail of may h = absurd (cc)
-any_ask-complete rigour declared by (kind.List headers locks refs) ws rest given (any.Cache ask) tail of may h = absurd (cc)
-any_ask-complete rigour declared by (kind.List headers locks refs) ws rest given (any.Lock ask) tail of may h = absurd (cc)
+any_ask-complete rigour declared by (kind.List headers locks refs) ws rest given (any.Cache ask) tail of may
+    h = absurd (cc)
+any_ask-complete rigour declared by (kind.List headers locks refs) ws rest given (any.Lock ask) tail of may h = absurd
+    (cc)
 any_ask-complete rigour declared by kind.Lock ws rest given (any.Cache ask) tail of may h = absurd (cc)
 any_ask-complete rigour declared by kind.Lock ws rest given (any.List ask) tail of may h = absurd (cc)
 
-pub ask-not_own : (rigour : Rigour) (declared : Declared) (ws rest : Words) (given : Option ℕ) (ask : AnyAsk) → Spells rigour declared (ask_tokens given ask) ws rest → is_own ws ≡ false
+pub ask-not_own : (rigour : Rigour) (declared : Declared) (ws rest : Words) (given : Option ℕ) (ask : AnyAsk)
+    → Spells rigour declared (ask_tokens given ask) ws rest → is_own ws ≡ false
 ask-not_own rigour declared ws rest given (any.Cache (Shell cmd)) h = shell-not_own rigour declared ws rest cmd h
-ask-not_own rigour declared ws rest given (any.Cache (Content cmd)) h = (cache-content rigour declared ws rest given cmd h).1
+ask-not_own rigour declared ws rest given (any.Cache (Content cmd)) h = (cache-content rigour declared ws rest given
+    cmd h).1
 ask-not_own rigour declared ws rest given (any.List (Shell cmd)) h = shell-not_own rigour declared ws rest cmd h
 ask-not_own rigour declared ws rest given (any.List (Content cmd)) h = (list-content rigour declared ws rest cmd h).1
 ask-not_own rigour declared ws rest given (any.Lock (Shell cmd)) h = shell-not_own rigour declared ws rest cmd h

@@ -26,7 +26,8 @@ use Rattle.plex_script.proofs.CauseLaws.{policy-late, policy-unread, policy-twic
 abbrev Decided : (Script → Type 0) → (Why → Type 0) → Type 0
 Decided leads cause = ((after : Script) × leads after) ⊎ ((why : Why) × IsFirst cause why)
 
-turned : (leads more : Script → Type 0) (cause other : Why → Type 0) → ((after : Script) → leads after → more after) → ((w : Why) → cause w → other w)
+turned : (leads more : Script → Type 0) (cause other : Why → Type 0) → ((after : Script) → leads after → more after)
+    → ((w : Why) → cause w → other w)
     → ((w : Why) → other w → cause w) → Decided leads cause → Decided more other
 turned leads more cause other f g h (inl d) = inl (d.0, f d.0 d.1)
 turned leads more cause other f g h (inr d) =
@@ -64,7 +65,8 @@ syntax-alone cause here late = record { here = here; none = earlier }
     earlier Twice less h = omega (arith, less)
     earlier Space less h = omega (arith, less)
 
-unknown-alone : (cause : Why → Type 0) → cause Unknown → (cause Late → ⊥) → (cause Syntax → ⊥) → (cause Limit → ⊥) → IsFirst cause Unknown
+unknown-alone : (cause : Why → Type 0) → cause Unknown → (cause Late → ⊥) → (cause Syntax → ⊥) → (cause Limit → ⊥)
+    → IsFirst cause Unknown
 unknown-alone cause here late syntax limit = record { here = here; none = earlier }
   where
     earlier : (other : Why) → rank other < 3 → cause other → ⊥
@@ -76,10 +78,12 @@ unknown-alone cause here late syntax limit = record { here = here; none = earlie
     earlier Space less h = omega (arith, less)
 
 -- the first of two tests that holds, and else Unknown
-tested : (cause : Why → Type 0) (s l : Bool) → (s ≡ true → cause Syntax) → (cause Syntax → s ≡ true) → (l ≡ true → cause Limit) → (cause Limit → l ≡ true)
+tested : (cause : Why → Type 0) (s l : Bool) → (s ≡ true → cause Syntax) → (cause Syntax → s ≡ true)
+    → (l ≡ true → cause Limit) → (cause Limit → l ≡ true)
     → cause Unknown → (cause Late → ⊥) → IsFirst cause (strange_why s l)
 tested cause true l s_to s_from l_to l_from unknown late = syntax-alone cause (s_to refl) late
-tested cause false true s_to s_from l_to l_from unknown late = limit-alone cause (l_to refl) late (λ h. let wrong = s_from h in cc)
+tested cause false true s_to s_from l_to l_from unknown late = limit-alone cause (l_to refl) late
+    (λ h. let wrong = s_from h in cc)
 tested cause false false s_to s_from l_to l_from unknown late =
     unknown-alone cause unknown late (λ h. let wrong = s_from h in cc) (λ h. let wrong = l_from h in cc)
 
@@ -88,14 +92,25 @@ tested cause false false s_to s_from l_to l_from unknown late =
 policy-decided : (script : Script) (long : Bool) (first : List ℕ) (ws : Words)
     → Decided (λ after. IsTrue (not long) × AddsDeclaration script first ws after) (PolicyCause script long first ws)
 policy-decided script long first ws =
-    by_tests (has_lines script) (long || is_full script first) (declaration_at Names (declared_in script) ws) refl refl refl
+    by_tests (has_lines script) (long || is_full script first) (declaration_at Names (declared_in script) ws) refl
+    refl refl
   where
-    by_checks : (d : Declaration) (t m : Bool) → has_lines script ≡ false → (long || is_full script first) ≡ false → declaration_at Names (declared_in script) ws ≡ Some d
-        → is_twice script d ≡ t → is_too_much script d ≡ m → Decided (λ after. IsTrue (not long) × AddsDeclaration script first ws after) (PolicyCause script long first ws)
+    by_checks : (d : Declaration) (t m : Bool) → has_lines script ≡ false → (long || is_full script first) ≡ false
+        → declaration_at Names (declared_in script) ws ≡ Some d
+        → is_twice script d ≡ t → is_too_much script d ≡ m → Decided (λ after. IsTrue (not long)
+        × AddsDeclaration script first ws after) (PolicyCause script long first ws)
     by_checks d true m early fits o_is t_is m_is =
-        inr (Twice, policy-twice script long first ws d early fits (declaration-sound Names (declared_in script) ws d o_is) t_is)
+        inr (
+          Twice,
+          policy-twice script long first ws d early fits (declaration-sound Names (declared_in script) ws d
+              o_is) t_is,
+        )
     by_checks d false true early fits o_is t_is m_is =
-        inr (Space, policy-space script long first ws d early fits (declaration-sound Names (declared_in script) ws d o_is) t_is m_is)
+        inr (
+          Space,
+          policy-space script long first ws d early fits (declaration-sound Names (declared_in script) ws d
+              o_is) t_is m_is,
+        )
     by_checks d false false early fits o_is t_is m_is =
         let parts = or_false long (is_full script first) fits in
         inl (
@@ -114,43 +129,66 @@ policy-decided script long first ws =
           ),
         )
 
-    by_tests : (h e : Bool) (o : Option Declaration) → has_lines script ≡ h → (long || is_full script first) ≡ e → declaration_at Names (declared_in script) ws ≡ o
-        → Decided (λ after. IsTrue (not long) × AddsDeclaration script first ws after) (PolicyCause script long first ws)
+    by_tests : (h e : Bool) (o : Option Declaration) → has_lines script ≡ h → (long || is_full script first) ≡ e
+        → declaration_at Names (declared_in script) ws ≡ o
+        → Decided (λ after. IsTrue (not long) × AddsDeclaration script first ws after)
+        (PolicyCause script long first ws)
     by_tests true e o h_is e_is o_is = inr (Late, policy-late script long first ws h_is)
     by_tests false true o h_is e_is o_is =
         inr (
-          unread_why (is_some (declaration_at Form (declared_in script) ws)) (long || is_full script first) (is_some (declaration_at Limits (declared_in script) ws)),
+          unread_why (is_some (declaration_at Form (declared_in script) ws)) (long || is_full script first)
+              (is_some (declaration_at Limits (declared_in script) ws)),
           policy-unread script long first ws h_is (λ x. absurd (cc)),
         )
     by_tests false false None h_is e_is o_is =
         inr (
-          unread_why (is_some (declaration_at Form (declared_in script) ws)) (long || is_full script first) (is_some (declaration_at Limits (declared_in script) ws)),
+          unread_why (is_some (declaration_at Form (declared_in script) ws)) (long || is_full script first)
+              (is_some (declaration_at Limits (declared_in script) ws)),
           policy-unread script long first ws h_is (λ x. o_is),
         )
-    by_tests false false (Some d) h_is e_is o_is = by_checks d (is_twice script d) (is_too_much script d) h_is e_is o_is refl refl
+    by_tests false false (Some d) h_is e_is o_is = by_checks d (is_twice script d) (is_too_much script d) h_is e_is
+        o_is refl refl
 
 -- ---- lines of callers
 
 done-decided : (script : Script) (at : ℕ) (long : Bool) (by : ConnId) (on : StrNo) (ws : Words)
-    → Decided (λ after. IsTrue (not long) × AddsLine script at by on ws after) (DoneCause (declared_in script) long by (kind_of script.structures on) ws)
-done-decided script at long by on ws = by_tests long (act_at Names (declared_in script) by (kind_of script.structures on) ws) refl refl
+    → Decided (λ after. IsTrue (not long) × AddsLine script at by on ws after) (DoneCause (declared_in script) long by
+    (kind_of script.structures on) ws)
+done-decided script at long by on ws = by_tests long (act_at Names (declared_in script) by
+    (kind_of script.structures on) ws) refl refl
   where
-    by_tests : (l : Bool) (o : Option (Act × ℕ)) → long ≡ l → act_at Names (declared_in script) by (kind_of script.structures on) ws ≡ o
-        → Decided (λ after. IsTrue (not long) × AddsLine script at by on ws after) (DoneCause (declared_in script) long by (kind_of script.structures on) ws)
+    by_tests : (l : Bool) (o : Option (Act × ℕ)) → long ≡ l → act_at Names (declared_in script) by
+        (kind_of script.structures on) ws ≡ o
+        → Decided (λ after. IsTrue (not long) × AddsLine script at by on ws after)
+        (DoneCause (declared_in script) long by (kind_of script.structures on) ws)
     by_tests true o l_is o_is =
         inr (
-          unread_why (is_some (act_at Form (declared_in script) by (kind_of script.structures on) ws)) long (is_some (act_at Limits (declared_in script) by (kind_of script.structures on) ws)),
+          unread_why (is_some (act_at Form (declared_in script) by (kind_of script.structures on) ws)) long
+              (is_some (act_at Limits (declared_in script) by (kind_of script.structures on) ws)),
           done-unread (declared_in script) long by (kind_of script.structures on) ws (λ x. absurd (cc)),
         )
     by_tests false None l_is o_is =
         inr (
-          unread_why (is_some (act_at Form (declared_in script) by (kind_of script.structures on) ws)) long (is_some (act_at Limits (declared_in script) by (kind_of script.structures on) ws)),
+          unread_why (is_some (act_at Form (declared_in script) by (kind_of script.structures on) ws)) long
+              (is_some (act_at Limits (declared_in script) by (kind_of script.structures on) ws)),
           done-unread (declared_in script) long by (kind_of script.structures on) ws (λ x. o_is),
         )
     by_tests false (Some told) l_is o_is =
         inl (
-          record script { lines = script.lines ++ (record { at = at; by = by; on = on; act = told.0; retry = told.1 }) ∷ [] },
-          (not_true long l_is, record { act = told.0; retry = told.1; says = act-sound Names (declared_in script) by (kind_of script.structures on) ws told o_is; same = refl }),
+          record script {
+            lines = script.lines ++ (record { at = at; by = by; on = on; act = told.0; retry = told.1 })
+                ∷ [];
+          },
+          (
+            not_true long l_is,
+            record {
+              act = told.0;
+              retry = told.1;
+              says = act-sound Names (declared_in script) by
+                  (kind_of script.structures on) ws told o_is;
+              same = refl;
+            },
+          ),
         )
 
 caller-decided : (script : Script) (at : ℕ) (long : Bool) (by : ConnId) (ws : Words)
@@ -159,47 +197,73 @@ caller-decided script at long by [] = inr (Syntax, syntax-alone (CallerCause scr
 caller-decided script at long by (second ∷ ws) = by_structure (structure_of script.structures second) refl
   where
     by_structure : (o : Option StrNo) → structure_of script.structures second ≡ o
-        → Decided (λ after. IsTrue (not long) × AddsOfCaller script at by (second ∷ ws) after) (CallerCause script long by (second ∷ ws))
+        → Decided (λ after. IsTrue (not long) × AddsOfCaller script at by (second ∷ ws) after)
+        (CallerCause script long by (second ∷ ws))
     by_structure None e =
         let s = not (is_name second) in
         let l = long || is_long_name second in
         let first = tested (NoStructureCause long second) s l (λ h. h) (λ h. h) (λ h. h) (λ h. h) tt (λ h. h) in
-        inr (strange_why s l, record { here = rw e first.here; none = λ other less k. first.none other less (rw e at k) })
+        inr (
+          strange_why s l,
+          record {
+            here = rw e first.here;
+            none = λ other less k. first.none other less
+                (rw e at k);
+          },
+        )
     by_structure (Some on) e =
-        turned (λ after. IsTrue (not long) × AddsLine script at by on ws after) (λ after. IsTrue (not long) × AddsOfCaller script at by (second ∷ ws) after)
-        (DoneCause (declared_in script) long by (kind_of script.structures on) ws) (CallerCause script long by (second ∷ ws))
+        turned (λ after. IsTrue (not long) × AddsLine script at by on ws after) (λ after. IsTrue (not long)
+        × AddsOfCaller script at by (second ∷ ws) after)
+        (DoneCause (declared_in script) long by (kind_of script.structures on) ws)
+        (CallerCause script long by (second ∷ ws))
         (λ after h. (h.0, rw e h.1)) (λ w h. rw e h) (λ w h. rw e at h) (done-decided script at long by on ws)
 
 -- ---- lines
 
-empty-decided : (script : Script) (long : Bool) → Decided (λ after. IsTrue (not long) × (after ≡ script)) (EmptyCause long)
+empty-decided : (script : Script) (long : Bool) → Decided (λ after. IsTrue (not long) × (after ≡ script))
+    (EmptyCause long)
 empty-decided script true = inr (Limit, limit-alone (EmptyCause true) refl (λ h. h) (λ h. h))
 empty-decided script false = inl (script, (refl, refl))
 
-words-decided : (script : Script) (at : ℕ) (long : Bool) (first : List ℕ) (ws : Words) (c p : Bool) (o : Option ConnId)
-    → Decided (λ after. IsTrue (not long) × MatchBool c (after ≡ script) (MatchBool p (AddsDeclaration script first (first ∷ ws) after) (MatchOption o ⊥ (λ by. AddsOfCaller script at by ws after))))
-    (λ why. MatchBool c (EmptyCause long why) (MatchBool p (PolicyCause script long first (first ∷ ws) why) (MatchOption o (StrangeCause script long first ws why) (λ by. CallerCause script long by ws why))))
+words-decided : (script : Script) (at : ℕ) (long : Bool) (first : List ℕ) (ws : Words) (c p : Bool)
+    (o : Option ConnId)
+    → Decided (λ after. IsTrue (not long) × MatchBool c (after ≡ script)
+    (MatchBool p (AddsDeclaration script first (first ∷ ws) after)
+    (MatchOption o ⊥ (λ by. AddsOfCaller script at by ws after))))
+    (λ why. MatchBool c (EmptyCause long why) (MatchBool p (PolicyCause script long first (first ∷ ws) why)
+    (MatchOption o (StrangeCause script long first ws why) (λ by. CallerCause script long by ws why))))
 words-decided script at long first ws true p o = empty-decided script long
 words-decided script at long first ws false true o = policy-decided script long first (first ∷ ws)
 words-decided script at long first ws false false None =
     let s = not (is_name first) || nat_lt (length ws) 2 || not (has_lines script) in
     let l = long || is_long_name first in
-    inr (strange_why s l, tested (StrangeCause script long first ws) s l (λ h. h) (λ h. h) (λ h. h) (λ h. h) tt (λ h. h))
+    inr (
+      strange_why s l,
+      tested (StrangeCause script long first ws) s l (λ h. h) (λ h. h) (λ h. h) (λ h. h) tt
+          (λ h. h),
+    )
 words-decided script at long first ws false false (Some by) = caller-decided script at long by ws
 
-line-decided : (script : Script) (at : ℕ) (line : List ℕ) → Decided (λ after. Adds script at line after) (LineCause script line)
+line-decided : (script : Script) (at : ℕ) (line : List ℕ) → Decided (λ after. Adds script at line after)
+    (LineCause script line)
 line-decided script at line = by_words (words_of line) refl
   where
-    by_words : (ws : Words) → words_of line ≡ ws → Decided (λ after. Adds script at line after) (LineCause script line)
+    by_words : (ws : Words) → words_of line ≡ ws → Decided (λ after. Adds script at line after)
+        (LineCause script line)
     by_words [] e =
-        turned (λ after. IsTrue (not (is_long line)) × (after ≡ script)) (λ after. Adds script at line after) (EmptyCause (is_long line)) (LineCause script line)
+        turned (λ after. IsTrue (not (is_long line)) × (after ≡ script)) (λ after. Adds script at line after)
+        (EmptyCause (is_long line)) (LineCause script line)
         (λ after h. (h.0, rw e h.1)) (λ w h. rw e h) (λ w h. rw e at h) (empty-decided script (is_long line))
     by_words (first ∷ ws) e =
-        turned (λ after. IsTrue (not (is_long line)) × AddsWords script at (first ∷ ws) after) (λ after. Adds script at line after)
-        (λ why. MatchBool (is_comment first) (EmptyCause (is_long line) why) (MatchBool (is_policy_word first) (PolicyCause script (is_long line) first (first ∷ ws) why)
-        (MatchOption (caller_of script.connectors first) (StrangeCause script (is_long line) first ws why) (λ by. CallerCause script (is_long line) by ws why)))) (LineCause script line)
+        turned (λ after. IsTrue (not (is_long line)) × AddsWords script at (first ∷ ws) after)
+        (λ after. Adds script at line after)
+        (λ why. MatchBool (is_comment first) (EmptyCause (is_long line) why) (MatchBool (is_policy_word first)
+        (PolicyCause script (is_long line) first (first ∷ ws) why)
+        (MatchOption (caller_of script.connectors first) (StrangeCause script (is_long line) first ws why)
+        (λ by. CallerCause script (is_long line) by ws why)))) (LineCause script line)
         (λ after h. (h.0, rw e h.1)) (λ w h. rw e h) (λ w h. rw e at h)
-        (words-decided script at (is_long line) first ws (is_comment first) (is_policy_word first) (caller_of script.connectors first))
+        (words-decided script at (is_long line) first ws (is_comment first) (is_policy_word first)
+        (caller_of script.connectors first))
 
 -- ---- texts
 
@@ -214,11 +278,14 @@ pub record Stops (script : Script) (count : ℕ) (lines : List (List ℕ)) : Typ
   pub why : Why
   pub cause : IsFirst (LineCause before line) why
 
-pub all-decided : (lines : List (List ℕ)) (script : Script) (count : ℕ) → ((after : Script) × AddsAll script count lines after) ⊎ Stops script count lines
+pub all-decided : (lines : List (List ℕ)) (script : Script) (count : ℕ)
+    → ((after : Script) × AddsAll script count lines after) ⊎ Stops script count lines
 all-decided [] script count = inl (script, refl)
-all-decided (line ∷ lines) script count = at_line (line-decided script (line_number (count + 1)) line) (λ next. all-decided lines next (count + 1))
+all-decided (line ∷ lines) script count = at_line (line-decided script (line_number (count + 1)) line)
+    (λ next. all-decided lines next (count + 1))
   where
-    at_more : (next : Script) → Adds script (line_number (count + 1)) line next → ((after : Script) × AddsAll next (count + 1) lines after) ⊎ Stops next (count + 1) lines
+    at_more : (next : Script) → Adds script (line_number (count + 1)) line next
+        → ((after : Script) × AddsAll next (count + 1) lines after) ⊎ Stops next (count + 1) lines
         → ((after : Script) × AddsAll script count (line ∷ lines) after) ⊎ Stops script count (line ∷ lines)
     at_more next adds (inl d) = inl (d.0, (next, adds, d.1))
     at_more next adds (inr s) =
@@ -238,9 +305,19 @@ all-decided (line ∷ lines) script count = at_line (line-decided script (line_n
         → ((after : Script) × AddsAll script count (line ∷ lines) after) ⊎ Stops script count (line ∷ lines)
     at_line (inl d) more = at_more d.0 d.1 (more d.0)
     at_line (inr d) more =
-        inr (record { front = []; line = line; behind = lines; whole = refl; before = script; fine = refl; why = d.0; cause = d.1 })
+        inr (record {
+          front = [];
+          line = line;
+          behind = lines;
+          whole = refl;
+          before = script;
+          fine = refl;
+          why = d.0;
+          cause = d.1;
+        })
 
-pub text-decided : (text : List ℕ) → ((script : Script) × IsScript text script) ⊎ ((number : ℕ) × (why : Why) × IsFault text number why)
+pub text-decided : (text : List ℕ) → ((script : Script) × IsScript text script) ⊎ ((number : ℕ) × (why : Why)
+    × IsFault text number why)
 text-decided text = told (all-decided (lines_of text) empty_script 0)
   where
     told : ((after : Script) × AddsAll empty_script 0 (lines_of text) after) ⊎ Stops empty_script 0 (lines_of text)

@@ -163,7 +163,8 @@ declared-keeps script first ws (Facility pref) h early told room new =
           (with_declaration script (Facility pref)) early refl;
     }
 declared-keeps script first ws (Structure form) h early told room new =
-    let bounds = words-within (declared_in script) (declaration_tokens (Structure form)) (first ∷ ws) [] told.spelled in
+    let bounds = words-within (declared_in script) (declaration_tokens (Structure form)) (first ∷ ws) [] told.spelled
+    in
     let is : IsForm form = told-form (declared_in script) form.kind form refl told.whole.0 told.whole.1 bounds.1.1 in
     record {
       structures = rw (length_push script.structures form) (room_structures script first told.spelled.0 room);
@@ -198,4 +199,5 @@ declaration-keeps script first ws after h adds =
     let early = not-true (has_lines script) adds.early in
     let room = not-true (is_full script first) adds.not_full in
     let new = not-true (is_twice script adds.declaration) adds.once in
-    subst IsWellFormed (sym adds.same) (declared-keeps script first ws adds.declaration h early adds.declares room new)
+    subst IsWellFormed (sym adds.same) (declared-keeps script first ws adds.declaration h early adds.declares room
+    new)

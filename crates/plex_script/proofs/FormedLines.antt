@@ -89,7 +89,11 @@ ask-may declared by given (any.Lock (Content command)) few low may h = no_operat
 act-may : (declared : Declared) (by : ConnId) (k : Kind) (given : Option ℕ) (act : Act) (retry : ℕ)
     → length declared.connectors ≤ 32 → by.0 ≤ 32
     → MayDo by k given act retry → AreWithin declared (act_tokens given act) → IsActOf k by act
-act-may declared by k given (Call asked) retry few low may h = (may.0, ask-may declared by given asked few low may.1 h)
+act-may declared by k given (Call asked) retry few low may h = (
+  may.0,
+  ask-may declared by given asked few low may.1
+      h,
+)
 act-may declared by k given (Test index) retry few low may h = no_operator by low may.1
 act-may declared by k given (TestWord word) retry few low may h = no_operator by low may.1
 act-may declared by k given Post retry few low may h = no_operator by low may.0

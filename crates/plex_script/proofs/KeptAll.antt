@@ -48,7 +48,8 @@ pub record Known (structures : List StrForm) (on : StrNo) : Type 0 where
   pub form : StrForm
   pub known : slice_get structures on.0 ≡ Some form
 
-pub structure-known : (structures : List StrForm) (word : List ℕ) (on : StrNo) → structure_of structures word ≡ Some on
+pub structure-known : (structures : List StrForm) (word : List ℕ) (on : StrNo) → structure_of structures word ≡ Some
+    on
     → Known structures on
 structure-known structures word on h =
     let named : StrForm → Bool = λ form. same_word (name_word form.name) word in

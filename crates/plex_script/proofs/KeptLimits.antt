@@ -182,7 +182,8 @@ declared-keeps : (script : Script) (first : List ℕ) (ws : Words) (declaration 
     → is_full script first ≡ false → is_twice script declaration ≡ false → is_too_much script declaration ≡ false
     → KeepsLimits (with_declaration script declaration)
 declared-keeps script first ws (Facility pref) h early told room new enough =
-    let within = words-within (declared_in script) (declaration_tokens (Facility pref)) (first ∷ ws) [] told.spelled in
+    let within = words-within (declared_in script) (declaration_tokens (Facility pref)) (first ∷ ws) [] told.spelled
+    in
     let is : IsPref pref = (within.1.0, within.1.1.0.0, within.1.1.0.1) in
     let facilities = script.facilities ++ pref ∷ [] in
     let stays : (form : StrForm) → IsStructureIn script.facilities form → IsStructureIn facilities form =
@@ -205,7 +206,8 @@ declared-keeps script first ws (Facility pref) h early told room new enough =
           (with_declaration script (Facility pref)) early refl;
     }
 declared-keeps script first ws (Structure form) h early told room new enough =
-    let within = words-within (declared_in script) (declaration_tokens (Structure form)) (first ∷ ws) [] told.spelled in
+    let within = words-within (declared_in script) (declaration_tokens (Structure form)) (first ∷ ws) [] told.spelled
+    in
     let is : IsForm form = told-form (declared_in script) form.kind form refl told.whole.0 told.whole.1 within.1.1 in
     let bare = told.whole.0 in
     let in_script : IsStructureIn script.facilities form =
@@ -275,7 +277,8 @@ declared-keeps script first ws (Pref on pref) h early told room new enough =
               (record script { structures = structures }) early refl;
         }
 declared-keeps script first ws (Connector name) h early told room new enough =
-    let within = words-within (declared_in script) (declaration_tokens (Connector name)) (first ∷ ws) [] told.spelled in
+    let within = words-within (declared_in script) (declaration_tokens (Connector name)) (first ∷ ws) [] told.spelled
+    in
     record {
       facilities = h.facilities;
       few_structures = h.few_structures;

@@ -17,3 +17,4 @@ pub mod ReadBack
 pub mod Spaced
 pub mod TokensTold
 pub mod KeptLimits
+pub mod StepLaws

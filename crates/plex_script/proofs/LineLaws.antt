@@ -21,7 +21,8 @@ use Rattle.plex_script.proofs.CauseLaws.{Declares-one, SaysDone-limits, SaysDone
 
 -- ---- one script
 
-says-one : (declared : Declared) (by : ConnId) (kind : Kind) (ws : Words) (a b : Act) (m n : ℕ) → SaysDone Names declared by kind ws a m → SaysDone Names declared by kind ws b n
+says-one : (declared : Declared) (by : ConnId) (kind : Kind) (ws : Words) (a b : Act) (m n : ℕ)
+    → SaysDone Names declared by kind ws a m → SaysDone Names declared by kind ws b n
     → (let p : Act × ℕ = (a, m) in p) ≡ (b, n)
 says-one declared by kind ws a b m n h k =
     let f = act-complete Names declared by kind ws a m h in
@@ -30,41 +31,55 @@ says-one declared by kind ws a b m n h k =
     let one : f.found ≡ g.found = cc in
     sym (f.same refl) ∙ one ∙ g.same refl
 
-line-one : (script : Script) (at : ℕ) (by : ConnId) (on : StrNo) (ws : Words) (a b : Script) → AddsLine script at by on ws a → AddsLine script at by on ws b → a ≡ b
+line-one : (script : Script) (at : ℕ) (by : ConnId) (on : StrNo) (ws : Words) (a b : Script)
+    → AddsLine script at by on ws a → AddsLine script at by on ws b → a ≡ b
 line-one script at by on ws a b h k =
-    let one = says-one (declared_in script) by (kind_of script.structures on) ws h.act k.act h.retry k.retry h.says k.says in
-    let made : Act × ℕ → Script = λ p. record script { lines = script.lines ++ (record { at = at; by = by; on = on; act = p.0; retry = p.1 }) ∷ [] } in
+    let one = says-one (declared_in script) by (kind_of script.structures on) ws h.act k.act h.retry k.retry h.says
+    k.says in
+    let made : Act × ℕ → Script = λ p. record script {
+      lines = script.lines
+          ++ (record { at = at; by = by; on = on; act = p.0; retry = p.1 }) ∷ [];
+    } in
     h.same ∙ ap made one ∙ sym k.same
 
-declaration-one : (script : Script) (first : List ℕ) (ws : Words) (a b : Script) → AddsDeclaration script first ws a → AddsDeclaration script first ws b → a ≡ b
+declaration-one : (script : Script) (first : List ℕ) (ws : Words) (a b : Script) → AddsDeclaration script first ws a
+    → AddsDeclaration script first ws b → a ≡ b
 declaration-one script first ws a b h k =
     let one = Declares-one (declared_in script) ws h.declaration k.declaration h.declares k.declares in
     h.same ∙ ap (with_declaration script) one ∙ sym k.same
 
-caller-one : (script : Script) (at : ℕ) (by : ConnId) (ws : Words) (a b : Script) → AddsOfCaller script at by ws a → AddsOfCaller script at by ws b → a ≡ b
+caller-one : (script : Script) (at : ℕ) (by : ConnId) (ws : Words) (a b : Script) → AddsOfCaller script at by ws a
+    → AddsOfCaller script at by ws b → a ≡ b
 caller-one script at by [] a b h k = absurd h
 caller-one script at by (second ∷ ws) a b h k = by_structure (structure_of script.structures second) h k
   where
-    by_structure : (o : Option StrNo) → MatchOption o ⊥ (λ on. AddsLine script at by on ws a) → MatchOption o ⊥ (λ on. AddsLine script at by on ws b) → a ≡ b
+    by_structure : (o : Option StrNo) → MatchOption o ⊥ (λ on. AddsLine script at by on ws a)
+        → MatchOption o ⊥ (λ on. AddsLine script at by on ws b) → a ≡ b
     by_structure None m n = absurd m
     by_structure (Some on) m n = line-one script at by on ws a b m n
 
-words-one : (script : Script) (at : ℕ) (ws : Words) (a b : Script) → AddsWords script at ws a → AddsWords script at ws b → a ≡ b
+words-one : (script : Script) (at : ℕ) (ws : Words) (a b : Script) → AddsWords script at ws a
+    → AddsWords script at ws b → a ≡ b
 words-one script at [] a b h k = h ∙ sym k
-words-one script at (first ∷ ws) a b h k = by_tests (is_comment first) (is_policy_word first) (caller_of script.connectors first) h k
+words-one script at (first ∷ ws) a b h k = by_tests (is_comment first) (is_policy_word first)
+    (caller_of script.connectors first) h k
   where
     by_tests : (c p : Bool) (o : Option ConnId)
-        → MatchBool c (a ≡ script) (MatchBool p (AddsDeclaration script first (first ∷ ws) a) (MatchOption o ⊥ (λ by. AddsOfCaller script at by ws a)))
-        → MatchBool c (b ≡ script) (MatchBool p (AddsDeclaration script first (first ∷ ws) b) (MatchOption o ⊥ (λ by. AddsOfCaller script at by ws b))) → a ≡ b
+        → MatchBool c (a ≡ script) (MatchBool p (AddsDeclaration script first (first ∷ ws) a)
+        (MatchOption o ⊥ (λ by. AddsOfCaller script at by ws a)))
+        → MatchBool c (b ≡ script) (MatchBool p (AddsDeclaration script first (first ∷ ws) b)
+        (MatchOption o ⊥ (λ by. AddsOfCaller script at by ws b))) → a ≡ b
     by_tests true p o m n = m ∙ sym n
     by_tests false true o m n = declaration-one script first (first ∷ ws) a b m n
     by_tests false false None m n = absurd m
     by_tests false false (Some by) m n = caller-one script at by ws a b m n
 
-pub adds-one : (script : Script) (at : ℕ) (line : List ℕ) (a b : Script) → Adds script at line a → Adds script at line b → a ≡ b
+pub adds-one : (script : Script) (at : ℕ) (line : List ℕ) (a b : Script) → Adds script at line a
+    → Adds script at line b → a ≡ b
 adds-one script at line a b h k = words-one script at (words_of line) a b h.1 k.1
 
-pub all-one : (lines : List (List ℕ)) (script : Script) (count : ℕ) (a b : Script) → AddsAll script count lines a → AddsAll script count lines b → a ≡ b
+pub all-one : (lines : List (List ℕ)) (script : Script) (count : ℕ) (a b : Script) → AddsAll script count lines a
+    → AddsAll script count lines b → a ≡ b
 all-one [] script count a b h k = h ∙ sym k
 all-one (line ∷ lines) script count a b h k =
     let one = adds-one script (line_number (count + 1)) line h.0 k.0 h.1 k.1 in
@@ -92,7 +107,8 @@ both_false : (a b : Bool) → a ≡ false → b ≡ false → (a || b) ≡ false
 both_false true b h k = absurd (cc)
 both_false false b h k = k
 
-policy-clean : (script after : Script) (long : Bool) (first : List ℕ) (ws : Words) (why : Why) → not long ≡ true → AddsDeclaration script first ws after
+policy-clean : (script after : Script) (long : Bool) (first : List ℕ) (ws : Words) (why : Why) → not long ≡ true
+    → AddsDeclaration script first ws after
     → PolicyCause script long first ws why → ⊥
 policy-clean script after long first ws why short h k =
     by_why why k
@@ -110,42 +126,56 @@ policy-clean script after long first ws why short h k =
     by_why Unknown m = policy-read script long first ws h.declaration early fits h.declares Unknown (omega arith) m
     by_why Twice m =
         let same = Declares-one (declared_in script) ws m.0 h.declaration m.1 h.declares in
-        let wrong : is_twice script h.declaration ≡ true = rw same at m.2 in not_long (is_twice script h.declaration) h.once wrong
+        let wrong : is_twice script h.declaration ≡ true = rw same at m.2 in not_long (is_twice script h.declaration)
+        h.once wrong
     by_why Space m =
         let same = Declares-one (declared_in script) ws m.0 h.declaration m.1 h.declares in
-        let wrong : is_too_much script h.declaration ≡ true = rw same at m.2 in not_long (is_too_much script h.declaration) h.within wrong
+        let wrong : is_too_much script h.declaration ≡ true = rw same at m.2 in not_long
+        (is_too_much script h.declaration) h.within wrong
 
-done-clean : (declared : Declared) (long : Bool) (by : ConnId) (kind : Kind) (ws : Words) (act : Act) (retry : ℕ) (why : Why) → not long ≡ true
+done-clean : (declared : Declared) (long : Bool) (by : ConnId) (kind : Kind) (ws : Words) (act : Act) (retry : ℕ)
+    (why : Why) → not long ≡ true
     → SaysDone Names declared by kind ws act retry → DoneCause declared long by kind ws why → ⊥
 done-clean declared long by kind ws act retry Late short h k = k
 done-clean declared long by kind ws act retry Syntax short h k =
     k act retry (SaysDone-form declared by kind ws act retry (SaysDone-limits declared by kind ws act retry h))
 done-clean declared long by kind ws act retry Limit short h (inl k) = not_long long short k
-done-clean declared long by kind ws act retry Limit short h (inr k) = k act retry (SaysDone-limits declared by kind ws act retry h)
+done-clean declared long by kind ws act retry Limit short h (inr k) = k act retry
+    (SaysDone-limits declared by kind ws act retry h)
 done-clean declared long by kind ws act retry Unknown short h k = k act retry h
 done-clean declared long by kind ws act retry Twice short h k = k
 done-clean declared long by kind ws act retry Space short h k = k
 
-caller-clean : (script after : Script) (at : ℕ) (long : Bool) (by : ConnId) (ws : Words) (why : Why) → not long ≡ true → AddsOfCaller script at by ws after
+caller-clean : (script after : Script) (at : ℕ) (long : Bool) (by : ConnId) (ws : Words) (why : Why) → not long ≡ true
+    → AddsOfCaller script at by ws after
     → CallerCause script long by ws why → ⊥
 caller-clean script after at long by [] why short h k = absurd h
-caller-clean script after at long by (second ∷ ws) why short h k = by_structure (structure_of script.structures second) h k
+caller-clean script after at long by (second ∷ ws) why short h k = by_structure
+    (structure_of script.structures second) h k
   where
     by_structure : (o : Option StrNo) → MatchOption o ⊥ (λ on. AddsLine script at by on ws after)
-        → MatchOption o (NoStructureCause long second why) (λ on. DoneCause (declared_in script) long by (kind_of script.structures on) ws why) → ⊥
+        → MatchOption o (NoStructureCause long second why) (λ on. DoneCause (declared_in script) long by
+        (kind_of script.structures on) ws why) → ⊥
     by_structure None m n = m
-    by_structure (Some on) m n = done-clean (declared_in script) long by (kind_of script.structures on) ws m.act m.retry why short m.says n
+    by_structure (Some on) m n = done-clean (declared_in script) long by (kind_of script.structures on) ws m.act
+        m.retry why short m.says n
 
-words-clean : (script after : Script) (at : ℕ) (long : Bool) (first : List ℕ) (ws : Words) (why : Why) (c p : Bool) (o : Option ConnId) → not long ≡ true
-    → MatchBool c (after ≡ script) (MatchBool p (AddsDeclaration script first (first ∷ ws) after) (MatchOption o ⊥ (λ by. AddsOfCaller script at by ws after)))
-    → MatchBool c (EmptyCause long why) (MatchBool p (PolicyCause script long first (first ∷ ws) why) (MatchOption o (StrangeCause script long first ws why) (λ by. CallerCause script long by ws why)))
+words-clean : (script after : Script) (at : ℕ) (long : Bool) (first : List ℕ) (ws : Words) (why : Why) (c p : Bool)
+    (o : Option ConnId) → not long ≡ true
+    → MatchBool c (after ≡ script) (MatchBool p (AddsDeclaration script first (first ∷ ws) after)
+    (MatchOption o ⊥ (λ by. AddsOfCaller script at by ws after)))
+    → MatchBool c (EmptyCause long why) (MatchBool p (PolicyCause script long first (first ∷ ws) why)
+    (MatchOption o (StrangeCause script long first ws why) (λ by. CallerCause script long by ws why)))
     → ⊥
 words-clean script after at long first ws why true p o short h k = empty-clean long why short k
-words-clean script after at long first ws why false true o short h k = policy-clean script after long first (first ∷ ws) why short h k
+words-clean script after at long first ws why false true o short h k = policy-clean script after long first
+    (first ∷ ws) why short h k
 words-clean script after at long first ws why false false None short h k = h
-words-clean script after at long first ws why false false (Some by) short h k = caller-clean script after at long by ws why short h k
+words-clean script after at long first ws why false false (Some by) short h k = caller-clean script after at long by
+    ws why short h k
 
-pub line-clean : (script after : Script) (at : ℕ) (line : List ℕ) (why : Why) → Adds script at line after → LineCause script line why → ⊥
+pub line-clean : (script after : Script) (at : ℕ) (line : List ℕ) (why : Why) → Adds script at line after
+    → LineCause script line why → ⊥
 line-clean script after at line why h k = by_words (words_of line) refl
   where
     by_words : (ws : Words) → words_of line ≡ ws → ⊥
@@ -153,10 +183,13 @@ line-clean script after at line why h k = by_words (words_of line) refl
     by_words (first ∷ ws) e =
         let adds : AddsWords script at (first ∷ ws) after = rw e at h.1 in
         let cause = rw e at k in
-        words-clean script after at (is_long line) first ws why (is_comment first) (is_policy_word first) (caller_of script.connectors first) h.0 adds cause
+        words-clean script after at (is_long line) first ws why (is_comment first) (is_policy_word first)
+        (caller_of script.connectors first) h.0 adds cause
 
-pub all-clean : (front : List (List ℕ)) (line : List ℕ) (behind : List (List ℕ)) (script : Script) (count : ℕ) (before after : Script) (why : Why)
-    → AddsAll script count (front ++ line ∷ behind) after → AddsAll script count front before → LineCause before line why → ⊥
+pub all-clean : (front : List (List ℕ)) (line : List ℕ) (behind : List (List ℕ)) (script : Script) (count : ℕ)
+    (before after : Script) (why : Why)
+    → AddsAll script count (front ++ line ∷ behind) after → AddsAll script count front before
+    → LineCause before line why → ⊥
 all-clean [] line behind script count before after why h k cause =
     line-clean script h.0 (line_number (count + 1)) line why h.1 (rw k at cause)
 all-clean (l ∷ front) line behind script count before after why h k cause =

@@ -86,7 +86,8 @@ calls connectors (suc n) h most =
     let other : same_word word (codes "OP") ≡ false = apart.0 in
     record { comment = no_comment word said.0.0; policy_ = apart.1; caller = named word by other said.1 }
   where
-    named : (word : List ℕ) (by : ConnId) → same_word word (codes "OP") ≡ false → connector_of connectors word ≡ Some by
+    named : (word : List ℕ) (by : ConnId) → same_word word (codes "OP") ≡ false → connector_of connectors word ≡ Some
+        by
         → caller_of connectors word ≡ Some by
     named word by other known = rw other known
 
@@ -144,7 +145,8 @@ line-row line =
 -- ---- a line
 
 -- the tests for the sort of a line, passed
-of_caller : (c p : Bool) (o : Option ConnId) (by : ConnId) (A B : Type 0) (F : ConnId → Type 0) → c ≡ false → p ≡ false
+of_caller : (c p : Bool) (o : Option ConnId) (by : ConnId) (A B : Type 0) (F : ConnId → Type 0) → c ≡ false
+    → p ≡ false
     → o ≡ Some by → F by → MatchBool c A (MatchBool p B (MatchOption o ⊥ F))
 of_caller c p o by A B F comment policy_ caller f = rw (comment, policy_, caller) f
 

@@ -26,7 +26,8 @@ use Rattle.plex_script.specs.LineReading.{ended}
 use Rattle.plex_script.specs.PolicyReading.{facility_places, facility_from, pref_places, pref_from, cache_places, cache_from, list_places, list_from, lock_places, lock_from, form_at, structure_at, declared_at, declaration_at}
 use Rattle.plex_script.proofs.ActLaws.{ended-is}
 
-pub record DeclarationTold (rigour : Rigour) (declared : Declared) (ws rest : Words) (declaration : Declaration) : Type 0 where
+pub record DeclarationTold (rigour : Rigour) (declared : Declared) (ws rest : Words) (declaration : Declaration) :
+    Type 0 where
   pub whole : IsDeclaration declaration
   pub spelled : Spells rigour declared (declaration_tokens declaration) ws rest
 
@@ -40,53 +41,104 @@ are_cache : ArePlaces cache_places
 are_cache = (lit< tt, tt, (lit< tt, tt, (lit< tt, tt, (lit< tt, tt, (refl, tt, tt)))))
 
 are_list : ArePlaces list_places
-are_list = (lit< tt, tt, (lit< tt, tt, (lit< tt, tt, (lit< tt, tt, (refl, tt, (lit< tt, tt, (lit< tt, tt, (tt, tt, tt))))))))
+are_list = (
+  lit< tt,
+  tt,
+  (
+    lit< tt,
+    tt,
+    (
+      lit< tt,
+      tt,
+      (
+        lit< tt,
+        tt,
+        (refl, tt, (lit< tt, tt, (lit< tt, tt, (tt, tt, tt)))),
+      ),
+    ),
+  ),
+)
 
 are_lock : ArePlaces lock_places
 are_lock = (lit< tt, tt, (lit< tt, tt, (lit< tt, tt, (refl, tt, tt))))
 
-name-sound : (rigour : Rigour) (declared : Declared) (ws rest : Words) (name : Name16) → on_first (new_name_of rigour) ws ≡ Some (name, rest)
+name-sound : (rigour : Rigour) (declared : Declared) (ws rest : Words) (name : Name16) → on_first (new_name_of rigour)
+    ws ≡ Some (name, rest)
     → Spells rigour declared (NewName name ∷ []) ws rest
-name-sound rigour declared ws rest name h = single-sound rigour declared (new_name_of rigour) NewName (λ w x e. new_name-sound rigour w x e) ws rest name h
+name-sound rigour declared ws rest name h = single-sound rigour declared (new_name_of rigour) NewName
+    (λ w x e. new_name-sound rigour w x e) ws rest name h
 
-name-complete : (rigour : Rigour) (declared : Declared) (ws rest : Words) (name : Name16) → Spells rigour declared (NewName name ∷ []) ws rest
+name-complete : (rigour : Rigour) (declared : Declared) (ws rest : Words) (name : Name16) → Spells rigour declared
+    (NewName name ∷ []) ws rest
     → FindsAll rigour (on_first (new_name_of rigour) ws) name rest
 name-complete rigour declared ws rest name h =
-    single-complete rigour declared (new_name_of rigour) NewName name (λ w e. new_name-complete rigour w name e.0 e.1) ws rest h
+    single-complete rigour declared (new_name_of rigour) NewName name (λ w e. new_name-complete rigour w name e.0 e.1)
+    ws rest h
 
-form-sound : (rigour : Rigour) (declared : Declared) (verb : List ℕ) (name : Name16) (ws mid rest : Words) (declaration : Declaration)
+form-sound : (rigour : Rigour) (declared : Declared) (verb : List ℕ) (name : Name16) (ws mid rest : Words)
+    (declaration : Declaration)
     → same_word verb (codes "STRUCTURE") ≡ true → Spells rigour declared (NewName name ∷ []) ws mid
-    → form_at rigour declared name mid ≡ Some (declaration, rest) → DeclarationTold rigour declared (verb ∷ ws) rest declaration
+    → form_at rigour declared name mid ≡ Some (declaration, rest) → DeclarationTold rigour declared (verb ∷ ws) rest
+    declaration
 form-sound rigour declared verb name ws mid rest declaration e named h =
     let here = word-same verb (codes "STRUCTURE") e in
     pick h (λ b k.
     let t = values-sound rigour declared cache_places (cache_from name) (behind mid) rest declaration are_cache k in
     let s = led rigour declared (codes "CACHE") (tokens_of cache_places t.values) mid rest b t.spelled in
-    rw t.same (record { whole = (refl, tt); spelled = (here, Spells-append rigour declared (NewName name ∷ []) (Literal (codes "CACHE") ∷ tokens_of cache_places t.values) ws mid rest named s) }))
+    rw t.same (record {
+      whole = (refl, tt);
+      spelled = (
+        here,
+        Spells-append rigour declared (NewName name ∷ [])
+            (Literal (codes "CACHE") ∷ tokens_of cache_places t.values) ws mid rest named s,
+      );
+    }))
     (λ _ a. pick a (λ b k.
     let t = values-sound rigour declared list_places (list_from name) (behind mid) rest declaration are_list k in
     let s = led rigour declared (codes "LIST") (tokens_of list_places t.values) mid rest b t.spelled in
-    rw t.same (record { whole = (refl, tt); spelled = (here, Spells-append rigour declared (NewName name ∷ []) (Literal (codes "LIST") ∷ tokens_of list_places t.values) ws mid rest named s) }))
+    rw t.same (record {
+      whole = (refl, tt);
+      spelled = (
+        here,
+        Spells-append rigour declared (NewName name ∷ [])
+            (Literal (codes "LIST") ∷ tokens_of list_places t.values) ws mid rest named s,
+      );
+    }))
     (λ _ c. pick c (λ b k.
     let t = values-sound rigour declared lock_places (lock_from name) (behind mid) rest declaration are_lock k in
     let s = led rigour declared (codes "LOCK") (tokens_of lock_places t.values) mid rest b t.spelled in
-    rw t.same (record { whole = (refl, refl); spelled = (here, Spells-append rigour declared (NewName name ∷ []) (Literal (codes "LOCK") ∷ tokens_of lock_places t.values) ws mid rest named s) }))
+    rw t.same (record {
+      whole = (refl, refl);
+      spelled = (
+        here,
+        Spells-append rigour declared (NewName name ∷ [])
+            (Literal (codes "LOCK") ∷ tokens_of lock_places t.values) ws mid rest named s,
+      );
+    }))
     (λ _ n. not_some (let p : Declaration × Words = (declaration, rest) in p) n)))
 
-declared-sound : (rigour : Rigour) (declared : Declared) (ws rest : Words) (declaration : Declaration) → declared_at rigour declared ws ≡ Some (declaration, rest)
+declared-sound : (rigour : Rigour) (declared : Declared) (ws rest : Words) (declaration : Declaration)
+    → declared_at rigour declared ws ≡ Some (declaration, rest)
     → DeclarationTold rigour declared ws rest declaration
-declared-sound rigour declared [] rest declaration h = not_some (let p : Declaration × Words = (declaration, rest) in p) h
+declared-sound rigour declared [] rest declaration h = not_some (let p : Declaration × Words = (declaration, rest)
+    in p) h
 declared-sound rigour declared (verb ∷ ws) rest declaration h =
     let P : Declaration → Type 0 = DeclarationTold rigour declared (verb ∷ ws) rest in
-    pick h (λ e k. verb-sound rigour declared verb (codes "FACILITY") facility_places facility_from ws rest declaration P are_facility (λ vs s. record { whole = tt; spelled = s }) e k)
+    pick h (λ e k. verb-sound rigour declared verb (codes "FACILITY") facility_places facility_from ws rest
+    declaration P are_facility (λ vs s. record { whole = tt; spelled = s }) e k)
     (λ _ a. pick a (λ e k.
-    let b = bound (λ (name : Name16 × Words). form_at rigour declared name.0 name.1) (on_first (new_name_of rigour) ws) (declaration, rest) k in
-    form-sound rigour declared verb b.value.0 ws b.value.1 rest declaration e (name-sound rigour declared ws b.value.1 b.value.0 b.read) b.then_)
-    (λ _ c. pick c (λ e k. verb-sound rigour declared verb (codes "PREF") pref_places pref_from ws rest declaration P are_pref (λ vs s. record { whole = tt; spelled = s }) e k)
-    (λ _ d. pick d (λ e k. verb-sound rigour declared verb (codes "CONNECTOR") (ANewName ∷ []) (λ v. Connector v.0) ws rest declaration P (tt, tt, tt) (λ vs s. record { whole = tt; spelled = s }) e k)
+    let b = bound (λ (name : Name16 × Words). form_at rigour declared name.0 name.1)
+    (on_first (new_name_of rigour) ws) (declaration, rest) k in
+    form-sound rigour declared verb b.value.0 ws b.value.1 rest declaration e (name-sound rigour declared ws b.value.1
+    b.value.0 b.read) b.then_)
+    (λ _ c. pick c (λ e k. verb-sound rigour declared verb (codes "PREF") pref_places pref_from ws rest declaration P
+    are_pref (λ vs s. record { whole = tt; spelled = s }) e k)
+    (λ _ d. pick d (λ e k. verb-sound rigour declared verb (codes "CONNECTOR") (ANewName ∷ []) (λ v. Connector v.0) ws
+    rest declaration P (tt, tt, tt) (λ vs s. record { whole = tt; spelled = s }) e k)
     (λ _ n. not_some (let p : Declaration × Words = (declaration, rest) in p) n))))
 
-pub declaration-sound : (rigour : Rigour) (declared : Declared) (ws : Words) (declaration : Declaration) → declaration_at rigour declared ws ≡ Some declaration
+pub declaration-sound : (rigour : Rigour) (declared : Declared) (ws : Words) (declaration : Declaration)
+    → declaration_at rigour declared ws ≡ Some declaration
     → Declares rigour declared ws declaration
 declaration-sound rigour declared ws declaration h =
     let f : Declaration × Words → Option Declaration = λ read. ended read in
@@ -99,25 +151,32 @@ declaration-sound rigour declared ws declaration h =
     record { whole = t.whole; spelled = t.spelled }
 
 -- behind the name of a structure
-kind-complete : (rigour : Rigour) (declared : Declared) (word : List ℕ) (places : List Place) (made : Name16 → Values places → Declaration) (name : Name16) (values : Values places) (ws : Words)
+kind-complete : (rigour : Rigour) (declared : Declared) (word : List ℕ) (places : List Place) (made : Name16
+    → Values places → Declaration) (name : Name16) (values : Values places) (ws : Words)
     → ArePlaces places → are_rows places ≡ true → all_lack_retry places ≡ true
-    → ((n : Name16) (us : Words) → begins_with word us ≡ true → form_at rigour declared n us ≡ values_at rigour declared places (made n) (behind us))
-    → Spells rigour declared (Literal (codes "STRUCTURE") ∷ NewName name ∷ Literal word ∷ tokens_of places values) ws []
+    → ((n : Name16) (us : Words) → begins_with word us ≡ true → form_at rigour declared n us ≡ values_at rigour
+    declared places (made n) (behind us))
+    → Spells rigour declared (Literal (codes "STRUCTURE") ∷ NewName name ∷ Literal word ∷ tokens_of places values) ws
+    []
     → FindsAll rigour (declared_at rigour declared ws) (made name values) []
 kind-complete rigour declared word places made name values ws are rows free does h =
-    led-complete rigour declared (codes "STRUCTURE") (NewName name ∷ Literal word ∷ tokens_of places values) (made name values) ws [] (declared_at rigour declared) (structure_at rigour declared) (λ us. refl)
+    led-complete rigour declared (codes "STRUCTURE") (NewName name ∷ Literal word ∷ tokens_of places values)
+    (made name values) ws [] (declared_at rigour declared) (structure_at rigour declared) (λ us. refl)
     (λ us s.
     let split = Spells-split rigour declared (NewName name ∷ []) (Literal word ∷ tokens_of places values) us [] s in
     let n = name-complete rigour declared us split.mid name split.front in
     let l = led-by rigour declared word (tokens_of places values) split.mid [] split.behind_ in
-    let v = values-complete rigour declared places (made n.found) values (behind split.mid) [] are rows (AreFree-tail places [] refl free) l.rest_is in
+    let v = values-complete rigour declared places (made n.found) values (behind split.mid) [] are rows
+    (AreFree-tail places [] refl free) l.rest_is in
     rw n.read (record {
       found = made n.found v.found;
       read = does n.found split.mid l.begins ∙ v.read;
-      same = λ e. ap (λ (x : Name16). made x v.found) (n.same e) ∙ ap (λ (xs : Values places). made name xs) (v.same e);
+      same = λ e. ap (λ (x : Name16). made x v.found) (n.same e) ∙ ap (λ (xs : Values places). made name xs)
+          (v.same e);
     })) h
 
-first_apart : (word other : List ℕ) (us : Words) → begins_with word us ≡ true → same_word word other ≡ false → begins_with other us ≡ false
+first_apart : (word other : List ℕ) (us : Words) → begins_with word us ≡ true → same_word word other ≡ false
+    → begins_with other us ≡ false
 first_apart word other [] e apart = refl
 first_apart word other (w ∷ us) e apart = let same = word-same w word e in rw same apart
 
@@ -132,41 +191,70 @@ does_list rigour declared n us e = let a = first_apart (codes "LIST") (codes "CA
 does_lock : (rigour : Rigour) (declared : Declared) (n : Name16) (us : Words) → begins_with (codes "LOCK") us ≡ true
     → form_at rigour declared n us ≡ values_at rigour declared lock_places (lock_from n) (behind us)
 does_lock rigour declared n us e =
-    let a = first_apart (codes "LOCK") (codes "CACHE") us e refl in let b = first_apart (codes "LOCK") (codes "LIST") us e refl in rw (a, b, e) refl
+    let a = first_apart (codes "LOCK") (codes "CACHE") us e refl in let b = first_apart (codes "LOCK") (codes "LIST")
+    us e refl in rw (a, b, e) refl
 
 abbrev form_of : Name16 → Kind → Caps → ℕ → ℕ → Bool → List Set → StrForm
-form_of name k caps conns vector keep prefs = record { name = name; kind = k; caps = caps; conns = conns; vector = vector; keep = keep; prefs = prefs }
+form_of name k caps conns vector keep prefs = record {
+  name = name;
+  kind = k;
+  caps = caps;
+  conns = conns;
+  vector =
+      vector;
+  keep = keep;
+  prefs = prefs;
+}
 
-structure-complete : (rigour : Rigour) (declared : Declared) (k : Kind) (name : Name16) (caps : Caps) (conns vector : ℕ) (keep : Bool) (ws : Words) → IsVectorTold k vector
-    → Spells rigour declared (Literal (codes "STRUCTURE") ∷ NewName name ∷ form_tokens k (form_of name k caps conns vector keep [])) ws []
+structure-complete : (rigour : Rigour) (declared : Declared) (k : Kind) (name : Name16) (caps : Caps)
+    (conns vector : ℕ) (keep : Bool) (ws : Words) → IsVectorTold k vector
+    → Spells rigour declared (Literal (codes "STRUCTURE") ∷ NewName name ∷ form_tokens k
+    (form_of name k caps conns vector keep [])) ws []
     → FindsAll rigour (declared_at rigour declared ws) (Structure (form_of name k caps conns vector keep [])) []
 structure-complete rigour declared kind.Cache name caps conns vector keep ws told h =
-    kind-complete rigour declared (codes "CACHE") cache_places cache_from name (caps.entries, (caps.elements, (conns, (vector, (keep, tt))))) ws are_cache refl refl (does_cache rigour declared) h
+    kind-complete rigour declared (codes "CACHE") cache_places cache_from name
+    (caps.entries, (caps.elements, (conns, (vector, (keep, tt))))) ws are_cache refl refl
+    (does_cache rigour declared) h
 structure-complete rigour declared (kind.List headers locks refs) name caps conns vector keep ws told h =
-    kind-complete rigour declared (codes "LIST") list_places list_from name (caps.entries, (caps.elements, (conns, (vector, (keep, (headers, (locks, (refs, tt)))))))) ws are_list refl refl (does_list rigour declared) h
+    kind-complete rigour declared (codes "LIST") list_places list_from name
+    (caps.entries, (caps.elements, (conns, (vector, (keep, (headers, (locks, (refs, tt)))))))) ws are_list refl
+    refl (does_list rigour declared) h
 structure-complete rigour declared kind.Lock name caps conns vector keep ws told h =
-    let P : ℕ → Type 0 = λ v. FindsAll rigour (declared_at rigour declared ws) (Structure (form_of name kind.Lock caps conns v keep [])) [] in
-    subst P (sym told) (kind-complete rigour declared (codes "LOCK") lock_places lock_from name (caps.entries, (caps.elements, (conns, (keep, tt)))) ws are_lock refl refl (does_lock rigour declared) h)
+    let P : ℕ → Type 0 = λ v. FindsAll rigour (declared_at rigour declared ws)
+    (Structure (form_of name kind.Lock caps conns v keep [])) [] in
+    subst P (sym told) (kind-complete rigour declared (codes "LOCK") lock_places lock_from name
+    (caps.entries, (caps.elements, (conns, (keep, tt)))) ws are_lock refl refl (does_lock rigour declared) h)
 
-declared-complete : (rigour : Rigour) (declared : Declared) (ws : Words) (declaration : Declaration) → Declares rigour declared ws declaration
+declared-complete : (rigour : Rigour) (declared : Declared) (ws : Words) (declaration : Declaration)
+    → Declares rigour declared ws declaration
     → FindsAll rigour (declared_at rigour declared ws) declaration []
 declared-complete rigour declared ws (Facility pref) h =
-    command-complete rigour declared (codes "FACILITY") facility_places facility_from (pref.cf, (pref.units, tt)) ws [] are_facility refl (AreFree-tail facility_places [] refl refl) (declared_at rigour declared) (λ us. refl) h.spelled
+    command-complete rigour declared (codes "FACILITY") facility_places facility_from (pref.cf, (pref.units, tt)) ws
+    [] are_facility refl (AreFree-tail facility_places [] refl refl) (declared_at rigour declared) (λ us. refl)
+    h.spelled
 declared-complete rigour declared ws (Structure form) h =
-    let P : List Set → Type 0 = λ prefs. FindsAll rigour (declared_at rigour declared ws) (Structure (form_of form.name form.kind form.caps form.conns form.vector form.keep prefs)) [] in
-    let Q : List Set → Type 0 = λ prefs. Spells rigour declared (Literal (codes "STRUCTURE") ∷ NewName form.name ∷ form_tokens form.kind (form_of form.name form.kind form.caps form.conns form.vector form.keep prefs)) ws [] in
-    subst P (sym h.whole.0) (structure-complete rigour declared form.kind form.name form.caps form.conns form.vector form.keep ws h.whole.1 (subst Q h.whole.0 h.spelled))
+    let P : List Set → Type 0 = λ prefs. FindsAll rigour (declared_at rigour declared ws)
+    (Structure (form_of form.name form.kind form.caps form.conns form.vector form.keep prefs)) [] in
+    let Q : List Set → Type 0 = λ prefs. Spells rigour declared (Literal (codes "STRUCTURE") ∷ NewName form.name ∷
+    form_tokens form.kind (form_of form.name form.kind form.caps form.conns form.vector form.keep prefs)) ws [] in
+    subst P (sym h.whole.0) (structure-complete rigour declared form.kind form.name form.caps form.conns form.vector
+    form.keep ws h.whole.1 (subst Q h.whole.0 h.spelled))
 declared-complete rigour declared ws (Pref on pref) h =
-    command-complete rigour declared (codes "PREF") pref_places pref_from (on, (pref.cf, (pref.units, tt))) ws [] are_pref refl (AreFree-tail pref_places [] refl refl) (declared_at rigour declared) (λ us. refl) h.spelled
+    command-complete rigour declared (codes "PREF") pref_places pref_from (on, (pref.cf, (pref.units, tt))) ws
+    [] are_pref refl (AreFree-tail pref_places [] refl refl) (declared_at rigour declared) (λ us. refl) h.spelled
 declared-complete rigour declared ws (Connector name) h =
-    command-complete rigour declared (codes "CONNECTOR") (ANewName ∷ []) (λ v. Connector v.0) (name, tt) ws [] (tt, tt, tt) refl (AreFree-tail (ANewName ∷ []) [] refl refl) (declared_at rigour declared) (λ us. refl) h.spelled
+    command-complete rigour declared (codes "CONNECTOR") (ANewName ∷ []) (λ v. Connector v.0) (name, tt) ws []
+    (tt, tt, tt) refl (AreFree-tail (ANewName ∷ []) [] refl refl) (declared_at rigour declared) (λ us. refl)
+    h.spelled
 
-pub record DeclarationFinds (rigour : Rigour) (reading : Option Declaration) (declaration : Declaration) : Type 0 where
-  pub found : Declaration
-  pub read : reading ≡ Some found
-  pub same : is_names rigour ≡ true → found ≡ declaration
+pub record DeclarationFinds (rigour : Rigour) (reading : Option Declaration) (declaration : Declaration) : Type 0
+  where
+    pub found : Declaration
+    pub read : reading ≡ Some found
+    pub same : is_names rigour ≡ true → found ≡ declaration
 
-pub declaration-complete : (rigour : Rigour) (declared : Declared) (ws : Words) (declaration : Declaration) → Declares rigour declared ws declaration
+pub declaration-complete : (rigour : Rigour) (declared : Declared) (ws : Words) (declaration : Declaration)
+    → Declares rigour declared ws declaration
     → DeclarationFinds rigour (declaration_at rigour declared ws) declaration
 declaration-complete rigour declared ws declaration h =
     let f = declared-complete rigour declared ws declaration h in

@@ -460,7 +460,8 @@ structure-adds : (facilities : List Set) (front : List StrForm) (form : StrForm)
     → Leads (policy facilities front []) count (structure_lines form) (policy facilities (front ++ form ∷ []) [])
 structure-adds facilities front form back count names few h room =
     let state : List Set → Script = λ done. policy facilities (front ++ with_prefs form done ∷ []) [] in
-    leads-one (policy facilities front []) (state []) (policy facilities (front ++ form ∷ []) []) count (form_line form)
+    leads-one (policy facilities front []) (state []) (policy facilities (front ++ form ∷ []) []) count
+    (form_line form)
     (map (pref_line form) form.prefs) (form-adds facilities front form back count names few h.formed)
     (leads-each state (pref_line form) form.prefs (count + 1)
     (λ done pref rest n e at. pref-adds facilities front form back done pref rest n names h e (room pref.cf))
@@ -478,7 +479,8 @@ structures-add facilities structures count names few forms room =
     structure-adds facilities front form back n (subst (HaveNames (λ (f : StrForm). f.name)) (sym e) named)
     (omega (arith, few, ap length e, length-append front (form ∷ back)))
     (element (IsStructureIn facilities) front form back (subst (All (IsStructureIn facilities)) (sym e) forms))
-    (λ cf. subst (λ (fs : List StrForm). units_of (all_prefs fs) cf ≤ facility_units facilities cf) (sym e) (room cf)))
+    (λ cf. subst (λ (fs : List StrForm). units_of (all_prefs fs) cf ≤ facility_units facilities cf) (sym e)
+    (room cf)))
     [] structures count refl
 
 -- ---- connectors

@@ -15,7 +15,8 @@ use Rattle.plex_script.specs.Reading.{IsFaultBy, fault_at, TellsFault}
 
 -- ---- carriage returns
 
-pub return-yes : (line : List ℕ) (n : ℕ) → length line ≡ suc n → get_or line n 0 ≡ 13 → without_return line ≡ take n line
+pub return-yes : (line : List ℕ) (n : ℕ) → length line ≡ suc n → get_or line n 0 ≡ 13 → without_return line ≡ take n
+    line
 return-yes [] n e h = absurd (omega (arith, e))
 return-yes (b ∷ []) zero e h = rw h refl
 return-yes (b ∷ []) (suc n) e h = absurd (omega (arith, e))
@@ -40,7 +41,8 @@ split_cons p (x ∷ xs) = at_test (p x) refl (split_cons p xs)
     at_test true e more = ([], slice_split p xs, rw e refl)
     at_test false e more = (x ∷ more.0, more.1, rw (e, more.2) refl)
 
-lines_in-more : (part : List ℕ) (p : ℕ → Bool) (xs : List ℕ) → lines_in (part ∷ slice_split p xs) ≡ without_return part ∷ lines_in (slice_split p xs)
+lines_in-more : (part : List ℕ) (p : ℕ → Bool) (xs : List ℕ) → lines_in (part ∷ slice_split p xs) ≡ without_return
+    part ∷ lines_in (slice_split p xs)
 lines_in-more part p xs = let more = split_cons p xs in rw more.2 refl
 
 pub lines-feed : (text : List ℕ) (place : ℕ) → position (λ b. b == 10) text ≡ Some place
@@ -72,7 +74,8 @@ lines-last text some h =
 
 -- ---- line after line
 
-pub AddsAll-more : (script : Script) (count : ℕ) (front : List (List ℕ)) (mid : Script) (line : List ℕ) (next : Script) → AddsAll script count front mid
+pub AddsAll-more : (script : Script) (count : ℕ) (front : List (List ℕ)) (mid : Script) (line : List ℕ)
+    (next : Script) → AddsAll script count front mid
     → Adds mid (line_number (count + length front + 1)) line next → AddsAll script count (front ++ line ∷ []) next
 AddsAll-more script count [] mid line next h k =
     let n : count + 0 + 1 ≡ count + 1 = omega arith in
@@ -95,25 +98,32 @@ next_number n = omega arith
 number_more : (number count : ℕ) → number ≡ line_number count → min (number + 1) 4294967295 ≡ line_number (count + 1)
 number_more number count h = rw h (next_number count)
 
-pub IsRead-more : (text : List ℕ) (script : Script) (number : ℕ) (rest line more : List ℕ) (next : Script) (after : ℕ) → IsRead text script number rest
-    → lines_of rest ≡ line ∷ lines_of more → after ≡ min (number + 1) 4294967295 → Adds script after line next → IsRead text next after more
+pub IsRead-more : (text : List ℕ) (script : Script) (number : ℕ) (rest line more : List ℕ) (next : Script) (after : ℕ)
+    → IsRead text script number rest
+    → lines_of rest ≡ line ∷ lines_of more → after ≡ min (number + 1) 4294967295 → Adds script after line next
+    → IsRead text next after more
 IsRead-more text script number rest line more next after h lines is adds =
     let as_count : after ≡ line_number (length h.front + 1) = is ∙ number_more number (length h.front) h.count in
     let len : length (h.front ++ line ∷ []) ≡ length h.front + 1 = omega (arith, length-append h.front (line ∷ [])) in
     let zero_more : 0 + length h.front + 1 ≡ length h.front + 1 = omega arith in
     record {
       front = h.front ++ line ∷ [];
-      whole = h.whole ∙ ap (λ (ls : List (List ℕ)). h.front ++ ls) lines ∙ sym (append_assoc h.front (line ∷ []) (lines_of more));
+      whole = h.whole ∙ ap (λ (ls : List (List ℕ)). h.front ++ ls) lines
+          ∙ sym (append_assoc h.front (line ∷ []) (lines_of more));
       count = rw len as_count;
       fine = AddsAll-more empty_script 0 h.front script line next h.fine (rw zero_more (rw as_count at adds));
     }
 
-pub IsScript-read : (text : List ℕ) (script : Script) (number : ℕ) (rest : List ℕ) → IsRead text script number rest → length rest ≡ 0 → IsScript text script
-IsScript-read text script number [] h e = let all : lines_of text ≡ h.front = h.whole ∙ append-nil h.front in rw all h.fine
+pub IsScript-read : (text : List ℕ) (script : Script) (number : ℕ) (rest : List ℕ) → IsRead text script number rest
+    → length rest ≡ 0 → IsScript text script
+IsScript-read text script number [] h e = let all : lines_of text ≡ h.front = h.whole ∙ append-nil h.front in rw all
+    h.fine
 IsScript-read text script number (b ∷ rest) h e = absurd (omega (arith, e))
 
-pub fault-read : (text : List ℕ) (script : Script) (number : ℕ) (rest line more : List ℕ) (after : ℕ) (fault : LineFault) → IsRead text script number rest
-    → lines_of rest ≡ line ∷ lines_of more → after ≡ min (number + 1) 4294967295 → IsFaultBy (LineCause script line) fault → TellsFault text (fault_at after fault)
+pub fault-read : (text : List ℕ) (script : Script) (number : ℕ) (rest line more : List ℕ) (after : ℕ)
+    (fault : LineFault) → IsRead text script number rest
+    → lines_of rest ≡ line ∷ lines_of more → after ≡ min (number + 1) 4294967295 → IsFaultBy (LineCause script line)
+    fault → TellsFault text (fault_at after fault)
 fault-read text script number rest line more after (Wrong why) h lines is cause =
     record {
       front = h.front;

@@ -78,12 +78,14 @@ storage-within declared given stg e h = at_test (stg == 1)
     at_test false = (tt, ((omega arith, small), tt))
 
 -- a part behind others, and before others
-behind-part : (declared : Declared) (front one other : List Token) → (AreWithin declared one → AreWithin declared other)
+behind-part : (declared : Declared) (front one other : List Token)
+    → (AreWithin declared one → AreWithin declared other)
     → AreWithin declared (front ++ one) → AreWithin declared (front ++ other)
 behind-part declared front one other f h =
     within-append declared front other (within-front declared front one h) (f (within-back declared front one h))
 
-before-part : (declared : Declared) (back one other : List Token) → (AreWithin declared one → AreWithin declared other)
+before-part : (declared : Declared) (back one other : List Token)
+    → (AreWithin declared one → AreWithin declared other)
     → AreWithin declared (one ++ back) → AreWithin declared (other ++ back)
 before-part declared back one other f h =
     within-append declared other back (f (within-front declared one back h)) (within-back declared one back h)

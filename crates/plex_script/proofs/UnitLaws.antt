@@ -16,8 +16,10 @@ minus-zero left = grind (arith, nat_tests)
 pub minus-some : (left taken rest : ℕ) → minus left taken ≡ Some rest → (taken ≤ left) × (rest + taken ≡ left)
 minus-some left taken rest h = at_test (nat_le taken left) refl h
   where
-    at_test : (b : Bool) → nat_le taken left ≡ b → cond b (Some (left - taken)) None ≡ Some rest → (taken ≤ left) × (rest + taken ≡ left)
-    at_test true e k = let le : taken ≤ left = grind (arith, nat_tests) in let is : left - taken ≡ rest = cc in (le, omega arith)
+    at_test : (b : Bool) → nat_le taken left ≡ b → cond b (Some (left - taken)) None ≡ Some rest → (taken ≤ left)
+        × (rest + taken ≡ left)
+    at_test true e k = let le : taken ≤ left = grind (arith, nat_tests) in let is : left - taken ≡ rest = cc
+        in (le, omega arith)
     at_test false e k = absurd (cc)
 
 pub minus-past : (left taken : ℕ) → minus left taken ≡ None → left < taken

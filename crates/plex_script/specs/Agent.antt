@@ -1,6 +1,7 @@
--- What a caller asks in the work of one line: its call, again after an event round while it is refused for the stage of a rebuild; or an
+-- What a caller asks in the work of one line: its call, again after an event round while it is refused for the stage
+-- of a rebuild; or an
 -- event round alone.
-use Rattle.std.specs.Prelude.{ℕ, zero, suc, ◌+◌, ◌*◌, if◌then◌else◌, Option, None, Some}
+use Rattle.std.specs.Prelude.{◌≡◌, ℕ, zero, suc, ◌+◌, ◌*◌, if◌then◌else◌, Option, None, Some}
 use Rattle.cf_types.specs.declared.forms.Kind.{Kind}
 use Rattle.cf_types.specs.declared.forms.Kind.TheVariants as kind
 use Rattle.cf_types.specs.declared.shell_commands.ShellCmd.{ShellCmd}
@@ -33,7 +34,8 @@ abbrev pub taking : ℕ → Option ℕ → Step
 taking zero behind = after_round behind
 taking (suc left) behind = Next left behind
 
--- a call that may be asked again is, after an event round, as often as the line says. A round goes on while there are events, and
+-- a call that may be asked again is, after an event round, as often as the line says. A round goes on while there are
+-- events, and
 -- answers those that owe a response
 abbrev pub step_after : Step → Told → Step
 step_after (Call zero) told = Rest
@@ -75,3 +77,11 @@ call_of (act.Test index) = None
 call_of (act.TestWord word) = None
 call_of act.Post = None
 call_of act.Take = None
+
+-- where the line has no call, no step asks it
+abbrev pub IsReady : Option AnyAsk → Step → Type 0
+IsReady (Some asked) now = Unit {0}
+IsReady None (Call asks) = ⊥
+IsReady None (Next left behind) = behind ≡ None
+IsReady None (Respond left behind) = behind ≡ None
+IsReady None Rest = Unit {0}

@@ -25,7 +25,12 @@ use Rattle.plex_script.specs.PolicyWords.{Declares}
 -- ---- what stands before a line
 
 abbrev pub declared_in : Script → Declared
-declared_in script = record { facilities = script.facilities; structures = script.structures; connectors = script.connectors }
+declared_in script = record {
+  facilities = script.facilities;
+  structures = script.structures;
+  connectors =
+      script.connectors;
+}
 
 -- the policy has ended
 abbrev pub has_lines : Script → Bool
@@ -36,7 +41,8 @@ kind_of structures on = option_map_or (λ (form : StrForm). form.kind) (slice_ge
 
 -- who is meant by the first word: the operator, or a connector
 abbrev pub caller_of : List Name16 → List ℕ → Option ConnId
-caller_of connectors word = if same_word word (codes "OP") then Some (record { 0 = 0 }) else connector_of connectors word
+caller_of connectors word = if same_word word (codes "OP") then Some (record { 0 = 0 }) else connector_of connectors
+    word
 
 -- ---- sorts of lines
 
@@ -67,19 +73,23 @@ is_full script word =
     || (same_word word (codes "CONNECTOR") && nat_le 32 (length script.connectors))
 
 abbrev pub has_pref : List StrForm → StrNo → CfId → Bool
-has_pref structures on cf = option_map_or (λ (form : StrForm). is_declared form.prefs cf) (slice_get structures on.0) false
+has_pref structures on cf = option_map_or (λ (form : StrForm). is_declared form.prefs cf) (slice_get structures on.0)
+    false
 
 -- it is declared already
 abbrev pub is_twice : Script → Declaration → Bool
 is_twice script (declaration.Facility pref) = is_declared script.facilities pref.cf
-is_twice script (declaration.Structure form) = list_any (λ other. same_word (name_word other.name) (name_word form.name)) script.structures
+is_twice script (declaration.Structure form) = list_any (λ other. same_word (name_word other.name)
+    (name_word form.name)) script.structures
 is_twice script (declaration.Pref on pref) = has_pref script.structures on pref.cf
-is_twice script (declaration.Connector name) = list_any (λ other. same_word (name_word other) (name_word name)) script.connectors
+is_twice script (declaration.Connector name) = list_any (λ other. same_word (name_word other) (name_word name))
+    script.connectors
 
 -- the units that a facility has
 abbrev pub facility_units : List Pref → CfId → ℕ
 facility_units [] cf = 0
-facility_units (facility ∷ facilities) cf = if facility.cf.0 == cf.0 then facility.units else facility_units facilities cf
+facility_units (facility ∷ facilities) cf = if facility.cf.0 == cf.0 then facility.units else facility_units
+    facilities cf
 
 -- the units of a facility that these set aside
 abbrev pub units_of : List Pref → CfId → ℕ
@@ -122,7 +132,8 @@ PolicyCause script long first words Space =
 -- a line whose first word is strange: no word of the policy, no connector and not OP
 abbrev pub StrangeCause : Script → Bool → List ℕ → List (List ℕ) → Why → Type 0
 StrangeCause script long first words Late = ⊥
-StrangeCause script long first words Syntax = IsTrue (not (is_name first) || nat_lt (length words) 2 || not (has_lines script))
+StrangeCause script long first words Syntax = IsTrue (not (is_name first) || nat_lt (length words) 2
+    || not (has_lines script))
 StrangeCause script long first words Limit = IsTrue (long || is_long_name first)
 StrangeCause script long first words Unknown = Unit {0}
 StrangeCause script long first words Twice = ⊥
@@ -140,10 +151,12 @@ NoStructureCause long second Space = ⊥
 -- a line of this caller for a structure of this kind
 abbrev pub DoneCause : Declared → Bool → ConnId → Kind → List (List ℕ) → Why → Type 0
 DoneCause declared long by kind words Late = ⊥
-DoneCause declared long by kind words Syntax = (act : Act) (retry : ℕ) → SaysDone Form declared by kind words act retry → ⊥
+DoneCause declared long by kind words Syntax = (act : Act) (retry : ℕ) → SaysDone Form declared by kind words act
+    retry → ⊥
 DoneCause declared long by kind words Limit =
     IsTrue long ⊎ ((act : Act) (retry : ℕ) → SaysDone Limits declared by kind words act retry → ⊥)
-DoneCause declared long by kind words Unknown = (act : Act) (retry : ℕ) → SaysDone Names declared by kind words act retry → ⊥
+DoneCause declared long by kind words Unknown = (act : Act) (retry : ℕ) → SaysDone Names declared by kind words act
+    retry → ⊥
 DoneCause declared long by kind words Twice = ⊥
 DoneCause declared long by kind words Space = ⊥
 

@@ -25,9 +25,11 @@ use Rattle.plex_script.specs.Heard.{AnyCall, heard, own_calls, is_linked, calls_
 -- the caller's call with this number asks this, and this is told of it
 abbrev pub IsHeard : List AnyCall → ConnId → Option AnyAsk → ℕ → Told → Type 0
 IsHeard calls by None number told = ⊥
-IsHeard calls by (Some asked) number told = heard number calls ≡ Some (record { no = number; by = by; ask = asked; told = told })
+IsHeard calls by (Some asked) number told = heard number calls ≡ Some
+    (record { no = number; by = by; ask = asked; told = told })
 
--- a step and the steps behind it show these items: the number of each call, which asks what the step asks, and the next step goes by what
+-- a step and the steps behind it show these items: the number of each call, which asks what the step asks, and the
+-- next step goes by what
 -- was told of it
 abbrev pub Runs : Kind → Option AnyAsk → List AnyCall → ConnId → StrNo → Step → List Shown → Type 0
 Runs kind line calls by on now [] = now ≡ step.Rest
@@ -59,7 +61,8 @@ ShowsWord form on word items =
 
 -- the items that a line's act shows
 abbrev pub ShowsAct : StrForm → List AnyCall → ConnId → StrNo → ℕ → Act → List Shown → Type 0
-ShowsAct form calls by on retry (act.Call asked) items = Runs form.kind (Some asked) calls by on (step.Call retry) items
+ShowsAct form calls by on retry (act.Call asked) items = Runs form.kind (Some asked) calls by on (step.Call retry)
+    items
 ShowsAct form calls by on retry act.Events items = Runs form.kind None calls by on (first_step act.Events retry) items
 ShowsAct form calls by on retry (act.Test index) items = ShowsTest form on index items
 ShowsAct form calls by on retry (act.TestWord word) items = ShowsWord form on word items
@@ -96,7 +99,8 @@ numbers_on on items = filter_map (number_on on) items
 abbrev pub is_linked_by : List AnyCall → ConnId → StrNo → List Shown → Bool
 is_linked_by calls conn on items = is_linked (take (length (numbers_on on items)) (own_calls calls conn))
 
--- a connector departs from each structure at which it is active once its lines are done, in the order of the structures. The operator has
+-- a connector departs from each structure at which it is active once its lines are done, in the order of the
+-- structures. The operator has
 -- no closing
 abbrev pub ShowsClosing : StrForm → List AnyCall → ConnId → StrNo → List Shown → List Shown → Type 0
 ShowsClosing form calls conn on before items =
@@ -128,7 +132,8 @@ surest_on on items = fold max 0 (filter_map (sure_on on) items)
 
 -- a POST and a TAKE show a number that isn't before what was shown, and that the history has reached
 abbrev pub IsNote : List AnyHistory → List Shown → Shown → Type 0
-IsNote histories before (shown.Posted place sure) = (surest_on place before ≤ sure) × (sure ≤ length_on histories place)
+IsNote histories before (shown.Posted place sure) = (surest_on place before ≤ sure)
+    × (sure ≤ length_on histories place)
 IsNote histories before (shown.Took place sure) = (surest_on place before ≤ sure) × (sure ≤ length_on histories place)
 IsNote histories before (shown.Call place number) = Unit {0}
 IsNote histories before (shown.Test place index bit at) = Unit {0}
@@ -137,7 +142,8 @@ IsNote histories before (shown.BadIndex place index word len) = Unit {0}
 
 -- ---- the whole
 
--- what holds of a transcript however it ends: for each structure the numbers of its calls are those of the caller's own calls, each once and
+-- what holds of a transcript however it ends: for each structure the numbers of its calls are those of the caller's
+-- own calls, each once and
 -- in order; and what it shows of notes is right
 pub record AgreesWith (histories : List AnyHistory) (conn : ConnId) (items : List Shown) : Type 0 where
   pub numbers : (on : StrNo) → on.0 < length histories
@@ -153,8 +159,10 @@ pub record Follows (script : Script) (histories : List AnyHistory) (conn : ConnI
   pub closings : MatchBool (conn.0 == 0) (after ≡ []) (ShowsClosings histories conn 0 script.structures during after)
   pub agrees : AgreesWith histories conn items
 
--- a transcript stops at a structure whose journal is full: its items are those up to a next call, which is one of this structure
-pub record StopsInLine (script : Script) (histories : List AnyHistory) (conn : ConnId) (items : List Shown) (on : StrNo) : Type 0 where
+-- a transcript stops at a structure whose journal is full: its items are those up to a next call, which is one of
+-- this structure
+pub record StopsInLine (script : Script) (histories : List AnyHistory) (conn : ConnId) (items : List Shown)
+    (on : StrNo) : Type 0 where
   pub before : List Line
   pub line : Line
   pub later : List Line
@@ -166,9 +174,11 @@ pub record StopsInLine (script : Script) (histories : List AnyHistory) (conn : C
   pub last : List Shown
   pub shows : items ≡ during ++ last
   pub played : ShowsLines script.structures histories before during
-  pub stopped : RunsUpTo form.kind (call_of line.act) (calls_on histories on) conn on (first_step line.act line.retry) last
+  pub stopped : RunsUpTo form.kind (call_of line.act) (calls_on histories on) conn on (first_step line.act line.retry)
+      last
 
-pub record StopsInClosing (script : Script) (histories : List AnyHistory) (conn : ConnId) (items : List Shown) (on : StrNo) : Type 0 where
+pub record StopsInClosing (script : Script) (histories : List AnyHistory) (conn : ConnId) (items : List Shown)
+    (on : StrNo) : Type 0 where
   pub during : List Shown
   pub after : List Shown
   pub shows : items ≡ during ++ after
@@ -178,7 +188,8 @@ pub record StopsInClosing (script : Script) (histories : List AnyHistory) (conn 
   pub closings : ShowsClosings histories conn 0 (take on.0 script.structures) during after
   pub linked : is_linked_by (calls_on histories on) conn on during ≡ true
 
-pub record Stops (limit : ℕ) (script : Script) (histories : List AnyHistory) (conn : ConnId) (items : List Shown) (on : StrNo) : Type 0 where
+pub record Stops (limit : ℕ) (script : Script) (histories : List AnyHistory) (conn : ConnId) (items : List Shown)
+    (on : StrNo) : Type 0 where
   pub at : StopsInLine script histories conn items on ⊎ StopsInClosing script histories conn items on
   pub agrees : AgreesWith histories conn items
   pub full : limit ≤ length_on histories on

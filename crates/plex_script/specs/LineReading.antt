@@ -26,7 +26,8 @@ use Rattle.plex_script.specs.declared.scripts.Act.TheVariants.{Call, Test, TestW
 use Rattle.plex_script.specs.LineWords.{has_vectors}
 
 -- a common command, by who may give it; else one on the content, by a connector
-abbrev pub ask_at : {C : Type 0} → ConnId → Option (ShellCmd × List (List ℕ)) → Option (C × List (List ℕ)) → Option (Ask C × List (List ℕ))
+abbrev pub ask_at : {C : Type 0} → ConnId → Option (ShellCmd × List (List ℕ)) → Option (C × List (List ℕ))
+    → Option (Ask C × List (List ℕ))
 ask_at by None content = if is_operator by then None else option_map (λ read. (Content read.0, read.1)) content
 ask_at by (Some read) content = if may_give by read.0 then Some (Shell read.0, read.1) else None
 
@@ -40,9 +41,12 @@ abbrev pub lock_ask_at : Rigour → Declared → ConnId → List (List ℕ) → 
 lock_ask_at rigour declared by words = ask_at by (shell_at rigour declared words) (lock_at rigour declared words)
 
 abbrev pub any_ask_at : Rigour → Declared → ConnId → Kind → List (List ℕ) → Option (AnyAsk × List (List ℕ))
-any_ask_at rigour declared by kind.Cache words = option_map (λ read. (any.Cache read.0, read.1)) (cache_ask_at rigour declared by words)
-any_ask_at rigour declared by (kind.List headers locks refs) words = option_map (λ read. (any.List read.0, read.1)) (list_ask_at rigour declared by words)
-any_ask_at rigour declared by kind.Lock words = option_map (λ read. (any.Lock read.0, read.1)) (lock_ask_at rigour declared by words)
+any_ask_at rigour declared by kind.Cache words = option_map (λ read. (any.Cache read.0, read.1))
+    (cache_ask_at rigour declared by words)
+any_ask_at rigour declared by (kind.List headers locks refs) words = option_map (λ read. (any.List read.0, read.1))
+    (list_ask_at rigour declared by words)
+any_ask_at rigour declared by kind.Lock words = option_map (λ read. (any.Lock read.0, read.1))
+    (lock_ask_at rigour declared by words)
 
 abbrev pub retry_at : Rigour → List (List ℕ) → Option (Option ℕ × List (List ℕ))
 retry_at rigour words = option_at (codes "RETRY") (on_first (number_of rigour 1 1000)) words
@@ -56,9 +60,11 @@ call_at rigour declared by kind words =
 abbrev pub own_at : Rigour → Kind → List (List ℕ) → Option ((Act × ℕ) × List (List ℕ))
 own_at rigour kind words =
     if begins_with (codes "TEST") words
-    then (if has_vectors kind then option_map (λ read. ((Test read.0, 0), read.1)) (number_at rigour (behind words)) else None)
+    then (if has_vectors kind then option_map (λ read. ((Test read.0, 0), read.1)) (number_at rigour (behind words))
+    else None)
     else if begins_with (codes "TESTWORD") words
-    then (if has_vectors kind then option_map (λ read. ((TestWord read.0, 0), read.1)) (number_at rigour (behind words)) else None)
+    then (if has_vectors kind then option_map (λ read. ((TestWord read.0, 0), read.1))
+    (number_at rigour (behind words)) else None)
     else if begins_with (codes "POST") words then Some ((Post, 0), behind words)
     else if begins_with (codes "TAKE") words then Some ((Take, 0), behind words)
     else if begins_with (codes "EVENTS") words then Some ((Events, 0), behind words)
@@ -71,7 +77,8 @@ is_own words =
 
 abbrev pub done_at : Rigour → Declared → ConnId → Kind → List (List ℕ) → Option ((Act × ℕ) × List (List ℕ))
 done_at rigour declared by kind words =
-    if is_own words then (if is_operator by then None else own_at rigour kind words) else call_at rigour declared by kind words
+    if is_own words then (if is_operator by then None else own_at rigour kind words) else call_at rigour declared by
+    kind words
 
 -- what was read, where no word is left
 abbrev pub ended : {V : Type 0} → V × List (List ℕ) → Option V

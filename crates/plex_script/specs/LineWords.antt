@@ -77,7 +77,8 @@ MayDo by kind given Take retry = IsTrue (not (is_operator by)) × (given ≡ Non
 MayDo by kind given Events retry = IsTrue (not (is_operator by)) × (given ≡ None) × (retry ≡ 0)
 
 -- the words say that this caller does this at a structure of this kind
-pub record SaysDone (rigour : Rigour) (declared : Declared) (by : ConnId) (kind : Kind) (words : List (List ℕ)) (act : Act) (retry : ℕ) : Type 0 where
+pub record SaysDone (rigour : Rigour) (declared : Declared) (by : ConnId) (kind : Kind) (words : List (List ℕ))
+    (act : Act) (retry : ℕ) : Type 0 where
   pub given : Option ℕ
   pub allowed : MayDo by kind given act retry
   pub spelled : Spells rigour declared (act_tokens given act ++ retry_tokens retry) words []

@@ -35,10 +35,19 @@ cache_places = Amount 1 4096 ∷ Amount 1 4096 ∷ Amount 1 32 ∷ Amount 1 1024
 
 abbrev pub cache_from : Name16 → Values cache_places → Declaration
 cache_from name v =
-    Structure (record { name = name; kind = kind.Cache; caps = record { entries = v.0; elements = v.1.0 }; conns = v.1.1.0; vector = v.1.1.1.0; keep = v.1.1.1.1.0; prefs = [] })
+    Structure (record {
+      name = name;
+      kind = kind.Cache;
+      caps = record { entries = v.0; elements = v.1.0 };
+      conns = v.1.1.0;
+      vector = v.1.1.1.0;
+      keep = v.1.1.1.1.0;
+      prefs = [];
+    })
 
 abbrev pub list_places : List Place
-list_places = Amount 1 4096 ∷ Amount 1 4096 ∷ Amount 1 32 ∷ Amount 1 1024 ∷ a_disposition ∷ Amount 1 64 ∷ Amount 0 64 ∷ SomeRefs ∷ []
+list_places = Amount 1 4096 ∷ Amount 1 4096 ∷ Amount 1 32 ∷ Amount 1 1024 ∷ a_disposition ∷ Amount 1 64 ∷ Amount 0 64
+    ∷ SomeRefs ∷ []
 
 abbrev pub list_from : Name16 → Values list_places → Declaration
 list_from name v =
@@ -57,18 +66,29 @@ lock_places = Amount 1 4096 ∷ Amount 1 4096 ∷ Amount 1 32 ∷ a_disposition 
 
 abbrev pub lock_from : Name16 → Values lock_places → Declaration
 lock_from name v =
-    Structure (record { name = name; kind = kind.Lock; caps = record { entries = v.0; elements = v.1.0 }; conns = v.1.1.0; vector = 0; keep = v.1.1.1.0; prefs = [] })
+    Structure (record {
+      name = name;
+      kind = kind.Lock;
+      caps = record { entries = v.0; elements = v.1.0 };
+      conns = v.1.1.0;
+      vector = 0;
+      keep = v.1.1.1.0;
+      prefs = [];
+    })
 
 -- behind the name of a structure
 abbrev pub form_at : Rigour → Declared → Name16 → List (List ℕ) → Option (Declaration × List (List ℕ))
 form_at rigour declared name words =
     if begins_with (codes "CACHE") words then values_at rigour declared cache_places (cache_from name) (behind words)
-    else if begins_with (codes "LIST") words then values_at rigour declared list_places (list_from name) (behind words)
-    else if begins_with (codes "LOCK") words then values_at rigour declared lock_places (lock_from name) (behind words)
+    else if begins_with (codes "LIST") words then values_at rigour declared list_places (list_from name)
+    (behind words)
+    else if begins_with (codes "LOCK") words then values_at rigour declared lock_places (lock_from name)
+    (behind words)
     else None
 
 abbrev pub structure_at : Rigour → Declared → List (List ℕ) → Option (Declaration × List (List ℕ))
-structure_at rigour declared words = on_first (new_name_of rigour) words >>= (λ name. form_at rigour declared name.0 name.1)
+structure_at rigour declared words = on_first (new_name_of rigour) words >>= (λ name. form_at rigour declared name.0
+    name.1)
 
 abbrev pub declared_at : Rigour → Declared → List (List ℕ) → Option (Declaration × List (List ℕ))
 declared_at rigour declared [] = None
@@ -76,7 +96,8 @@ declared_at rigour declared (verb ∷ words) =
     if same_word verb (codes "FACILITY") then values_at rigour declared facility_places facility_from words
     else if same_word verb (codes "STRUCTURE") then structure_at rigour declared words
     else if same_word verb (codes "PREF") then values_at rigour declared pref_places pref_from words
-    else if same_word verb (codes "CONNECTOR") then values_at rigour declared (ANewName ∷ []) (λ v. Connector v.0) words
+    else if same_word verb (codes "CONNECTOR") then values_at rigour declared (ANewName ∷ []) (λ v. Connector v.0)
+    words
     else None
 
 abbrev pub declaration_at : Rigour → Declared → List (List ℕ) → Option Declaration

@@ -34,6 +34,7 @@ IsDeclaration (Pref on pref) = Unit {0}
 IsDeclaration (Connector name) = Unit {0}
 
 -- the words declare this
-pub record Declares (rigour : Rigour) (declared : Declared) (words : List (List ℕ)) (declaration : Declaration) : Type 0 where
+pub record Declares (rigour : Rigour) (declared : Declared) (words : List (List ℕ)) (declaration : Declaration) : Type
+    0 where
   pub whole : IsDeclaration declaration
   pub spelled : Spells rigour declared (declaration_tokens declaration) words []

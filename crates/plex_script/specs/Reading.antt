@@ -17,7 +17,13 @@ use Rattle.plex_script.specs.declared.scripts.Script.{Script}
 -- a script as far as it is read
 abbrev pub script_of : Draft → Script
 script_of draft =
-    record { facilities = draft.facilities.items; structures = draft.structures.items; connectors = draft.connectors.items; lines = draft.lines.items }
+    record {
+      facilities = draft.facilities.items;
+      structures = draft.structures.items;
+      connectors =
+          draft.connectors.items;
+      lines = draft.lines.items;
+    }
 
 -- why words are not read: they have no form; they, or the line, don't keep the limits; what they name isn't declared
 abbrev pub unread_why : Bool → Bool → Bool → Why
@@ -34,7 +40,8 @@ IsFaultOf NoMemory told = Unit {0}
 -- what was read of words, by form, by limits and by names
 abbrev pub Judged : {V : Type 0} → Result V LineFault → Bool → Option V → Option V → Option V → Type 0
 Judged (Ok value) excess forms limits names = (excess ≡ false) × (names ≡ Some value)
-Judged (Err (Wrong why)) excess forms limits names = (why ≡ unread_why (is_some forms) excess (is_some limits)) × (excess ≡ false → names ≡ None)
+Judged (Err (Wrong why)) excess forms limits names = (why ≡ unread_why (is_some forms) excess (is_some limits))
+    × (excess ≡ false → names ≡ None)
 Judged (Err NoMemory) excess forms limits names = Unit {0}
 
 -- the first cause that holds, unless there was no memory

@@ -23,12 +23,15 @@ empty_script = record { facilities = []; structures = []; connectors = []; lines
 -- units of a facility are set aside for a structure, behind those set aside before
 abbrev pub with_pref : List StrForm → StrNo → Pref → List StrForm
 with_pref structures on pref =
-    option_map_or (λ (form : StrForm). slice_set structures on.0 (record form { prefs = form.prefs ++ pref ∷ [] })) (slice_get structures on.0) structures
+    option_map_or (λ (form : StrForm). slice_set structures on.0 (record form { prefs = form.prefs ++ pref ∷ [] }))
+    (slice_get structures on.0) structures
 
 abbrev pub with_declaration : Script → Declaration → Script
 with_declaration script (declaration.Facility pref) = record script { facilities = script.facilities ++ pref ∷ [] }
 with_declaration script (declaration.Structure form) = record script { structures = script.structures ++ form ∷ [] }
-with_declaration script (declaration.Pref on pref) = record script { structures = with_pref script.structures on pref }
+with_declaration script (declaration.Pref on pref) = record script {
+  structures = with_pref script.structures on pref;
+}
 with_declaration script (declaration.Connector name) = record script { connectors = script.connectors ++ name ∷ [] }
 
 -- a line of the policy adds what it declares
@@ -42,11 +45,15 @@ pub record AddsDeclaration (script : Script) (first : List ℕ) (words : List (L
   pub same : after ≡ with_declaration script declaration
 
 -- a line of a caller adds what it does
-pub record AddsLine (script : Script) (at : ℕ) (by : ConnId) (on : StrNo) (words : List (List ℕ)) (after : Script) : Type 0 where
+pub record AddsLine (script : Script) (at : ℕ) (by : ConnId) (on : StrNo) (words : List (List ℕ)) (after : Script) :
+    Type 0 where
   pub act : Act
   pub retry : ℕ
   pub says : SaysDone Names (declared_in script) by (kind_of script.structures on) words act retry
-  pub same : after ≡ record script { lines = script.lines ++ (record { at = at; by = by; on = on; act = act; retry = retry }) ∷ [] }
+  pub same : after ≡ record script {
+    lines = script.lines
+        ++ (record { at = at; by = by; on = on; act = act; retry = retry }) ∷ [];
+  }
 
 abbrev pub AddsOfCaller : Script → ℕ → ConnId → List (List ℕ) → Script → Type 0
 AddsOfCaller script at by [] after = ⊥

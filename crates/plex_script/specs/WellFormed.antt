@@ -1,4 +1,5 @@
--- What holds of each script: its forms are forms, and each line is one of a caller of the script at a structure of the script.
+-- What holds of each script: its forms are forms, and each line is one of a caller of the script at a structure of
+-- the script.
 use Rattle.std.specs.Prelude.{◌≡◌, ◌≤◌, IsTrue, length, slice_get, Some, All}
 use Rattle.cf_types.specs.declared.forms.Kind.{Kind}
 use Rattle.cf_types.specs.declared.forms.StrForm.{StrForm}

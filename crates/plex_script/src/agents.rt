@@ -17,8 +17,8 @@ pub const ROUND: u32 = 64;
 pub enum Step {
     /// The line's call; it may be asked so many times again.
     Call { asks: u32 },
-    /// NEXT, and NEXT again so many times at most. Behind the round comes the line's call, which may
-    /// be asked so many times again, or nothing.
+    /// NEXT, and NEXT again so many times at most. Behind the round comes the line's call, which
+    /// may be asked so many times again, or nothing.
     Next { left: u32, then: Option<u32> },
     /// RESPOND, and then NEXT so many times at most.
     Respond { left: u32, then: Option<u32> },

@@ -83,8 +83,8 @@ fn fault_at(line: u32, fault: LineFault) -> ReadFault
     }
 }
 
-/// Reads a script. The fault is the first line that is wrong, with the cause that is tried first, or
-/// want of memory.
+/// Reads a script. The fault is the first line that is wrong, with the cause that is tried first,
+/// or want of memory.
 pub fn read(alloc: Global, text: &[u8]) -> Result<Script, ReadFault>
     // What is read is what the text says.
     ensures script { IfOk result (IsScript text.now) }

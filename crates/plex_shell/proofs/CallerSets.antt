@@ -24,7 +24,8 @@ and-true : (b : Bool) → (b && true) ≡ b
 and-true true = refl
 and-true false = refl
 
-pub AreCallers-other_actives : (conn : ConnId) (conns : Connections) → AreCallers (without_member conn (actives conns))
+pub AreCallers-other_actives : (conn : ConnId) (conns : Connections)
+    → AreCallers (without_member conn (actives conns))
 unfolding actives
 AreCallers-other_actives conn conns =
     let others : ConnId → Bool = λ other. is_active conns other && not (other.0 == conn.0) in
@@ -65,7 +66,8 @@ LeadsFrom set event whole number now = with_letters now (letters_to (members_fro
 
 module _ (set : List ConnId) (event : Event) (number : ℕ) (within : number < 33) (whole now : Mailboxes) where
   pub leads_member : is_member (record { 0 = number }) set ≡ true → LeadsFrom set event whole number now
-      → LeadsFrom set event whole (number + 1) (with_letter now (record { to = record { 0 = number }; event = event }))
+      → LeadsFrom set event whole (number + 1) (with_letter now
+      (record { to = record { 0 = number }; event = event }))
   leads_member member before = rw (members_from-first set number within, member) at before
 
   pub leads_nobody : is_member (record { 0 = number }) set ≡ false → LeadsFrom set event whole number now

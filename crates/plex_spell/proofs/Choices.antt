@@ -6,7 +6,8 @@ use Rattle.plex_spell.specs.Words.{same_word}
 use Rattle.plex_spell.specs.Places.{◌>>=◌}
 
 -- which way a test went
-pub chosen : {X G : Type 0} (b : Bool) (x y : Option X) (v : X) → (b ≡ true → x ≡ Some v → G) → (b ≡ false → y ≡ Some v → G) → cond b x y ≡ Some v → G
+pub chosen : {X G : Type 0} (b : Bool) (x y : Option X) (v : X) → (b ≡ true → x ≡ Some v → G)
+    → (b ≡ false → y ≡ Some v → G) → cond b x y ≡ Some v → G
 chosen true x y v f g h = f refl h
 chosen false x y v f g h = g refl h
 
@@ -35,7 +36,8 @@ bound f (Some x) y h = record { value = x; read = refl; then_ = h }
 
 pub same_word-refl : (w : List ℕ) → same_word w w ≡ true
 same_word-refl [] = refl
-same_word-refl (b ∷ w) = let one : (b == b) ≡ true = grind (arith, nat_tests) in and_from (b == b) (same_word w w) one (same_word-refl w)
+same_word-refl (b ∷ w) = let one : (b == b) ≡ true = grind (arith, nat_tests) in and_from (b == b) (same_word w w) one
+    (same_word-refl w)
 
 pub word-same : (v w : List ℕ) → same_word v w ≡ true → v ≡ w
 word-same [] [] h = refl
@@ -51,6 +53,7 @@ pub same_word-of : (v w : List ℕ) → v ≡ w → same_word v w ≡ true
 same_word-of v w h = rw h (same_word-refl w)
 
 -- the same, where what was read shows the test
-pub pick : {X G : Type 0} {b : Bool} {x y : Option X} {v : X} → cond b x y ≡ Some v → (b ≡ true → x ≡ Some v → G) → (b ≡ false → y ≡ Some v → G) → G
+pub pick : {X G : Type 0} {b : Bool} {x y : Option X} {v : X} → cond b x y ≡ Some v → (b ≡ true → x ≡ Some v → G)
+    → (b ≡ false → y ≡ Some v → G) → G
 pick {b = true} h f g = f refl h
 pick {b = false} h f g = g refl h

@@ -21,7 +21,8 @@ is_free at word = list_all (λ b. not (b == at)) word
 
 -- ---- where a byte first stands
 
-list_all-passed : (q : ℕ → Bool) (x : ℕ) (xs : List ℕ) (b : Bool) → q x ≡ b → list_all q xs ≡ true → list_all q (cond b (x ∷ xs) []) ≡ true
+list_all-passed : (q : ℕ → Bool) (x : ℕ) (xs : List ℕ) (b : Bool) → q x ≡ b → list_all q xs ≡ true
+    → list_all q (cond b (x ∷ xs) []) ≡ true
 list_all-passed q x xs true e h = and_from (q x) (list_all q xs) e h
 list_all-passed q x xs false e h = refl
 
@@ -30,7 +31,8 @@ list_all-take_while q [] = refl
 list_all-take_while q (x ∷ xs) =
     rw (take_while-cons q x xs) (list_all-passed q x (take_while q xs) (q x) refl (list_all-take_while q xs))
 
-pub IsCut-stands : (at : ℕ) (word : List ℕ) → stands_in at word ≡ true → IsCut at word (before_first (λ b. b == at) word) (after_first (λ b. b == at) word)
+pub IsCut-stands : (at : ℕ) (word : List ℕ) → stands_in at word ≡ true
+    → IsCut at word (before_first (λ b. b == at) word) (after_first (λ b. b == at) word)
 IsCut-stands at word h =
     let p = λ (b : ℕ). b == at in
     let i = position_or_len p word in
@@ -44,15 +46,21 @@ IsCut-stands at word h =
     }
 
 not_free-middle : (at : ℕ) (xs ys : List ℕ) → is_free at (xs ++ at ∷ ys) ≡ true → ⊥
-not_free-middle at [] ys h = let same : (at == at) ≡ true = grind (arith, nat_tests) in let free = (and_parts (not (at == at)) (is_free at ys) h).0 in cc
-not_free-middle at (x ∷ xs) ys h = not_free-middle at xs ys (and_parts (not (x == at)) (is_free at (xs ++ at ∷ ys)) h).1
+not_free-middle at [] ys h = let same : (at == at) ≡ true = grind (arith, nat_tests) in let free =
+    (and_parts (not (at == at)) (is_free at ys) h).0 in cc
+not_free-middle at (x ∷ xs) ys h = not_free-middle at xs ys (and_parts (not (x == at)) (is_free at (xs ++ at ∷ ys))
+    h).1
 
-same_cut : (at : ℕ) (a b c d : List ℕ) → is_free at a ≡ true → is_free at c ≡ true → a ++ at ∷ b ≡ c ++ at ∷ d → (a ≡ c) × (b ≡ d)
+same_cut : (at : ℕ) (a b c d : List ℕ) → is_free at a ≡ true → is_free at c ≡ true → a ++ at ∷ b ≡ c ++ at ∷ d
+    → (a ≡ c) × (b ≡ d)
 same_cut at [] b [] d free_a free_c e = (refl, cc)
-same_cut at [] b (y ∷ c) d free_a free_c e = let same : at ≡ y = cc in absurd (not_free-middle at [] c (rw (← same) at free_c))
-same_cut at (x ∷ a) b [] d free_a free_c e = let same : x ≡ at = cc in absurd (not_free-middle at [] a (rw same at free_a))
+same_cut at [] b (y ∷ c) d free_a free_c e = let same : at ≡ y = cc in absurd
+    (not_free-middle at [] c (rw (← same) at free_c))
+same_cut at (x ∷ a) b [] d free_a free_c e = let same : x ≡ at = cc in absurd
+    (not_free-middle at [] a (rw same at free_a))
 same_cut at (x ∷ a) b (y ∷ c) d free_a free_c e =
-    let more = same_cut at a b c d (and_parts (not (x == at)) (is_free at a) free_a).1 (and_parts (not (y == at)) (is_free at c) free_c).1 (cc) in
+    let more = same_cut at a b c d (and_parts (not (x == at)) (is_free at a) free_a).1
+    (and_parts (not (y == at)) (is_free at c) free_c).1 (cc) in
     (cc (more.0), more.1)
 
 stands-middle : (at : ℕ) (xs ys : List ℕ) → stands_in at (xs ++ at ∷ ys) ≡ true
@@ -73,21 +81,28 @@ pub parts-IsCut : (at : ℕ) (word before after : List ℕ) → IsCut at word be
 parts-IsCut at word before after h =
     let stands : stands_in at word ≡ true = rw h.whole (stands-middle at before after) in
     let made = IsCut-stands at word stands in
-    let same = same_cut at (before_first (λ b. b == at) word) (after_first (λ b. b == at) word) before after made.first h.first (sym made.whole ∙ h.whole) in
+    let same = same_cut at (before_first (λ b. b == at) word) (after_first (λ b. b == at) word) before after
+    made.first h.first (sym made.whole ∙ h.whole) in
     record { stands = stands; before_is = same.0; after_is = same.1 }
 
 -- ---- resources
 
-pub resource-sound : (rigour : Rigour) (word : List ℕ) (r : Resource) → resource_of rigour word ≡ Some r → IsResource rigour r word
+pub resource-sound : (rigour : Rigour) (word : List ℕ) (r : Resource) → resource_of rigour word ≡ Some r
+    → IsResource rigour r word
 resource-sound rigour word r h =
-    chosen (stands_in 64 word) (resource_in rigour (before_first (λ b. b == 64) word) (after_first (λ b. b == 64) word)) None r
-    (λ stands read. from_parts (before_first (λ b. b == 64) word) (after_first (λ b. b == 64) word) (IsCut-stands 64 word stands) read)
+    chosen (stands_in 64 word) (resource_in rigour (before_first (λ b. b == 64) word)
+    (after_first (λ b. b == 64) word)) None r
+    (λ stands read. from_parts (before_first (λ b. b == 64) word) (after_first (λ b. b == 64) word)
+    (IsCut-stands 64 word stands) read)
     (λ _ none. not_some r none) h
   where
-    from_parts : (name hash : List ℕ) → IsCut 64 word name hash → resource_in rigour name hash ≡ Some r → IsResource rigour r word
+    from_parts : (name hash : List ℕ) → IsCut 64 word name hash → resource_in rigour name hash ≡ Some r
+        → IsResource rigour r word
     from_parts name hash cut read =
-        let b = bound (λ (n : Name16). option_map (λ (k : ℕ). (let res : Resource = record { name = n; hash = k } in res)) (number_of rigour 0 4294967295 hash)) (name_of rigour name) r read in
-        let m = mapped (λ (k : ℕ). (let res : Resource = record { name = b.value; hash = k } in res)) (number_of rigour 0 4294967295 hash) r b.then_ in
+        let b = bound (λ (n : Name16). option_map (λ (k : ℕ). (let res : Resource = record { name = n; hash = k }
+        in res)) (number_of rigour 0 4294967295 hash)) (name_of rigour name) r read in
+        let m = mapped (λ (k : ℕ). (let res : Resource = record { name = b.value; hash = k } in res))
+        (number_of rigour 0 4294967295 hash) r b.then_ in
         let n = name-sound rigour name b.value b.read in
         let same_name : b.value ≡ r.name = ap (λ (res : Resource). res.name) m.made in
         let same_hash : m.value ≡ r.hash = ap (λ (res : Resource). res.hash) m.made in
@@ -95,17 +110,24 @@ resource-sound rigour word r h =
           name = name;
           hash = hash;
           cut = cut;
-          named = (n.0, at_limits-map rigour (Unit {0}) ((length name ≤ 16) × (b.value.0 ≡ padded name)) ((length name ≤ 16) × (name ≡ name)) (λ q. (q.0, refl)) n.1);
-          padded = at_limits-map rigour (Unit {0}) ((length name ≤ 16) × (b.value.0 ≡ padded name)) (r.name.0 ≡ padded name) (λ q. sym (ap (λ (x : Name16). x.0) same_name) ∙ q.1) n.1;
+          named = (
+            n.0,
+            at_limits-map rigour (Unit {0}) ((length name ≤ 16) × (b.value.0 ≡ padded name))
+                ((length name ≤ 16) × (name ≡ name)) (λ q. (q.0, refl)) n.1,
+          );
+          padded = at_limits-map rigour (Unit {0}) ((length name ≤ 16) × (b.value.0 ≡ padded name))
+              (r.name.0 ≡ padded name) (λ q. sym (ap (λ (x : Name16). x.0) same_name) ∙ q.1) n.1;
           numeral = rw (← same_hash) (number-sound rigour 0 4294967295 hash m.value (lit< tt) m.read);
         }
 
-pub resource-complete : (rigour : Rigour) (word : List ℕ) (r : Resource) → IsResource rigour r word → Finds rigour (resource_of rigour word) r
+pub resource-complete : (rigour : Rigour) (word : List ℕ) (r : Resource) → IsResource rigour r word
+    → Finds rigour (resource_of rigour word) r
 resource-complete rigour word r h =
     let p = parts-IsCut 64 word h.name h.hash h.cut in
     let n = name-complete rigour h.name r.name h.named.0
     (at_limits-both rigour (length h.name ≤ 16) (r.name.0 ≡ padded h.name)
-    (at_limits-map rigour (Unit {0}) ((length h.name ≤ 16) × (h.name ≡ h.name)) (length h.name ≤ 16) (λ q. q.0) h.named.1) h.padded) in
+    (at_limits-map rigour (Unit {0}) ((length h.name ≤ 16) × (h.name ≡ h.name)) (length h.name ≤ 16) (λ q. q.0)
+    h.named.1) h.padded) in
     let k = number-complete rigour 0 4294967295 h.hash r.hash (lit< tt) h.numeral in
     let made : Name16 → ℕ → Resource = λ name hash. record { name = name; hash = hash } in
     let read : resource_in rigour h.name h.hash ≡ Some (made n.found k.found) = rw (n.read, k.read) refl in
@@ -126,13 +148,17 @@ star_free (b ∷ word) h =
 
 pub data-sound : (rigour : Rigour) (word text : List ℕ) → data_of rigour word ≡ Some text → IsData rigour text word
 data-sound rigour word text h =
-    chosen (stands_in 42 word) (repeated_of rigour (before_first (λ b. b == 42) word) (after_first (λ b. b == 42) word)) (text_of rigour 4096 word) text
-    (λ stands read. inr (from_parts (before_first (λ b. b == 42) word) (after_first (λ b. b == 42) word) (IsCut-stands 42 word stands) read))
+    chosen (stands_in 42 word) (repeated_of rigour (before_first (λ b. b == 42) word)
+    (after_first (λ b. b == 42) word)) (text_of rigour 4096 word) text
+    (λ stands read. inr (from_parts (before_first (λ b. b == 42) word) (after_first (λ b. b == 42) word)
+    (IsCut-stands 42 word stands) read))
     (λ _ read. inl (text-sound rigour 4096 word text read)) h
   where
-    from_parts : (piece times : List ℕ) → IsCut 42 word piece times → repeated_of rigour piece times ≡ Some text → IsRepeated rigour text word
+    from_parts : (piece times : List ℕ) → IsCut 42 word piece times → repeated_of rigour piece times ≡ Some text
+        → IsRepeated rigour text word
     from_parts piece times cut read =
-        let kept_text : ℕ → Option (List ℕ) = λ n. kept rigour (nat_le (n * length piece) 4096) (repeat n piece) (take 1 piece) in
+        let kept_text : ℕ → Option (List ℕ) = λ n. kept rigour (nat_le (n * length piece) 4096) (repeat n piece)
+        (take 1 piece) in
         chosen (is_term piece) (number_of rigour 1 4096 times >>= kept_text) None text
         (λ term made.
         let b = bound kept_text (number_of rigour 1 4096 times) text made in
@@ -150,7 +176,8 @@ data-sound rigour word text h =
         })
         (λ _ none. not_some text none) read
 
-repeated-strict : (rigour : Rigour) (text piece times : List ℕ) (count : ℕ) → is_term piece ≡ true → times ≡ decimal count → 1 ≤ count → count ≤ 4096
+repeated-strict : (rigour : Rigour) (text piece times : List ℕ) (count : ℕ) → is_term piece ≡ true
+    → times ≡ decimal count → 1 ≤ count → count ≤ 4096
     → text ≡ repeat count piece → length text ≤ 4096 → Finds rigour (repeated_of rigour piece times) text
 repeated-strict rigour text piece times count term e low high is short =
     let n = number-strict rigour 1 4096 times count (lit< tt) e low high in
@@ -158,16 +185,24 @@ repeated-strict rigour text piece times count term e low high is short =
     let fits = le_true (count * length piece) 4096 (omega (arith, len, short)) in
     record { found = text; read = rw (term, n, fits) (ap Some (sym is)); same = λ _. refl }
 
-repeated-complete : (rigour : Rigour) (text piece times : List ℕ) (count : ℕ) → is_term piece ≡ true → IsNumber rigour 1 4096 count times
-    → AtLimits rigour (Unit {0}) ((text ≡ repeat count piece) × (length text ≤ 4096)) → Finds rigour (repeated_of rigour piece times) text
+repeated-complete : (rigour : Rigour) (text piece times : List ℕ) (count : ℕ) → is_term piece ≡ true
+    → IsNumber rigour 1 4096 count times
+    → AtLimits rigour (Unit {0}) ((text ≡ repeat count piece) × (length text ≤ 4096))
+    → Finds rigour (repeated_of rigour piece times) text
 repeated-complete Form text piece times count term numeral whole =
     let n = number-complete Form 1 4096 times count (lit< tt) numeral in
-    rw (term, n.read) (kept_finds Form (nat_le (n.found * length piece) 4096) (repeat n.found piece) (take 1 piece) text (Unit {0}) ⊥ (λ x. absurd x) tt)
-repeated-complete Limits text piece times count term numeral whole = repeated-strict Limits text piece times count term numeral.1.0 numeral.1.1 numeral.1.2 whole.0 whole.1
-repeated-complete Names text piece times count term numeral whole = repeated-strict Names text piece times count term numeral.1.0 numeral.1.1 numeral.1.2 whole.0 whole.1
+    rw (term, n.read) (kept_finds Form (nat_le (n.found * length piece) 4096) (repeat n.found piece) (take 1 piece)
+    text (Unit {0}) ⊥ (λ x. absurd x) tt)
+repeated-complete Limits text piece times count term numeral whole = repeated-strict Limits text piece times count
+    term numeral.1.0 numeral.1.1 numeral.1.2 whole.0 whole.1
+repeated-complete Names text piece times count term numeral whole = repeated-strict Names text piece times count term
+    numeral.1.0 numeral.1.1 numeral.1.2 whole.0 whole.1
 
-pub data-complete : (rigour : Rigour) (word text : List ℕ) → IsData rigour text word → Finds rigour (data_of rigour word) text
-data-complete rigour word text (inl h) = rw (star_free word (characters-term word h.0)) (text-complete rigour 4096 word text h)
+pub data-complete : (rigour : Rigour) (word text : List ℕ) → IsData rigour text word
+    → Finds rigour (data_of rigour word) text
+data-complete rigour word text (inl h) = rw (star_free word (characters-term word h.0))
+    (text-complete rigour 4096 word text h)
 data-complete rigour word text (inr h) =
     let p = parts-IsCut 42 word h.piece h.times h.cut in
-    rw (p.stands, p.before_is, p.after_is) (repeated-complete rigour text h.piece h.times h.count h.term h.numeral h.whole)
+    rw (p.stands, p.before_is, p.after_is) (repeated-complete rigour text h.piece h.times h.count h.term h.numeral
+    h.whole)

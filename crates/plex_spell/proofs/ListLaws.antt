@@ -38,15 +38,21 @@ are_move = (tt, tt, (lit< tt, tt, (refl, tt, (tt, (refl, tt), (tt, tt, tt)))))
 are_two : ArePlaces two_places
 are_two = (lit< tt, tt, (lit< tt, tt, tt))
 
-make-told : (rigour : Rigour) (declared : Declared) (ws rest : Words) (header : ℕ) (head : Bool) (known : Option Label) (body adj : Option (List ℕ)) (cond : Option Cond)
-    → Spells rigour declared (Literal (codes "WRITE") ∷ tokens_of make_places (header, (head, (known, (body, (adj, (cond, tt))))))) ws rest
+make-told : (rigour : Rigour) (declared : Declared) (ws rest : Words) (header : ℕ) (head : Bool)
+    (known : Option Label) (body adj : Option (List ℕ)) (cond : Option Cond)
+    → Spells rigour declared (Literal (codes "WRITE") ∷ tokens_of make_places
+    (header, (head, (known, (body, (adj, (cond, tt))))))) ws rest
     → ListTold rigour declared ws rest (Write header head (label_name known) (label_key known) body adj cond)
 make-told rigour declared ws rest header head None body adj cond s = record { is_line = tt; spelled = s }
-make-told rigour declared ws rest header head (Some (label.Name name)) body adj cond s = record { is_line = tt; spelled = s }
-make-told rigour declared ws rest header head (Some (label.Key key)) body adj cond s = record { is_line = tt; spelled = s }
+make-told rigour declared ws rest header head (Some (label.Name name)) body adj cond
+    s = record { is_line = tt; spelled = s }
+make-told rigour declared ws rest header head (Some (label.Key key)) body adj cond
+    s = record { is_line = tt; spelled = s }
 
-use-sound : (rigour : Rigour) (declared : Declared) (lock : ℕ) (ws rest : Words) (cmd : ListCmd) (front : Words) → use_at lock ws ≡ Some (cmd, rest)
-    → ((word : List ℕ) (c : ListCmd) → list_tokens c ≡ Literal (codes "LOCK") ∷ Number 0 4294967295 lock ∷ Literal word ∷ [] → IsListLine c
+use-sound : (rigour : Rigour) (declared : Declared) (lock : ℕ) (ws rest : Words) (cmd : ListCmd) (front : Words)
+    → use_at lock ws ≡ Some (cmd, rest)
+    → ((word : List ℕ) (c : ListCmd) → list_tokens c ≡ Literal (codes "LOCK") ∷ Number 0 4294967295 lock ∷ Literal
+    word ∷ [] → IsListLine c
     → Spells rigour declared (Literal word ∷ []) ws rest → ListTold rigour declared front rest c)
     → ListTold rigour declared front rest cmd
 use-sound rigour declared lock ws rest cmd front h told =
@@ -55,15 +61,18 @@ use-sound rigour declared lock ws rest cmd front h told =
     (λ _ b. pick b (λ e k. one (codes "TEST") (LockTest lock) refl tt e k)
     (λ _ n. not_some (let p : ListCmd × Words = (cmd, rest) in p) n)))
   where
-    one : (word : List ℕ) (c : ListCmd) → list_tokens c ≡ Literal (codes "LOCK") ∷ Number 0 4294967295 lock ∷ Literal word ∷ [] → IsListLine c
-        → begins_with word ws ≡ true → (let p : ListCmd × Words = (c, behind ws) in Some p) ≡ Some (cmd, rest) → ListTold rigour declared front rest cmd
+    one : (word : List ℕ) (c : ListCmd) → list_tokens c ≡ Literal (codes "LOCK") ∷ Number 0 4294967295 lock ∷ Literal
+        word ∷ [] → IsListLine c
+        → begins_with word ws ≡ true → (let p : ListCmd × Words = (c, behind ws) in Some p) ≡ Some (cmd, rest)
+        → ListTold rigour declared front rest cmd
     one word c is line e k =
         let same : (let p : ListCmd × Words = (c, behind ws) in p) ≡ (cmd, rest) = cc in
         let v : c ≡ cmd = ap (λ (p : ListCmd × Words). p.0) same in
         let r : behind ws ≡ rest = ap (λ (p : ListCmd × Words). p.1) same in
         rw (← v) (told word c is line (led rigour declared word [] ws rest e r))
 
-lock_use-sound : (rigour : Rigour) (declared : Declared) (verb : List ℕ) (ws rest : Words) (cmd : ListCmd) → same_word verb (codes "LOCK") ≡ true
+lock_use-sound : (rigour : Rigour) (declared : Declared) (verb : List ℕ) (ws rest : Words) (cmd : ListCmd)
+    → same_word verb (codes "LOCK") ≡ true
     → lock_use_at rigour ws ≡ Some (cmd, rest) → ListTold rigour declared (verb ∷ ws) rest cmd
 lock_use-sound rigour declared verb ws rest cmd e h =
     let b = bound (λ (lock : ℕ × Words). use_at lock.0 lock.1) (number_at rigour ws) (cmd, rest) h in
@@ -71,89 +80,133 @@ lock_use-sound rigour declared verb ws rest cmd e h =
     use-sound rigour declared b.value.0 b.value.1 rest cmd (verb ∷ ws) b.then_
     (λ word c is line s. record {
       is_line = line;
-      spelled = rw is (word-same verb (codes "LOCK") e, Spells-append rigour declared (Number 0 4294967295 b.value.0 ∷ []) (Literal word ∷ []) ws b.value.1 rest n s);
+      spelled = rw is (
+        word-same verb (codes "LOCK") e,
+        Spells-append rigour declared (Number 0 4294967295 b.value.0 ∷
+            []) (Literal word ∷ []) ws b.value.1 rest n s,
+      );
     })
 
-pub list-sound : (rigour : Rigour) (declared : Declared) (ws rest : Words) (cmd : ListCmd) → list_at rigour declared ws ≡ Some (cmd, rest)
+pub list-sound : (rigour : Rigour) (declared : Declared) (ws rest : Words) (cmd : ListCmd)
+    → list_at rigour declared ws ≡ Some (cmd, rest)
     → ListTold rigour declared ws rest cmd
 list-sound rigour declared [] rest cmd h = not_some (let p : ListCmd × Words = (cmd, rest) in p) h
 list-sound rigour declared (verb ∷ ws) rest cmd h =
     let P : ListCmd → Type 0 = ListTold rigour declared (verb ∷ ws) rest in
     pick h (λ e k. verb-sound rigour declared verb (codes "WRITE") make_places make_of ws rest cmd P are_make
-    (λ vs s. make-told rigour declared (verb ∷ ws) rest vs.0 vs.1.0 vs.1.1.0 vs.1.1.1.0 vs.1.1.1.1.0 vs.1.1.1.1.1.0 s) e k)
-    (λ _ a. pick a (λ e k. verb-sound rigour declared verb (codes "UPDATE") update_places update_of ws rest cmd P are_update (λ vs s. record { is_line = tt; spelled = s }) e k)
-    (λ _ b. pick b (λ e k. verb-sound rigour declared verb (codes "READ") record_places (λ v. Read v.0 v.1.0) ws rest cmd P are_record (λ vs s. record { is_line = tt; spelled = s }) e k)
-    (λ _ c. pick c (λ e k. verb-sound rigour declared verb (codes "MOVE") move_places move_of ws rest cmd P are_move (λ vs s. record { is_line = tt; spelled = s }) e k)
-    (λ _ d. pick d (λ e k. verb-sound rigour declared verb (codes "DELETE") record_places (λ v. Delete v.0 v.1.0) ws rest cmd P are_record (λ vs s. record { is_line = tt; spelled = s }) e k)
-    (λ _ f. pick f (λ e k. verb-sound rigour declared verb (codes "READLIST") number_places (λ v. ReadList v.0) ws rest cmd P are_number (λ vs s. record { is_line = tt; spelled = s }) e k)
+    (λ vs s. make-told rigour declared (verb ∷ ws) rest vs.0 vs.1.0 vs.1.1.0 vs.1.1.1.0 vs.1.1.1.1.0 vs.1.1.1.1.1.0 s)
+    e k)
+    (λ _ a. pick a (λ e k. verb-sound rigour declared verb (codes "UPDATE") update_places update_of ws rest cmd P
+    are_update (λ vs s. record { is_line = tt; spelled = s }) e k)
+    (λ _ b. pick b (λ e k. verb-sound rigour declared verb (codes "READ") record_places (λ v. Read v.0 v.1.0) ws rest
+    cmd P are_record (λ vs s. record { is_line = tt; spelled = s }) e k)
+    (λ _ c. pick c (λ e k. verb-sound rigour declared verb (codes "MOVE") move_places move_of ws rest cmd P are_move
+    (λ vs s. record { is_line = tt; spelled = s }) e k)
+    (λ _ d. pick d (λ e k. verb-sound rigour declared verb (codes "DELETE") record_places (λ v. Delete v.0 v.1.0) ws
+    rest cmd P are_record (λ vs s. record { is_line = tt; spelled = s }) e k)
+    (λ _ f. pick f (λ e k. verb-sound rigour declared verb (codes "READLIST") number_places (λ v. ReadList v.0) ws
+    rest cmd P are_number (λ vs s. record { is_line = tt; spelled = s }) e k)
     (λ _ g. pick g (λ e k. lock_use-sound rigour declared verb ws rest cmd e k)
-    (λ _ i. pick i (λ e k. verb-sound rigour declared verb (codes "LCONTROLS") number_places (λ v. LControls v.0) ws rest cmd P are_number (λ vs s. record { is_line = tt; spelled = s }) e k)
-    (λ _ j. pick j (λ e k. verb-sound rigour declared verb (codes "SETLIMIT") two_places (λ v. SetLimit v.0 v.1.0) ws rest cmd P are_two (λ vs s. record { is_line = tt; spelled = s }) e k)
-    (λ _ l. pick l (λ e k. verb-sound rigour declared verb (codes "MONITOR") two_places (λ v. Monitor v.0 v.1.0) ws rest cmd P are_two (λ vs s. record { is_line = tt; spelled = s }) e k)
-    (λ _ m. pick m (λ e k. verb-sound rigour declared verb (codes "UNMONITOR") number_places (λ v. Unmonitor v.0) ws rest cmd P are_number (λ vs s. record { is_line = tt; spelled = s }) e k)
+    (λ _ i. pick i (λ e k. verb-sound rigour declared verb (codes "LCONTROLS") number_places (λ v. LControls v.0) ws
+    rest cmd P are_number (λ vs s. record { is_line = tt; spelled = s }) e k)
+    (λ _ j. pick j (λ e k. verb-sound rigour declared verb (codes "SETLIMIT") two_places (λ v. SetLimit v.0 v.1.0) ws
+    rest cmd P are_two (λ vs s. record { is_line = tt; spelled = s }) e k)
+    (λ _ l. pick l (λ e k. verb-sound rigour declared verb (codes "MONITOR") two_places (λ v. Monitor v.0 v.1.0) ws
+    rest cmd P are_two (λ vs s. record { is_line = tt; spelled = s }) e k)
+    (λ _ m. pick m (λ e k. verb-sound rigour declared verb (codes "UNMONITOR") number_places (λ v. Unmonitor v.0) ws
+    rest cmd P are_number (λ vs s. record { is_line = tt; spelled = s }) e k)
     (λ _ n. not_some (let p : ListCmd × Words = (cmd, rest) in p) n)))))))))))
 
-make-complete : (rigour : Rigour) (declared : Declared) (ws rest : Words) (header : ℕ) (head : Bool) (known : Option Label) (body adj : Option (List ℕ)) (cond : Option Cond) → is_tail rest ≡ true
-    → Spells rigour declared (Literal (codes "WRITE") ∷ tokens_of make_places (header, (head, (known, (body, (adj, (cond, tt))))))) ws rest
-    → FindsAll rigour (list_at rigour declared ws) (Write header head (label_name known) (label_key known) body adj cond) rest
+make-complete : (rigour : Rigour) (declared : Declared) (ws rest : Words) (header : ℕ) (head : Bool)
+    (known : Option Label) (body adj : Option (List ℕ)) (cond : Option Cond) → is_tail rest ≡ true
+    → Spells rigour declared (Literal (codes "WRITE") ∷ tokens_of make_places
+    (header, (head, (known, (body, (adj, (cond, tt))))))) ws rest
+    → FindsAll rigour (list_at rigour declared ws) (Write header head (label_name known) (label_key known) body adj
+    cond) rest
 make-complete rigour declared ws rest header head known body adj cond tail h =
-    command-complete rigour declared (codes "WRITE") make_places make_of (header, (head, (known, (body, (adj, (cond, tt)))))) ws rest are_make refl (AreFree-tail make_places rest tail refl) (list_at rigour declared) (λ us. refl) h
+    command-complete rigour declared (codes "WRITE") make_places make_of
+    (header, (head, (known, (body, (adj, (cond, tt)))))) ws rest are_make refl
+    (AreFree-tail make_places rest tail refl) (list_at rigour declared) (λ us. refl) h
 
-used-complete : (rigour : Rigour) (declared : Declared) (ws rest : Words) (lock : ℕ) (word : List ℕ) (made : ℕ → ListCmd)
-    → ((n : ℕ) (us : Words) → begins_with word us ≡ true → use_at n us ≡ (let p : ListCmd × Words = (made n, behind us) in Some p))
-    → Spells rigour declared (Literal (codes "LOCK") ∷ Number 0 4294967295 lock ∷ Literal word ∷ []) ws rest → FindsAll rigour (list_at rigour declared ws) (made lock) rest
+used-complete : (rigour : Rigour) (declared : Declared) (ws rest : Words) (lock : ℕ) (word : List ℕ) (made : ℕ
+    → ListCmd)
+    → ((n : ℕ) (us : Words) → begins_with word us ≡ true → use_at n us ≡ (let p : ListCmd
+    × Words = (made n, behind us) in Some p))
+    → Spells rigour declared (Literal (codes "LOCK") ∷ Number 0 4294967295 lock ∷ Literal word ∷ []) ws rest
+    → FindsAll rigour (list_at rigour declared ws) (made lock) rest
 used-complete rigour declared ws rest lock word made is h =
-    led-complete rigour declared (codes "LOCK") (Number 0 4294967295 lock ∷ Literal word ∷ []) (made lock) ws rest (list_at rigour declared) (lock_use_at rigour) (λ us. refl)
+    led-complete rigour declared (codes "LOCK") (Number 0 4294967295 lock ∷ Literal word ∷ []) (made lock) ws rest
+    (list_at rigour declared) (lock_use_at rigour) (λ us. refl)
     (λ us s.
     let split = Spells-split rigour declared (Number 0 4294967295 lock ∷ []) (Literal word ∷ []) us rest s in
     let n = number_at-complete rigour declared us split.mid lock split.front in
     let l = led-by rigour declared word [] split.mid rest split.behind_ in
     rw n.read (record {
       found = made n.found;
-      read = is n.found split.mid l.begins ∙ ap (λ (r : Words). (let p : ListCmd × Words = (made n.found, r) in Some p)) l.rest_is;
+      read = is n.found split.mid l.begins ∙ ap (λ (r : Words). (let p : ListCmd × Words = (made n.found, r) in Some
+          p)) l.rest_is;
       same = λ e. ap made (n.same e);
     })) h
 
-use_set : (n : ℕ) (us : Words) → begins_with (codes "SET") us ≡ true → use_at n us ≡ (let p : ListCmd × Words = (LockSet n, behind us) in Some p)
+use_set : (n : ℕ) (us : Words) → begins_with (codes "SET") us ≡ true → use_at n us ≡ (let p : ListCmd
+    × Words = (LockSet n, behind us) in Some p)
 use_set n us e = rw e refl
 
-first_apart : (word other : List ℕ) (us : Words) → begins_with word us ≡ true → same_word word other ≡ false → begins_with other us ≡ false
+first_apart : (word other : List ℕ) (us : Words) → begins_with word us ≡ true → same_word word other ≡ false
+    → begins_with other us ≡ false
 first_apart word other [] e apart = refl
 first_apart word other (w ∷ us) e apart = let same = word-same w word e in rw same apart
 
-use_reset : (n : ℕ) (us : Words) → begins_with (codes "RESET") us ≡ true → use_at n us ≡ (let p : ListCmd × Words = (LockReset n, behind us) in Some p)
+use_reset : (n : ℕ) (us : Words) → begins_with (codes "RESET") us ≡ true → use_at n us ≡ (let p : ListCmd
+    × Words = (LockReset n, behind us) in Some p)
 use_reset n us e = let a = first_apart (codes "RESET") (codes "SET") us e refl in rw (a, e) refl
 
-use_test : (n : ℕ) (us : Words) → begins_with (codes "TEST") us ≡ true → use_at n us ≡ (let p : ListCmd × Words = (LockTest n, behind us) in Some p)
+use_test : (n : ℕ) (us : Words) → begins_with (codes "TEST") us ≡ true → use_at n us ≡ (let p : ListCmd
+    × Words = (LockTest n, behind us) in Some p)
 use_test n us e =
-    let a = first_apart (codes "TEST") (codes "SET") us e refl in let b = first_apart (codes "TEST") (codes "RESET") us e refl in rw (a, b, e) refl
+    let a = first_apart (codes "TEST") (codes "SET") us e refl in let b = first_apart (codes "TEST") (codes "RESET")
+    us e refl in rw (a, b, e) refl
 
-pub list-complete : (rigour : Rigour) (declared : Declared) (ws rest : Words) (cmd : ListCmd) → is_tail rest ≡ true → IsListLine cmd
+pub list-complete : (rigour : Rigour) (declared : Declared) (ws rest : Words) (cmd : ListCmd) → is_tail rest ≡ true
+    → IsListLine cmd
     → Spells rigour declared (list_tokens cmd) ws rest → FindsAll rigour (list_at rigour declared ws) cmd rest
-list-complete rigour declared ws rest (Write header head None None body adj cond) tail is h = make-complete rigour declared ws rest header head None body adj cond tail h
+list-complete rigour declared ws rest (Write header head None None body adj cond) tail is h = make-complete rigour
+    declared ws rest header head None body adj cond tail h
 list-complete rigour declared ws rest (Write header head (Some name) None body adj cond) tail is h =
     make-complete rigour declared ws rest header head (Some (label.Name name)) body adj cond tail h
 list-complete rigour declared ws rest (Write header head None (Some key) body adj cond) tail is h =
     make-complete rigour declared ws rest header head (Some (label.Key key)) body adj cond tail h
 list-complete rigour declared ws rest (Write header head (Some name) (Some key) body adj cond) tail is h = absurd is
 list-complete rigour declared ws rest (Update ref body adj cond) tail is h =
-    command-complete rigour declared (codes "UPDATE") update_places update_of (ref, (body, (adj, (cond, tt)))) ws rest are_update refl (AreFree-tail update_places rest tail refl) (list_at rigour declared) (λ us. refl) h
+    command-complete rigour declared (codes "UPDATE") update_places update_of (ref, (body, (adj, (cond, tt)))) ws rest
+    are_update refl (AreFree-tail update_places rest tail refl) (list_at rigour declared) (λ us. refl) h
 list-complete rigour declared ws rest (Read ref cond) tail is h =
-    command-complete rigour declared (codes "READ") record_places (λ v. Read v.0 v.1.0) (ref, (cond, tt)) ws rest are_record refl (AreFree-tail record_places rest tail refl) (list_at rigour declared) (λ us. refl) h
+    command-complete rigour declared (codes "READ") record_places (λ v. Read v.0 v.1.0) (ref, (cond, tt)) ws rest
+    are_record refl (AreFree-tail record_places rest tail refl) (list_at rigour declared) (λ us. refl) h
 list-complete rigour declared ws rest (Move ref header head key cond) tail is h =
-    command-complete rigour declared (codes "MOVE") move_places move_of (ref, (header, (head, (key, (cond, tt))))) ws rest are_move refl (AreFree-tail move_places rest tail refl) (list_at rigour declared) (λ us. refl) h
+    command-complete rigour declared (codes "MOVE") move_places move_of (ref, (header, (head, (key, (cond, tt))))) ws
+    rest are_move refl (AreFree-tail move_places rest tail refl) (list_at rigour declared) (λ us. refl) h
 list-complete rigour declared ws rest (Delete ref cond) tail is h =
-    command-complete rigour declared (codes "DELETE") record_places (λ v. Delete v.0 v.1.0) (ref, (cond, tt)) ws rest are_record refl (AreFree-tail record_places rest tail refl) (list_at rigour declared) (λ us. refl) h
+    command-complete rigour declared (codes "DELETE") record_places (λ v. Delete v.0 v.1.0) (ref, (cond, tt)) ws rest
+    are_record refl (AreFree-tail record_places rest tail refl) (list_at rigour declared) (λ us. refl) h
 list-complete rigour declared ws rest (ReadList header) tail is h =
-    command-complete rigour declared (codes "READLIST") number_places (λ v. ReadList v.0) (header, tt) ws rest are_number refl (AreFree-tail number_places rest tail refl) (list_at rigour declared) (λ us. refl) h
-list-complete rigour declared ws rest (LockSet lock) tail is h = used-complete rigour declared ws rest lock (codes "SET") LockSet use_set h
-list-complete rigour declared ws rest (LockReset lock) tail is h = used-complete rigour declared ws rest lock (codes "RESET") LockReset use_reset h
-list-complete rigour declared ws rest (LockTest lock) tail is h = used-complete rigour declared ws rest lock (codes "TEST") LockTest use_test h
+    command-complete rigour declared (codes "READLIST") number_places (λ v. ReadList v.0) (header, tt) ws rest
+    are_number refl (AreFree-tail number_places rest tail refl) (list_at rigour declared) (λ us. refl) h
+list-complete rigour declared ws rest (LockSet lock) tail is h = used-complete rigour declared ws rest lock
+    (codes "SET") LockSet use_set h
+list-complete rigour declared ws rest (LockReset lock) tail is h = used-complete rigour declared ws rest lock
+    (codes "RESET") LockReset use_reset h
+list-complete rigour declared ws rest (LockTest lock) tail is h = used-complete rigour declared ws rest lock
+    (codes "TEST") LockTest use_test h
 list-complete rigour declared ws rest (LControls header) tail is h =
-    command-complete rigour declared (codes "LCONTROLS") number_places (λ v. LControls v.0) (header, tt) ws rest are_number refl (AreFree-tail number_places rest tail refl) (list_at rigour declared) (λ us. refl) h
+    command-complete rigour declared (codes "LCONTROLS") number_places (λ v. LControls v.0) (header, tt) ws rest
+    are_number refl (AreFree-tail number_places rest tail refl) (list_at rigour declared) (λ us. refl) h
 list-complete rigour declared ws rest (SetLimit header n) tail is h =
-    command-complete rigour declared (codes "SETLIMIT") two_places (λ v. SetLimit v.0 v.1.0) (header, (n, tt)) ws rest are_two refl (AreFree-tail two_places rest tail refl) (list_at rigour declared) (λ us. refl) h
+    command-complete rigour declared (codes "SETLIMIT") two_places (λ v. SetLimit v.0 v.1.0) (header, (n, tt)) ws rest
+    are_two refl (AreFree-tail two_places rest tail refl) (list_at rigour declared) (λ us. refl) h
 list-complete rigour declared ws rest (Monitor header index) tail is h =
-    command-complete rigour declared (codes "MONITOR") two_places (λ v. Monitor v.0 v.1.0) (header, (index, tt)) ws rest are_two refl (AreFree-tail two_places rest tail refl) (list_at rigour declared) (λ us. refl) h
+    command-complete rigour declared (codes "MONITOR") two_places (λ v. Monitor v.0 v.1.0) (header, (index, tt)) ws
+    rest are_two refl (AreFree-tail two_places rest tail refl) (list_at rigour declared) (λ us. refl) h
 list-complete rigour declared ws rest (Unmonitor header) tail is h =
-    command-complete rigour declared (codes "UNMONITOR") number_places (λ v. Unmonitor v.0) (header, tt) ws rest are_number refl (AreFree-tail number_places rest tail refl) (list_at rigour declared) (λ us. refl) h
+    command-complete rigour declared (codes "UNMONITOR") number_places (λ v. Unmonitor v.0) (header, tt) ws rest
+    are_number refl (AreFree-tail number_places rest tail refl) (list_at rigour declared) (λ us. refl) h

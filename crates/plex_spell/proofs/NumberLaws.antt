@@ -50,39 +50,46 @@ pub IsUtf8-numeral : (word : List ℕ) → is_numeral word ≡ true → IsUtf8 w
 IsUtf8-numeral word h = IsUtf8-from_ascii word (below word (digits-numeral word h))
 
 -- what is parsed is the value, where that has so many bits
-pub parsed-numeral : {E : Type 0} (word : List ℕ) (r : Result ℕ E) → is_numeral word ≡ true → ParsesUnsigned 32 10 word r
+pub parsed-numeral : {E : Type 0} (word : List ℕ) (r : Result ℕ E) → is_numeral word ≡ true
+    → ParsesUnsigned 32 10 word r
     → result_ok r ≡ cond (nat_lt (digits_value 10 word) (2 ^ 32)) (Some (digits_value 10 word)) None
 parsed-numeral {E} word (Ok n) h parses =
     let r : Result ℕ E = Ok n in
-    let read = OkIff-at_ok r ((0 < length word) × (digits_value 10 word < 2 ^ 32)) (digits_value 10 word) n (parse_digits own 32 word r parses (digits-numeral word h)) refl in
+    let read = OkIff-at_ok r ((0 < length word) × (digits_value 10 word < 2 ^ 32)) (digits_value 10 word) n
+    (parse_digits own 32 word r parses (digits-numeral word h)) refl in
     let within : nat_lt (digits_value 10 word) (2 ^ 32) ≡ true = grind (arith, nat_tests) in
     rw within (ap Some read.1 ∙ refl)
 parsed-numeral {E} word (Err e) h parses =
     let r : Result ℕ E = Err e in
-    let none = OkIff-at_err r ((0 < length word) × (digits_value 10 word < 2 ^ 32)) (digits_value 10 word) e (parse_digits own 32 word r parses (digits-numeral word h)) refl in
+    let none = OkIff-at_err r ((0 < length word) × (digits_value 10 word < 2 ^ 32)) (digits_value 10 word) e
+    (parse_digits own 32 word r parses (digits-numeral word h)) refl in
     past (nat_lt (digits_value 10 word) (2 ^ 32)) refl none
   where
-    past : (b : Bool) → nat_lt (digits_value 10 word) (2 ^ 32) ≡ b → ((0 < length word) × (digits_value 10 word < 2 ^ 32) → ⊥)
+    past : (b : Bool) → nat_lt (digits_value 10 word) (2 ^ 32) ≡ b
+        → ((0 < length word) × (digits_value 10 word < 2 ^ 32) → ⊥)
         → None ≡ cond b (Some (digits_value 10 word)) None
     past true e none = absurd (none (nonempty-numeral word h, grind (arith, nat_tests)))
     past false e none = refl
 
 -- ---- the digits of a number
 
-pub decimal-numeral : (word : List ℕ) → is_numeral word ≡ true → digits_value 10 word < 2 ^ 64 → word ≡ decimal (digits_value 10 word)
+pub decimal-numeral : (word : List ℕ) → is_numeral word ≡ true → digits_value 10 word < 2 ^ 64
+    → word ≡ decimal (digits_value 10 word)
 decimal-numeral word h small =
     sym (decimal-digits_value own word (digits-numeral word h) (nonempty-numeral word h) (short-numeral word h) small)
 
 pub value-decimal : (n : ℕ) → n < 2 ^ 64 → digits_value 10 (decimal n) ≡ n
 value-decimal n h = digits_value-decimal own n h
 
-numeral_from : (word : List ℕ) → AreDigits word → 0 < length word → (get_or word 0 0 ≡ 48 → length word ≡ 1) → is_numeral word ≡ true
+numeral_from : (word : List ℕ) → AreDigits word → 0 < length word → (get_or word 0 0 ≡ 48 → length word ≡ 1)
+    → is_numeral word ≡ true
 numeral_from [] digits some short = absurd (omega arith)
 numeral_from (b ∷ []) digits some short = (and_parts (is_ascii_digit b) true digits).0
 numeral_from (b ∷ c ∷ bs) digits some short = at_first (b == 48) refl
   where
     at_first : (same : Bool) → (b == 48) ≡ same → (not same && list_all is_ascii_digit (b ∷ c ∷ bs)) ≡ true
-    at_first true e = let zero_first : b ≡ 48 = grind (arith, nat_tests) in let one = short zero_first in absurd (omega (arith, one))
+    at_first true e = let zero_first : b ≡ 48 = grind (arith, nat_tests) in let one = short zero_first in absurd
+        (omega (arith, one))
     at_first false e = digits
 
 first_short : (n : ℕ) → n < 2 ^ 64 → get_or (decimal n) 0 0 ≡ 48 → length (decimal n) ≡ 1

@@ -67,14 +67,16 @@ keys ALabel = label_keys
 keys (AFlag word) = word ∷ []
 keys (AnOption word place) = word ∷ []
 
-flag-sound : (rigour : Rigour) (declared : Declared) (word : List ℕ) (ws rest : Words) (given : Bool) → flag_at word ws ≡ Some (given, rest)
+flag-sound : (rigour : Rigour) (declared : Declared) (word : List ℕ) (ws rest : Words) (given : Bool)
+    → flag_at word ws ≡ Some (given, rest)
     → Spells rigour declared (flag_tokens word given) ws rest
 flag-sound rigour declared word ws rest given h =
     chosen (begins_with word ws) (Some (true, behind ws)) (Some (false, ws)) (given, rest)
     (λ e k. told true (behind ws) (led rigour declared word [] ws (behind ws) e refl) k)
     (λ _ k. told false ws refl k) h
   where
-    told : (b : Bool) (left : Words) → Spells rigour declared (flag_tokens word b) ws left → (let p : Bool × Words = (b, left) in Some p) ≡ Some (given, rest)
+    told : (b : Bool) (left : Words) → Spells rigour declared (flag_tokens word b) ws left
+        → (let p : Bool × Words = (b, left) in Some p) ≡ Some (given, rest)
         → Spells rigour declared (flag_tokens word given) ws rest
     told b left here k =
         let same : (let p : Bool × Words = (b, left) in p) ≡ (given, rest) = cc in
@@ -82,51 +84,75 @@ flag-sound rigour declared word ws rest given h =
         let r : left ≡ rest = ap (λ (p : Bool × Words). p.1) same in
         rw (← v, ← r) here
 
-flag-complete : (rigour : Rigour) (declared : Declared) (word : List ℕ) (ws rest : Words) (given : Bool) → free_of (word ∷ []) rest ≡ true
+flag-complete : (rigour : Rigour) (declared : Declared) (word : List ℕ) (ws rest : Words) (given : Bool)
+    → free_of (word ∷ []) rest ≡ true
     → Spells rigour declared (flag_tokens word given) ws rest → FindsAll rigour (flag_at word ws) given rest
 flag-complete rigour declared word ws rest false free h =
     let other : begins_with word ws ≡ false = rw h (free-begins word [] rest free) in
-    rw other (record { found = false; read = ap (λ (r : Words). (let p : Bool × Words = (false, r) in Some p)) h; same = λ _. refl })
+    rw other (record {
+      found = false;
+      read = ap (λ (r : Words). (let p : Bool × Words = (false, r) in Some p)) h;
+      same = λ _. refl;
+    })
 flag-complete rigour declared word ws rest true free h =
     let l = led-by rigour declared word [] ws rest h in
-    rw l.begins (record { found = true; read = ap (λ (r : Words). (let p : Bool × Words = (true, r) in Some p)) l.rest_is; same = λ _. refl })
+    rw l.begins (record {
+      found = true;
+      read = ap (λ (r : Words). (let p : Bool × Words = (true, r) in Some p))
+          l.rest_is;
+      same = λ _. refl;
+    })
 
-option-sound : {V : Type 0} (rigour : Rigour) (declared : Declared) (word : List ℕ) (reading : Words → Option (V × Words)) (tokens : V → List Token)
+option-sound : {V : Type 0} (rigour : Rigour) (declared : Declared) (word : List ℕ) (reading : Words
+    → Option (V × Words)) (tokens : V → List Token)
     → ((ws rest : Words) (v : V) → reading ws ≡ Some (v, rest) → Spells rigour declared (tokens v) ws rest)
-    → (ws rest : Words) (value : Option V) → option_at word reading ws ≡ Some (value, rest) → Spells rigour declared (option_tokens word tokens value) ws rest
+    → (ws rest : Words) (value : Option V) → option_at word reading ws ≡ Some (value, rest) → Spells rigour declared
+    (option_tokens word tokens value) ws rest
 option-sound {V} rigour declared word reading tokens sound ws rest value h =
     let some : V → Option V = λ v. Some v in
-    chosen (begins_with word ws) (option_map (λ (read : V × Words). (let p : Option V × Words = (some read.0, read.1) in p)) (reading (behind ws))) (Some (None, ws)) (value, rest)
+    chosen (begins_with word ws) (option_map (λ (read : V × Words). (let p : Option V × Words = (some read.0, read.1)
+    in p)) (reading (behind ws))) (Some (None, ws)) (value, rest)
     (λ e k. behind-sound rigour declared some (reading (behind ws)) (option_tokens word tokens) ws rest value
     (λ v m. led rigour declared word (tokens v) ws rest e (sound (behind ws) rest v m)) k)
     (λ _ k. nothing-sound rigour declared (option_tokens word tokens) ws rest value refl k) h
 
-option-complete : {V : Type 0} (rigour : Rigour) (declared : Declared) (word : List ℕ) (reading : Words → Option (V × Words)) (tokens : V → List Token)
+option-complete : {V : Type 0} (rigour : Rigour) (declared : Declared) (word : List ℕ) (reading : Words
+    → Option (V × Words)) (tokens : V → List Token)
     → ((ws rest : Words) (v : V) → Spells rigour declared (tokens v) ws rest → FindsAll rigour (reading ws) v rest)
-    → (ws rest : Words) (value : Option V) → free_of (word ∷ []) rest ≡ true → Spells rigour declared (option_tokens word tokens value) ws rest
+    → (ws rest : Words) (value : Option V) → free_of (word ∷ []) rest ≡ true → Spells rigour declared
+    (option_tokens word tokens value) ws rest
     → FindsAll rigour (option_at word reading ws) value rest
 option-complete {V} rigour declared word reading tokens complete ws rest None free h =
     let other : begins_with word ws ≡ false = rw h (free-begins word [] rest free) in
-    rw other (record { found = None; read = ap (λ (r : Words). (let p : Option V × Words = (None, r) in Some p)) h; same = λ _. refl })
+    rw other (record {
+      found = None;
+      read = ap (λ (r : Words). (let p : Option V × Words = (None, r) in Some p)) h;
+      same = λ _. refl;
+    })
 option-complete {V} rigour declared word reading tokens complete ws rest (Some v) free h =
     let l = led-by rigour declared word (tokens v) ws rest h in
     let some : V → Option V = λ x. Some x in
     rw l.begins (behind-complete rigour some (reading (behind ws)) rest v (complete (behind ws) rest v l.rest_is))
 
-pub value-sound : (rigour : Rigour) (declared : Declared) (place : Place) (ws rest : Words) (v : Value place) → IsPlace place
+pub value-sound : (rigour : Rigour) (declared : Declared) (place : Place) (ws rest : Words) (v : Value place)
+    → IsPlace place
     → value_at rigour declared place ws ≡ Some (v, rest) → Spells rigour declared (tokens_at place v) ws rest
 value-sound rigour declared (Amount low high) ws rest v is h =
-    single-sound rigour declared (number_of rigour low high) (Number low high) (λ w x e. number-sound rigour low high w x is e) ws rest v h
+    single-sound rigour declared (number_of rigour low high) (Number low high) (λ w x e. number-sound rigour low high
+    w x is e) ws rest v h
 value-sound rigour declared AName ws rest v is h = name_at-sound rigour declared ws rest v h
 value-sound rigour declared AKey ws rest v is h = key_word-sound rigour declared ws rest v h
 value-sound rigour declared AShort ws rest v is h =
     single-sound rigour declared (text_of rigour 64) Short (λ w x e. text-sound rigour 64 w x e) ws rest v h
-value-sound rigour declared AData ws rest v is h = single-sound rigour declared (data_of rigour) Data (λ w x e. data-sound rigour w x e) ws rest v h
+value-sound rigour declared AData ws rest v is h = single-sound rigour declared (data_of rigour) Data
+    (λ w x e. data-sound rigour w x e) ws rest v h
 value-sound rigour declared AResource ws rest v is h =
     single-sound rigour declared (resource_of rigour) OnResource (λ w x e. resource-sound rigour w x e) ws rest v h
 value-sound rigour declared AFacility ws rest v is h =
-    single-sound rigour declared (facility_in rigour declared) OfFacility (λ w x e. facility-sound rigour declared w x e) ws rest v h
-value-sound rigour declared ANewFacility ws rest v is h = single-sound rigour declared facility_of NewFacility (λ w x e. e) ws rest v h
+    single-sound rigour declared (facility_in rigour declared) OfFacility (λ w x e. facility-sound rigour declared w x
+    e) ws rest v h
+value-sound rigour declared ANewFacility ws rest v is h = single-sound rigour declared facility_of NewFacility
+    (λ w x e. e) ws rest v h
 value-sound rigour declared AConnector ws rest v is h =
     single-sound rigour declared (connector_in rigour declared) OfConnector
     (λ w x e. declared-sound rigour w (connector_of declared.connectors w) (record { 0 = 0 }) x e) ws rest v h
@@ -136,7 +162,8 @@ value-sound rigour declared AStructure ws rest v is h =
 value-sound rigour declared ANewName ws rest v is h =
     single-sound rigour declared (new_name_of rigour) NewName (λ w x e. new_name-sound rigour w x e) ws rest v h
 value-sound rigour declared (Either first second) ws rest v is h =
-    single-sound rigour declared (either_of first second) (either first second) (λ w x e. either-sound first second rigour declared w x e) ws rest v h
+    single-sound rigour declared (either_of first second) (either first second)
+    (λ w x e. either-sound first second rigour declared w x e) ws rest v h
 value-sound rigour declared ADecision ws rest v is h =
     single-sound rigour declared decision_of decision (λ w x e. decision-sound rigour declared w x e) ws rest v h
 value-sound rigour declared SomeRefs ws rest v is h =
@@ -180,10 +207,13 @@ AreFixed ALabel = Unit {0}
 AreFixed (AFlag word) = Unit {0}
 AreFixed (AnOption word place) = IsFixed place × AreFixed place
 
-pub value-complete : (rigour : Rigour) (declared : Declared) (place : Place) (ws rest : Words) (v : Value place) → IsPlace place → AreFixed place
-    → free_of (keys place) rest ≡ true → Spells rigour declared (tokens_at place v) ws rest → FindsAll rigour (value_at rigour declared place ws) v rest
+pub value-complete : (rigour : Rigour) (declared : Declared) (place : Place) (ws rest : Words) (v : Value place)
+    → IsPlace place → AreFixed place
+    → free_of (keys place) rest ≡ true → Spells rigour declared (tokens_at place v) ws rest
+    → FindsAll rigour (value_at rigour declared place ws) v rest
 value-complete rigour declared (Amount low high) ws rest v is fixed free h =
-    single-complete rigour declared (number_of rigour low high) (Number low high) v (λ w e. number-complete rigour low high w v is e) ws rest h
+    single-complete rigour declared (number_of rigour low high) (Number low high) v
+    (λ w e. number-complete rigour low high w v is e) ws rest h
 value-complete rigour declared AName ws rest v is fixed free h = name_at-complete rigour declared ws rest v h
 value-complete rigour declared AKey ws rest v is fixed free h = key_word-complete rigour declared ws rest v h
 value-complete rigour declared AShort ws rest v is fixed free h =
@@ -191,11 +221,14 @@ value-complete rigour declared AShort ws rest v is fixed free h =
 value-complete rigour declared AData ws rest v is fixed free h =
     single-complete rigour declared (data_of rigour) Data v (λ w e. data-complete rigour w v e) ws rest h
 value-complete rigour declared AResource ws rest v is fixed free h =
-    single-complete rigour declared (resource_of rigour) OnResource v (λ w e. resource-complete rigour w v e) ws rest h
+    single-complete rigour declared (resource_of rigour) OnResource v (λ w e. resource-complete rigour w v e) ws rest
+    h
 value-complete rigour declared AFacility ws rest v is fixed free h =
-    single-complete rigour declared (facility_in rigour declared) OfFacility v (λ w e. facility-complete rigour declared w v e.0 e.1) ws rest h
+    single-complete rigour declared (facility_in rigour declared) OfFacility v
+    (λ w e. facility-complete rigour declared w v e.0 e.1) ws rest h
 value-complete rigour declared ANewFacility ws rest v is fixed free h =
-    single-complete rigour declared facility_of NewFacility v (λ w e. record { found = v; read = e; same = λ _. refl }) ws rest h
+    single-complete rigour declared facility_of NewFacility v
+    (λ w e. record { found = v; read = e; same = λ _. refl }) ws rest h
 value-complete rigour declared AConnector ws rest v is fixed free h =
     single-complete rigour declared (connector_in rigour declared) OfConnector v
     (λ w e. declared-complete rigour w (connector_of declared.connectors w) (record { 0 = 0 }) v e) ws rest h
@@ -203,9 +236,11 @@ value-complete rigour declared AStructure ws rest v is fixed free h =
     single-complete rigour declared (structure_in rigour declared) OfStructure v
     (λ w e. declared-complete rigour w (structure_of declared.structures w) (record { 0 = 0 }) v e) ws rest h
 value-complete rigour declared ANewName ws rest v is fixed free h =
-    single-complete rigour declared (new_name_of rigour) NewName v (λ w e. new_name-complete rigour w v e.0 e.1) ws rest h
+    single-complete rigour declared (new_name_of rigour) NewName v (λ w e. new_name-complete rigour w v e.0 e.1) ws
+    rest h
 value-complete rigour declared (Either first second) ws rest v is fixed free h =
-    single-complete rigour declared (either_of first second) (either first second) v (λ w e. either-complete first second is rigour declared v w e) ws rest h
+    single-complete rigour declared (either_of first second) (either first second) v
+    (λ w e. either-complete first second is rigour declared v w e) ws rest h
 value-complete rigour declared ADecision ws rest v is fixed free h =
     single-complete rigour declared decision_of decision v (λ w e. decision-complete rigour declared v w e) ws rest h
 value-complete rigour declared SomeRefs ws rest v is fixed free h =
@@ -214,10 +249,12 @@ value-complete rigour declared AClass ws rest v is fixed free h = class-complete
 value-complete rigour declared ARecord ws rest v is fixed free h = record-at-complete rigour declared ws rest v h
 value-complete rigour declared ACond ws rest v is fixed free h = cond-complete rigour declared ws rest v free h
 value-complete rigour declared ALabel ws rest v is fixed free h = label-complete rigour declared ws rest v free h
-value-complete rigour declared (AFlag word) ws rest v is fixed free h = flag-complete rigour declared word ws rest v free h
+value-complete rigour declared (AFlag word) ws rest v is fixed free h = flag-complete rigour declared word ws rest v
+    free h
 value-complete rigour declared (AnOption word place) ws rest v is fixed free h =
     option-complete rigour declared word (value_at rigour declared place) (tokens_at place)
-    (λ us more x e. value-complete rigour declared place us more x is fixed.1 (rw fixed.0 (free_none more)) e) ws rest v free h
+    (λ us more x e. value-complete rigour declared place us more x is fixed.1 (rw fixed.0 (free_none more)) e) ws rest
+    v free h
 
 -- ---- rows
 
@@ -225,18 +262,22 @@ abbrev pub ArePlaces : List Place → Type 0
 ArePlaces [] = Unit {0}
 ArePlaces (place ∷ places) = IsPlace place × AreFixed place × ArePlaces places
 
-pub record Told {C : Type 0} (rigour : Rigour) (declared : Declared) (places : List Place) (made : Values places → C) (ws rest : Words) (c : C) : Type 0 where
+pub record Told {C : Type 0} (rigour : Rigour) (declared : Declared) (places : List Place) (made : Values places → C)
+    (ws rest : Words) (c : C) : Type 0 where
   pub values : Values places
   pub same : c ≡ made values
   pub spelled : Spells rigour declared (tokens_of places values) ws rest
 
-pub values-sound : {C : Type 0} (rigour : Rigour) (declared : Declared) (places : List Place) (made : Values places → C) (ws rest : Words) (c : C)
-    → ArePlaces places → values_at rigour declared places made ws ≡ Some (c, rest) → Told rigour declared places made ws rest c
+pub values-sound : {C : Type 0} (rigour : Rigour) (declared : Declared) (places : List Place) (made : Values places
+    → C) (ws rest : Words) (c : C)
+    → ArePlaces places → values_at rigour declared places made ws ≡ Some (c, rest) → Told rigour declared places made
+    ws rest c
 values-sound {C} rigour declared [] made ws rest c are h =
     let same : (let p : C × Words = (made tt, ws) in p) ≡ (c, rest) = cc in
     record { values = tt; same = sym (ap (λ (p : C × Words). p.0) same); spelled = ap (λ (p : C × Words). p.1) same }
 values-sound {C} rigour declared (place ∷ places) made ws rest c are h =
-    let b = bound (λ (read : Value place × Words). values_at rigour declared places (λ values. made (read.0, values)) read.1) (value_at rigour declared place ws) (c, rest) h in
+    let b = bound (λ (read : Value place × Words). values_at rigour declared places (λ values. made (read.0, values))
+    read.1) (value_at rigour declared place ws) (c, rest) h in
     let v = b.value.0 in
     let more = values-sound rigour declared places (λ values. made (v, values)) b.value.1 rest c are.2 b.then_ in
     record {
@@ -264,9 +305,11 @@ are_rows (place ∷ places) = are_apart (keys place) places && are_rows places
 -- the first word of an option's words
 data Start (rigour : Rigour) (declared : Declared) (others : List (List ℕ)) (tokens : List Token) : Type 0 where
   Empty : tokens ≡ [] → Start rigour declared others tokens
-  Begins : (key : List ℕ) (more : List Token) → tokens ≡ Literal key ∷ more → not (list_any (same_word key) others) ≡ true → Start rigour declared others tokens
+  Begins : (key : List ℕ) (more : List Token) → tokens ≡ Literal key ∷ more → not (list_any (same_word key) others) ≡
+      true → Start rigour declared others tokens
 
-start : (rigour : Rigour) (declared : Declared) (others : List (List ℕ)) (place : Place) (v : Value place) → is_apart others (keys place) ≡ true
+start : (rigour : Rigour) (declared : Declared) (others : List (List ℕ)) (place : Place) (v : Value place)
+    → is_apart others (keys place) ≡ true
     → Start rigour declared others (tokens_at place v)
 start rigour declared others (Amount low high) v h = absurd (cc)
 start rigour declared others AName v h = absurd (cc)
@@ -286,26 +329,36 @@ start rigour declared others AClass v h = absurd (cc)
 start rigour declared others ARecord v h = absurd (cc)
 start rigour declared others ACond None h = Empty refl
 start rigour declared others ACond (Some (NotHeld lock)) h =
-    Begins (codes "NOTHELD") (Number 0 4294967295 lock ∷ []) refl (and_parts (not (list_any (same_word (codes "NOTHELD")) others)) (not (list_any (same_word (codes "HELDBY")) others)) h).0
+    Begins (codes "NOTHELD") (Number 0 4294967295 lock ∷ []) refl
+    (and_parts (not (list_any (same_word (codes "NOTHELD")) others))
+    (not (list_any (same_word (codes "HELDBY")) others)) h).0
 start rigour declared others ACond (Some (HeldBy lock)) h =
-    Begins (codes "HELDBY") (Number 0 4294967295 lock ∷ []) refl (and_parts (not (list_any (same_word (codes "NOTHELD")) others)) (not (list_any (same_word (codes "HELDBY")) others)) h).1
+    Begins (codes "HELDBY") (Number 0 4294967295 lock ∷ []) refl
+    (and_parts (not (list_any (same_word (codes "NOTHELD")) others))
+    (not (list_any (same_word (codes "HELDBY")) others)) h).1
 start rigour declared others ALabel None h = Empty refl
 start rigour declared others ALabel (Some (label.Name name)) h =
-    Begins (codes "NAME") (Term name.0 ∷ []) refl (and_parts (not (list_any (same_word (codes "NAME")) others)) (not (list_any (same_word (codes "KEY")) others)) h).0
+    Begins (codes "NAME") (Term name.0 ∷ []) refl (and_parts (not (list_any (same_word (codes "NAME")) others))
+    (not (list_any (same_word (codes "KEY")) others)) h).0
 start rigour declared others ALabel (Some (label.Key key)) h =
-    Begins (codes "KEY") (Term key.0 ∷ []) refl (and_parts (not (list_any (same_word (codes "NAME")) others)) (not (list_any (same_word (codes "KEY")) others)) h).1
+    Begins (codes "KEY") (Term key.0 ∷ []) refl (and_parts (not (list_any (same_word (codes "NAME")) others))
+    (not (list_any (same_word (codes "KEY")) others)) h).1
 start rigour declared others (AFlag word) false h = Empty refl
 start rigour declared others (AFlag word) true h = Begins word [] refl h
 start rigour declared others (AnOption word place) None h = Empty refl
 start rigour declared others (AnOption word place) (Some v) h = Begins word (tokens_at place v) refl h
 
-begun : (rigour : Rigour) (declared : Declared) (others : List (List ℕ)) (key : List ℕ) (more us : List Token) (ws rest : Words)
-    → not (list_any (same_word key) others) ≡ true → Spells rigour declared ((Literal key ∷ more) ++ us) ws rest → free_of others ws ≡ true
+begun : (rigour : Rigour) (declared : Declared) (others : List (List ℕ)) (key : List ℕ) (more us : List Token)
+    (ws rest : Words)
+    → not (list_any (same_word key) others) ≡ true → Spells rigour declared ((Literal key ∷ more) ++ us) ws rest
+    → free_of others ws ≡ true
 begun rigour declared others key more us [] rest h k = absurd k
 begun rigour declared others key more us (w ∷ ws) rest h k = let same : w ≡ key = k.0 in rw same h
 
-pub row-free : (rigour : Rigour) (declared : Declared) (key : List ℕ) (others : List (List ℕ)) (places : List Place) (values : Values places) (ws rest : Words)
-    → are_apart (key ∷ others) places ≡ true → free_of (key ∷ others) rest ≡ true → Spells rigour declared (tokens_of places values) ws rest
+pub row-free : (rigour : Rigour) (declared : Declared) (key : List ℕ) (others : List (List ℕ)) (places : List Place)
+    (values : Values places) (ws rest : Words)
+    → are_apart (key ∷ others) places ≡ true → free_of (key ∷ others) rest ≡ true → Spells rigour declared
+    (tokens_of places values) ws rest
     → free_of (key ∷ others) ws ≡ true
 row-free rigour declared key others [] values ws rest h free k = rw k free
 row-free rigour declared key others (place ∷ places) values ws rest h free k =
@@ -325,27 +378,39 @@ abbrev pub AreFree : List Place → Words → Type 0
 AreFree [] rest = Unit {0}
 AreFree (place ∷ places) rest = (free_of (keys place) rest ≡ true) × AreFree places rest
 
-keys-free : (rigour : Rigour) (declared : Declared) (others : List (List ℕ)) (places : List Place) (values : Values places) (ws rest : Words)
-    → are_apart others places ≡ true → free_of others rest ≡ true → Spells rigour declared (tokens_of places values) ws rest → free_of others ws ≡ true
+keys-free : (rigour : Rigour) (declared : Declared) (others : List (List ℕ)) (places : List Place)
+    (values : Values places) (ws rest : Words)
+    → are_apart others places ≡ true → free_of others rest ≡ true → Spells rigour declared (tokens_of places values)
+    ws rest → free_of others ws ≡ true
 keys-free rigour declared [] places values ws rest h free k = free_none ws
-keys-free rigour declared (key ∷ others) places values ws rest h free k = row-free rigour declared key others places values ws rest h free k
+keys-free rigour declared (key ∷ others) places values ws rest h free k = row-free rigour declared key others places
+    values ws rest h free k
 
-pub record FindsRow {C : Type 0} (rigour : Rigour) (reading : Option (C × Words)) (places : List Place) (made : Values places → C) (values : Values places) (rest : Words) : Type 0 where
+pub record FindsRow {C : Type 0} (rigour : Rigour) (reading : Option (C × Words)) (places : List Place)
+    (made : Values places → C) (values : Values places) (rest : Words) : Type 0 where
   pub found : Values places
   pub read : reading ≡ Some (made found, rest)
   pub same : is_names rigour ≡ true → found ≡ values
 
-pub values-complete : {C : Type 0} (rigour : Rigour) (declared : Declared) (places : List Place) (made : Values places → C) (values : Values places) (ws rest : Words)
-    → ArePlaces places → are_rows places ≡ true → AreFree places rest → Spells rigour declared (tokens_of places values) ws rest
+pub values-complete : {C : Type 0} (rigour : Rigour) (declared : Declared) (places : List Place) (made : Values places
+    → C) (values : Values places) (ws rest : Words)
+    → ArePlaces places → are_rows places ≡ true → AreFree places rest → Spells rigour declared
+    (tokens_of places values) ws rest
     → FindsRow rigour (values_at rigour declared places made ws) places made values rest
 values-complete {C} rigour declared [] made values ws rest are rows free h =
-    record { found = values; read = ap (λ (r : Words). (let p : C × Words = (made tt, r) in Some p)) h; same = λ _. refl }
+    record {
+      found = values;
+      read = ap (λ (r : Words). (let p : C × Words = (made tt, r) in Some p)) h;
+      same = λ _.
+          refl;
+    }
 values-complete {C} rigour declared (place ∷ places) made values ws rest are rows free h =
     let s = Spells-split rigour declared (tokens_at place values.0) (tokens_of places values.1) ws rest h in
     let parts = and_parts (are_apart (keys place) places) (are_rows places) rows in
     let clear = keys-free rigour declared (keys place) places values.1 s.mid rest parts.0 free.0 s.behind_ in
     let v = value-complete rigour declared place ws s.mid values.0 are.0 are.1 clear s.front in
-    let more = values-complete rigour declared places (λ others. made (v.found, others)) values.1 s.mid rest are.2 parts.1 free.1 s.behind_ in
+    let more = values-complete rigour declared places (λ others. made (v.found, others)) values.1 s.mid rest are.2
+    parts.1 free.1 s.behind_ in
     rw v.read (record {
       found = (v.found, more.found);
       read = more.read;

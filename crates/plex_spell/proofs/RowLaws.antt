@@ -24,30 +24,40 @@ use Rattle.plex_spell.proofs.PlaceLaws.{Words, FindsAll, Spells-append, Spells-s
 
 -- ---- names and keys
 
-pub name_at-sound : (rigour : Rigour) (declared : Declared) (ws rest : Words) (name : Name16) → on_first (name_of rigour) ws ≡ Some (name, rest)
+pub name_at-sound : (rigour : Rigour) (declared : Declared) (ws rest : Words) (name : Name16)
+    → on_first (name_of rigour) ws ≡ Some (name, rest)
     → Spells rigour declared (Term name.0 ∷ []) ws rest
 name_at-sound rigour declared ws rest name h =
-    single-sound rigour declared (name_of rigour) (λ (n : Name16). Term n.0) (λ w v e. name-sound rigour w v e) ws rest name h
+    single-sound rigour declared (name_of rigour) (λ (n : Name16). Term n.0) (λ w v e. name-sound rigour w v e) ws
+    rest name h
 
-pub name_at-complete : (rigour : Rigour) (declared : Declared) (ws rest : Words) (name : Name16) → Spells rigour declared (Term name.0 ∷ []) ws rest
+pub name_at-complete : (rigour : Rigour) (declared : Declared) (ws rest : Words) (name : Name16)
+    → Spells rigour declared (Term name.0 ∷ []) ws rest
     → FindsAll rigour (on_first (name_of rigour) ws) name rest
 name_at-complete rigour declared ws rest name h =
-    single-complete rigour declared (name_of rigour) (λ (n : Name16). Term n.0) name (λ w e. name-complete rigour w name e.0 e.1) ws rest h
+    single-complete rigour declared (name_of rigour) (λ (n : Name16). Term n.0) name
+    (λ w e. name-complete rigour w name e.0 e.1) ws rest h
 
-pub key_word-sound : (rigour : Rigour) (declared : Declared) (ws rest : Words) (key : Key16) → on_first (key_of rigour) ws ≡ Some (key, rest)
+pub key_word-sound : (rigour : Rigour) (declared : Declared) (ws rest : Words) (key : Key16)
+    → on_first (key_of rigour) ws ≡ Some (key, rest)
     → Spells rigour declared (Term key.0 ∷ []) ws rest
 key_word-sound rigour declared ws rest key h =
-    single-sound rigour declared (key_of rigour) (λ (k : Key16). Term k.0) (λ w v e. key-sound rigour w v e) ws rest key h
+    single-sound rigour declared (key_of rigour) (λ (k : Key16). Term k.0) (λ w v e. key-sound rigour w v e) ws rest
+    key h
 
-pub key_word-complete : (rigour : Rigour) (declared : Declared) (ws rest : Words) (key : Key16) → Spells rigour declared (Term key.0 ∷ []) ws rest
+pub key_word-complete : (rigour : Rigour) (declared : Declared) (ws rest : Words) (key : Key16)
+    → Spells rigour declared (Term key.0 ∷ []) ws rest
     → FindsAll rigour (on_first (key_of rigour) ws) key rest
 key_word-complete rigour declared ws rest key h =
-    single-complete rigour declared (key_of rigour) (λ (k : Key16). Term k.0) key (λ w e. key-complete rigour w key e.0 e.1) ws rest h
+    single-complete rigour declared (key_of rigour) (λ (k : Key16). Term k.0) key
+    (λ w e. key-complete rigour w key e.0 e.1) ws rest h
 
 -- ---- nothing there
 
-pub nothing-sound : {V : Type 0} (rigour : Rigour) (declared : Declared) (tokens : Option V → List Token) (ws rest : Words) (value : Option V)
-    → tokens None ≡ [] → (let p : Option V × Words = (None, ws) in Some p) ≡ Some (value, rest) → Spells rigour declared (tokens value) ws rest
+pub nothing-sound : {V : Type 0} (rigour : Rigour) (declared : Declared) (tokens : Option V → List Token)
+    (ws rest : Words) (value : Option V)
+    → tokens None ≡ [] → (let p : Option V × Words = (None, ws) in Some p) ≡ Some (value, rest)
+    → Spells rigour declared (tokens value) ws rest
 nothing-sound {V} rigour declared tokens ws rest value none h =
     let same : (let p : Option V × Words = (None, ws) in p) ≡ (value, rest) = cc in
     let v : None ≡ value = ap (λ (p : Option V × Words). p.0) same in
@@ -56,14 +66,17 @@ nothing-sound {V} rigour declared tokens ws rest value none h =
 
 -- ---- castout classes
 
-pub class-sound : (rigour : Rigour) (declared : Declared) (ws rest : Words) (class : Option ℕ) → class_at rigour ws ≡ Some (class, rest)
+pub class-sound : (rigour : Rigour) (declared : Declared) (ws rest : Words) (class : Option ℕ)
+    → class_at rigour ws ≡ Some (class, rest)
     → Spells rigour declared (class_tokens class) ws rest
 class-sound rigour declared ws rest class h =
     let some : ℕ → Option ℕ = λ n. Some n in
-    chosen (begins_with (codes "CHANGED") ws) (option_map (λ (read : ℕ × Words). (let p : Option ℕ × Words = (Some read.0, read.1) in p)) (number_at rigour (behind ws)))
+    chosen (begins_with (codes "CHANGED") ws) (option_map (λ (read : ℕ × Words). (let p : Option ℕ
+    × Words = (Some read.0, read.1) in p)) (number_at rigour (behind ws)))
     (cond (begins_with (codes "UNCHANGED") ws) (Some (None, behind ws)) None) (class, rest)
     (λ e k. behind-sound rigour declared some (number_at rigour (behind ws)) class_tokens ws rest class
-    (λ n m. led rigour declared (codes "CHANGED") (Number 0 4294967295 n ∷ []) ws rest e (number_at-sound rigour declared (behind ws) rest n m)) k)
+    (λ n m. led rigour declared (codes "CHANGED") (Number 0 4294967295 n ∷ []) ws rest e
+    (number_at-sound rigour declared (behind ws) rest n m)) k)
     (λ _ k. chosen (begins_with (codes "UNCHANGED") ws) (Some (None, behind ws)) None (class, rest)
     (λ e m.
     let same : (let p : Option ℕ × Words = (None, behind ws) in p) ≡ (class, rest) = cc in
@@ -72,31 +85,44 @@ class-sound rigour declared ws rest class h =
     rw (← v) (led rigour declared (codes "UNCHANGED") [] ws rest e r))
     (λ _ n. not_some (let p : Option ℕ × Words = (class, rest) in p) n) k) h
 
-pub class-complete : (rigour : Rigour) (declared : Declared) (ws rest : Words) (class : Option ℕ) → Spells rigour declared (class_tokens class) ws rest
+pub class-complete : (rigour : Rigour) (declared : Declared) (ws rest : Words) (class : Option ℕ)
+    → Spells rigour declared (class_tokens class) ws rest
     → FindsAll rigour (class_at rigour ws) class rest
 class-complete rigour declared ws rest None h =
     let l = led-by rigour declared (codes "UNCHANGED") [] ws rest h in
     let other : begins_with (codes "CHANGED") ws ≡ false = sym (l.first_is (codes "CHANGED")) in
-    rw (other, l.begins) (record { found = None; read = ap (λ (r : Words). (let p : Option ℕ × Words = (None, r) in Some p)) l.rest_is; same = λ _. refl })
+    rw (other, l.begins) (record {
+      found = None;
+      read = ap
+          (λ (r : Words). (let p : Option ℕ × Words = (None, r) in Some p)) l.rest_is;
+      same = λ _. refl;
+    })
 class-complete rigour declared ws rest (Some class) h =
     let l = led-by rigour declared (codes "CHANGED") (Number 0 4294967295 class ∷ []) ws rest h in
     let some : ℕ → Option ℕ = λ n. Some n in
-    rw l.begins (behind-complete rigour some (number_at rigour (behind ws)) rest class (number_at-complete rigour declared (behind ws) rest class l.rest_is))
+    rw l.begins (behind-complete rigour some (number_at rigour (behind ws)) rest class
+    (number_at-complete rigour declared (behind ws) rest class l.rest_is))
 
 -- ---- conditions
 
-pub cond-sound : (rigour : Rigour) (declared : Declared) (ws rest : Words) (value : Option Cond) → cond_at rigour ws ≡ Some (value, rest)
+pub cond-sound : (rigour : Rigour) (declared : Declared) (ws rest : Words) (value : Option Cond)
+    → cond_at rigour ws ≡ Some (value, rest)
     → Spells rigour declared (cond_tokens value) ws rest
 cond-sound rigour declared ws rest value h =
     let held : ℕ → Option Cond = λ n. Some (HeldBy n) in
     let not_held : ℕ → Option Cond = λ n. Some (NotHeld n) in
-    chosen (begins_with (codes "NOTHELD") ws) (option_map (λ (read : ℕ × Words). (let p : Option Cond × Words = (not_held read.0, read.1) in p)) (number_at rigour (behind ws)))
-    (cond (begins_with (codes "HELDBY") ws) (option_map (λ (read : ℕ × Words). (let p : Option Cond × Words = (held read.0, read.1) in p)) (number_at rigour (behind ws))) (Some (None, ws))) (value, rest)
+    chosen (begins_with (codes "NOTHELD") ws) (option_map (λ (read : ℕ × Words). (let p : Option Cond
+    × Words = (not_held read.0, read.1) in p)) (number_at rigour (behind ws)))
+    (cond (begins_with (codes "HELDBY") ws) (option_map (λ (read : ℕ × Words). (let p : Option Cond
+    × Words = (held read.0, read.1) in p)) (number_at rigour (behind ws))) (Some (None, ws))) (value, rest)
     (λ e k. behind-sound rigour declared not_held (number_at rigour (behind ws)) cond_tokens ws rest value
-    (λ n m. led rigour declared (codes "NOTHELD") (Number 0 4294967295 n ∷ []) ws rest e (number_at-sound rigour declared (behind ws) rest n m)) k)
-    (λ _ k. chosen (begins_with (codes "HELDBY") ws) (option_map (λ (read : ℕ × Words). (let p : Option Cond × Words = (held read.0, read.1) in p)) (number_at rigour (behind ws))) (Some (None, ws)) (value, rest)
+    (λ n m. led rigour declared (codes "NOTHELD") (Number 0 4294967295 n ∷ []) ws rest e
+    (number_at-sound rigour declared (behind ws) rest n m)) k)
+    (λ _ k. chosen (begins_with (codes "HELDBY") ws) (option_map (λ (read : ℕ × Words). (let p : Option Cond
+    × Words = (held read.0, read.1) in p)) (number_at rigour (behind ws))) (Some (None, ws)) (value, rest)
     (λ e m. behind-sound rigour declared held (number_at rigour (behind ws)) cond_tokens ws rest value
-    (λ n o. led rigour declared (codes "HELDBY") (Number 0 4294967295 n ∷ []) ws rest e (number_at-sound rigour declared (behind ws) rest n o)) m)
+    (λ n o. led rigour declared (codes "HELDBY") (Number 0 4294967295 n ∷ []) ws rest e
+    (number_at-sound rigour declared (behind ws) rest n o)) m)
     (λ _ m. nothing-sound rigour declared cond_tokens ws rest value refl m) k) h
 
 -- the first of the words is none of these
@@ -112,143 +138,195 @@ not_others : (b c : Bool) → not (b || c) ≡ true → not c ≡ true
 not_others true c h = absurd (cc)
 not_others false c h = h
 
-pub free-begins : (key : List ℕ) (keys : List (List ℕ)) (ws : Words) → free_of (key ∷ keys) ws ≡ true → begins_with key ws ≡ false
+pub free-begins : (key : List ℕ) (keys : List (List ℕ)) (ws : Words) → free_of (key ∷ keys) ws ≡ true
+    → begins_with key ws ≡ false
 free-begins key keys [] h = refl
 free-begins key keys (w ∷ ws) h = not_first (same_word w key) (list_any (same_word w) keys) h
 
-pub free-others : (key : List ℕ) (keys : List (List ℕ)) (ws : Words) → free_of (key ∷ keys) ws ≡ true → free_of keys ws ≡ true
+pub free-others : (key : List ℕ) (keys : List (List ℕ)) (ws : Words) → free_of (key ∷ keys) ws ≡ true
+    → free_of keys ws ≡ true
 free-others key keys [] h = refl
 free-others key keys (w ∷ ws) h = not_others (same_word w key) (list_any (same_word w) keys) h
 
 abbrev pub cond_keys : List (List ℕ)
 cond_keys = codes "NOTHELD" ∷ codes "HELDBY" ∷ []
 
-pub cond-complete : (rigour : Rigour) (declared : Declared) (ws rest : Words) (value : Option Cond) → free_of cond_keys rest ≡ true
+pub cond-complete : (rigour : Rigour) (declared : Declared) (ws rest : Words) (value : Option Cond)
+    → free_of cond_keys rest ≡ true
     → Spells rigour declared (cond_tokens value) ws rest → FindsAll rigour (cond_at rigour ws) value rest
 cond-complete rigour declared ws rest None free h =
-    let a : begins_with (codes "NOTHELD") ws ≡ false = rw h (free-begins (codes "NOTHELD") (codes "HELDBY" ∷ []) rest free) in
-    let b : begins_with (codes "HELDBY") ws ≡ false = rw h (free-begins (codes "HELDBY") [] rest (free-others (codes "NOTHELD") (codes "HELDBY" ∷ []) rest free)) in
-    rw (a, b) (record { found = None; read = ap (λ (r : Words). (let p : Option Cond × Words = (None, r) in Some p)) h; same = λ _. refl })
+    let a : begins_with (codes "NOTHELD") ws ≡ false = rw h (free-begins (codes "NOTHELD") (codes "HELDBY" ∷ []) rest
+    free) in
+    let b : begins_with (codes "HELDBY") ws ≡ false = rw h (free-begins (codes "HELDBY") [] rest
+    (free-others (codes "NOTHELD") (codes "HELDBY" ∷ []) rest free)) in
+    rw (a, b) (record {
+      found = None;
+      read = ap (λ (r : Words). (let p : Option Cond × Words = (None, r) in Some p))
+          h;
+      same = λ _. refl;
+    })
 cond-complete rigour declared ws rest (Some (NotHeld lock)) free h =
     let l = led-by rigour declared (codes "NOTHELD") (Number 0 4294967295 lock ∷ []) ws rest h in
     let made : ℕ → Option Cond = λ n. Some (NotHeld n) in
-    rw l.begins (behind-complete rigour made (number_at rigour (behind ws)) rest lock (number_at-complete rigour declared (behind ws) rest lock l.rest_is))
+    rw l.begins (behind-complete rigour made (number_at rigour (behind ws)) rest lock
+    (number_at-complete rigour declared (behind ws) rest lock l.rest_is))
 cond-complete rigour declared ws rest (Some (HeldBy lock)) free h =
     let l = led-by rigour declared (codes "HELDBY") (Number 0 4294967295 lock ∷ []) ws rest h in
     let other : begins_with (codes "NOTHELD") ws ≡ false = sym (l.first_is (codes "NOTHELD")) in
     let made : ℕ → Option Cond = λ n. Some (HeldBy n) in
-    rw (other, l.begins) (behind-complete rigour made (number_at rigour (behind ws)) rest lock (number_at-complete rigour declared (behind ws) rest lock l.rest_is))
+    rw (other, l.begins) (behind-complete rigour made (number_at rigour (behind ws)) rest lock
+    (number_at-complete rigour declared (behind ws) rest lock l.rest_is))
 
 -- ---- names and keys of new records
 
-pub label-sound : (rigour : Rigour) (declared : Declared) (ws rest : Words) (value : Option Label) → label_at rigour ws ≡ Some (value, rest)
+pub label-sound : (rigour : Rigour) (declared : Declared) (ws rest : Words) (value : Option Label)
+    → label_at rigour ws ≡ Some (value, rest)
     → Spells rigour declared (label_tokens value) ws rest
 label-sound rigour declared ws rest value h =
     let named : Name16 → Option Label = λ n. Some (label.Name n) in
     let keyed : Key16 → Option Label = λ k. Some (label.Key k) in
-    chosen (begins_with (codes "NAME") ws) (option_map (λ (read : Name16 × Words). (let p : Option Label × Words = (named read.0, read.1) in p)) (on_first (name_of rigour) (behind ws)))
-    (cond (begins_with (codes "KEY") ws) (option_map (λ (read : Key16 × Words). (let p : Option Label × Words = (keyed read.0, read.1) in p)) (on_first (key_of rigour) (behind ws))) (Some (None, ws))) (value, rest)
+    chosen (begins_with (codes "NAME") ws) (option_map (λ (read : Name16 × Words). (let p : Option Label
+    × Words = (named read.0, read.1) in p)) (on_first (name_of rigour) (behind ws)))
+    (cond (begins_with (codes "KEY") ws) (option_map (λ (read : Key16 × Words). (let p : Option Label
+    × Words = (keyed read.0, read.1) in p)) (on_first (key_of rigour) (behind ws))) (Some (None, ws))) (value, rest)
     (λ e k. behind-sound rigour declared named (on_first (name_of rigour) (behind ws)) label_tokens ws rest value
-    (λ n m. led rigour declared (codes "NAME") (Term n.0 ∷ []) ws rest e (name_at-sound rigour declared (behind ws) rest n m)) k)
-    (λ _ k. chosen (begins_with (codes "KEY") ws) (option_map (λ (read : Key16 × Words). (let p : Option Label × Words = (keyed read.0, read.1) in p)) (on_first (key_of rigour) (behind ws))) (Some (None, ws)) (value, rest)
+    (λ n m. led rigour declared (codes "NAME") (Term n.0 ∷ []) ws rest e (name_at-sound rigour declared (behind ws)
+    rest n m)) k)
+    (λ _ k. chosen (begins_with (codes "KEY") ws) (option_map (λ (read : Key16 × Words). (let p : Option Label
+    × Words = (keyed read.0, read.1) in p)) (on_first (key_of rigour) (behind ws))) (Some (None, ws)) (value, rest)
     (λ e m. behind-sound rigour declared keyed (on_first (key_of rigour) (behind ws)) label_tokens ws rest value
-    (λ n o. led rigour declared (codes "KEY") (Term n.0 ∷ []) ws rest e (key_word-sound rigour declared (behind ws) rest n o)) m)
+    (λ n o. led rigour declared (codes "KEY") (Term n.0 ∷ []) ws rest e (key_word-sound rigour declared (behind ws)
+    rest n o)) m)
     (λ _ m. nothing-sound rigour declared label_tokens ws rest value refl m) k) h
 
 abbrev pub label_keys : List (List ℕ)
 label_keys = codes "NAME" ∷ codes "KEY" ∷ []
 
-pub label-complete : (rigour : Rigour) (declared : Declared) (ws rest : Words) (value : Option Label) → free_of label_keys rest ≡ true
+pub label-complete : (rigour : Rigour) (declared : Declared) (ws rest : Words) (value : Option Label)
+    → free_of label_keys rest ≡ true
     → Spells rigour declared (label_tokens value) ws rest → FindsAll rigour (label_at rigour ws) value rest
 label-complete rigour declared ws rest None free h =
     let a : begins_with (codes "NAME") ws ≡ false = rw h (free-begins (codes "NAME") (codes "KEY" ∷ []) rest free) in
-    let b : begins_with (codes "KEY") ws ≡ false = rw h (free-begins (codes "KEY") [] rest (free-others (codes "NAME") (codes "KEY" ∷ []) rest free)) in
-    rw (a, b) (record { found = None; read = ap (λ (r : Words). (let p : Option Label × Words = (None, r) in Some p)) h; same = λ _. refl })
+    let b : begins_with (codes "KEY") ws ≡ false = rw h (free-begins (codes "KEY") [] rest
+    (free-others (codes "NAME") (codes "KEY" ∷ []) rest free)) in
+    rw (a, b) (record {
+      found = None;
+      read = ap (λ (r : Words). (let p : Option Label × Words = (None, r) in Some p))
+          h;
+      same = λ _. refl;
+    })
 label-complete rigour declared ws rest (Some (label.Name name)) free h =
     let l = led-by rigour declared (codes "NAME") (Term name.0 ∷ []) ws rest h in
     let made : Name16 → Option Label = λ n. Some (label.Name n) in
-    rw l.begins (behind-complete rigour made (on_first (name_of rigour) (behind ws)) rest name (name_at-complete rigour declared (behind ws) rest name l.rest_is))
+    rw l.begins (behind-complete rigour made (on_first (name_of rigour) (behind ws)) rest name
+    (name_at-complete rigour declared (behind ws) rest name l.rest_is))
 label-complete rigour declared ws rest (Some (label.Key key)) free h =
     let l = led-by rigour declared (codes "KEY") (Term key.0 ∷ []) ws rest h in
     let other : begins_with (codes "NAME") ws ≡ false = sym (l.first_is (codes "NAME")) in
     let made : Key16 → Option Label = λ k. Some (label.Key k) in
-    rw (other, l.begins) (behind-complete rigour made (on_first (key_of rigour) (behind ws)) rest key (key_word-complete rigour declared (behind ws) rest key l.rest_is))
+    rw (other, l.begins) (behind-complete rigour made (on_first (key_of rigour) (behind ws)) rest key
+    (key_word-complete rigour declared (behind ws) rest key l.rest_is))
 
 -- ---- which record
 
-key_at-sound : (rigour : Rigour) (declared : Declared) (ws rest : Words) (value : At) → key_at rigour ws ≡ Some (value, rest)
+key_at-sound : (rigour : Rigour) (declared : Declared) (ws rest : Words) (value : At) → key_at rigour ws ≡ Some
+    (value, rest)
     → Spells rigour declared (at_tokens value) (codes "KEY" ∷ ws) rest
 key_at-sound rigour declared ws rest value h =
-    let b = bound (λ (header : ℕ × Words). option_map (λ (read : Key16 × Words). (let p : At × Words = (at.Key header.0 read.0, read.1) in p)) (on_first (key_of rigour) header.1)) (number_at rigour ws) (value, rest) h in
+    let b = bound (λ (header : ℕ × Words). option_map (λ (read : Key16 × Words). (let p : At
+    × Words = (at.Key header.0 read.0, read.1) in p)) (on_first (key_of rigour) header.1)) (number_at rigour ws)
+    (value, rest) h in
     let header = b.value.0 in
     let made : Key16 → At = λ k. at.Key header k in
     behind-sound rigour declared made (on_first (key_of rigour) b.value.1) at_tokens (codes "KEY" ∷ ws) rest value
     (λ k m. (
       refl,
       Spells-append rigour declared (Number 0 4294967295 header ∷ []) (Term k.0 ∷ []) ws b.value.1 rest
-          (number_at-sound rigour declared ws b.value.1 header b.read) (key_word-sound rigour declared b.value.1 rest k m),
+          (number_at-sound rigour declared ws b.value.1 header b.read) (key_word-sound rigour declared b.value.1 rest
+          k m),
     )) b.then_
 
 key_at-complete : (rigour : Rigour) (declared : Declared) (ws rest : Words) (header : ℕ) (key : Key16)
-    → Spells rigour declared (Number 0 4294967295 header ∷ Term key.0 ∷ []) ws rest → FindsAll rigour (key_at rigour ws) (at.Key header key) rest
+    → Spells rigour declared (Number 0 4294967295 header ∷ Term key.0 ∷ []) ws rest
+    → FindsAll rigour (key_at rigour ws) (at.Key header key) rest
 key_at-complete rigour declared ws rest header key h =
     let s = Spells-split rigour declared (Number 0 4294967295 header ∷ []) (Term key.0 ∷ []) ws rest h in
     let n = number_at-complete rigour declared ws s.mid header s.front in
     let k = key_word-complete rigour declared s.mid rest key s.behind_ in
     rw n.read (record {
       found = at.Key n.found k.found;
-      read = ap (option_map (λ (read : Key16 × Words). (let p : At × Words = (at.Key n.found read.0, read.1) in p))) k.read;
+      read = ap (option_map (λ (read : Key16 × Words). (let p : At × Words = (at.Key n.found read.0, read.1) in p)))
+          k.read;
       same = λ e. ap (λ (x : ℕ). at.Key x k.found) (n.same e) ∙ ap (λ (y : Key16). at.Key header y) (k.same e);
     })
 
-id_at-sound : (rigour : Rigour) (declared : Declared) (ws rest : Words) (id : EntryId) → on_first (record_of rigour) ws ≡ Some (id, rest)
+id_at-sound : (rigour : Rigour) (declared : Declared) (ws rest : Words) (id : EntryId) → on_first (record_of rigour)
+    ws ≡ Some (id, rest)
     → Spells rigour declared (Record id ∷ []) ws rest
-id_at-sound rigour declared ws rest id h = single-sound rigour declared (record_of rigour) Record (λ w v e. record-sound rigour w v e) ws rest id h
+id_at-sound rigour declared ws rest id h = single-sound rigour declared (record_of rigour) Record
+    (λ w v e. record-sound rigour w v e) ws rest id h
 
-id_at-complete : (rigour : Rigour) (declared : Declared) (ws rest : Words) (id : EntryId) → Spells rigour declared (Record id ∷ []) ws rest
+id_at-complete : (rigour : Rigour) (declared : Declared) (ws rest : Words) (id : EntryId) → Spells rigour declared
+    (Record id ∷ []) ws rest
     → FindsAll rigour (on_first (record_of rigour) ws) id rest
-id_at-complete rigour declared ws rest id h = single-complete rigour declared (record_of rigour) Record id (λ w e. record-complete rigour w id e) ws rest h
+id_at-complete rigour declared ws rest id h = single-complete rigour declared (record_of rigour) Record id
+    (λ w e. record-complete rigour w id e) ws rest h
 
 led_whole : (rigour : Rigour) (declared : Declared) (word : List ℕ) (tokens : List Token) (ws rest : Words)
-    → begins_with word ws ≡ true → Spells rigour declared tokens (word ∷ behind ws) rest → Spells rigour declared tokens ws rest
+    → begins_with word ws ≡ true → Spells rigour declared tokens (word ∷ behind ws) rest
+    → Spells rigour declared tokens ws rest
 led_whole rigour declared word tokens [] rest e h = absurd (cc)
 led_whole rigour declared word tokens (w ∷ ws) rest e h = let same = word-same w word e in rw same h
 
-pub record-at-sound : (rigour : Rigour) (declared : Declared) (ws rest : Words) (value : At) → record_at rigour ws ≡ Some (value, rest)
+pub record-at-sound : (rigour : Rigour) (declared : Declared) (ws rest : Words) (value : At)
+    → record_at rigour ws ≡ Some (value, rest)
     → Spells rigour declared (at_tokens value) ws rest
 record-at-sound rigour declared ws rest value h =
     let by_name : Name16 → At = λ n. at.Name n in
     let by_head : ℕ → At = λ n. at.Head n in
     let by_tail : ℕ → At = λ n. at.Tail n in
     let by_id : EntryId → At = λ n. at.Id n in
-    let o_name = option_map (λ (read : Name16 × Words). (let p : At × Words = (by_name read.0, read.1) in p)) (on_first (name_of rigour) (behind ws)) in
-    let o_head = option_map (λ (read : ℕ × Words). (let p : At × Words = (by_head read.0, read.1) in p)) (number_at rigour (behind ws)) in
-    let o_tail = option_map (λ (read : ℕ × Words). (let p : At × Words = (by_tail read.0, read.1) in p)) (number_at rigour (behind ws)) in
-    let o_id = option_map (λ (read : EntryId × Words). (let p : At × Words = (by_id read.0, read.1) in p)) (on_first (record_of rigour) ws) in
+    let o_name = option_map (λ (read : Name16 × Words). (let p : At × Words = (by_name read.0, read.1) in p))
+    (on_first (name_of rigour) (behind ws)) in
+    let o_head = option_map (λ (read : ℕ × Words). (let p : At × Words = (by_head read.0, read.1) in p))
+    (number_at rigour (behind ws)) in
+    let o_tail = option_map (λ (read : ℕ × Words). (let p : At × Words = (by_tail read.0, read.1) in p))
+    (number_at rigour (behind ws)) in
+    let o_id = option_map (λ (read : EntryId × Words). (let p : At × Words = (by_id read.0, read.1) in p))
+    (on_first (record_of rigour) ws) in
     let v : At × Words = (value, rest) in
     chosen (begins_with (codes "NAME") ws) o_name
-    (cond (begins_with (codes "HEAD") ws) o_head (cond (begins_with (codes "TAIL") ws) o_tail (cond (begins_with (codes "KEY") ws) (key_at rigour (behind ws)) o_id))) v
+    (cond (begins_with (codes "HEAD") ws) o_head (cond (begins_with (codes "TAIL") ws) o_tail
+    (cond (begins_with (codes "KEY") ws) (key_at rigour (behind ws)) o_id))) v
     (λ e k. behind-sound rigour declared by_name (on_first (name_of rigour) (behind ws)) at_tokens ws rest value
-    (λ n m. led rigour declared (codes "NAME") (Term n.0 ∷ []) ws rest e (name_at-sound rigour declared (behind ws) rest n m)) k)
-    (λ _ k. chosen (begins_with (codes "HEAD") ws) o_head (cond (begins_with (codes "TAIL") ws) o_tail (cond (begins_with (codes "KEY") ws) (key_at rigour (behind ws)) o_id)) v
+    (λ n m. led rigour declared (codes "NAME") (Term n.0 ∷ []) ws rest e (name_at-sound rigour declared (behind ws)
+    rest n m)) k)
+    (λ _ k. chosen (begins_with (codes "HEAD") ws) o_head (cond (begins_with (codes "TAIL") ws) o_tail
+    (cond (begins_with (codes "KEY") ws) (key_at rigour (behind ws)) o_id)) v
     (λ e m. behind-sound rigour declared by_head (number_at rigour (behind ws)) at_tokens ws rest value
-    (λ n o. led rigour declared (codes "HEAD") (Number 0 4294967295 n ∷ []) ws rest e (number_at-sound rigour declared (behind ws) rest n o)) m)
-    (λ _ m. chosen (begins_with (codes "TAIL") ws) o_tail (cond (begins_with (codes "KEY") ws) (key_at rigour (behind ws)) o_id) v
+    (λ n o. led rigour declared (codes "HEAD") (Number 0 4294967295 n ∷ []) ws rest e (number_at-sound rigour declared
+    (behind ws) rest n o)) m)
+    (λ _ m. chosen (begins_with (codes "TAIL") ws) o_tail (cond (begins_with (codes "KEY") ws)
+    (key_at rigour (behind ws)) o_id) v
     (λ e n. behind-sound rigour declared by_tail (number_at rigour (behind ws)) at_tokens ws rest value
-    (λ x o. led rigour declared (codes "TAIL") (Number 0 4294967295 x ∷ []) ws rest e (number_at-sound rigour declared (behind ws) rest x o)) n)
+    (λ x o. led rigour declared (codes "TAIL") (Number 0 4294967295 x ∷ []) ws rest e (number_at-sound rigour declared
+    (behind ws) rest x o)) n)
     (λ _ n. chosen (begins_with (codes "KEY") ws) (key_at rigour (behind ws)) o_id v
-    (λ e o. led_whole rigour declared (codes "KEY") (at_tokens value) ws rest e (key_at-sound rigour declared (behind ws) rest value o))
+    (λ e o. led_whole rigour declared (codes "KEY") (at_tokens value) ws rest e (key_at-sound rigour declared
+    (behind ws) rest value o))
     (λ _ o. behind-sound rigour declared by_id (on_first (record_of rigour) ws) at_tokens ws rest value
     (λ x p. id_at-sound rigour declared ws rest x p) o) n) m) k) h
 
 -- a record's id begins with `#`, so it is none of the other words
-id_apart : (rigour : Rigour) (declared : Declared) (c : ℕ) (word : List ℕ) (ws rest : Words) (id : EntryId) → (35 == c) ≡ false
+id_apart : (rigour : Rigour) (declared : Declared) (c : ℕ) (word : List ℕ) (ws rest : Words) (id : EntryId)
+    → (35 == c) ≡ false
     → Spells rigour declared (Record id ∷ []) ws rest → begins_with (c ∷ word) ws ≡ false
 id_apart rigour declared c word [] rest id apart h = absurd h
 id_apart rigour declared c word ([] ∷ ws) rest id apart h = refl
 id_apart rigour declared c word ((b ∷ w) ∷ ws) rest id apart h = let hash : b ≡ 35 = h.0.0 in rw (hash, apart) refl
 
-pub record-at-complete : (rigour : Rigour) (declared : Declared) (ws rest : Words) (value : At) → Spells rigour declared (at_tokens value) ws rest
+pub record-at-complete : (rigour : Rigour) (declared : Declared) (ws rest : Words) (value : At)
+    → Spells rigour declared (at_tokens value) ws rest
     → FindsAll rigour (record_at rigour ws) value rest
 record-at-complete rigour declared ws rest (at.Id id) h =
     let a = id_apart rigour declared 78 (codes "AME") ws rest id refl h in
@@ -256,22 +334,26 @@ record-at-complete rigour declared ws rest (at.Id id) h =
     let c = id_apart rigour declared 84 (codes "AIL") ws rest id refl h in
     let d = id_apart rigour declared 75 (codes "EY") ws rest id refl h in
     let made : EntryId → At = λ n. at.Id n in
-    rw (a, b, c, d) (behind-complete rigour made (on_first (record_of rigour) ws) rest id (id_at-complete rigour declared ws rest id h))
+    rw (a, b, c, d) (behind-complete rigour made (on_first (record_of rigour) ws) rest id
+    (id_at-complete rigour declared ws rest id h))
 record-at-complete rigour declared ws rest (at.Name name) h =
     let l = led-by rigour declared (codes "NAME") (Term name.0 ∷ []) ws rest h in
     let made : Name16 → At = λ n. at.Name n in
-    rw l.begins (behind-complete rigour made (on_first (name_of rigour) (behind ws)) rest name (name_at-complete rigour declared (behind ws) rest name l.rest_is))
+    rw l.begins (behind-complete rigour made (on_first (name_of rigour) (behind ws)) rest name
+    (name_at-complete rigour declared (behind ws) rest name l.rest_is))
 record-at-complete rigour declared ws rest (at.Head header) h =
     let l = led-by rigour declared (codes "HEAD") (Number 0 4294967295 header ∷ []) ws rest h in
     let a : begins_with (codes "NAME") ws ≡ false = sym (l.first_is (codes "NAME")) in
     let made : ℕ → At = λ n. at.Head n in
-    rw (a, l.begins) (behind-complete rigour made (number_at rigour (behind ws)) rest header (number_at-complete rigour declared (behind ws) rest header l.rest_is))
+    rw (a, l.begins) (behind-complete rigour made (number_at rigour (behind ws)) rest header
+    (number_at-complete rigour declared (behind ws) rest header l.rest_is))
 record-at-complete rigour declared ws rest (at.Tail header) h =
     let l = led-by rigour declared (codes "TAIL") (Number 0 4294967295 header ∷ []) ws rest h in
     let a : begins_with (codes "NAME") ws ≡ false = sym (l.first_is (codes "NAME")) in
     let b : begins_with (codes "HEAD") ws ≡ false = sym (l.first_is (codes "HEAD")) in
     let made : ℕ → At = λ n. at.Tail n in
-    rw (a, b, l.begins) (behind-complete rigour made (number_at rigour (behind ws)) rest header (number_at-complete rigour declared (behind ws) rest header l.rest_is))
+    rw (a, b, l.begins) (behind-complete rigour made (number_at rigour (behind ws)) rest header
+    (number_at-complete rigour declared (behind ws) rest header l.rest_is))
 record-at-complete rigour declared ws rest (at.Key header key) h =
     let l = led-by rigour declared (codes "KEY") (Number 0 4294967295 header ∷ Term key.0 ∷ []) ws rest h in
     let a : begins_with (codes "NAME") ws ≡ false = sym (l.first_is (codes "NAME")) in

@@ -24,7 +24,8 @@ list_all-take : (q : ℕ → Bool) (n : ℕ) (xs : List ℕ) → list_all q xs �
 list_all-take q zero xs h = refl
 list_all-take q (suc n) [] h = refl
 list_all-take q (suc n) (x ∷ xs) h =
-    let parts = and_parts (q x) (list_all q xs) h in and_from (q x) (list_all q (take n xs)) parts.0 (list_all-take q n xs parts.1)
+    let parts = and_parts (q x) (list_all q xs) h in and_from (q x) (list_all q (take n xs)) parts.0
+    (list_all-take q n xs parts.1)
 
 -- the front of such a text
 pub IsTerm-take : (limit : ℕ) (word : List ℕ) → 0 < limit → is_term word ≡ true → IsTerm limit (take limit word)
@@ -40,7 +41,8 @@ IsTerm-whole limit word short h =
     record { nonempty = nonempty-term word h; short = short; characters = characters-term word h }
 
 -- a byte stands in a text where its place is within
-any_step : (here : Bool) (any : Bool) (n m : ℕ) → any ≡ nat_lt n m → (here || any) ≡ nat_lt (cond (not here) (1 + n) 0) (suc m)
+any_step : (here : Bool) (any : Bool) (n m : ℕ) → any ≡ nat_lt n m → (here || any) ≡ nat_lt
+    (cond (not here) (1 + n) 0) (suc m)
 any_step true any n m h = grind (arith, nat_tests)
 any_step false any n m h = h ∙ grind (arith, nat_tests)
 
@@ -48,10 +50,12 @@ pub any-place : (p : ℕ → Bool) (xs : List ℕ) → list_any p xs ≡ nat_lt 
 any-place p [] = refl
 any-place p (x ∷ xs) = any_step (p x) (list_any p xs) (position_or_len p xs) (length xs) (any-place p xs)
 
-pub any-some : (p : ℕ → Bool) (xs : List ℕ) (i : ℕ) → position p xs ≡ Some i → (list_any p xs ≡ true) × (i ≡ position_or_len p xs)
+pub any-some : (p : ℕ → Bool) (xs : List ℕ) (i : ℕ) → position p xs ≡ Some i → (list_any p xs ≡ true)
+    × (i ≡ position_or_len p xs)
 any-some p xs i h = at_test (nat_lt (position_or_len p xs) (length xs)) refl h
   where
-    at_test : (b : Bool) → nat_lt (position_or_len p xs) (length xs) ≡ b → cond b (Some (position_or_len p xs)) None ≡ Some i
+    at_test : (b : Bool) → nat_lt (position_or_len p xs) (length xs) ≡ b → cond b (Some (position_or_len p xs)) None ≡
+        Some i
         → (list_any p xs ≡ true) × (i ≡ position_or_len p xs)
     at_test true e h = (any-place p xs ∙ e, cc)
     at_test false e h = absurd (cc)
@@ -59,7 +63,8 @@ any-some p xs i h = at_test (nat_lt (position_or_len p xs) (length xs)) refl h
 pub any-none : (p : ℕ → Bool) (xs : List ℕ) → position p xs ≡ None → list_any p xs ≡ false
 any-none p xs h = at_test (nat_lt (position_or_len p xs) (length xs)) refl h
   where
-    at_test : (b : Bool) → nat_lt (position_or_len p xs) (length xs) ≡ b → cond b (Some (position_or_len p xs)) None ≡ None → list_any p xs ≡ false
+    at_test : (b : Bool) → nat_lt (position_or_len p xs) (length xs) ≡ b → cond b (Some (position_or_len p xs)) None ≡
+        None → list_any p xs ≡ false
     at_test true e h = absurd (cc)
     at_test false e h = any-place p xs ∙ e
 
@@ -70,14 +75,17 @@ rest_whole i xs = take_all (length xs - (i + 1)) (drop (i + 1) xs) (omega (arith
 pub no_fault : (limit : ℕ) (text : List ℕ) (at : ℕ) → IsTerm limit text → fault_at text ≡ Some at → ⊥
 no_fault limit text at term fault = at_empty (length text == 0) refl fault
   where
-    at_empty : (b : Bool) → (length text == 0) ≡ b → cond b (Some 0) (position (λ c. not (term_byte c)) text) ≡ Some at → ⊥
+    at_empty : (b : Bool) → (length text == 0) ≡ b → cond b (Some 0) (position (λ c. not (term_byte c)) text) ≡ Some
+        at → ⊥
     at_empty true none e = let empty : length text ≡ 0 = grind (arith, nat_tests) in omega (arith, term.nonempty)
     at_empty false some e = let fails = fails_at_some term_byte text at e in let passes = term.characters in cc
 
-list_all-append : (q : ℕ → Bool) (xs ys : List ℕ) → list_all q xs ≡ true → list_all q ys ≡ true → list_all q (xs ++ ys) ≡ true
+list_all-append : (q : ℕ → Bool) (xs ys : List ℕ) → list_all q xs ≡ true → list_all q ys ≡ true
+    → list_all q (xs ++ ys) ≡ true
 list_all-append q [] ys h k = k
 list_all-append q (x ∷ xs) ys h k =
-    let parts = and_parts (q x) (list_all q xs) h in and_from (q x) (list_all q (xs ++ ys)) parts.0 (list_all-append q xs ys parts.1 k)
+    let parts = and_parts (q x) (list_all q xs) h in and_from (q x) (list_all q (xs ++ ys)) parts.0
+    (list_all-append q xs ys parts.1 k)
 
 list_all-repeat : (q : ℕ → Bool) (n : ℕ) (xs : List ℕ) → list_all q xs ≡ true → list_all q (repeat n xs) ≡ true
 list_all-repeat q zero xs h = refl
@@ -87,7 +95,8 @@ pub length-repeat : (n : ℕ) (xs : List ℕ) → length (repeat n xs) ≡ n * l
 length-repeat zero xs = grind arith
 length-repeat (suc n) xs = omega (arith, length-append xs (repeat n xs), length-repeat n xs)
 
-pub IsTerm-repeat : (limit n : ℕ) (word : List ℕ) → is_term word ≡ true → 0 < n → n * length word ≤ limit → IsTerm limit (repeat n word)
+pub IsTerm-repeat : (limit n : ℕ) (word : List ℕ) → is_term word ≡ true → 0 < n → n * length word ≤ limit
+    → IsTerm limit (repeat n word)
 IsTerm-repeat limit n word h some short =
     record {
       nonempty = nonempty-repeat n some;

@@ -30,7 +30,8 @@ IsFront-cons b text false e h =
       split = rw (take_while-cons is_mark b text, e, h.split) refl;
       rest =
           let len : prefix_len is_mark (b ∷ text) ≡ 1 + prefix_len is_mark text = rw e refl in
-          h.rest ∙ ap words_of (sym (ap (λ (n : ℕ). drop n (b ∷ text)) len ∙ drop_next (prefix_len is_mark text) b text));
+          h.rest ∙ ap words_of (sym (ap (λ (n : ℕ). drop n (b ∷ text)) len ∙ drop_next (prefix_len is_mark text) b
+          text));
     }
 
 pub front_of : (text : List ℕ) → IsFront text
@@ -47,7 +48,8 @@ words_of-first [] h = absurd (cc)
 words_of-first (b ∷ text) h =
     let front = front_of (b ∷ text) in
     let some = nonempty_front b text h in
-    ap (filter is_nonempty) front.split ∙ (rw some (ap (λ (ws : List (List ℕ)). take_while is_mark (b ∷ text) ∷ ws) front.rest))
+    ap (filter is_nonempty) front.split ∙ (rw some (ap (λ (ws : List (List ℕ)). take_while is_mark (b ∷ text) ∷ ws)
+    front.rest))
 
 -- a text that begins with no word is told by the rest of it
 pub words_of-blank : (b : ℕ) (text : List ℕ) → is_blank b ≡ true → words_of (b ∷ text) ≡ words_of text

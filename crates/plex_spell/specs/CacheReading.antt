@@ -19,7 +19,8 @@ read_of v = Read v.0 v.1.0 v.1.1.0 (unwrap_or v.1.1.1.0 1)
 
 abbrev pub write_places : List Place
 write_places =
-    AName ∷ a_number ∷ AData ∷ AClass ∷ AnOption (codes "ADJ") AShort ∷ AnOption (codes "OLD") AName ∷ AnOption (codes "STG") a_number
+    AName ∷ a_number ∷ AData ∷ AClass ∷ AnOption (codes "ADJ") AShort ∷ AnOption (codes "OLD") AName ∷ AnOption
+    (codes "STG") a_number
     ∷ AFlag (codes "WHENREG") ∷ []
 
 abbrev pub write_of : Values write_places → CacheCmd

@@ -18,7 +18,8 @@ cache_tokens given (Read name index old stg) =
     ∷ joined (option_tokens (codes "OLD") name_tokens old ∷ option_tokens (codes "STG") number_tokens given ∷ [])
 cache_tokens given (Write name index body class adj old stg when_reg) =
     Literal (codes "WRITE") ∷ Term name.0 ∷ number index ∷ Data body
-    ∷ joined (class_tokens class ∷ option_tokens (codes "ADJ") short_tokens adj ∷ option_tokens (codes "OLD") name_tokens old
+    ∷ joined (class_tokens class ∷ option_tokens (codes "ADJ") short_tokens adj ∷ option_tokens (codes "OLD")
+    name_tokens old
     ∷ option_tokens (codes "STG") number_tokens given ∷ flag_tokens (codes "WHENREG") when_reg ∷ [])
 cache_tokens given (CrossInval name) = Literal (codes "CROSSINVAL") ∷ Term name.0 ∷ []
 cache_tokens given RegList = Literal (codes "REGLIST") ∷ []

@@ -73,7 +73,8 @@ list_at rigour declared (verb ∷ words) =
     else if same_word verb (codes "READLIST") then values_at rigour declared number_places (λ v. ReadList v.0) words
     else if same_word verb (codes "LOCK") then lock_use_at rigour words
     else if same_word verb (codes "LCONTROLS") then values_at rigour declared number_places (λ v. LControls v.0) words
-    else if same_word verb (codes "SETLIMIT") then values_at rigour declared two_places (λ v. SetLimit v.0 v.1.0) words
+    else if same_word verb (codes "SETLIMIT") then values_at rigour declared two_places (λ v. SetLimit v.0 v.1.0)
+    words
     else if same_word verb (codes "MONITOR") then values_at rigour declared two_places (λ v. Monitor v.0 v.1.0) words
     else if same_word verb (codes "UNMONITOR") then values_at rigour declared number_places (λ v. Unmonitor v.0) words
     else None

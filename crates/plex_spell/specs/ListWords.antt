@@ -30,14 +30,17 @@ abbrev pub list_tokens : ListCmd → List Token
 list_tokens (Write header head name key body adj cond) =
     Literal (codes "WRITE") ∷ number header ∷ end head
     ∷ joined (option_tokens (codes "NAME") name_tokens name ∷ option_tokens (codes "KEY") key_tokens key
-    ∷ option_tokens (codes "DATA") data_tokens body ∷ option_tokens (codes "ADJ") short_tokens adj ∷ cond_tokens cond ∷ [])
+    ∷ option_tokens (codes "DATA") data_tokens body ∷ option_tokens (codes "ADJ") short_tokens adj ∷ cond_tokens cond
+    ∷ [])
 list_tokens (Update ref body adj cond) =
     Literal (codes "UPDATE")
-    ∷ joined (at_tokens ref ∷ option_tokens (codes "DATA") data_tokens body ∷ option_tokens (codes "ADJ") short_tokens adj ∷ cond_tokens cond ∷ [])
+    ∷ joined (at_tokens ref ∷ option_tokens (codes "DATA") data_tokens body ∷ option_tokens (codes "ADJ") short_tokens
+    adj ∷ cond_tokens cond ∷ [])
 list_tokens (Read ref cond) = Literal (codes "READ") ∷ joined (at_tokens ref ∷ cond_tokens cond ∷ [])
 list_tokens (Move ref header head key cond) =
     Literal (codes "MOVE")
-    ∷ joined (at_tokens ref ∷ (number header ∷ end head ∷ []) ∷ option_tokens (codes "KEY") key_tokens key ∷ cond_tokens cond ∷ [])
+    ∷ joined (at_tokens ref ∷ (number header ∷ end head ∷ []) ∷ option_tokens (codes "KEY") key_tokens key ∷
+    cond_tokens cond ∷ [])
 list_tokens (Delete ref cond) = Literal (codes "DELETE") ∷ joined (at_tokens ref ∷ cond_tokens cond ∷ [])
 list_tokens (ReadList header) = Literal (codes "READLIST") ∷ number header ∷ []
 list_tokens (LockSet lock) = Literal (codes "LOCK") ∷ number lock ∷ Literal (codes "SET") ∷ []

@@ -18,9 +18,12 @@ abbrev pub lock_at : Rigour → Declared → List (List ℕ) → Option (LockCmd
 lock_at rigour declared [] = None
 lock_at rigour declared (verb ∷ words) =
     if same_word verb (codes "OBTAIN") then values_at rigour declared ask_places (λ v. Obtain v.0 v.1.0 v.1.1.0) words
-    else if same_word verb (codes "ALTER") then values_at rigour declared ask_places (λ v. Alter v.0 v.1.0 v.1.1.0) words
+    else if same_word verb (codes "ALTER") then values_at rigour declared ask_places (λ v. Alter v.0 v.1.0 v.1.1.0)
+    words
     else if same_word verb (codes "RELEASE") then values_at rigour declared (AResource ∷ []) (λ v. Release v.0) words
-    else if same_word verb (codes "DECIDE") then values_at rigour declared decide_places (λ v. Decide v.0 v.1.0 v.1.1.0) words
+    else if same_word verb (codes "DECIDE") then values_at rigour declared decide_places
+    (λ v. Decide v.0 v.1.0 v.1.1.0) words
     else if same_word verb (codes "RTREAD") then values_at rigour declared (AConnector ∷ []) (λ v. RtRead v.0) words
-    else if same_word verb (codes "RTDELETE") then values_at rigour declared (AConnector ∷ AResource ∷ []) (λ v. RtDelete v.0 v.1.0) words
+    else if same_word verb (codes "RTDELETE") then values_at rigour declared (AConnector ∷ AResource ∷ [])
+    (λ v. RtDelete v.0 v.1.0) words
     else None

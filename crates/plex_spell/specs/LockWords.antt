@@ -14,8 +14,10 @@ decision Deny = Literal (codes "DENY")
 decision Notify = Literal (codes "NOTIFY")
 
 abbrev pub lock_tokens : LockCmd → List Token
-lock_tokens (Obtain r excl rec) = Literal (codes "OBTAIN") ∷ OnResource r ∷ state excl ∷ joined (option_tokens (codes "REC") short_tokens rec ∷ [])
-lock_tokens (Alter r excl rec) = Literal (codes "ALTER") ∷ OnResource r ∷ state excl ∷ joined (option_tokens (codes "REC") short_tokens rec ∷ [])
+lock_tokens (Obtain r excl rec) = Literal (codes "OBTAIN") ∷ OnResource r ∷ state excl ∷ joined
+    (option_tokens (codes "REC") short_tokens rec ∷ [])
+lock_tokens (Alter r excl rec) = Literal (codes "ALTER") ∷ OnResource r ∷ state excl ∷ joined
+    (option_tokens (codes "REC") short_tokens rec ∷ [])
 lock_tokens (Release r) = Literal (codes "RELEASE") ∷ OnResource r ∷ []
 lock_tokens (Decide r conn how) = Literal (codes "DECIDE") ∷ OnResource r ∷ OfConnector conn ∷ decision how ∷ []
 lock_tokens (RtRead conn) = Literal (codes "RTREAD") ∷ OfConnector conn ∷ []

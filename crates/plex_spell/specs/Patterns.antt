@@ -103,15 +103,18 @@ tokens_at (AnOption word place) value = option_tokens word (tokens_at place) val
 -- ---- what a reader makes of the words at a place, and the words behind it
 
 -- what stands behind an option's word, where the word is there
-abbrev pub option_at : {V : Type 0} → List ℕ → (List (List ℕ) → Option (V × List (List ℕ))) → List (List ℕ) → Option (Option V × List (List ℕ))
+abbrev pub option_at : {V : Type 0} → List ℕ → (List (List ℕ) → Option (V × List (List ℕ))) → List (List ℕ)
+    → Option (Option V × List (List ℕ))
 option_at word reading words =
-    if begins_with word words then option_map (λ read. (Some read.0, read.1)) (reading (behind words)) else Some (None, words)
+    if begins_with word words then option_map (λ read. (Some read.0, read.1)) (reading (behind words)) else Some
+    (None, words)
 
 abbrev pub flag_at : List ℕ → List (List ℕ) → Option (Bool × List (List ℕ))
 flag_at word words = if begins_with word words then Some (true, behind words) else Some (false, words)
 
 abbrev pub either_of : List ℕ → List ℕ → List ℕ → Option Bool
-either_of first second word = if same_word word first then Some true else if same_word word second then Some false else None
+either_of first second word = if same_word word first then Some true else if same_word word second then Some false
+    else None
 
 abbrev pub decision_of : List ℕ → Option Decision
 decision_of word =
@@ -132,14 +135,17 @@ number_at rigour words = on_first (number_of rigour 0 4294967295) words
 
 abbrev pub class_at : Rigour → List (List ℕ) → Option (Option ℕ × List (List ℕ))
 class_at rigour words =
-    if begins_with (codes "CHANGED") words then option_map (λ read. (Some read.0, read.1)) (number_at rigour (behind words))
+    if begins_with (codes "CHANGED") words then option_map (λ read. (Some read.0, read.1))
+    (number_at rigour (behind words))
     else if begins_with (codes "UNCHANGED") words then Some (None, behind words)
     else None
 
 abbrev pub cond_at : Rigour → List (List ℕ) → Option (Option Cond × List (List ℕ))
 cond_at rigour words =
-    if begins_with (codes "NOTHELD") words then option_map (λ read. (Some (NotHeld read.0), read.1)) (number_at rigour (behind words))
-    else if begins_with (codes "HELDBY") words then option_map (λ read. (Some (HeldBy read.0), read.1)) (number_at rigour (behind words))
+    if begins_with (codes "NOTHELD") words then option_map (λ read. (Some (NotHeld read.0), read.1))
+    (number_at rigour (behind words))
+    else if begins_with (codes "HELDBY") words then option_map (λ read. (Some (HeldBy read.0), read.1))
+    (number_at rigour (behind words))
     else Some (None, words)
 
 abbrev pub label_at : Rigour → List (List ℕ) → Option (Option Label × List (List ℕ))
@@ -152,13 +158,17 @@ label_at rigour words =
 
 abbrev pub key_at : Rigour → List (List ℕ) → Option (At × List (List ℕ))
 key_at rigour words =
-    number_at rigour words >>= (λ header. option_map (λ read. (at.Key header.0 read.0, read.1)) (on_first (key_of rigour) header.1))
+    number_at rigour words >>= (λ header. option_map (λ read. (at.Key header.0 read.0, read.1))
+    (on_first (key_of rigour) header.1))
 
 abbrev pub record_at : Rigour → List (List ℕ) → Option (At × List (List ℕ))
 record_at rigour words =
-    if begins_with (codes "NAME") words then option_map (λ read. (at.Name read.0, read.1)) (on_first (name_of rigour) (behind words))
-    else if begins_with (codes "HEAD") words then option_map (λ read. (at.Head read.0, read.1)) (number_at rigour (behind words))
-    else if begins_with (codes "TAIL") words then option_map (λ read. (at.Tail read.0, read.1)) (number_at rigour (behind words))
+    if begins_with (codes "NAME") words then option_map (λ read. (at.Name read.0, read.1))
+    (on_first (name_of rigour) (behind words))
+    else if begins_with (codes "HEAD") words then option_map (λ read. (at.Head read.0, read.1))
+    (number_at rigour (behind words))
+    else if begins_with (codes "TAIL") words then option_map (λ read. (at.Tail read.0, read.1))
+    (number_at rigour (behind words))
     else if begins_with (codes "KEY") words then key_at rigour (behind words)
     else option_map (λ read. (at.Id read.0, read.1)) (on_first (record_of rigour) words)
 
@@ -195,7 +205,9 @@ tokens_of [] values = []
 tokens_of (place ∷ places) values = tokens_at place values.0 ++ tokens_of places values.1
 
 -- the values at the places, one after another, and what is made of them
-abbrev pub values_at : {C : Type 0} → Rigour → Declared → (places : List Place) → (Values places → C) → List (List ℕ) → Option (C × List (List ℕ))
+abbrev pub values_at : {C : Type 0} → Rigour → Declared → (places : List Place) → (Values places → C) → List (List ℕ)
+    → Option (C × List (List ℕ))
 values_at rigour declared [] made words = Some (made tt, words)
 values_at rigour declared (place ∷ places) made words =
-    value_at rigour declared place words >>= (λ read. values_at rigour declared places (λ values. made (read.0, values)) read.1)
+    value_at rigour declared place words >>= (λ read. values_at rigour declared places
+    (λ values. made (read.0, values)) read.1)

@@ -19,7 +19,12 @@ use Rattle.plex_spell.specs.Tokens.{Declared, is_numeral, is_term, is_name, faci
 
 -- what is declared, as a reader has it at hand
 abbrev pub seen : Judge → Declared
-seen judge = record { facilities = judge.facilities.now; structures = judge.structures.now; connectors = judge.connectors.now }
+seen judge = record {
+  facilities = judge.facilities.now;
+  structures = judge.structures.now;
+  connectors =
+      judge.connectors.now;
+}
 
 abbrev pub is_form : Rigour → Bool
 is_form Form = true
@@ -47,17 +52,21 @@ o >>= f = option_and_then f o
 abbrev pub number_of : Rigour → ℕ → ℕ → List ℕ → Option ℕ
 number_of rigour low high word =
     if is_numeral word
-    then kept rigour (nat_le low (digits_value 10 word) && nat_le (digits_value 10 word) high) (digits_value 10 word) low
+    then kept rigour (nat_le low (digits_value 10 word) && nat_le (digits_value 10 word) high) (digits_value 10 word)
+    low
     else None
 
 abbrev pub text_of : Rigour → ℕ → List ℕ → Option (List ℕ)
-text_of rigour limit word = if is_term word then kept rigour (nat_le (length word) limit) word (take limit word) else None
+text_of rigour limit word = if is_term word then kept rigour (nat_le (length word) limit) word (take limit word)
+    else None
 
 abbrev pub name_of : Rigour → List ℕ → Option Name16
-name_of rigour word = option_map (λ text. (let name : Name16 = record { 0 = padded text } in name)) (text_of rigour 16 word)
+name_of rigour word = option_map (λ text. (let name : Name16 = record { 0 = padded text } in name))
+    (text_of rigour 16 word)
 
 abbrev pub key_of : Rigour → List ℕ → Option Key16
-key_of rigour word = option_map (λ text. (let key : Key16 = record { 0 = padded text } in key)) (text_of rigour 16 word)
+key_of rigour word = option_map (λ text. (let key : Key16 = record { 0 = padded text } in key))
+    (text_of rigour 16 word)
 
 abbrev pub stands_in : ℕ → List ℕ → Bool
 stands_in at word = list_any (λ b. b == at) word
@@ -65,7 +74,8 @@ stands_in at word = list_any (λ b. b == at) word
 abbrev pub repeated_of : Rigour → List ℕ → List ℕ → Option (List ℕ)
 repeated_of rigour piece times =
     if is_term piece
-    then number_of rigour 1 4096 times >>= (λ n. kept rigour (nat_le (n * length piece) 4096) (repeat n piece) (take 1 piece))
+    then number_of rigour 1 4096 times >>= (λ n. kept rigour (nat_le (n * length piece) 4096) (repeat n piece)
+    (take 1 piece))
     else None
 
 abbrev pub data_of : Rigour → List ℕ → Option (List ℕ)
@@ -76,7 +86,8 @@ data_of rigour word =
 
 abbrev pub resource_in : Rigour → List ℕ → List ℕ → Option Resource
 resource_in rigour name hash =
-    name_of rigour name >>= (λ n. option_map (λ h. (let r : Resource = record { name = n; hash = h } in r)) (number_of rigour 0 4294967295 hash))
+    name_of rigour name >>= (λ n. option_map (λ h. (let r : Resource = record { name = n; hash = h } in r))
+    (number_of rigour 0 4294967295 hash))
 
 abbrev pub resource_of : Rigour → List ℕ → Option Resource
 resource_of rigour word =

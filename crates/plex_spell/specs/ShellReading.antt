@@ -38,16 +38,20 @@ abbrev pub operator_at : Rigour → Declared → List ℕ → List (List ℕ) �
 operator_at rigour declared verb words =
     if same_word verb (codes "FORCECONN") then values_at rigour declared (AConnector ∷ []) (λ v. ForceConn v.0) words
     else if same_word verb (codes "FORCESTR") then Some (ForceStr, words)
-    else if same_word verb (codes "LOSECONN") then values_at rigour declared (AConnector ∷ AFacility ∷ []) (λ v. LoseConn v.0 v.1.0) words
-    else if same_word verb (codes "RESTORECONN") then values_at rigour declared (AConnector ∷ AFacility ∷ []) (λ v. RestoreConn v.0 v.1.0) words
-    else if same_word verb (codes "VARY") then values_at rigour declared (AFacility ∷ Either (codes "OFF") (codes "ON") ∷ []) (λ v. Vary v.0 v.1.0) words
+    else if same_word verb (codes "LOSECONN") then values_at rigour declared (AConnector ∷ AFacility ∷ [])
+    (λ v. LoseConn v.0 v.1.0) words
+    else if same_word verb (codes "RESTORECONN") then values_at rigour declared (AConnector ∷ AFacility ∷ [])
+    (λ v. RestoreConn v.0 v.1.0) words
+    else if same_word verb (codes "VARY") then values_at rigour declared (AFacility ∷ Either (codes "OFF")
+    (codes "ON") ∷ []) (λ v. Vary v.0 v.1.0) words
     else if same_word verb (codes "DUPLEX") then duplex_at words
     else None
 
 abbrev pub shell_at : Rigour → Declared → List (List ℕ) → Option (ShellCmd × List (List ℕ))
 shell_at rigour declared [] = None
 shell_at rigour declared (verb ∷ words) =
-    if same_word verb (codes "CONNECT") then values_at rigour declared (Either (codes "KEEP") (codes "DELETE") ∷ []) (λ v. Connect v.0) words
+    if same_word verb (codes "CONNECT") then values_at rigour declared (Either (codes "KEEP") (codes "DELETE") ∷ [])
+    (λ v. Connect v.0) words
     else if same_word verb (codes "DISCONNECT") then Some (Disconnect, words)
     else if same_word verb (codes "FAIL") then Some (Fail, words)
     else if same_word verb (codes "NEXT") then Some (Next, words)

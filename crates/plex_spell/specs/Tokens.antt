@@ -32,7 +32,8 @@ is_term (b ∷ bs) = list_all term_byte (b ∷ bs)
 -- words of the script language, which name nothing
 abbrev pub reserved_words : List (List ℕ)
 reserved_words =
-    codes "OP" ∷ codes "SYS" ∷ codes "NONE" ∷ codes "FACILITY" ∷ codes "STRUCTURE" ∷ codes "PREF" ∷ codes "CONNECTOR" ∷ []
+    codes "OP" ∷ codes "SYS" ∷ codes "NONE" ∷ codes "FACILITY" ∷ codes "STRUCTURE" ∷ codes "PREF" ∷ codes "CONNECTOR"
+    ∷ []
 
 -- capital letters, digits and '_', first a letter
 abbrev pub is_capital : List ℕ → Bool
@@ -73,11 +74,13 @@ is_declared facilities cf = list_any (λ facility. facility.cf.0 == cf.0) facili
 -- the numbers of the connector and of the structure that a word names, where one is declared
 abbrev pub connector_of : List Name16 → List ℕ → Option ConnId
 connector_of connectors word =
-    option_map (λ (place : ℕ). (let conn : ConnId = record { 0 = place + 1 } in conn)) (position (λ name. same_word (name_word name) word) connectors)
+    option_map (λ (place : ℕ). (let conn : ConnId = record { 0 = place + 1 } in conn))
+    (position (λ name. same_word (name_word name) word) connectors)
 
 abbrev pub structure_of : List StrForm → List ℕ → Option StrNo
 structure_of structures word =
-    option_map (λ (place : ℕ). (let on : StrNo = record { 0 = place } in on)) (position (λ form. same_word (name_word form.name) word) structures)
+    option_map (λ (place : ℕ). (let on : StrNo = record { 0 = place } in on))
+    (position (λ form. same_word (name_word form.name) word) structures)
 
 -- ---- tokens
 

@@ -53,11 +53,13 @@ last-of_cell cell passes front pass all are =
     (All-get_or (IsPassOf cell) (front ++ pass ∷ []) (length front) pass below all')
 
 -- what is known of the pass that was taken out
-pub popped : (P : AnyPass → Type 0) (taken : Option AnyPass) (pass : AnyPass) → taken ≡ Some pass → IfSome taken P → P pass
+pub popped : (P : AnyPass → Type 0) (taken : Option AnyPass) (pass : AnyPass) → taken ≡ Some pass → IfSome taken P
+    → P pass
 popped P taken pass is known = subst (λ (o : Option AnyPass). IfSome o P) is known
 
 -- there is room for it again
-pub room-again : (str_type : StrType) (words : WordTable) (passes front : List PassShown) (pass : PassShown) (n most : ℕ)
+pub room-again : (str_type : StrType) (words : WordTable) (passes front : List PassShown) (pass : PassShown)
+    (n most : ℕ)
     → passes ≡ map (unused_pass str_type words) (range_with_len 0 n) → passes ≡ front ++ pass ∷ [] → n ≤ most
     → length front < most
 room-again str_type words passes front pass n most are is room =

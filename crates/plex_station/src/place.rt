@@ -6,8 +6,8 @@ ghost use Rattle.plex_script.specs.Heard.{is_linked};
 use any_cell::AnyPass;
 use std::marker::Model;
 
-/// A caller's pass to a structure, with whether the caller is active there by the replies to its own
-/// calls. Contracts see the pass.
+/// A caller's pass to a structure, with whether the caller is active there by the replies to its
+/// own calls. Contracts see the pass.
 #[derive(Drop)]
 pub struct Place {
     pub(crate) pass: AnyPass,

@@ -26,7 +26,8 @@ use std::sync::Wait;
 use struct_cell::CallRefused;
 use vec_words::{Tested, TestedWord};
 
-/// A structure that threads share by `&`, with the note that was posted last. Contracts see its cell.
+/// A structure that threads share by `&`, with the note that was posted last. Contracts see its
+/// cell.
 #[derive(Drop)]
 pub struct Station<L: Link> {
     cell: AnyCell<L>,
@@ -48,8 +49,8 @@ impl<L: Link> Model for Station<L> {
 }
 
 impl<L: Link> Station<L> {
-    /// A structure of this form without calls yet, with a pass for each caller from the operator, 0, on,
-    /// and nothing posted. Its journal has at most `limit` entries.
+    /// A structure of this form without calls yet, with a pass for each caller from the operator,
+    /// 0, on, and nothing posted. Its journal has at most `limit` entries.
     ///
     /// # Errors
     ///
@@ -127,7 +128,8 @@ impl<L: Link> Station<L> {
     ///
     /// # Errors
     ///
-    /// `JournalFull` where the journal has `limit` entries; `NoMemory`, before anything was changed.
+    /// `JournalFull` where the journal has `limit` entries; `NoMemory`, before anything was
+    /// changed.
     pub fn call(
         &self,
         rt: &impl Wait,
@@ -200,8 +202,8 @@ impl<L: Link> Station<L> {
         place.pass.sure()
     }
 
-    /// Tells the caller the note in the box. It answers the number of a call that the caller has now
-    /// seen complete, and takes no memory.
+    /// Tells the caller the note in the box. It answers the number of a call that the caller has
+    /// now seen complete, and takes no memory.
     pub fn take(&self, rt: &impl Wait, place: &mut Place) -> u32
         requires { IsPassOf self.now place.old }
         ensures later { IsLater place.old place.new }
@@ -243,8 +245,8 @@ impl<L: Link> Station<L> {
         }
     }
 
-    /// Tells one caller what another has seen: a note that goes from hand to hand. It answers the number
-    /// of a call that the first has now seen complete.
+    /// Tells one caller what another has seen: a note that goes from hand to hand. It answers the
+    /// number of a call that the first has now seen complete.
     pub fn hear(&self, place: &mut Place, from: &mut Place) -> u32
         requires place { IsPassOf self.now place.old }
         requires from { IsPassOf self.now from.old }
@@ -257,9 +259,9 @@ impl<L: Link> Station<L> {
         self.cell.told(&mut place.pass, note)
     }
 
-    /// Ends the structure, with its history and the links as it got them. Of the history each pass has
-    /// its owner's calls, and it says what the pass's tests answered. It may wait for a turn, and takes
-    /// no memory.
+    /// Ends the structure, with its history and the links as it got them. Of the history each pass
+    /// has its owner's calls, and it says what the pass's tests answered. It may wait for a turn,
+    /// and takes no memory.
     pub fn close(self, rt: &impl Wait, passes: AnyPasses) -> (AnyHistory, Links<L>)
         requires passes { All (IsPassOf self) (passes_shown passes) }
         requires passes_type { type_of_passes passes ≡ self.str_type }

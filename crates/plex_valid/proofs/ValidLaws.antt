@@ -26,7 +26,8 @@ bit_fresh form entries conn on before at index bit legal tells stood =
     fresh-test form entries legal at sure conn index
     (subst (λ (b : Bool). Tells cache_meaning form entries at sure conn index b) stood tells.tells)
 
-item_fresh : (form : StrForm) (entries : CacheHistory) (conn : ConnId) (on : StrNo) (before : List Shown) (item : Shown)
+item_fresh : (form : StrForm) (entries : CacheHistory) (conn : ConnId) (on : StrNo) (before : List Shown)
+    (item : Shown)
     → IsLegalCache form entries → TellsOf form (history.Cache entries) conn on before item
     → TellsFreshBy form entries conn on before item
 item_fresh form entries conn on before (shown.Test place index bit at) legal tells =
@@ -35,13 +36,15 @@ item_fresh form entries conn on before (shown.Word place word value at) legal te
     record {
       bits = tells.bits;
       made = tells.made;
-      each = λ k few within. bit_fresh form entries conn on before at _ (tells.bits k) legal (tells.each k few within);
+      each = λ k few within. bit_fresh form entries conn on before at _ (tells.bits k) legal
+          (tells.each k few within);
     }
 item_fresh form entries conn on before _ legal tells = tt
 
 pub valid-is-fresh : (limit : ℕ) (script : Script) (histories : List AnyHistory) (transcripts : List Transcript)
     → ShowsHistories limit script histories transcripts → ShowsFresh script histories transcripts
-valid-is-fresh limit script histories transcripts shows c k transcript item form entries of_caller there known of_structure =
+valid-is-fresh limit script histories transcripts shows c k transcript item form entries of_caller there known
+    of_structure =
     item_fresh form entries (record { 0 = c }) (place_of item) (take k transcript.items) item
     (shows.histories_right (place_of item).0 form (history.Cache entries) known of_structure).legal
     (shows.tests c transcript of_caller k item form (history.Cache entries) there known of_structure)

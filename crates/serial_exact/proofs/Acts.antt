@@ -21,7 +21,7 @@ use Rattle.any_cell.specs.Passes.{PassShown, NoteShown, note_of}
 use Rattle.any_cell.specs.Cells.{IsAnyTold}
 use Rattle.desk_model.specs.Notes.{with_any_note}
 use Rattle.desk_model.specs.Turns.{with_item}
-use Rattle.serial_exact.proofs.Tables.{set_same}
+use Rattle.list_laws.proofs.TableLaws.{set_same}
 use Rattle.serial_exact.proofs.TestLaws.{told_bit, told_word}
 use Rattle.serial_exact.proofs.Spots.{conn, str, put, put_all, put_same, is_other, Spot, IsKnownPass, IsKnownNote, moved, noticed, posted, known_moved, known_noticed, known_posted}
 use Rattle.serial_exact.proofs.Fits.{FitsAt, events_within, fits_put}
@@ -79,7 +79,8 @@ tested_state on by pass item state =
 abbrev pub IsItemAt : Stage → ℕ → ℕ → List Sight → ℕ → ℕ → (AnyHistory → Shown) → Shown → Type 0
 IsItemAt stage on by tests sure at shows item =
     at ≤ sure → any_length (any_take at (stage.entries on)) ≡ at
-    → All (IsAnyTold (stage.form on) (stage.entries on) (conn by)) tests → shows (any_take at (stage.entries on)) ≡ item
+    → All (IsAnyTold (stage.form on) (stage.entries on) (conn by)) tests → shows (any_take at (stage.entries on)) ≡
+    item
 
 abbrev pub tested_pass : ℕ → List Sight → PassShown → PassShown
 tested_pass at tests pass = record pass { known = at; tests = pass.tests ++ tests }
@@ -87,10 +88,12 @@ tested_pass at tests pass = record pass { known = at; tests = pass.tests ++ test
 pub goes_test : (stage : Stage) → IsStage stage
     → (shows shows' : Shows) (on by at : ℕ) (tests : List Sight) (item : Shown)
     (item_of : AnyHistory → Shown) (state : State)
-    → on < stage.cells → by ≤ stage.callers → (state.spots on).last ≡ Some (conn by) → (state.shown by).end ≡ ended.Done
+    → on < stage.cells → by ≤ stage.callers → (state.spots on).last ≡ Some (conn by)
+    → (state.shown by).end ≡ ended.Done
     → SaysLess shows shows' on by → ((state.spots on).passes by).known ≤ at → ShowsNumber on at item
     → IsItemAt stage on by tests ((state.spots on).passes by).sure at item_of item
-    → Goes stage shows shows' state (tested_state on by (tested_pass at tests ((state.spots on).passes by)) item state)
+    → Goes stage shows shows' state (tested_state on by (tested_pass at tests ((state.spots on).passes by)) item
+    state)
     (λ run. with_shown (conn by) (slice_get run.histories on) item_of run)
 goes_test stage is shows shows' on by at tests item item_of state within caller last works less later number item_is =
     let spot : Spot = state.spots on in
@@ -156,7 +159,8 @@ goes_test stage is shows shows' on by at tests item item_of state within caller 
 
 pub goes_bit : (stage : Stage) → IsStage stage
     → (shows shows' : Shows) (on by index : ℕ) (bit : Bool) (at : ℕ) (state : State)
-    → on < stage.cells → by ≤ stage.callers → (state.spots on).last ≡ Some (conn by) → (state.shown by).end ≡ ended.Done
+    → on < stage.cells → by ≤ stage.callers → (state.spots on).last ≡ Some (conn by)
+    → (state.shown by).end ≡ ended.Done
     → SaysLess shows shows' on by → ((state.spots on).passes by).known ≤ at → index < (stage.form on).vector
     → nat_lt index (stage.form on).vector ≡ true
     → Goes stage shows shows' state
@@ -164,7 +168,8 @@ pub goes_bit : (stage : Stage) → IsStage stage
     (tested_pass at (record { index = index; bit = bit; at = at; sure = ((state.spots on).passes by).sure } ∷ [])
     ((state.spots on).passes by))
     (shown.Test (str on) index bit at) state)
-    (λ run. with_shown (conn by) (slice_get run.histories on) (test_shown (stage.form on) (str on) index (conn by)) run)
+    (λ run. with_shown (conn by) (slice_get run.histories on) (test_shown (stage.form on) (str on) index (conn by))
+    run)
 goes_bit stage is shows shows' on by index bit at state within caller last works less later inside test =
     let sure : ℕ = ((state.spots on).passes by).sure in
     let seen : Sight = record { index = index; bit = bit; at = at; sure = sure } in
@@ -184,7 +189,8 @@ word_chosen on word bits at true sum size other inside sum_is size_is = rw (sum_
 word_chosen on word bits at false sum size other inside sum_is size_is = absurd cc
 
 pub goes_word : (stage : Stage) → IsStage stage → (shows shows' : Shows) (on by word bits at : ℕ) (state : State)
-    → on < stage.cells → by ≤ stage.callers → (state.spots on).last ≡ Some (conn by) → (state.shown by).end ≡ ended.Done
+    → on < stage.cells → by ≤ stage.callers → (state.spots on).last ≡ Some (conn by)
+    → (state.shown by).end ≡ ended.Done
     → SaysLess shows shows' on by → ((state.spots on).passes by).known ≤ at → bits < 2 ^ 32
     → nat_lt (32 * word) (stage.form on).vector ≡ true
     → Goes stage shows shows' state
@@ -192,7 +198,8 @@ pub goes_word : (stage : Stage) → IsStage stage → (shows shows' : Shows) (on
     (tested_pass at (map (sight bits at ((state.spots on).passes by).sure) (indices_of word))
     ((state.spots on).passes by))
     (shown.Word (str on) word bits at) state)
-    (λ run. with_shown (conn by) (slice_get run.histories on) (word_shown (stage.form on) (str on) word (conn by)) run)
+    (λ run. with_shown (conn by) (slice_get run.histories on) (word_shown (stage.form on) (str on) word (conn by))
+    run)
 goes_word stage is shows shows' on by word bits at state within caller last works less later small test =
     let sure : ℕ = ((state.spots on).passes by).sure in
     goes_test stage is shows shows' on by at (map (sight bits at sure) (indices_of word))
@@ -213,7 +220,8 @@ shown_state on by item state = acted on by (noticed by ((state.spots on).passes 
     (with_item item (state.shown by)) state
 
 -- a test out of the vector shows no number, and nothing else happens
-pub goes_bad : (stage : Stage) (shows : Shows) (on by : ℕ) (item : Shown) (item_of : AnyHistory → Shown) (state : State)
+pub goes_bad : (stage : Stage) (shows : Shows) (on by : ℕ) (item : Shown) (item_of : AnyHistory → Shown)
+    (state : State)
     → on < stage.cells → by ≤ stage.callers → (state.shown by).end ≡ ended.Done
     → ((x : ℕ) → shown_on (str x) item ≡ None) → ((entries : AnyHistory) → item_of entries ≡ item)
     → Goes stage shows shows state (shown_state on by item state)
@@ -368,7 +376,8 @@ goes_take stage shows on by state within caller works said =
           (λ c apart is. is)
           (λ c lasted.
           put_all (λ c pass'. (spot.passes c).sure ≡ spot.front → pass'.sure ≡ spot.front) by pass spot.passes
-          (λ before. omega (arith, before, noted.sure, noted.ordered, noted.within)) (λ other apart before. before) c.0
+          (λ before. omega (arith, before, noted.sure, noted.ordered, noted.within)) (λ other apart before. before)
+          c.0
           (before.lasts c lasted)))
           (λ working. working)
           (λ x apart. seen_none (str x) (state.shown by).items (shown.Took (str on) pass.sure)

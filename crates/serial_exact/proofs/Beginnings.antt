@@ -231,7 +231,8 @@ module _ {L : Type 0} (limit : ℕ) (script : Script) (board : BoardShown L) (hi
   pub agrees_new : Agrees (stage_of limit board histories) of_all new_state (start script)
   agrees_new = record {
     histories = length-map script.structures (λ (form : StrForm). no_calls form.kind) ∙ stage_is.structures;
-    transcripts = length-replicate (length script.connectors + 1) no_items ∙ ap (λ (n : ℕ). n + 1) (sym given.callers);
+    transcripts = length-replicate (length script.connectors + 1) no_items ∙ ap (λ (n : ℕ). n + 1)
+        (sym given.callers);
     numbers = length-replicate (length script.structures) 0 ∙ stage_is.structures;
     shown = λ c inside. replicate_at (length script.connectors + 1) c no_items (omega (arith, given.callers));
     at = λ x within.

@@ -1,5 +1,5 @@
 -- The calls of one line: what they keep, and the steps of the run by the machine alone that go with them.
-use Rattle.std.proofs.Common.{◌≡◌, ◌≢◌, ℕ, zero, suc, ◌+◌, ◌*◌, ◌≤◌, ◌<◌, nat_le, Bool, true, false, cond, List, [], ◌∷◌, ◌++◌, length, map, slice_get, Option, None, Some, refl, sym, ap, subst, ◌∙◌, arith, append-nil, append_assoc}
+use Rattle.std.proofs.Common.{◌≡◌, ◌≢◌, ℕ, zero, suc, ◌+◌, ◌≤◌, ◌<◌, nat_le, true, false, List, [], ◌∷◌, ◌++◌, length, map, slice_get, Option, Some, refl, sym, ap, subst, ◌∙◌, arith, append-nil, append_assoc}
 use Rattle.std.proofs.lemmas.Bool.Decides.{nat_tests}
 use Rattle.cf_types.specs.declared.forms.StrForm.{StrForm}
 use Rattle.cf_types.specs.declared.forms.Kind.{Kind}
@@ -15,7 +15,8 @@ use Rattle.plex_script.specs.declared.transcripts.AgentEnd.TheVariants as ended
 use Rattle.plex_script.specs.declared.transcripts.Shown.{Shown}
 use Rattle.plex_script.specs.declared.transcripts.Shown.TheVariants as shown
 use Rattle.plex_script.specs.declared.transcripts.Transcript.{Transcript}
-use Rattle.plex_script.specs.Agent.{step_after, most_asks, asks_behind, asked_by, taking, after_round}
+use Rattle.plex_script.specs.Agent.{step_after, most_asks, asked_by}
+use Rattle.plex_script.proofs.StepLaws.{rests, fewer_asks, some_goes}
 use Rattle.plex_script.specs.Heard.{any_length}
 use Rattle.any_model.specs.Kinds.{any_take, any_told}
 use Rattle.serial_model.specs.Serial.{Run, stopped_at, steps_made}
@@ -27,45 +28,6 @@ use Rattle.serial_exact.proofs.Stages.{Stage, IsStage, State, Known, Fits, Shows
 use Rattle.serial_exact.proofs.Moves.{SaysLess, called_state, known_call, back_call, run_called, next_here, agrees_call, stopped_state, known_stop, back_stop, full_here, agrees_stop}
 
 -- ---- how many calls
-
--- a step rests where no ask is left
-rests : (now : Step) → most_asks now ≤ 0 → now ≡ step.Rest
-rests (step.Call asks) none = absurd (omega arith)
-rests (step.Next left behind) none = absurd (omega arith)
-rests (step.Respond left behind) none = absurd (omega arith)
-rests step.Rest none = refl
-
-either_le : (b : Bool) (x y : Step) (n : ℕ) → suc (most_asks x) ≤ n → suc (most_asks y) ≤ n
-    → suc (most_asks (cond b x y)) ≤ n
-either_le true x y n first second = first
-either_le false x y n first second = second
-
-round_asks : (behind : Option ℕ) → most_asks (after_round behind) ≡ asks_behind behind
-round_asks None = refl
-round_asks (Some asks) = refl
-
-taking_asks : (left : ℕ) (behind : Option ℕ) → most_asks (taking left behind) ≤ 2 * left + asks_behind behind
-taking_asks zero behind = omega (arith, round_asks behind)
-taking_asks (suc left) behind = omega arith
-
--- each call leaves fewer
-fewer_asks : (now : Step) (told : Told) → now ≢ step.Rest → suc (most_asks (step_after now told)) ≤ most_asks now
-fewer_asks (step.Call zero) told goes = omega arith
-fewer_asks (step.Call (suc asks)) told goes =
-    either_le told.again (step.Next 63 (Some asks)) step.Rest (most_asks (step.Call (suc asks))) (omega arith)
-    (omega arith)
-fewer_asks (step.Next left behind) told goes =
-    either_le told.owes (step.Respond left behind) (cond told.event (taking left behind) (after_round behind))
-    (most_asks (step.Next left behind)) (omega arith)
-    (either_le told.event (taking left behind) (after_round behind) (most_asks (step.Next left behind))
-    (omega (arith, taking_asks left behind)) (omega (arith, round_asks behind)))
-fewer_asks (step.Respond left behind) told goes = omega (arith, taking_asks left behind)
-fewer_asks step.Rest told goes = absurd (goes refl)
-
-some_goes : (kind : Kind) (line : Option AnyAsk) (now : Step) (asked : AnyAsk) → asked_by kind line now ≡ Some asked
-    → now ≢ step.Rest
-some_goes kind line now asked asks rest =
-    let none : asked_by kind line now ≡ None = ap (asked_by kind line) rest in cc
 
 -- a step that rests asks nothing more
 resting : (limit most : ℕ) (form : StrForm) (line : Option AnyAsk) (by : ConnId) (on : StrNo) (run : Run)
@@ -153,7 +115,8 @@ module _ (stage : Stage) (is : IsStage stage) (line : Option AnyAsk) (on by : �
   full_go : (shows shows' : Shows) (most : ℕ) (now : Step) (pass : PassShown) (before : State)
       → SaysLess shows shows' on by
       → (before.shown by).end ≡ ended.Done → (before.spots on).last ≡ Some (conn by)
-      → most_asks now ≤ most → IsHalted kind_here line now ((before.spots on).passes by) pass → stage.limit ≤ pass.known
+      → most_asks now ≤ most → IsHalted kind_here line now ((before.spots on).passes by) pass
+      → stage.limit ≤ pass.known
       → StepsGo shows shows' most now pass
       (record { items = (before.shown by).items ++ []; end = ended.JournalFull (str on) }) before
   full_go shows shows' most now pass before less works last enough halted full =
@@ -273,7 +236,8 @@ module _ (stage : Stage) (is : IsStage stage) (line : Option AnyAsk) (on by : �
       (end : AgentEnd) (items : List Shown)
       (before : State)
       → SaysLess shows shows' on by → (before.shown by).end ≡ ended.Done → (before.spots on).last ≡ Some (conn by)
-      → most_asks now ≤ most → asked_by kind_here line now ≡ Some asked → ((before.spots on).passes by).known < told.no
+      → most_asks now ≤ most → asked_by kind_here line now ≡ Some asked → ((before.spots on).passes by).known <
+      told.no
       → ((less : ℕ) → most_asks (step_after now told) ≤ less
       → StepsGo shows' shows' less (step_after now told) pass
       (record { items = ((before.shown by).items ++ shown.Call (str on) told.no ∷ []) ++ items; end = end })
@@ -374,7 +338,8 @@ module _ (stage : Stage) (is : IsStage stage) (line : Option AnyAsk) (on by : �
       none_go shows shows' most now pass' before works lasts
       (subst (λ (p : PassShown). IsHalted kind_here line now p pass') steps.1
       (subst (λ (s : Step). IsHalted kind_here line s pass pass') steps.0 ends))
-  steps_first shows shows' (told ∷ tolds) most now last pass pass' end before goes says works lasts enough steps ends =
+  steps_first shows shows' (told ∷ tolds) most now last pass pass' end before goes says works lasts enough steps ends
+      =
       let between : State = called_state on by steps.0 told before in
       let step_moved : IsMoved on by (with_call steps.0 told ((before.spots on).passes by))
       (record (before.shown by) { items = (before.shown by).items ++ shown.Call (str on) told.no ∷ [] }) before

@@ -73,7 +73,8 @@ goes_heard_all stage by state caller =
             let pass : PassShown = heard_pass by (state.spots x) in
             let heard : IsHeardPass by (state.spots x) pass =
             heard_is stage.callers by (state.spots x) caller (known x within) in
-            fits_put (stage.form x) (stage.entries x) stage.callers by (state.spots x) pass (Some (conn by)) pass.known
+            fits_put (stage.form x) (stage.entries x) stage.callers by (state.spots x) pass (Some (conn by))
+            pass.known
             (omega (arith, heard.known))
             (λ told. subst (All (IsAnyTold (stage.form x) (stage.entries x) (conn by))) heard.tests told)
             (fits.at x within);
@@ -131,7 +132,8 @@ hearing_next : (stage : Stage) (by n : ℕ) (worker : AtWork) (floor : Floor) (s
     → IsHearing stage.cells by (n + 1) (heard floor (conn by) worker (str n)) state
 hearing_next stage by n worker floor state within is known hearing =
     let pass : PassShown = heard_pass by (state.spots n) in
-    let heard_is : heard floor (conn by) worker (str n) ≡ record worker { desk = with_pass (str n) pass worker.desk } =
+    let heard_is : heard floor (conn by) worker (str n) ≡ record worker { desk = with_pass (str n) pass worker.desk }
+    =
     heard_desk stage n by worker floor state within is known hearing.size (hearing.behind n (omega arith) within) in
     subst (λ (w : AtWork). IsHearing stage.cells by (n + 1) w state) (sym heard_is)
     (record {
@@ -147,7 +149,8 @@ hearing_next stage by n worker floor state within is known hearing =
       shown = hearing.shown;
     })
 
-hearing_all : (stage : Stage) (by n left : ℕ) (worker : AtWork) (floor : Floor) (state : State) → n + left ≡ stage.cells
+hearing_all : (stage : Stage) (by n left : ℕ) (worker : AtWork) (floor : Floor) (state : State)
+    → n + left ≡ stage.cells
     → IsFloor stage floor state → Known stage state → IsHearing stage.cells by n worker state
     → IsHearing stage.cells by stage.cells
     (fold (λ worker place. heard floor (conn by) worker (str place)) worker (range_with_len n left)) state
@@ -164,7 +167,8 @@ pub heard_all_worker : {L : Type 0} (board : BoardShown L) (stage : Stage) (by :
 heard_all_worker board stage by floor state cells caller is known =
     let at : IsWorker stage.cells by (worker_of floor (conn by)) state = is.worker by caller in
     let all : IsHearing stage.cells by stage.cells (heard_all board floor (conn by)) state =
-    hearing_all stage by 0 (length board.cells) (worker_of floor (conn by)) floor state (omega (arith, cells)) is known
+    hearing_all stage by 0 (length board.cells) (worker_of floor (conn by)) floor state (omega (arith, cells)) is
+    known
     (record {
       size = at.size;
       before = λ x below inside. absurd (omega arith);
@@ -200,7 +204,8 @@ departs_not stage by worker worker' before goes at same still =
       others = record { passes = λ x c apart. refl; shown = λ c apart. refl };
       notes = λ x. refl;
       lasts = λ x. refl;
-      goes_on = goes_where stage of_none of_none before before (λ run. run) goes still (goes_not stage of_none before);
+      goes_on = goes_where stage of_none of_none before before (λ run. run) goes still
+          (goes_not stage of_none before);
     }
 
 -- a connector is active by its own calls, as the run has it
@@ -287,7 +292,8 @@ module _ (stage : Stage) (is : IsStage stage) (on by : ℕ) (worker worker' : At
       (λ run. after_departure stage.limit (conn by) run (on, stage.form on)) at same
       (λ known fits run agrees. rw (done_run ended.NoMemory ends run agrees) refl)
 
-  pub departs_go : (before.spots on).last ≡ Some (conn by) → Departs stage.limit (stage.form on) (str on) worker worker'
+  pub departs_go : (before.spots on).last ≡ Some (conn by) → Departs stage.limit (stage.form on) (str on) worker
+      worker'
       → DepartsGo stage by worker' before (λ run. after_departure stage.limit (conn by) run (on, stage.form on))
   departs_go last departs =
       departs_end (before.shown by).end refl last
@@ -323,13 +329,15 @@ module _ {L : Type 0} (board : BoardShown L) (script : Script) (stage : Stage) (
       → slice_get board.cells n ≡ Some cell
       → (one : DepartsGo stage by worker before (λ run. after_departure stage.limit (conn by) run (n, stage.form n)))
       → DepartsGo stage by worker' one.after
-      (λ run. fold (after_departure stage.limit (conn by)) run (enumerate_from (n + 1) (map (λ cell. cell.form) left)))
+      (λ run. fold (after_departure stage.limit (conn by)) run
+      (enumerate_from (n + 1) (map (λ cell. cell.form) left)))
       → DepartsGo stage by worker' before
       (λ run. fold (after_departure stage.limit (conn by)) run
       (enumerate_from n (map (λ cell. cell.form) (cell ∷ left))))
   departs_then by cell left n worker worker' before there one rest =
       let behind : Run → Run =
-      λ run. fold (after_departure stage.limit (conn by)) run (enumerate_from (n + 1) (map (λ cell. cell.form) left)) in
+      λ run. fold (after_departure stage.limit (conn by)) run (enumerate_from (n + 1) (map (λ cell. cell.form) left))
+      in
       record {
         after = rest.after;
         is_worker = rest.is_worker;

@@ -55,7 +55,8 @@ goes_silent stage state =
       };
     }
 
-module _ {L : Type 0} (limit : ℕ) (script : Script) (board : BoardShown L) (floor : Floor) (histories : List AnyHistory)
+module _ {L : Type 0} (limit : ℕ) (script : Script) (board : BoardShown L) (floor : Floor)
+    (histories : List AnyHistory)
     (given : IsGiven limit script board histories) where
   abbrev stage : Stage
   stage = stage_of limit board histories
@@ -105,7 +106,8 @@ module _ {L : Type 0} (limit : ℕ) (script : Script) (board : BoardShown L) (fl
         → IsAccount place.cell place.entries ((state.spots x).passes c)
     account x c within inside place =
         let desks : List DeskShown = map (λ (worker : AtWork). worker.desk) floor.workers in
-        let size : length desks ≡ length floor.workers = length-map floor.workers (λ (worker : AtWork). worker.desk) in
+        let size : length desks ≡ length floor.workers = length-map floor.workers (λ (worker : AtWork). worker.desk)
+        in
         let desk : DeskShown = (worker_of floor (conn c)).desk in
         let desk_is : get_or desks c desk ≡ desk =
         get_or-map (λ (worker : AtWork). worker.desk) floor.workers c no_worker desk (worker_within c inside) in
@@ -152,7 +154,11 @@ module _ {L : Type 0} (limit : ℕ) (script : Script) (board : BoardShown L) (fl
       at = λ x within.
           let place : IsPlace limit script board histories given x =
           place_at limit script board histories given x within in
-          rw (form_of limit script board histories given x place, entries_of limit script board histories given x place)
+          rw (
+            form_of limit script board histories given x place,
+            entries_of limit script board histories given x
+                place,
+          )
           (record {
             more = [];
             calls = events_are x within place ∙ sym (append-nil (state.spots x).events);
@@ -160,7 +166,8 @@ module _ {L : Type 0} (limit : ℕ) (script : Script) (board : BoardShown L) (fl
             tests = λ c inside.
                 let is : IsAccount place.cell place.entries ((state.spots x).passes c) =
                 account x c within inside place in
-                subst (λ (o : ConnId). All (IsAnyTold place.cell.form place.entries o) ((state.spots x).passes c).tests)
+                subst (λ (o : ConnId). All (IsAnyTold place.cell.form place.entries o)
+                ((state.spots x).passes c).tests)
                 ((known x within).pass c inside).owner is.tests;
           });
       memory = λ c inside.

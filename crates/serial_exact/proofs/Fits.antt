@@ -64,7 +64,8 @@ called_number form entries callers by spot asked told legal fits =
     (call_number form entries legal spot.events (event by asked told) fits.more
     (fits.calls ∙ append_assoc spot.events (event by asked told ∷ []) fits.more)).0
 
-pub fits_called : (form : StrForm) (entries : AnyHistory) (callers by : ℕ) (spot : Spot) (asked : AnyAsk) (told : Told)
+pub fits_called : (form : StrForm) (entries : AnyHistory) (callers by : ℕ) (spot : Spot) (asked : AnyAsk)
+    (told : Told)
     → IsAnyLegal form entries → spot.front < told.no → FitsAt form entries callers (called by asked told spot)
     → FitsAt form entries callers spot
 fits_called form entries callers by spot asked told legal above fits =
@@ -136,7 +137,8 @@ heard_is callers by spot caller known = by_last spot.last known.lasts
   where
     by_other : (other : ConnId) → (other.0 ≤ callers) × ((spot.passes other.0).known ≡ spot.front) → (b : Bool)
         → other.0 == by ≡ b
-        → IsHeardPass by spot (if b then spot.passes by else with_note (note_of (spot.passes other.0)) (spot.passes by))
+        → IsHeardPass by spot (if b then spot.passes by else with_note (note_of (spot.passes other.0))
+        (spot.passes by))
     by_other other lasts true same =
         let e : other.0 ≡ by = same_number other.0 by same in
         record {

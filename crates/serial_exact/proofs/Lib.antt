@@ -1,4 +1,3 @@
-pub mod Tables
 pub mod TestLaws
 pub mod Spots
 pub mod Fits

@@ -118,7 +118,8 @@ module _ {L : Type 0} (board : BoardShown L) (script : Script) (stage : Stage) (
         line.by) worker)
         (ShowsOnly (shown.BadIndex line.on index false (stage.form line.on.0).vector)
         (if b then heard floor line.by (worker_of floor line.by) line.on else worker_of floor line.by) worker)
-        ⊎ RunsOut (if b then heard floor line.by (worker_of floor line.by) line.on else worker_of floor line.by) worker)
+        ⊎ RunsOut (if b then heard floor line.by (worker_of floor line.by) line.on else worker_of floor line.by)
+        worker)
         → floor' ≡ record (with_worker line.by worker floor)
         { last = if b then set floor.last line.on.0 (Some line.by) else floor.last }
         → Turn (act_made stage.limit (stage.form line.on.0) line (act.Test index))
@@ -151,7 +152,8 @@ module _ {L : Type 0} (board : BoardShown L) (script : Script) (stage : Stage) (
         line.by) worker)
         (ShowsOnly (shown.BadIndex line.on word true (stage.form line.on.0).vector)
         (if b then heard floor line.by (worker_of floor line.by) line.on else worker_of floor line.by) worker)
-        ⊎ RunsOut (if b then heard floor line.by (worker_of floor line.by) line.on else worker_of floor line.by) worker)
+        ⊎ RunsOut (if b then heard floor line.by (worker_of floor line.by) line.on else worker_of floor line.by)
+        worker)
         → floor' ≡ record (with_worker line.by worker floor)
         { last = if b then set floor.last line.on.0 (Some line.by) else floor.last }
         → Turn (act_made stage.limit (stage.form line.on.0) line (act.TestWord word))
@@ -209,7 +211,8 @@ module _ {L : Type 0} (board : BoardShown L) (script : Script) (stage : Stage) (
     done_is : (end : AgentEnd) → (before.shown line.by.0).end ≡ end → (run : Run) → Agrees stage of_all before run
         → is_done run line.by ≡ serial.is_done_as end
     done_is end ends run agrees =
-        ap (λ (t : Transcript). serial.is_done_as t.end) (transcript_is stage of_all line.by.0 before run caller agrees)
+        ap (λ (t : Transcript). serial.is_done_as t.end) (transcript_is stage of_all line.by.0 before run caller
+        agrees)
         ∙ ap serial.is_done_as ends
 
     idle : (cell : CellShown L) → cell_on board line.on ≡ Some cell → (end : AgentEnd)
@@ -241,7 +244,8 @@ module _ {L : Type 0} (board : BoardShown L) (script : Script) (stage : Stage) (
               (λ run agrees. rw (of.policy line.on.0 cell there, done_is ended.Done ends run agrees) refl)
               turn.goes_on;
         }
-    line_case cell there (ended.JournalFull place) ends same = idle cell there (ended.JournalFull place) ends refl same
+    line_case cell there (ended.JournalFull place) ends same = idle cell there (ended.JournalFull place) ends refl
+        same
     line_case cell there ended.NoMemory ends same = idle cell there ended.NoMemory ends refl same
 
     pub line_goes : PlaysLine board line floor floor'

@@ -99,7 +99,8 @@ module _ (stage : Stage) (is : IsStage stage) (on by : ℕ) (within : on < stage
   }
 
   -- after the hearing nothing happened to notes, and who acted last is the caller
-  heard_floor : (worker : AtWork) (after : State) → floor' ≡ counted_floor worker → IsWorker stage.cells by worker after
+  heard_floor : (worker : AtWork) (after : State) → floor' ≡ counted_floor worker → IsWorker stage.cells by worker
+      after
       → OthersSame by heard_now after → NotesSame heard_now after → LastsSame heard_now after
       → IsFloor stage floor' after
   heard_floor worker after floor_is mine' others notes lasts =
@@ -179,7 +180,8 @@ module _ (stage : Stage) (is : IsStage stage) (on by : ℕ) (within : on < stage
       let front : ℕ = (before.spots on).front in
       record {
         after = turned on by pass note last front transcript before;
-        is_floor = turned_floor on by pass note last front transcript before stage worker floor floor' within caller at
+        is_floor = turned_floor on by pass note last front transcript before stage worker floor floor' within caller
+            at
             (turned_worker on by pass note last front transcript before stage.cells self worker within mine desk
             shown_is)
             (floor_is ∙ ap (λ (l : List (Option ConnId)). (let it : Floor = record {
@@ -275,7 +277,8 @@ module _ (stage : Stage) (is : IsStage stage) (on by : ℕ) (within : on < stage
       (goes_out stage of_all of_all on by goes before within caller works)
 
   -- out of memory after the hearing: the pass stays as it was heard
-  pub heard_out_turn : (worker : AtWork) (goes : Run → Run) → RunsOut ready_self worker → floor' ≡ counted_floor worker
+  pub heard_out_turn : (worker : AtWork) (goes : Run → Run) → RunsOut ready_self worker
+      → floor' ≡ counted_floor worker
       → TurnGoes stage of_all of_all before floor' goes
   heard_out_turn worker goes out floor_is =
       let pass : PassShown = (heard_now.spots on).passes by in

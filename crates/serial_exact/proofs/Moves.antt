@@ -18,7 +18,7 @@ use Rattle.serial_model.specs.Numbers.{shown_on, seen_on}
 use Rattle.serial_model.specs.Serial.{Run, shown_to, stopped_at, transcript_of, transcript_at}
 use Rattle.any_cell.specs.Passes.{PassShown, with_call, IsLater}
 use Rattle.any_cell.specs.Cells.{IsAnyTold}
-use Rattle.serial_exact.proofs.Tables.{set_same}
+use Rattle.list_laws.proofs.TableLaws.{set_same}
 use Rattle.serial_exact.proofs.Spots.{conn, str, put, put_same, is_other, rising_length, Spot, IsKnown, LastKnows, event, moved, called, known_moved, known_called}
 use Rattle.serial_exact.proofs.Fits.{FitsAt, events_within, fits_put, fits_called, IsNextCall, is_next_call, heard_pass, IsHeardPass, heard_is, heard_complete}
 use Rattle.serial_exact.proofs.Agreements.{AgreesAt, IsSeen, agrees_put, sure_in, last_is, seen_push, seen_none}
@@ -215,7 +215,8 @@ agrees_call stage is shows shows' on by asked told state run within caller last 
     (λ c lasted. ap (λ (n : ℕ). (put by pass spot.passes n).sure) (last_is by c (sym last ∙ lasted))
     ∙ ap (λ (p : PassShown). p.sure) (put_same by pass spot.passes)))
     (λ working. working)
-    (λ x apart. seen_none (str x) (state.shown by).items (shown.Call (str on) told.no) (call_shown on x told.no apart))
+    (λ x apart. seen_none (str x) (state.shown by).items (shown.Call (str on) told.no)
+    (call_shown on x told.no apart))
     less.elsewhere
 
 -- ---- a next call that wasn't made

@@ -158,7 +158,8 @@ note_later : (front front' : ℕ) (note : Option NoteShown) → front ≤ front'
 note_later front front' None later noted = tt
 note_later front front' (Some note) later noted = (noted.0, omega (arith, noted.1))
 
-below_later : (front front' : ℕ) (calls : List AnyCall) → front ≤ front' → AreBelow front calls → AreBelow front' calls
+below_later : (front front' : ℕ) (calls : List AnyCall) → front ≤ front' → AreBelow front calls
+    → AreBelow front' calls
 below_later front front' calls later below =
     All-weaker (λ (call : AnyCall). call.no ≤ front) (λ (call : AnyCall). call.no ≤ front') (λ call is. omega arith)
     calls below
@@ -192,7 +193,8 @@ known_moved callers by spot pass caller known later sure owner calls =
 
 pub known_noticed : (callers by : ℕ) (spot : Spot) (pass : PassShown) → by ≤ callers → IsKnown callers spot
     → (spot.passes by).known ≤ pass.known → pass.known ≤ spot.front → pass.sure ≤ pass.known
-    → pass.owner ≡ (spot.passes by).owner → pass.calls ≡ (spot.passes by).calls → IsKnown callers (noticed by pass spot)
+    → pass.owner ≡ (spot.passes by).owner → pass.calls ≡ (spot.passes by).calls
+    → IsKnown callers (noticed by pass spot)
 known_noticed callers by spot pass caller known later within sure owner calls =
     record {
       pass = put_all (λ c pass'. c ≤ callers → IsKnownPass spot.events spot.front c pass') by pass spot.passes
@@ -210,7 +212,8 @@ known_noticed callers by spot pass caller known later within sure owner calls =
       noted = known.noted;
     }
   where
-    last_noticed : (last : Option ConnId) → LastKnows callers spot last → LastKnows callers (noticed by pass spot) last
+    last_noticed : (last : Option ConnId) → LastKnows callers spot last → LastKnows callers (noticed by pass spot)
+        last
     last_noticed None is = is
     last_noticed (Some c) is = (
       is.0,
@@ -230,7 +233,8 @@ known_posted callers spot note known sure within =
       noted = (sure, within);
     }
   where
-    same_last : (last : Option ConnId) → LastKnows callers spot last → LastKnows callers (posted (Some note) spot) last
+    same_last : (last : Option ConnId) → LastKnows callers spot last → LastKnows callers (posted (Some note) spot)
+        last
     same_last None is = is
     same_last (Some c) is = is
 
@@ -257,12 +261,17 @@ known_called callers by spot asked told caller known last above =
             owner = (known.pass other within).owner;
             sure = (known.pass other within).sure;
             within = omega (arith, (known.pass other within).within);
-            calls = (known.pass other within).calls ∙ sym (own_push_other spot.events call other (λ e. apart (sym e)));
+            calls = (known.pass other within).calls ∙ sym (own_push_other spot.events call other
+                (λ e. apart (sym e)));
           });
       rising = rising_push 0 spot.events call spot.front (omega arith) known.rising known.below above;
       below = All-push (λ (call : AnyCall). call.no ≤ told.no) spot.events call
           (below_later spot.front told.no spot.events (omega arith) known.below) (omega arith);
       by = All-push (λ (call : AnyCall). call.by.0 ≤ callers) spot.events call known.by caller;
-      lasts = rw last (caller, ap (λ (p : PassShown). p.known) (put_same by (with_call asked told before) spot.passes));
+      lasts = rw last (
+        caller,
+        ap (λ (p : PassShown). p.known) (put_same by (with_call asked told before)
+            spot.passes),
+      );
       noted = note_later spot.front told.no spot.note (omega arith) known.noted;
     }

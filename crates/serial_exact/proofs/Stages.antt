@@ -10,7 +10,7 @@ use Rattle.plex_script.specs.Heard.{any_length}
 use Rattle.any_model.specs.Kinds.{IsAnyLegal, any_take}
 use Rattle.serial_model.specs.Numbers.{seen_on}
 use Rattle.serial_model.specs.Serial.{Run}
-use Rattle.serial_exact.proofs.Tables.{get-set_same, get-set_other}
+use Rattle.list_laws.proofs.TableLaws.{get-set_same, get-set_other}
 use Rattle.serial_exact.proofs.Spots.{str, put, put_all, put_same, Spot, IsKnown}
 use Rattle.serial_exact.proofs.Fits.{put_back, FitsAt}
 use Rattle.serial_exact.proofs.Agreements.{AgreesAt, agrees_elsewhere, sure_in}
@@ -72,7 +72,8 @@ goes_then stage shows shows' shows'' first second third goes goes' one two =
       known = λ known. two.known (one.known known);
       back = λ known fits. one.back known (two.back (one.known known) fits);
       agrees = λ known fits run agrees.
-          two.agrees (one.known known) fits (goes run) (one.agrees known (two.back (one.known known) fits) run agrees);
+          two.agrees (one.known known) fits (goes run) (one.agrees known (two.back (one.known known) fits) run
+          agrees);
     }
 
 pub goes_not : (stage : Stage) (shows : Shows) (state : State) → Goes stage shows shows state state (λ run. run)
@@ -87,7 +88,8 @@ goes_same stage shows shows' before after goes goes' same one =
     record {
       known = one.known;
       back = one.back;
-      agrees = λ known fits run agrees. subst (Agrees stage shows' after) (same run) (one.agrees known fits run agrees);
+      agrees = λ known fits run agrees. subst (Agrees stage shows' after) (same run)
+          (one.agrees known fits run agrees);
     }
 
 -- ---- a step at one structure by one caller
@@ -168,7 +170,8 @@ agrees_acted stage shows shows' on by spot transcript state history number run r
           rw (history_at, number_at) here)
           (λ x apart inside.
           let history_at : slice_get run'.histories x ≡ slice_get run.histories x =
-          ap (λ (t : List AnyHistory). slice_get t x) goes.histories ∙ get-set_other run.histories on x history apart in
+          ap (λ (t : List AnyHistory). slice_get t x) goes.histories ∙ get-set_other run.histories on x history apart
+          in
           let number_at : slice_get run'.posted x ≡ slice_get run.posted x =
           ap (λ (t : List ℕ). slice_get t x) goes.numbers ∙ get-set_other run.posted on x number apart in
           rw (history_at, number_at)

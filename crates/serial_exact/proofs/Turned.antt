@@ -103,12 +103,14 @@ module _ (on by : ℕ) (pass : PassShown) (note : Option NoteShown) (last : Opti
       mine turned_others
 
 -- what stands there, put there again
-pub tray_again : (stage : Stage) (on : ℕ) (floor : Floor) (state : State) → on < stage.cells → IsFloor stage floor state
+pub tray_again : (stage : Stage) (on : ℕ) (floor : Floor) (state : State) → on < stage.cells
+    → IsFloor stage floor state
     → set floor.tray on (state.spots on).note ≡ floor.tray
 tray_again stage on floor state within is =
     ap (λ (n : Option NoteShown). set floor.tray on n) (sym (is.note on within)) ∙ set-get_or floor.tray on None
 
-pub last_again : (stage : Stage) (on : ℕ) (floor : Floor) (state : State) → on < stage.cells → IsFloor stage floor state
+pub last_again : (stage : Stage) (on : ℕ) (floor : Floor) (state : State) → on < stage.cells
+    → IsFloor stage floor state
     → set floor.last on (state.spots on).last ≡ floor.last
 last_again stage on floor state within is =
     ap (λ (l : Option ConnId). set floor.last on l) (sym (is.last on within)) ∙ set-get_or floor.last on None
@@ -170,7 +172,8 @@ heard_worker stage on by floor state within caller is known =
     let heard_is : heard floor (conn by) worker (str on) ≡ record worker
     { desk = with_pass (str on) pass worker.desk } =
     heard_desk stage on by worker floor state within is known at.size (at.passes on within) in
-    turned_worker on by pass (state.spots on).note (Some (conn by)) pass.known (state.shown by) state stage.cells worker
+    turned_worker on by pass (state.spots on).note (Some (conn by)) pass.known (state.shown by) state stage.cells
+    worker
     (heard floor (conn by) worker (str on)) within at (ap (λ (w : AtWork). w.desk) heard_is)
     (ap (λ (w : AtWork). w.shown) heard_is ∙ at.shown)
 

@@ -77,7 +77,8 @@ module _ (on by : ℕ) (pass : PassShown) (transcript : Transcript) (before afte
     (moved : IsMoved on by pass transcript before after) where
   pub moved_others : OthersSame by before after
   moved_others = record {
-    passes = λ x c apart. by_place (λ x. (after.spots x).passes c ≡ (before.spots x).passes c) on (moved.others c apart)
+    passes = λ x c apart. by_place (λ x. (after.spots x).passes c ≡ (before.spots x).passes c) on
+        (moved.others c apart)
         (λ x apart'. ap (λ (s : Spot). s.passes c) (moved.elsewhere x apart')) x;
     shown = moved.others_shown;
   }
@@ -118,7 +119,8 @@ pub record EndsSo (limit : ℕ) (kind : Kind) (line : Option AnyAsk) (on : ℕ) 
 
 halts_so : (kind : Kind) (line : Option AnyAsk) (on : ℕ) (last : Step) (pass : PassShown) (desk after : DeskShown)
     → on < length desk.passes → Halts kind line (str on) last (with_pass (str on) pass desk) after
-    → IsHalted kind line last pass (pass_at after (str on)) × (after ≡ with_pass (str on) (pass_at after (str on)) desk)
+    → IsHalted kind line last pass (pass_at after (str on))
+    × (after ≡ with_pass (str on) (pass_at after (str on)) desk)
 halts_so kind line on last pass desk after within halts = (
   record {
     asked = halts.asked;

@@ -26,7 +26,7 @@ use Rattle.serial_model.proofs.Steps.{IsAt, AreSteps}
 use Rattle.any_model.proofs.Histories.{IsHistory, any_numbers}
 use Rattle.serial_model.proofs.Items.{AreItems, IsItem, StoodBit, items_later, seen_within, surest_within, surest_seen}
 use Rattle.serial_model.proofs.Changes.{IsChange, IsPosted, change_later, change_posted, change_history, change_numbers_by, change_numbers_other, change_items_by, same_number, other_number, there_later, elsewhere_same}
-use Rattle.serial_model.proofs.Tables.{get-set_same, get-set_other, set_same, set_most}
+use Rattle.list_laws.proofs.TableLaws.{get-set_same, get-set_other, set_same, set_most}
 
 -- ---- the calls of a line are a change
 
@@ -34,7 +34,8 @@ abbrev pub NumbersWithin : ℕ → List AnyCall → Type 0
 NumbersWithin bound [] = Unit {0}
 NumbersWithin bound (call ∷ calls) = (call.no ≤ bound) × NumbersWithin bound calls
 
-pub counted_within : (bound first n : ℕ) (calls : List AnyCall) → map (λ call. call.no) calls ≡ numbers_from first n → first + n ≤ bound + 1
+pub counted_within : (bound first n : ℕ) (calls : List AnyCall) → map (λ call. call.no) calls ≡ numbers_from first n
+    → first + n ≤ bound + 1
     → NumbersWithin bound calls
 counted_within bound first n [] counted within = tt
 counted_within bound first zero (call ∷ calls) counted within = absurd cc
@@ -50,7 +51,8 @@ within_behind bound (x ∷ xs) ys within = within_behind bound xs ys within.1
 itself : (n : ℕ) → n == n ≡ true
 itself n = grind (arith, nat_tests)
 
-pub numbers_shown : (on : StrNo) (calls : List AnyCall) → numbers_on on (map (λ call. shown.Call on call.no) calls) ≡ map (λ call. call.no) calls
+pub numbers_shown : (on : StrNo) (calls : List AnyCall) → numbers_on on (map (λ call. shown.Call on call.no) calls) ≡
+    map (λ call. call.no) calls
 numbers_shown on [] = refl
 numbers_shown on (call ∷ calls) = rw (itself on.0) (ap (λ (t : List ℕ). call.no ∷ t) (numbers_shown on calls))
 
@@ -59,18 +61,22 @@ pub numbers_elsewhere : (on other : StrNo) (calls : List AnyCall) → on.0 == ot
 numbers_elsewhere on other [] apart = refl
 numbers_elsewhere on other (call ∷ calls) apart = rw apart (numbers_elsewhere on other calls apart)
 
-pub items_shown : (forms : List StrForm) (histories : List AnyHistory) (by : ConnId) (on : StrNo) (before : List Shown) (calls : List AnyCall)
-    → NumbersWithin (length_on histories on) calls → AreItems forms histories by before (map (λ call. shown.Call on call.no) calls)
+pub items_shown : (forms : List StrForm) (histories : List AnyHistory) (by : ConnId) (on : StrNo)
+    (before : List Shown) (calls : List AnyCall)
+    → NumbersWithin (length_on histories on) calls → AreItems forms histories by before
+    (map (λ call. shown.Call on call.no) calls)
 items_shown forms histories by on before [] within = tt
 items_shown forms histories by on before (call ∷ calls) within =
     (within.0, items_shown forms histories by on (before ++ shown.Call on call.no ∷ []) calls within.1)
 
-abbrev pub steps_change : (limit : ℕ) (forms : List StrForm) (form : StrForm) (line : Option AnyAsk) (by : ConnId) (on : StrNo) (now : Step)
+abbrev pub steps_change : (limit : ℕ) (forms : List StrForm) (form : StrForm) (line : Option AnyAsk) (by : ConnId)
+    (on : StrNo) (now : Step)
     (entries : AnyHistory) (items : List Shown) (run run' : Run) → IsAt run by on entries items
     → AreSteps limit form line by on now entries items run run' → IsChange forms form by on entries items run run'
 steps_change limit forms form line by on now entries items run run' at steps =
     let there : slice_get run'.histories on.0 ≡ Some steps.later =
-    ap (λ (t : List AnyHistory). slice_get t on.0) steps.histories ∙ get-set_same run.histories on.0 entries steps.later at.there in
+    ap (λ (t : List AnyHistory). slice_get t on.0) steps.histories ∙ get-set_same run.histories on.0 entries
+    steps.later at.there in
     let within : NumbersWithin (any_length steps.later) steps.more =
     within_behind (any_length steps.later) (any_calls entries) steps.more
     (subst (NumbersWithin (any_length steps.later)) steps.calls
@@ -95,7 +101,8 @@ steps_change limit forms form line by on now entries items run run' at steps =
       numbers = ap (numbers_on on) steps.shown ∙ numbers_shown on steps.more;
       elsewhere = λ other apart. ap (numbers_on other) steps.shown ∙ numbers_elsewhere on other steps.more apart;
       shows = subst (AreItems forms run'.histories by items) (sym steps.shown)
-          (items_shown forms run'.histories by on items steps.more (subst (λ (n : ℕ). NumbersWithin n steps.more) (sym bound) within));
+          (items_shown forms run'.histories by on items steps.more (subst (λ (n : ℕ). NumbersWithin n steps.more)
+          (sym bound) within));
     }
 
 -- ---- one item that is no call is a change
@@ -107,10 +114,12 @@ IsNoCall on item = (other : StrNo) → number_on other item ≡ None
 abbrev pub with_item : ConnId → Shown → List ℕ → Run → Run
 with_item by item posted run = shown_to by item (record run { posted = posted })
 
-abbrev one_item : (forms : List StrForm) (form : StrForm) (by : ConnId) (on : StrNo) (entries : AnyHistory) (items : List Shown) (run : Run)
+abbrev one_item : (forms : List StrForm) (form : StrForm) (by : ConnId) (on : StrNo) (entries : AnyHistory)
+    (items : List Shown) (run : Run)
     (item : Shown) (posted : List ℕ) → IsAt run by on entries items → IsHistory form entries → IsNoCall on item
     → ((other : StrNo) → IsPosted run.posted run.histories posted other)
-    → IsItem forms run.histories by items item → IsChange forms form by on entries items run (with_item by item posted run)
+    → IsItem forms run.histories by items item → IsChange forms form by on entries items run
+    (with_item by item posted run)
 one_item forms form by on entries items run item posted at kept no_call notes is =
     let was : transcript_of run by ≡ record { items = items; end = ended.Done } = ap transcript_at at.caller in
     record {
@@ -133,13 +142,15 @@ one_item forms form by on entries items run item posted at kept no_call notes is
       shows = (is, tt);
     }
 
-module _ (forms : List StrForm) (form : StrForm) (by : ConnId) (on : StrNo) (entries : AnyHistory) (items : List Shown) (run : Run)
+module _ (forms : List StrForm) (form : StrForm) (by : ConnId) (on : StrNo) (entries : AnyHistory)
+    (items : List Shown) (run : Run)
     (at : IsAt run by on entries items) (known : slice_get forms on.0 ≡ Some form) (kept : IsHistory form entries)
     (are : AreItems forms run.histories by [] items) where
   reached : length_on run.histories on ≡ any_length entries
   reached = rw at.there refl
 
-  bit_now : (index : ℕ) → StoodBit form entries by on items (any_length entries) index (any_stands form entries by index)
+  bit_now : (index : ℕ) → StoodBit form entries by on items (any_length entries) index
+      (any_stands form entries by index)
   bit_now index =
       record {
         stood = stood_now form entries by index kept.counted;
@@ -150,7 +161,8 @@ module _ (forms : List StrForm) (form : StrForm) (by : ConnId) (on : StrNo) (ent
   -- a change that shows one item
   abbrev pub ShowsOne : List ℕ → Shown → Type 0
   ShowsOne posted item =
-      (change : IsChange forms form by on entries items run (with_item by item posted run)) × (change.part ≡ item ∷ [])
+      (change : IsChange forms form by on entries items run (with_item by item posted run))
+      × (change.part ≡ item ∷ [])
       × (change.end ≡ ended.Done)
 
   -- an item that is no call, where what was posted stays
@@ -168,7 +180,8 @@ module _ (forms : List StrForm) (form : StrForm) (by : ConnId) (on : StrNo) (ent
   -- a POST
   pub post_change : ShowsOne (set run.posted on.0 number) (shown.Posted on number)
   post_change = (
-    one_item forms form by on entries items run (shown.Posted on number) (set run.posted on.0 number) at kept (λ other. refl)
+    one_item forms form by on entries items run (shown.Posted on number) (set run.posted on.0 number) at kept
+        (λ other. refl)
         (λ other. posted_now other (on.0 == other.0) refl) (surest_seen on items, number_reached),
     refl,
     refl,
@@ -182,7 +195,8 @@ module _ (forms : List StrForm) (form : StrForm) (by : ConnId) (on : StrNo) (ent
           set_most run.posted on.0 number (length_on run.histories on) number_reached in
           inr (subst (λ (n : ℕ). (let place : StrNo = record { 0 = n } in
           slice_index (set run.posted on.0 number) n ≤ length_on run.histories place)) is here)
-      posted_now other false apart = inl (get_or-set_other run.posted on.0 other.0 number 0 (other_number on.0 other.0 apart))
+      posted_now other false apart = inl (get_or-set_other run.posted on.0 other.0 number 0
+          (other_number on.0 other.0 apart))
 
   -- a TAKE
   pub take_change : slice_index run.posted on.0 ≤ length_on run.histories on
@@ -198,13 +212,21 @@ module _ (forms : List StrForm) (form : StrForm) (by : ConnId) (on : StrNo) (ent
       by_test true inside =
           rw inside
           (one_shown _ (λ other. refl)
-          (record { form = form; entries = entries; known = known; there = at.there; within = omega (arith, reached); stood = bit_now index }))
+          (record {
+            form = form;
+            entries = entries;
+            known = known;
+            there = at.there;
+            within = omega (arith, reached);
+            stood = bit_now index;
+          }))
       by_test false outside = rw outside (one_shown _ (λ other. refl) tt)
 
   pub word_change : (word : ℕ) → ShowsOne run.posted (word_shown form on word by entries)
   word_change word = by_test (nat_lt (32 * word) form.vector) refl
     where
-      by_test : (b : Bool) → nat_lt (32 * word) form.vector ≡ b → ShowsOne run.posted (word_shown form on word by entries)
+      by_test : (b : Bool) → nat_lt (32 * word) form.vector ≡ b → ShowsOne run.posted
+          (word_shown form on word by entries)
       by_test true inside =
           rw inside
           (one_shown _ (λ other. refl)
@@ -223,7 +245,8 @@ module _ (forms : List StrForm) (form : StrForm) (by : ConnId) (on : StrNo) (ent
 -- ---- every caller after a change
 
 -- a run whose callers are each as P says
-pub record IsRunOf (script : Script) (P : List AnyHistory → ConnId → List Shown → AgentEnd → Type 0) (run : Run) : Type 0 where
+pub record IsRunOf (script : Script) (P : List AnyHistory → ConnId → List Shown → AgentEnd → Type 0) (run : Run) :
+    Type 0 where
   pub structures : length run.histories ≡ length script.structures
   pub kept : (on : StrNo) (form : StrForm) (entries : AnyHistory) → slice_get script.structures on.0 ≡ Some form
       → slice_get run.histories on.0 ≡ Some entries → IsHistory form entries
@@ -233,13 +256,15 @@ pub record IsRunOf (script : Script) (P : List AnyHistory → ConnId → List Sh
   pub each : (conn : ConnId) (transcript : Transcript) → slice_get run.transcripts conn.0 ≡ Some transcript
       → P run.histories conn transcript.items transcript.end
   pub posted : (on : StrNo) → slice_index run.posted on.0 ≤ length_on run.histories on
-  pub numbers : (conn : ConnId) (transcript : Transcript) → slice_get run.transcripts conn.0 ≡ Some transcript → (on : StrNo)
+  pub numbers : (conn : ConnId) (transcript : Transcript) → slice_get run.transcripts conn.0 ≡ Some transcript
+      → (on : StrNo)
       → numbers_on on transcript.items ≡ map (λ call. call.no) (own_calls (calls_on run.histories on) conn)
   pub shows : (conn : ConnId) (transcript : Transcript) → slice_get run.transcripts conn.0 ≡ Some transcript
       → AreItems script.structures run.histories conn [] transcript.items
 
 -- after a change by one caller, who is then as Q says; of the others Q follows from P
-module _ (script : Script) (P Q : List AnyHistory → ConnId → List Shown → AgentEnd → Type 0) (form : StrForm) (by : ConnId) (on : StrNo)
+module _ (script : Script) (P Q : List AnyHistory → ConnId → List Shown → AgentEnd → Type 0) (form : StrForm)
+    (by : ConnId) (on : StrNo)
     (entries : AnyHistory) (items : List Shown) (run run' : Run) (was : IsRunOf script P run)
     (change : IsChange script.structures form by on entries items run run') (at : IsAt run by on entries items)
     (known : slice_get script.structures on.0 ≡ Some form) where
@@ -247,9 +272,11 @@ module _ (script : Script) (P Q : List AnyHistory → ConnId → List Shown → 
       → slice_get run'.transcripts conn.0 ≡ Some (record { items = items ++ change.part; end = change.end })
   caller_now conn same =
       let is : by.0 ≡ conn.0 = same_number by.0 conn.0 same in
-      rw (← is) (ap (λ (t : List Transcript). slice_get t by.0) change.transcripts ∙ get-set_same run.transcripts by.0 _ _ at.caller)
+      rw (← is) (ap (λ (t : List Transcript). slice_get t by.0) change.transcripts ∙ get-set_same run.transcripts by.0
+      _ _ at.caller)
 
-  caller_before : (conn : ConnId) → by.0 == conn.0 ≡ false → slice_get run'.transcripts conn.0 ≡ slice_get run.transcripts conn.0
+  caller_before : (conn : ConnId) → by.0 == conn.0 ≡ false → slice_get run'.transcripts conn.0 ≡ slice_get
+      run.transcripts conn.0
   caller_before conn apart =
       ap (λ (t : List Transcript). slice_get t conn.0) change.transcripts
       ∙ get-set_other run.transcripts by.0 conn.0 _ (other_number by.0 conn.0 apart)
@@ -265,20 +292,24 @@ module _ (script : Script) (P Q : List AnyHistory → ConnId → List Shown → 
   run_changed mine others =
       record {
         structures = ap length change.histories ∙ length-set run.histories on.0 change.later ∙ was.structures;
-        kept = λ other form' entries' known' there. change_history script.structures form by on entries items run run' change at known other form' entries'
+        kept = λ other form' entries' known' there. change_history script.structures form by on entries items run run'
+            change at known other form' entries'
             (λ old there'. was.kept other form' old known' there') known' there;
         callers = λ other entries' there. by_place other entries' there (on.0 == other.0) refl;
         transcripts = ap length change.transcripts ∙ length-set run.transcripts by.0 _ ∙ was.transcripts;
         each = λ conn transcript shown'. each_one conn transcript shown' (by.0 == conn.0) refl;
-        posted = λ other. change_posted script.structures form by on entries items run run' change at known other (was.posted other);
+        posted = λ other. change_posted script.structures form by on entries items run run' change at known other
+            (was.posted other);
         numbers = λ conn transcript shown' other. numbers_one conn transcript shown' other (by.0 == conn.0) refl;
         shows = λ conn transcript shown'. shows_one conn transcript shown' (by.0 == conn.0) refl;
       }
     where
-      by_place : (other : StrNo) (entries' : AnyHistory) → slice_get run'.histories other.0 ≡ Some entries' → (b : Bool) → on.0 == other.0 ≡ b
+      by_place : (other : StrNo) (entries' : AnyHistory) → slice_get run'.histories other.0 ≡ Some entries'
+          → (b : Bool) → on.0 == other.0 ≡ b
           → All (λ call. call.by.0 ≤ length script.connectors) (any_calls entries')
       by_place other entries' there true same =
-          let now : slice_get run'.histories other.0 ≡ Some change.later = there_later script.structures form by on entries items run run' change at known other same in
+          let now : slice_get run'.histories other.0 ≡ Some change.later = there_later script.structures form by on
+          entries items run run' change at known other same in
           let is : change.later ≡ entries' = cc in
           subst (λ (h : AnyHistory). All (λ (call : AnyCall). call.by.0 ≤ length script.connectors) (any_calls h)) is
           (subst (All (λ (call : AnyCall). call.by.0 ≤ length script.connectors)) (sym change.calls)
@@ -286,43 +317,55 @@ module _ (script : Script) (P Q : List AnyHistory → ConnId → List Shown → 
           (was.callers on entries at.there) (change.callers (length script.connectors) within)))
       by_place other entries' there false apart =
           was.callers other entries'
-          (sym (elsewhere_same script.structures form by on entries items run run' change at known other apart) ∙ there)
+          (sym (elsewhere_same script.structures form by on entries items run run' change at known other apart)
+          ∙ there)
 
-      each_one : (conn : ConnId) (transcript : Transcript) → slice_get run'.transcripts conn.0 ≡ Some transcript → (b : Bool) → by.0 == conn.0 ≡ b
+      each_one : (conn : ConnId) (transcript : Transcript) → slice_get run'.transcripts conn.0 ≡ Some transcript
+          → (b : Bool) → by.0 == conn.0 ≡ b
           → Q run'.histories conn transcript.items transcript.end
       each_one conn transcript shown' true same =
           let now = caller_now conn same in
           let is : record { items = items ++ change.part; end = change.end } ≡ transcript = cc in
           let who : by.0 ≡ conn.0 = same_number by.0 conn.0 same in
-          subst (λ (n : ℕ). (let it : ConnId = record { 0 = n } in Q run'.histories it transcript.items transcript.end)) who
+          subst (λ (n : ℕ). (let it : ConnId = record { 0 = n } in Q run'.histories it transcript.items
+          transcript.end)) who
           (subst (λ (t : Transcript). Q run'.histories by t.items t.end) is mine)
       each_one conn transcript shown' false apart =
-          others conn transcript.items transcript.end apart (was.numbers conn transcript (sym (caller_before conn apart) ∙ shown'))
+          others conn transcript.items transcript.end apart
+          (was.numbers conn transcript (sym (caller_before conn apart) ∙ shown'))
           (was.each conn transcript (sym (caller_before conn apart) ∙ shown'))
 
-      numbers_one : (conn : ConnId) (transcript : Transcript) → slice_get run'.transcripts conn.0 ≡ Some transcript → (other : StrNo) → (b : Bool)
+      numbers_one : (conn : ConnId) (transcript : Transcript) → slice_get run'.transcripts conn.0 ≡ Some transcript
+          → (other : StrNo) → (b : Bool)
           → by.0 == conn.0 ≡ b
           → numbers_on other transcript.items ≡ map (λ call. call.no) (own_calls (calls_on run'.histories other) conn)
       numbers_one conn transcript shown' other true same =
           let now = caller_now conn same in
           let is : record { items = items ++ change.part; end = change.end } ≡ transcript = cc in
           let who : by.0 ≡ conn.0 = same_number by.0 conn.0 same in
-          subst (λ (n : ℕ). numbers_on other transcript.items ≡ map (λ (call : AnyCall). call.no) (filter (λ (call : AnyCall). call.by.0 == n) (calls_on run'.histories other))) who
-          (subst (λ (t : Transcript). numbers_on other t.items ≡ map (λ (call : AnyCall). call.no) (own_calls (calls_on run'.histories other) by)) is
-          (change_numbers_by script.structures form by on entries items run run' change at known other (was.numbers by _ at.caller other)))
+          subst (λ (n : ℕ). numbers_on other transcript.items ≡ map (λ (call : AnyCall). call.no)
+          (filter (λ (call : AnyCall). call.by.0 == n) (calls_on run'.histories other))) who
+          (subst (λ (t : Transcript). numbers_on other t.items ≡ map (λ (call : AnyCall). call.no)
+          (own_calls (calls_on run'.histories other) by)) is
+          (change_numbers_by script.structures form by on entries items run run' change at known other
+          (was.numbers by _ at.caller other)))
       numbers_one conn transcript shown' other false apart =
-          change_numbers_other script.structures form by on entries items run run' change at known conn other transcript.items apart
+          change_numbers_other script.structures form by on entries items run run' change at known conn other
+          transcript.items apart
           (was.numbers conn transcript (sym (caller_before conn apart) ∙ shown') other)
 
-      shows_one : (conn : ConnId) (transcript : Transcript) → slice_get run'.transcripts conn.0 ≡ Some transcript → (b : Bool) → by.0 == conn.0 ≡ b
+      shows_one : (conn : ConnId) (transcript : Transcript) → slice_get run'.transcripts conn.0 ≡ Some transcript
+          → (b : Bool) → by.0 == conn.0 ≡ b
           → AreItems script.structures run'.histories conn [] transcript.items
       shows_one conn transcript shown' true same =
           let now = caller_now conn same in
           let is : record { items = items ++ change.part; end = change.end } ≡ transcript = cc in
           let who : by.0 ≡ conn.0 = same_number by.0 conn.0 same in
-          subst (λ (n : ℕ). (let it : ConnId = record { 0 = n } in AreItems script.structures run'.histories it [] transcript.items)) who
+          subst (λ (n : ℕ). (let it : ConnId = record { 0 = n } in AreItems script.structures run'.histories it
+          [] transcript.items)) who
           (subst (λ (t : Transcript). AreItems script.structures run'.histories by [] t.items) is
-          (change_items_by script.structures form by on entries items run run' change at known (was.shows by _ at.caller)))
+          (change_items_by script.structures form by on entries items run run' change at known
+          (was.shows by _ at.caller)))
       shows_one conn transcript shown' false apart =
           items_later script.structures run.histories run'.histories conn [] transcript.items
           (change_later script.structures form by on entries items run run' change at known)

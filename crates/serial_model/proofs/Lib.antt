@@ -1,5 +1,4 @@
 pub mod Fronts
-pub mod Tables
 pub mod Steps
 pub mod Items
 pub mod Changes

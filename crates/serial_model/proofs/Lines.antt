@@ -16,25 +16,26 @@ use Rattle.plex_script.specs.declared.transcripts.AgentEnd.TheVariants as ended
 use Rattle.plex_script.specs.declared.transcripts.Shown.{Shown}
 use Rattle.plex_script.specs.declared.transcripts.Shown.TheVariants as shown
 use Rattle.plex_script.specs.declared.transcripts.Transcript.{Transcript}
-use Rattle.plex_script.specs.Agent.{first_step, most_asks, call_of}
+use Rattle.plex_script.specs.Agent.{first_step, most_asks, call_of, IsReady}
 use Rattle.plex_script.specs.Heard.{AnyCall, any_calls, own_calls, calls_on, length_on}
 use Rattle.plex_script.specs.Follows.{RunsUpTo, ShowsAct, ShowsTest, ShowsWord, ShowsLines, numbers_on}
 use Rattle.serial_model.specs.Numbers.{seen_on}
 use Rattle.serial_model.specs.Serial.{Run, transcript_at, number_of, is_done, is_done_as, all_steps_made, act_made, after_line, test_shown, word_shown}
 use Rattle.any_model.proofs.Histories.{IsHistory}
 use Rattle.serial_model.specs.Runnable.{IsRunnableAct, IsRunnableLine}
-use Rattle.serial_model.proofs.Steps.{IsAt, AreSteps, EndsAs, IsReady, IsLineOf, steps_are}
+use Rattle.serial_model.proofs.Steps.{IsAt, AreSteps, EndsAs, IsLineOf, steps_are}
 use Rattle.serial_model.proofs.Fronts.{AreFronts, runs_up_to_front, shows_lines_front, shows_lines_more}
 use Rattle.serial_model.proofs.Items.{AreLater}
 use Rattle.serial_model.proofs.Changes.{IsChange, change_fronts, change_later, same_number}
 use Rattle.serial_model.proofs.Callers.{IsRunOf, with_item, steps_change, test_change, word_change, post_change, take_change, run_changed, ShowsOne}
-use Rattle.serial_model.proofs.Tables.{get-set_same}
+use Rattle.list_laws.proofs.TableLaws.{get-set_same}
 
 abbrev pub own_lines : ConnId → List Line → List Line
 own_lines conn lines = filter (λ line. line.by.0 == conn.0) lines
 
 -- among its lines a caller stopped before a call on a structure whose journal is full
-pub record StoppedIn (limit : ℕ) (forms : List StrForm) (histories : List AnyHistory) (lines : List Line) (conn : ConnId) (items : List Shown)
+pub record StoppedIn (limit : ℕ) (forms : List StrForm) (histories : List AnyHistory) (lines : List Line)
+    (conn : ConnId) (items : List Shown)
     (on : StrNo) : Type 0 where
   pub before : List Line
   pub line : Line
@@ -47,17 +48,21 @@ pub record StoppedIn (limit : ℕ) (forms : List StrForm) (histories : List AnyH
   pub last : List Shown
   pub shows : items ≡ during ++ last
   pub played : ShowsLines forms histories before during
-  pub stopped : RunsUpTo form.kind (call_of line.act) (calls_on histories on) conn on (first_step line.act line.retry) last
+  pub stopped : RunsUpTo form.kind (call_of line.act) (calls_on histories on) conn on (first_step line.act line.retry)
+      last
   pub full : limit ≤ length_on histories on
 
 -- how far a caller has come, when these lines were done
 abbrev pub IsPlayed : ℕ → List StrForm → List Line → List AnyHistory → ConnId → List Shown → AgentEnd → Type 0
 IsPlayed limit forms lines histories conn items ended.Done = ShowsLines forms histories (own_lines conn lines) items
-IsPlayed limit forms lines histories conn items (ended.JournalFull on) = StoppedIn limit forms histories (own_lines conn lines) conn items on
+IsPlayed limit forms lines histories conn items (ended.JournalFull on) = StoppedIn limit forms histories
+    (own_lines conn lines) conn items on
 IsPlayed limit forms lines histories conn items ended.NoMemory = ⊥
 
-pub stopped_later : (limit : ℕ) (forms : List StrForm) (histories later : List AnyHistory) (lines : List Line) (conn : ConnId) (items : List Shown)
-    (on : StrNo) → AreFronts histories later → AreLater forms histories later → StoppedIn limit forms histories lines conn items on
+pub stopped_later : (limit : ℕ) (forms : List StrForm) (histories later : List AnyHistory) (lines : List Line)
+    (conn : ConnId) (items : List Shown)
+    (on : StrNo) → AreFronts histories later → AreLater forms histories later → StoppedIn limit forms histories lines
+    conn items on
     → StoppedIn limit forms later lines conn items on
 stopped_later limit forms histories later lines conn items on fronts grows is =
     record {
@@ -76,39 +81,51 @@ stopped_later limit forms histories later lines conn items on fronts grows is =
       full = omega (arith, grows.longer on, is.full);
     }
 
-pub played_later : (limit : ℕ) (forms : List StrForm) (histories later : List AnyHistory) (lines : List Line) (conn : ConnId) (items : List Shown)
-    (end : AgentEnd) → AreFronts histories later → AreLater forms histories later → IsPlayed limit forms lines histories conn items end
+pub played_later : (limit : ℕ) (forms : List StrForm) (histories later : List AnyHistory) (lines : List Line)
+    (conn : ConnId) (items : List Shown)
+    (end : AgentEnd) → AreFronts histories later → AreLater forms histories later
+    → IsPlayed limit forms lines histories conn items end
     → IsPlayed limit forms lines later conn items end
-played_later limit forms histories later lines conn items ended.Done fronts grows is = shows_lines_front forms histories later (own_lines conn lines) items fronts is
+played_later limit forms histories later lines conn items ended.Done fronts grows is = shows_lines_front forms
+    histories later (own_lines conn lines) items fronts is
 played_later limit forms histories later lines conn items (ended.JournalFull on) fronts grows is =
     stopped_later limit forms histories later (own_lines conn lines) conn items on fronts grows is
 played_later limit forms histories later lines conn items ended.NoMemory fronts grows is = absurd is
 
 -- one line more of another caller
-own_lines_other : (conn : ConnId) (lines : List Line) (line : Line) → line.by.0 == conn.0 ≡ false → own_lines conn (lines ++ line ∷ []) ≡ own_lines conn lines
+own_lines_other : (conn : ConnId) (lines : List Line) (line : Line) → line.by.0 == conn.0 ≡ false
+    → own_lines conn (lines ++ line ∷ []) ≡ own_lines conn lines
 own_lines_other conn lines line apart =
-    filter-append (λ (line : Line). line.by.0 == conn.0) lines (line ∷ []) ∙ rw apart (append-nil (own_lines conn lines))
+    filter-append (λ (line : Line). line.by.0 == conn.0) lines (line ∷ [])
+    ∙ rw apart (append-nil (own_lines conn lines))
 
 own_lines_same : (conn : ConnId) (lines : List Line) (line : Line) → line.by.0 == conn.0 ≡ true
     → own_lines conn (lines ++ line ∷ []) ≡ own_lines conn lines ++ line ∷ []
-own_lines_same conn lines line same = filter-append (λ (line : Line). line.by.0 == conn.0) lines (line ∷ []) ∙ rw same refl
+own_lines_same conn lines line same = filter-append (λ (line : Line). line.by.0 == conn.0) lines (line ∷ [])
+    ∙ rw same refl
 
-played_other : (limit : ℕ) (forms : List StrForm) (lines : List Line) (line : Line) (histories : List AnyHistory) (conn : ConnId) (items : List Shown)
+played_other : (limit : ℕ) (forms : List StrForm) (lines : List Line) (line : Line) (histories : List AnyHistory)
+    (conn : ConnId) (items : List Shown)
     (end : AgentEnd) → line.by.0 == conn.0 ≡ false → IsPlayed limit forms lines histories conn items end
     → IsPlayed limit forms (lines ++ line ∷ []) histories conn items end
-played_other limit forms lines line histories conn items ended.Done apart is = rw (own_lines_other conn lines line apart) is
-played_other limit forms lines line histories conn items (ended.JournalFull on) apart is = rw (own_lines_other conn lines line apart) is
+played_other limit forms lines line histories conn items ended.Done apart is = rw
+    (own_lines_other conn lines line apart) is
+played_other limit forms lines line histories conn items (ended.JournalFull on) apart is = rw
+    (own_lines_other conn lines line apart) is
 played_other limit forms lines line histories conn items ended.NoMemory apart is = is
 
 -- one line more of a caller that stopped before
-stopped_more : (limit : ℕ) (forms : List StrForm) (histories : List AnyHistory) (lines : List Line) (line : Line) (conn : ConnId) (items : List Shown)
-    (on : StrNo) → StoppedIn limit forms histories lines conn items on → StoppedIn limit forms histories (lines ++ line ∷ []) conn items on
+stopped_more : (limit : ℕ) (forms : List StrForm) (histories : List AnyHistory) (lines : List Line) (line : Line)
+    (conn : ConnId) (items : List Shown)
+    (on : StrNo) → StoppedIn limit forms histories lines conn items on → StoppedIn limit forms histories
+    (lines ++ line ∷ []) conn items on
 stopped_more limit forms histories lines line conn items on is =
     record {
       before = is.before;
       line = is.line;
       later = is.later ++ line ∷ [];
-      split = ap (λ (t : List Line). t ++ line ∷ []) is.split ∙ append_assoc is.before (is.line ∷ is.later) (line ∷ []);
+      split = ap (λ (t : List Line). t ++ line ∷ []) is.split ∙ append_assoc is.before (is.line ∷ is.later)
+          (line ∷ []);
       there = is.there;
       form = is.form;
       known = is.known;
@@ -126,7 +143,8 @@ itself : (n : ℕ) → n == n ≡ true
 itself n = grind (arith, nat_tests)
 
 -- a run that doesn't change
-pub run_same : (script : Script) (P Q : List AnyHistory → ConnId → List Shown → AgentEnd → Type 0) (run : Run) → IsRunOf script P run
+pub run_same : (script : Script) (P Q : List AnyHistory → ConnId → List Shown → AgentEnd → Type 0) (run : Run)
+    → IsRunOf script P run
     → ((conn : ConnId) (transcript : Transcript) → slice_get run.transcripts conn.0 ≡ Some transcript
     → P run.histories conn transcript.items transcript.end → Q run.histories conn transcript.items transcript.end)
     → IsRunOf script Q run
@@ -149,7 +167,8 @@ get_within (x ∷ xs) zero within = (x, refl)
 get_within (x ∷ xs) (suc i) within = get_within xs i (omega arith)
 
 module _ (limit : ℕ) (script : Script) (lines : List Line) (line : Line) (form : StrForm) (run : Run)
-    (was : IsRunOf script (IsPlayed limit script.structures lines) run) (known : slice_get script.structures line.on.0 ≡ Some form)
+    (was : IsRunOf script (IsPlayed limit script.structures lines) run) (known : slice_get script.structures line.on.0
+    ≡ Some form)
     (entries : AnyHistory) (items : List Shown) (at : IsAt run line.by line.on entries items) where
   kept : IsHistory form entries
   kept = was.kept line.on form entries known at.there
@@ -167,9 +186,11 @@ module _ (limit : ℕ) (script : Script) (lines : List Line) (line : Line) (form
   done_now run' part fronts shows =
       rw (own_lines_same line.by lines line (itself line.by.0))
       (shows_lines_more script.structures run'.histories (own_lines line.by lines) line form items part
-      (shows_lines_front script.structures run.histories run'.histories (own_lines line.by lines) items fronts played) known shows)
+      (shows_lines_front script.structures run.histories run'.histories (own_lines line.by lines) items fronts played)
+      known shows)
 
-  others : (run' : Run) → IsChange script.structures form line.by line.on entries items run run' → (conn : ConnId) (shows : List Shown) (end : AgentEnd)
+  others : (run' : Run) → IsChange script.structures form line.by line.on entries items run run'
+      → (conn : ConnId) (shows : List Shown) (end : AgentEnd)
       → line.by.0 == conn.0 ≡ false
       → ((on : StrNo) → numbers_on on shows ≡ map (λ call. call.no) (own_calls (calls_on run.histories on) conn))
       → IsPlayed limit script.structures lines run.histories conn shows end
@@ -181,20 +202,26 @@ module _ (limit : ℕ) (script : Script) (lines : List Line) (line : Line) (form
       (change_later script.structures form line.by line.on entries items run run' change at known) is)
 
   -- calls
-  ends_now : (run' : Run) (steps : AreSteps limit form (call_of line.act) line.by line.on (first_step line.act line.retry) entries items run run')
+  ends_now : (run' : Run) (steps : AreSteps limit form (call_of line.act) line.by line.on
+      (first_step line.act line.retry) entries items run run')
       (change : IsChange script.structures form line.by line.on entries items run run') → (end : AgentEnd)
-      → ((part : List Shown) (calls : List AnyCall) → EndsAs limit form.kind (call_of line.act) line.by line.on (first_step line.act line.retry) steps.later part ended.Done
+      → ((part : List Shown) (calls : List AnyCall) → EndsAs limit form.kind (call_of line.act) line.by line.on
+      (first_step line.act line.retry) steps.later part ended.Done
       → calls ≡ any_calls steps.later → ShowsAct form calls line.by line.on line.retry line.act part)
-      → EndsAs limit form.kind (call_of line.act) line.by line.on (first_step line.act line.retry) steps.later steps.part end
+      → EndsAs limit form.kind (call_of line.act) line.by line.on (first_step line.act line.retry) steps.later
+      steps.part end
       → IsPlayedNow run'.histories (items ++ steps.part) end
   ends_now run' steps change ended.Done shows ends =
       let there : slice_get run'.histories line.on.0 ≡ Some steps.later =
-      ap (λ (t : List AnyHistory). slice_get t line.on.0) steps.histories ∙ get-set_same run.histories line.on.0 entries steps.later at.there in
-      done_now run' steps.part (change_fronts script.structures form line.by line.on entries items run run' change at known)
+      ap (λ (t : List AnyHistory). slice_get t line.on.0) steps.histories ∙ get-set_same run.histories line.on.0
+      entries steps.later at.there in
+      done_now run' steps.part (change_fronts script.structures form line.by line.on entries items run run' change at
+      known)
       (shows steps.part (calls_on run'.histories line.on) ends (rw there refl))
   ends_now run' steps change (ended.JournalFull place) shows (here, runs, full) =
       let there : slice_get run'.histories line.on.0 ≡ Some steps.later =
-      ap (λ (t : List AnyHistory). slice_get t line.on.0) steps.histories ∙ get-set_same run.histories line.on.0 entries steps.later at.there in
+      ap (λ (t : List AnyHistory). slice_get t line.on.0) steps.histories ∙ get-set_same run.histories line.on.0
+      entries steps.later at.there in
       rw here
       (record {
         before = own_lines line.by lines;
@@ -216,33 +243,44 @@ module _ (limit : ℕ) (script : Script) (lines : List Line) (line : Line) (form
 
   calls_run : IsLineOf form.kind (call_of line.act) → IsReady (call_of line.act) (first_step line.act line.retry)
       → ((histories : List AnyHistory) (part : List Shown) (entries' : AnyHistory)
-      → EndsAs limit form.kind (call_of line.act) line.by line.on (first_step line.act line.retry) entries' part ended.Done
-      → (calls : List AnyCall) → calls ≡ any_calls entries' → ShowsAct form calls line.by line.on line.retry line.act part)
+      → EndsAs limit form.kind (call_of line.act) line.by line.on (first_step line.act line.retry) entries' part
+      ended.Done
+      → (calls : List AnyCall) → calls ≡ any_calls entries' → ShowsAct form calls line.by line.on line.retry line.act
+      part)
       → IsRunOf script (IsPlayed limit script.structures (lines ++ line ∷ []))
       (all_steps_made limit form (call_of line.act) line.by line.on (first_step line.act line.retry) run)
   calls_run of_kind ready shows =
-      let run' : Run = all_steps_made limit form (call_of line.act) line.by line.on (first_step line.act line.retry) run in
-      let steps : AreSteps limit form (call_of line.act) line.by line.on (first_step line.act line.retry) entries items run run' =
+      let run' : Run = all_steps_made limit form (call_of line.act) line.by line.on (first_step line.act line.retry)
+      run in
+      let steps : AreSteps limit form (call_of line.act) line.by line.on (first_step line.act line.retry) entries
+      items run run' =
       steps_are limit (most_asks (first_step line.act line.retry)) form (call_of line.act) line.by line.on of_kind
       (first_step line.act line.retry) entries items run at kept ready (omega arith) in
       let change : IsChange script.structures form line.by line.on entries items run run' =
-      steps_change limit script.structures form (call_of line.act) line.by line.on (first_step line.act line.retry) entries items run run' at steps in
-      run_changed script (IsPlayed limit script.structures lines) (IsPlayed limit script.structures (lines ++ line ∷ [])) form line.by line.on entries items
-      run run' was (steps_change limit script.structures form (call_of line.act) line.by line.on (first_step line.act line.retry) entries items run run' at steps)
+      steps_change limit script.structures form (call_of line.act) line.by line.on (first_step line.act line.retry)
+      entries items run run' at steps in
+      run_changed script (IsPlayed limit script.structures lines) (IsPlayed limit script.structures
+      (lines ++ line ∷ [])) form line.by line.on entries items
+      run run' was (steps_change limit script.structures form (call_of line.act) line.by line.on
+      (first_step line.act line.retry) entries items run run' at steps)
       at known
-      (ends_now run' steps change steps.end (λ part calls ends e. shows run'.histories part steps.later ends calls e) steps.ends)
+      (ends_now run' steps change steps.end (λ part calls ends e. shows run'.histories part steps.later ends calls e)
+      steps.ends)
       (others run' change)
 
   shows_run : (posted : List ℕ) (item : Shown)
-      (one : ShowsOne script.structures form line.by line.on entries items run at known kept (was.shows line.by _ at.caller) posted item)
+      (one : ShowsOne script.structures form line.by line.on entries items run at known kept
+      (was.shows line.by _ at.caller) posted item)
       → ((calls : List AnyCall) → ShowsAct form calls line.by line.on line.retry line.act (item ∷ []))
       → IsRunOf script (IsPlayed limit script.structures (lines ++ line ∷ [])) (with_item line.by item posted run)
   shows_run posted item one shows =
       let run' : Run = with_item line.by item posted run in
-      run_changed script (IsPlayed limit script.structures lines) (IsPlayed limit script.structures (lines ++ line ∷ [])) form line.by line.on entries items
+      run_changed script (IsPlayed limit script.structures lines) (IsPlayed limit script.structures
+      (lines ++ line ∷ [])) form line.by line.on entries items
       run run' was one.0 at known
       (rw (one.1, one.2)
-      (done_now run' (item ∷ []) (change_fronts script.structures form line.by line.on entries items run run' one.0 at known)
+      (done_now run' (item ∷ []) (change_fronts script.structures form line.by line.on entries items run run' one.0 at
+      known)
       (shows (calls_on run'.histories line.on))))
       (others run' one.0)
 
@@ -259,7 +297,8 @@ module _ (limit : ℕ) (script : Script) (lines : List Line) (line : Line) (form
       (calls_run (subst (λ (a : Act). IsLineOf form.kind (call_of a)) (sym is) runnable.0)
       (subst (λ (a : Act). IsReady (call_of a) (first_step a line.retry)) (sym is) tt)
       (λ histories part entries' ends calls e. (
-      subst (λ (a : Act). EndsAs limit form.kind (call_of a) line.by line.on (first_step a line.retry) entries' part ended.Done
+      subst (λ (a : Act). EndsAs limit form.kind (call_of a) line.by line.on (first_step a line.retry) entries' part
+      ended.Done
       → ShowsAct form calls line.by line.on line.retry a part) (sym is) (λ runs. rw e runs) ends)))
   act_run act.Events is runnable =
       subst (λ (a : Act). IsRunOf script (IsPlayed limit script.structures (lines ++ line ∷ []))
@@ -267,12 +306,14 @@ module _ (limit : ℕ) (script : Script) (lines : List Line) (line : Line) (form
       (calls_run (subst (λ (a : Act). IsLineOf form.kind (call_of a)) (sym is) tt)
       (subst (λ (a : Act). IsReady (call_of a) (first_step a line.retry)) (sym is) refl)
       (λ histories part entries' ends calls e. (
-      subst (λ (a : Act). EndsAs limit form.kind (call_of a) line.by line.on (first_step a line.retry) entries' part ended.Done
+      subst (λ (a : Act). EndsAs limit form.kind (call_of a) line.by line.on (first_step a line.retry) entries' part
+      ended.Done
       → ShowsAct form calls line.by line.on line.retry a part) (sym is) (λ runs. rw e runs) ends)))
   act_run (act.Test index) is runnable =
       rw at.there
       (shows_run run.posted (test_shown form line.on index line.by entries)
-      (test_change script.structures form line.by line.on entries items run at known kept (was.shows line.by _ at.caller) index)
+      (test_change script.structures form line.by line.on entries items run at known kept
+      (was.shows line.by _ at.caller) index)
       (λ calls. rw is (shows_test (nat_lt index form.vector) refl)))
     where
       shows_test : (b : Bool) → nat_lt index form.vector ≡ b
@@ -282,7 +323,8 @@ module _ (limit : ℕ) (script : Script) (lines : List Line) (line : Line) (form
   act_run (act.TestWord word) is runnable =
       rw at.there
       (shows_run run.posted (word_shown form line.on word line.by entries)
-      (word_change script.structures form line.by line.on entries items run at known kept (was.shows line.by _ at.caller) word)
+      (word_change script.structures form line.by line.on entries items run at known kept
+      (was.shows line.by _ at.caller) word)
       (λ calls. rw is (shows_word (nat_lt (32 * word) form.vector) refl)))
     where
       shows_word : (b : Bool) → nat_lt (32 * word) form.vector ≡ b
@@ -293,24 +335,29 @@ module _ (limit : ℕ) (script : Script) (lines : List Line) (line : Line) (form
       let number : ℕ = seen_on line.on items in
       rw number_is
       (shows_run (set run.posted line.on.0 number) (shown.Posted line.on number)
-      (post_change script.structures form line.by line.on entries items run at known kept (was.shows line.by _ at.caller))
+      (post_change script.structures form line.by line.on entries items run at known kept
+      (was.shows line.by _ at.caller))
       (λ calls. rw is (number, refl)))
   act_run act.Take is runnable =
       let number : ℕ = max (seen_on line.on items) (slice_index run.posted line.on.0) in
       rw number_is
       (shows_run run.posted (shown.Took line.on number)
-      (take_change script.structures form line.by line.on entries items run at known kept (was.shows line.by _ at.caller) (was.posted line.on))
+      (take_change script.structures form line.by line.on entries items run at known kept
+      (was.shows line.by _ at.caller) (was.posted line.on))
       (λ calls. rw is (number, refl)))
 
 -- a caller that stopped does nothing more
 stopped_still : (limit : ℕ) (script : Script) (lines : List Line) (line : Line) (run : Run) (transcript : Transcript)
-    → IsRunOf script (IsPlayed limit script.structures lines) run → slice_get run.transcripts line.by.0 ≡ Some transcript
+    → IsRunOf script (IsPlayed limit script.structures lines) run → slice_get run.transcripts line.by.0 ≡ Some
+    transcript
     → is_done_as transcript.end ≡ false → IsRunOf script (IsPlayed limit script.structures (lines ++ line ∷ [])) run
 stopped_still limit script lines line run transcript was there stopped =
-    run_same script (IsPlayed limit script.structures lines) (IsPlayed limit script.structures (lines ++ line ∷ [])) run was
+    run_same script (IsPlayed limit script.structures lines) (IsPlayed limit script.structures (lines ++ line ∷ []))
+    run was
     (λ conn other shown' is. by_caller conn other shown' is (line.by.0 == conn.0) refl)
   where
-    by_end : (conn : ConnId) (items : List Shown) (end : AgentEnd) → line.by.0 == conn.0 ≡ true → is_done_as end ≡ false
+    by_end : (conn : ConnId) (items : List Shown) (end : AgentEnd) → line.by.0 == conn.0 ≡ true
+        → is_done_as end ≡ false
         → IsPlayed limit script.structures lines run.histories conn items end
         → IsPlayed limit script.structures (lines ++ line ∷ []) run.histories conn items end
     by_end conn items ended.Done same ended_as is = absurd cc
@@ -320,7 +367,8 @@ stopped_still limit script lines line run transcript was there stopped =
     by_end conn items ended.NoMemory same ended_as is = absurd is
 
     by_caller : (conn : ConnId) (other : Transcript) → slice_get run.transcripts conn.0 ≡ Some other
-        → IsPlayed limit script.structures lines run.histories conn other.items other.end → (b : Bool) → line.by.0 == conn.0 ≡ b
+        → IsPlayed limit script.structures lines run.histories conn other.items other.end → (b : Bool)
+        → line.by.0 == conn.0 ≡ b
         → IsPlayed limit script.structures (lines ++ line ∷ []) run.histories conn other.items other.end
     by_caller conn other shown' is true same =
         let who : line.by.0 ≡ conn.0 = same_number line.by.0 conn.0 same in
@@ -341,12 +389,14 @@ line_runs limit script lines line run was runnable =
     (omega (arith, was.structures, slice_get_within script.structures line.on.0 runnable.form runnable.known)) in
     rw runnable.known (by_end caller.0 caller.0.end refl caller.1 there.0 there.1)
   where
-    by_end : (t : Transcript) (end : AgentEnd) → t.end ≡ end → slice_get run.transcripts line.by.0 ≡ Some t → (h : AnyHistory)
+    by_end : (t : Transcript) (end : AgentEnd) → t.end ≡ end → slice_get run.transcripts line.by.0 ≡ Some t
+        → (h : AnyHistory)
         → slice_get run.histories line.on.0 ≡ Some h
         → IsRunOf script (IsPlayed limit script.structures (lines ++ line ∷ []))
         (cond (is_done run line.by) (act_made limit runnable.form line line.act run) run)
     by_end t ended.Done is caller h there =
-        let same : record { items = t.items; end = ended.Done } ≡ t = ap (λ (e : AgentEnd). (let it : Transcript = record { items = t.items; end = e } in it)) (sym is) in
+        let same : record { items = t.items; end = ended.Done } ≡ t = ap
+        (λ (e : AgentEnd). (let it : Transcript = record { items = t.items; end = e } in it)) (sym is) in
         let open' : is_done run line.by ≡ true =
         ap (λ (o : Option Transcript). is_done_as (transcript_at o).end) caller ∙ ap is_done_as is in
         rw open'
@@ -362,14 +412,16 @@ line_runs limit script lines line run was runnable =
         rw closed' (stopped_still limit script lines line run t was caller (ap is_done_as is))
 
 -- the lines that are left, one after another
-pub lines_run : (limit : ℕ) (script : Script) (lines left : List Line) (run : Run) → IsRunOf script (IsPlayed limit script.structures lines) run
+pub lines_run : (limit : ℕ) (script : Script) (lines left : List Line) (run : Run)
+    → IsRunOf script (IsPlayed limit script.structures lines) run
     → All (IsRunnableLine script) left
     → IsRunOf script (IsPlayed limit script.structures (lines ++ left)) (fold (after_line limit script) run left)
 lines_run limit script lines [] run was runnable =
     subst (λ (t : List Line). IsRunOf script (IsPlayed limit script.structures t) run) (sym (append-nil lines)) was
 lines_run limit script lines (line ∷ left) run was runnable =
     let first : IsRunnableLine script line = All-head (IsRunnableLine script) line left runnable in
-    subst (λ (t : List Line). IsRunOf script (IsPlayed limit script.structures t) (fold (after_line limit script) run (line ∷ left)))
+    subst (λ (t : List Line). IsRunOf script (IsPlayed limit script.structures t) (fold (after_line limit script) run
+    (line ∷ left)))
     (append_assoc lines (line ∷ []) left)
     (lines_run limit script (lines ++ line ∷ []) left (after_line limit script run line)
     (line_runs limit script lines line run was first)

@@ -1,4 +1,5 @@
--- The run of a script on one thread shows a legal history of each structure, with each caller's calls once and in their order.
+-- The run of a script on one thread shows a legal history of each structure, with each caller's calls once and in
+-- their order.
 use Rattle.std.proofs.Common.{All, ◌≡◌, ℕ, zero, suc, ◌+◌, ◌≤◌, ◌<◌, ◌==◌, ◌&&◌, nat_lt, nat_le, Bool, true, false, List, [], ◌∷◌, length, map, take, fold, replicate, Some, option_map, refl, sym, ap, subst, ◌∙◌, inl, inr, arith, append-nil, slice_get, slice_index, cond, MatchBool}
 use Rattle.std.proofs.lemmas.List.{length-map, length-replicate, take_all}
 use Rattle.std.proofs.lemmas.List.Elements.{All-nil}
@@ -58,15 +59,20 @@ start_is limit script =
           (All-nil (λ (call : AnyCall). call.by.0 ≤ length script.connectors)));
       transcripts = length-replicate (length script.connectors + 1) no_items;
       each = λ conn transcript there. (
-          let same : no_items ≡ transcript = replicated (length script.connectors + 1) no_items transcript conn.0 there in
-          subst (λ (t : Transcript). IsPlayed limit script.structures [] (start script).histories conn t.items t.end) same refl);
+          let same : no_items ≡ transcript = replicated (length script.connectors + 1) no_items transcript conn.0
+          there in
+          subst (λ (t : Transcript). IsPlayed limit script.structures [] (start script).histories conn t.items t.end)
+          same refl);
       posted = λ on. omega (arith, replicate_zero (length script.structures) on.0);
       numbers = λ conn transcript there on. (
-          let same : no_items ≡ transcript = replicated (length script.connectors + 1) no_items transcript conn.0 there in
-          subst (λ (t : Transcript). numbers_on on t.items ≡ map (λ (call : AnyCall). call.no) (own_calls (calls_on (start script).histories on) conn)) same
+          let same : no_items ≡ transcript = replicated (length script.connectors + 1) no_items transcript conn.0
+          there in
+          subst (λ (t : Transcript). numbers_on on t.items ≡ map (λ (call : AnyCall). call.no)
+          (own_calls (calls_on (start script).histories on) conn)) same
           (rw (start_calls script.structures on.0) refl));
       shows = λ conn transcript there. (
-          let same : no_items ≡ transcript = replicated (length script.connectors + 1) no_items transcript conn.0 there in
+          let same : no_items ≡ transcript = replicated (length script.connectors + 1) no_items transcript conn.0
+          there in
           subst (λ (t : Transcript). AreItems script.structures (start script).histories conn [] t.items) same tt);
     }
 
@@ -81,21 +87,26 @@ first_closed all last conn e =
     let past : nat_le conn last ≡ false = grind (arith, nat_tests) in
     let some : nat_lt 0 conn ≡ true = grind (arith, nat_tests) in rw (past, some) refl
 
-before_closing : (all last conn : ℕ) → closed_at (record { 0 = last + 1 }) 0 (closed_upto all last) conn ≡ closed_upto all last conn
+before_closing : (all last conn : ℕ) → closed_at (record { 0 = last + 1 }) 0 (closed_upto all last) conn ≡ closed_upto
+    all last conn
 before_closing all last conn = by_conn (conn == last + 1) refl
   where
-    by_conn : (b : Bool) → conn == last + 1 ≡ b → closed_at (record { 0 = last + 1 }) 0 (closed_upto all last) conn ≡ closed_upto all last conn
+    by_conn : (b : Bool) → conn == last + 1 ≡ b → closed_at (record { 0 = last + 1 }) 0 (closed_upto all last) conn ≡
+        closed_upto all last conn
     by_conn true same =
-        let turned : last + 1 == conn ≡ true = grind (arith, nat_tests) in rw same (sym (first_closed all last conn turned))
+        let turned : last + 1 == conn ≡ true = grind (arith, nat_tests) in rw same
+        (sym (first_closed all last conn turned))
     by_conn false apart = rw apart refl
 
 same_upto : (last conn : ℕ) → conn == last + 1 ≡ false → nat_le conn last ≡ nat_le conn (last + 1)
 same_upto last conn apart = grind (arith, nat_tests)
 
-after_closings : (all last conn : ℕ) → closed_at (record { 0 = last + 1 }) all (closed_upto all last) conn ≡ closed_upto all (last + 1) conn
+after_closings : (all last conn : ℕ) → closed_at (record { 0 = last + 1 }) all (closed_upto all last) conn ≡
+    closed_upto all (last + 1) conn
 after_closings all last conn = by_conn (conn == last + 1) refl
   where
-    by_conn : (b : Bool) → conn == last + 1 ≡ b → closed_at (record { 0 = last + 1 }) all (closed_upto all last) conn ≡ closed_upto all (last + 1) conn
+    by_conn : (b : Bool) → conn == last + 1 ≡ b → closed_at (record { 0 = last + 1 }) all (closed_upto all last)
+        conn ≡ closed_upto all (last + 1) conn
     by_conn true same =
         let upto : nat_le conn (last + 1) ≡ true = grind (arith, nat_tests) in
         let some : nat_lt 0 conn ≡ true = grind (arith, nat_tests) in rw (same, some, upto) refl
@@ -106,7 +117,8 @@ closed_as : (limit : ℕ) (script : Script) (closed closed' : ℕ → ℕ) (run 
     → IsRunOf script (AreClosed limit script closed) run → IsRunOf script (AreClosed limit script closed') run
 closed_as limit script closed closed' run same was =
     run_same script (AreClosed limit script closed) (AreClosed limit script closed') run was
-    (λ conn transcript there is. subst (λ (n : ℕ). IsClosed limit script n run.histories conn transcript.items transcript.end) (same conn.0) is)
+    (λ conn transcript there is. subst (λ (n : ℕ). IsClosed limit script n run.histories conn transcript.items
+    transcript.end) (same conn.0) is)
 
 closings_run : (limit : ℕ) (script : Script) (last left : ℕ) (run : Run)
     → last + left ≡ length script.connectors
@@ -124,7 +136,8 @@ closings_run limit script last (suc left) run all was =
     (closed_as limit script (closed_at conn (length script.structures) (closed_upto (length script.structures) last))
     (closed_upto (length script.structures) (last + 1)) run' (after_closings (length script.structures) last)
     (departures_run limit script (closed_upto (length script.structures) last) conn [] script.structures run refl
-    (closed_as limit script (closed_upto (length script.structures) last) (closed_at conn 0 (closed_upto (length script.structures) last)) run
+    (closed_as limit script (closed_upto (length script.structures) last)
+    (closed_at conn 0 (closed_upto (length script.structures) last)) run
     (λ n. sym (before_closing (length script.structures) last n)) was)
     (λ e. omega (arith, e)) (omega (arith, all))))
 
@@ -132,17 +145,22 @@ closings_run limit script last (suc left) run all was =
 
 none_closed : (all conn : ℕ) → closed_upto all 0 conn ≡ 0
 none_closed all zero = refl
-none_closed all (suc conn) = let none : nat_le (suc conn) 0 ≡ false = grind (arith, nat_tests) in let some : nat_lt 0 (suc conn) ≡ true = grind (arith, nat_tests) in rw (some, none) refl
+none_closed all (suc conn) = let none : nat_le (suc conn) 0 ≡ false = grind (arith, nat_tests) in let some : nat_lt 0
+    (suc conn) ≡ true = grind (arith, nat_tests) in rw (some, none) refl
 
-closing_begins : (limit : ℕ) (script : Script) (run : Run) → IsRunOf script (IsPlayed limit script.structures script.lines) run
+closing_begins : (limit : ℕ) (script : Script) (run : Run)
+    → IsRunOf script (IsPlayed limit script.structures script.lines) run
     → IsRunOf script (AreClosed limit script (closed_upto (length script.structures) 0)) run
 closing_begins limit script run was =
-    run_same script (IsPlayed limit script.structures script.lines) (AreClosed limit script (closed_upto (length script.structures) 0)) run was
+    run_same script (IsPlayed limit script.structures script.lines)
+    (AreClosed limit script (closed_upto (length script.structures) 0)) run was
     (λ conn transcript there is. (
-    subst (λ (n : ℕ). IsClosed limit script n run.histories conn transcript.items transcript.end) (sym (none_closed (length script.structures) conn.0))
+    subst (λ (n : ℕ). IsClosed limit script n run.histories conn transcript.items transcript.end)
+    (sym (none_closed (length script.structures) conn.0))
     (by_end conn transcript.items transcript.end is)))
   where
-    by_end : (conn : ConnId) (items : List Shown) (end : AgentEnd) → IsPlayed limit script.structures script.lines run.histories conn items end
+    by_end : (conn : ConnId) (items : List Shown) (end : AgentEnd) → IsPlayed limit script.structures script.lines
+        run.histories conn items end
         → IsClosed limit script 0 run.histories conn items end
     by_end conn items ended.Done is =
         record { during = items; after = []; shows = sym (append-nil items); lines = is; closings = refl }
@@ -150,7 +168,8 @@ closing_begins limit script run was =
     by_end conn items ended.NoMemory is = is
 
 module _ (limit : ℕ) (script : Script) (run : Run)
-    (is : IsRunOf script (AreClosed limit script (closed_upto (length script.structures) (length script.connectors))) run)
+    (is : IsRunOf script (AreClosed limit script (closed_upto (length script.structures) (length script.connectors)))
+    run)
     (conn : ConnId) (transcript : Transcript) (there : slice_get run.transcripts conn.0 ≡ Some transcript) where
   agrees : AgreesWith run.histories conn transcript.items
   agrees =
@@ -159,7 +178,8 @@ module _ (limit : ℕ) (script : Script) (run : Run)
         notes = notes_are script.structures run.histories conn transcript.items (is.shows conn transcript there);
       }
 
-  follows : HasDeparted script (closed_upto (length script.structures) (length script.connectors) conn.0) run.histories conn transcript.items
+  follows : HasDeparted script (closed_upto (length script.structures) (length script.connectors) conn.0)
+      run.histories conn transcript.items
       → Follows script run.histories conn transcript.items
   follows departed =
       record {
@@ -172,20 +192,30 @@ module _ (limit : ℕ) (script : Script) (run : Run)
       }
     where
       by_conn : (b : Bool) → conn.0 == 0 ≡ b
-          → MatchBool b (departed.after ≡ []) (ShowsClosings run.histories conn 0 script.structures departed.during departed.after)
+          → MatchBool b (departed.after ≡ []) (ShowsClosings run.histories conn 0 script.structures departed.during
+          departed.after)
       by_conn true operator =
           let is_zero : conn.0 ≡ 0 = grind (arith, nat_tests) in
           let none : closed_upto (length script.structures) (length script.connectors) conn.0 ≡ 0 = rw is_zero refl in
-          subst (λ (n : ℕ). ShowsClosings run.histories conn 0 (take n script.structures) departed.during departed.after) none departed.closings
+          subst (λ (n : ℕ). ShowsClosings run.histories conn 0 (take n script.structures) departed.during
+          departed.after) none departed.closings
       by_conn false connector =
           let some : nat_lt 0 conn.0 ≡ true = grind (arith, nat_tests) in
-          let within : conn.0 < length script.connectors + 1 = omega (arith, is.transcripts, slice_get_within run.transcripts conn.0 transcript there) in
+          let within : conn.0 < length script.connectors + 1 = omega (
+            arith,
+            is.transcripts,
+            slice_get_within
+                run.transcripts conn.0 transcript there,
+          ) in
           let upto : nat_le conn.0 (length script.connectors) ≡ true = grind (arith, nat_tests) in
-          let all : take (closed_upto (length script.structures) (length script.connectors) conn.0) script.structures ≡ script.structures =
+          let all : take (closed_upto (length script.structures) (length script.connectors) conn.0) script.structures
+          ≡ script.structures =
           rw (some, upto) (take_all (length script.structures) script.structures (omega arith)) in
-          subst (λ (t : List StrForm). ShowsClosings run.histories conn 0 t departed.during departed.after) all departed.closings
+          subst (λ (t : List StrForm). ShowsClosings run.histories conn 0 t departed.during departed.after) all
+          departed.closings
 
-  stops_in_line : (on : StrNo) → StoppedIn limit script.structures run.histories (lines_of script conn) conn transcript.items on
+  stops_in_line : (on : StrNo) → StoppedIn limit script.structures run.histories (lines_of script conn) conn
+      transcript.items on
       → Stops limit script run.histories conn transcript.items on
   stops_in_line on stopped =
       record {
@@ -226,7 +256,8 @@ module _ (limit : ℕ) (script : Script) (run : Run)
       }
 
   ends_right : (end : AgentEnd)
-      → IsClosed limit script (closed_upto (length script.structures) (length script.connectors) conn.0) run.histories conn transcript.items end
+      → IsClosed limit script (closed_upto (length script.structures) (length script.connectors) conn.0) run.histories
+      conn transcript.items end
       → EndsRight limit script run.histories conn transcript.items end
   ends_right ended.Done departed = follows departed
   ends_right (ended.JournalFull on) (inl stopped) = stops_in_line on stopped
@@ -237,8 +268,10 @@ module _ (limit : ℕ) (script : Script) (run : Run)
 pub serial_shows : (limit : ℕ) (script : Script) → IsRunnable script
     → (let run : Run = serial_run limit script in ShowsHistories limit script run.histories run.transcripts)
 serial_shows limit script runnable =
-    let is : IsRunOf script (AreClosed limit script (closed_upto (length script.structures) (length script.connectors))) (serial_run limit script) =
-    closings_run limit script 0 (length script.connectors) (fold (after_line limit script) (start script) script.lines) (omega arith)
+    let is : IsRunOf script (AreClosed limit script (closed_upto (length script.structures)
+    (length script.connectors))) (serial_run limit script) =
+    closings_run limit script 0 (length script.connectors) (fold (after_line limit script) (start script)
+    script.lines) (omega arith)
     (closing_begins limit script (fold (after_line limit script) (start script) script.lines)
     (lines_run limit script [] script.lines (start script) (start_is limit script) runnable.lines)) in
     record {
@@ -249,8 +282,10 @@ serial_shows limit script runnable =
       callers = is.transcripts;
       ends = λ c transcript there. (
           let conn : ConnId = record { 0 = c } in
-          ends_right limit script (serial_run limit script) is conn transcript there transcript.end (is.each conn transcript there));
+          ends_right limit script (serial_run limit script) is conn transcript there transcript.end
+          (is.each conn transcript there));
       tests = λ c transcript there. (
           let conn : ConnId = record { 0 = c } in
-          tests_tell script.structures (serial_run limit script).histories conn transcript.items (is.shows conn transcript there));
+          tests_tell script.structures (serial_run limit script).histories conn transcript.items
+          (is.shows conn transcript there));
     }

@@ -1,5 +1,5 @@
 -- What the calls of one line do to a run.
-use Rattle.std.proofs.Common.{All, ◌≡◌, ◌≢◌, ℕ, zero, suc, ◌+◌, ◌*◌, ◌≤◌, ◌<◌, ◌==◌, nat_le, Bool, true, false, List, [], ◌∷◌, ◌++◌, map, set, Some, None, Option, refl, sym, ap, subst, ◌∙◌, arith, append-nil, append_assoc, slice_get, cond}
+use Rattle.std.proofs.Common.{All, ◌≡◌, ℕ, zero, suc, ◌+◌, ◌≤◌, ◌<◌, ◌==◌, nat_le, Bool, true, false, List, [], ◌∷◌, ◌++◌, map, set, Some, None, Option, refl, sym, ap, subst, ◌∙◌, arith, append-nil, append_assoc, slice_get}
 use Rattle.std.proofs.lemmas.List.{set-set}
 use Rattle.std.proofs.lemmas.List.Elements.{All-nil, All-cons}
 use Rattle.std.proofs.lemmas.Bool.Decides.{nat_tests}
@@ -18,7 +18,8 @@ use Rattle.plex_script.specs.declared.transcripts.Shown.{Shown}
 use Rattle.plex_script.specs.declared.transcripts.Shown.TheVariants as shown
 use Rattle.plex_script.specs.declared.transcripts.Transcript.{Transcript}
 use Rattle.cf_types.specs.declared.shell_commands.ShellCmd.TheVariants as cmd
-use Rattle.plex_script.specs.Agent.{step_after, most_asks, asks_behind, asked_by, taking, after_round, common}
+use Rattle.plex_script.specs.Agent.{step_after, most_asks, asked_by, common, IsReady}
+use Rattle.plex_script.proofs.StepLaws.{rests, fewer_asks, ready_after, some_goes}
 use Rattle.plex_script.specs.Heard.{AnyCall, any_calls, any_length, heard, own_calls}
 use Rattle.plex_script.specs.Follows.{Runs, RunsUpTo}
 use Rattle.any_model.specs.Kinds.{IsAskOf, any_next, any_told}
@@ -26,68 +27,7 @@ use Rattle.serial_model.specs.Serial.{Run, Made, shown_to, stopped_at, transcrip
 use Rattle.any_model.proofs.KindLaws.{common_ask_of, Takes, takes_of_kind, call_added, calls-next, length-next, Stood, stood-next}
 use Rattle.any_model.proofs.Histories.{IsHistory, added_heard, next_history}
 use Rattle.serial_model.proofs.Fronts.{heard_front}
-use Rattle.serial_model.proofs.Tables.{get-set_same, set_same}
-
--- ---- steps
-
--- a step rests where no ask is left
-rests : (now : Step) → most_asks now ≤ 0 → now ≡ step.Rest
-rests (step.Call asks) none = absurd (omega arith)
-rests (step.Next left behind) none = absurd (omega arith)
-rests (step.Respond left behind) none = absurd (omega arith)
-rests step.Rest none = refl
-
--- where the line has no call, no step asks it
-abbrev pub IsReady : Option AnyAsk → Step → Type 0
-IsReady (Some asked) now = Unit {0}
-IsReady None (step.Call asks) = ⊥
-IsReady None (step.Next left behind) = behind ≡ None
-IsReady None (step.Respond left behind) = behind ≡ None
-IsReady None step.Rest = Unit {0}
-
-either_le : (b : Bool) (x y : Step) (n : ℕ) → suc (most_asks x) ≤ n → suc (most_asks y) ≤ n → suc (most_asks (cond b x y)) ≤ n
-either_le true x y n first second = first
-either_le false x y n first second = second
-
-round_asks : (behind : Option ℕ) → most_asks (after_round behind) ≡ asks_behind behind
-round_asks None = refl
-round_asks (Some asks) = refl
-
-taking_asks : (left : ℕ) (behind : Option ℕ) → most_asks (taking left behind) ≤ 2 * left + asks_behind behind
-taking_asks zero behind = omega (arith, round_asks behind)
-taking_asks (suc left) behind = omega arith
-
--- each call leaves fewer
-fewer_asks : (now : Step) (told : Told) → now ≢ step.Rest → suc (most_asks (step_after now told)) ≤ most_asks now
-fewer_asks (step.Call zero) told goes = omega arith
-fewer_asks (step.Call (suc asks)) told goes =
-    either_le told.again (step.Next 63 (Some asks)) step.Rest (most_asks (step.Call (suc asks))) (omega arith) (omega arith)
-fewer_asks (step.Next left behind) told goes =
-    either_le told.owes (step.Respond left behind) (cond told.event (taking left behind) (after_round behind))
-    (most_asks (step.Next left behind)) (omega arith)
-    (either_le told.event (taking left behind) (after_round behind) (most_asks (step.Next left behind))
-    (omega (arith, taking_asks left behind)) (omega (arith, round_asks behind)))
-fewer_asks (step.Respond left behind) told goes = omega (arith, taking_asks left behind)
-fewer_asks step.Rest told goes = absurd (goes refl)
-
-either_ready : (line : Option AnyAsk) (b : Bool) (x y : Step) → IsReady line x → IsReady line y → IsReady line (cond b x y)
-either_ready line true x y first second = first
-either_ready line false x y first second = second
-
-taking_ready : (left : ℕ) → IsReady None (taking left None)
-taking_ready zero = tt
-taking_ready (suc left) = refl
-
-ready_after : (line : Option AnyAsk) (now : Step) (told : Told) → IsReady line now → IsReady line (step_after now told)
-ready_after (Some asked) now told ready = tt
-ready_after None (step.Call asks) told ready = absurd ready
-ready_after None (step.Next left (Some asks)) told ready = absurd cc
-ready_after None (step.Next left None) told ready =
-    either_ready None told.owes (step.Respond left None) (cond told.event (taking left None) step.Rest) refl
-    (either_ready None told.event (taking left None) step.Rest (taking_ready left) tt)
-ready_after None (step.Respond left (Some asks)) told ready = absurd cc
-ready_after None (step.Respond left None) told ready = taking_ready left
-ready_after None step.Rest told ready = tt
+use Rattle.list_laws.proofs.TableLaws.{get-set_same, set_same}
 
 -- ---- the calls of a line
 
@@ -103,7 +43,8 @@ EndsAs limit kind line by on now entries part (ended.JournalFull place) =
     (place ≡ on) × RunsUpTo kind line (any_calls entries) by on now part × (limit ≤ any_length entries)
 EndsAs limit kind line by on now entries part ended.NoMemory = ⊥
 
-pub record AreSteps (limit : ℕ) (form : StrForm) (line : Option AnyAsk) (by : ConnId) (on : StrNo) (now : Step) (entries : AnyHistory)
+pub record AreSteps (limit : ℕ) (form : StrForm) (line : Option AnyAsk) (by : ConnId) (on : StrNo) (now : Step)
+    (entries : AnyHistory)
     (items : List Shown) (run run' : Run) : Type 0 where
   pub part : List Shown
   pub more : List AnyCall
@@ -120,10 +61,12 @@ pub record AreSteps (limit : ℕ) (form : StrForm) (line : Option AnyAsk) (by : 
   pub callers : (bound : ℕ) → by.0 ≤ bound → All (λ call. call.by.0 ≤ bound) more
   pub shown : part ≡ map (λ call. shown.Call on call.no) more
   pub ends : EndsAs limit form.kind line by on now later part end
-  pub stood : (at : ℕ) (conn : ConnId) (index : ℕ) (bit : Bool) → Stood form entries at conn index bit → Stood form later at conn index bit
+  pub stood : (at : ℕ) (conn : ConnId) (index : ℕ) (bit : Bool) → Stood form entries at conn index bit
+      → Stood form later at conn index bit
 
 -- nothing is asked
-no_steps : (limit : ℕ) (form : StrForm) (line : Option AnyAsk) (by : ConnId) (on : StrNo) (now : Step) (entries : AnyHistory)
+no_steps : (limit : ℕ) (form : StrForm) (line : Option AnyAsk) (by : ConnId) (on : StrNo) (now : Step)
+    (entries : AnyHistory)
     (items : List Shown) (run : Run) → IsAt run by on entries items → IsHistory form entries → now ≡ step.Rest
     → AreSteps limit form line by on now entries items run run
 no_steps limit form line by on now entries items run at kept rest =
@@ -148,7 +91,8 @@ no_steps limit form line by on now entries items run at kept rest =
     }
 
 -- the journal was full
-full_steps : (limit : ℕ) (form : StrForm) (line : Option AnyAsk) (by : ConnId) (on : StrNo) (now : Step) (entries : AnyHistory)
+full_steps : (limit : ℕ) (form : StrForm) (line : Option AnyAsk) (by : ConnId) (on : StrNo) (now : Step)
+    (entries : AnyHistory)
     (items : List Shown) (run : Run) (asked : AnyAsk) → IsAt run by on entries items → IsHistory form entries
     → asked_by form.kind line now ≡ Some asked → limit ≤ any_length entries
     → AreSteps limit form line by on now entries items run (stopped_at by on run)
@@ -175,16 +119,24 @@ full_steps limit form line by on now entries items run asked at kept asks full =
     }
 
 -- one call, and the steps behind it
-more_steps : (limit : ℕ) (form : StrForm) (line : Option AnyAsk) (by : ConnId) (on : StrNo) (now : Step) (entries : AnyHistory)
-    (items : List Shown) (run run1 run' : Run) (asked : AnyAsk) → IsAt run by on entries items → IsHistory form entries
+more_steps : (limit : ℕ) (form : StrForm) (line : Option AnyAsk) (by : ConnId) (on : StrNo) (now : Step)
+    (entries : AnyHistory)
+    (items : List Shown) (run run1 run' : Run) (asked : AnyAsk) → IsAt run by on entries items
+    → IsHistory form entries
     → Takes entries asked → asked_by form.kind line now ≡ Some asked
     → run1.histories ≡ set run.histories on.0 (any_next form entries by asked)
-    → run1.transcripts ≡ set run.transcripts by.0 (record { items = items ++ shown.Call on (any_length entries + 1) ∷ []; end = ended.Done })
+    → run1.transcripts ≡ set run.transcripts by.0 (record {
+      items = items ++ shown.Call on (any_length entries + 1) ∷
+          [];
+      end = ended.Done;
+    })
     → run1.posted ≡ run.posted
-    → AreSteps limit form line by on (step_after now (any_told form entries by asked)) (any_next form entries by asked)
+    → AreSteps limit form line by on (step_after now (any_told form entries by asked))
+    (any_next form entries by asked)
     (items ++ shown.Call on (any_length entries + 1) ∷ []) run1 run'
     → AreSteps limit form line by on now entries items run run'
-more_steps limit form line by on now entries items run run1 run' asked at kept takes asks histories transcripts posted rest =
+more_steps limit form line by on now entries items run run1 run' asked at kept takes asks histories transcripts posted
+    rest =
     let number : ℕ = any_length entries + 1 in
     let item : Shown = shown.Call on number in
     let call : AnyCall = call_added form entries by asked in
@@ -200,9 +152,14 @@ more_steps limit form line by on now entries items run run1 run' asked at kept t
       histories = rest.histories ∙ ap (λ (t : List AnyHistory). set t on.0 rest.later) histories
           ∙ set-set run.histories on.0 (any_next form entries by asked) rest.later;
       transcripts = rest.transcripts
-          ∙ ap (λ (t : List Transcript). set t by.0 (record { items = (items ++ item ∷ []) ++ rest.part; end = rest.end })) transcripts
+          ∙ ap (λ (t : List Transcript). set t by.0 (record {
+            items = (items ++ item ∷ [])
+                ++ rest.part;
+            end = rest.end;
+          })) transcripts
           ∙ set-set run.transcripts by.0 _ _
-          ∙ ap (λ (t : List Shown). set run.transcripts by.0 (record { items = t; end = rest.end })) (append_assoc items (item ∷ []) rest.part);
+          ∙ ap (λ (t : List Shown). set run.transcripts by.0 (record { items = t; end = rest.end }))
+          (append_assoc items (item ∷ []) rest.part);
       posted = rest.posted ∙ posted;
       kept = rest.kept;
       calls = rest.calls ∙ ap (λ (t : List AnyCall). t ++ rest.more) (calls-next form entries by asked takes)
@@ -210,10 +167,12 @@ more_steps limit form line by on now entries items run run1 run' asked at kept t
       length = omega (arith, length-next form entries by asked takes, rest.length);
       own = rw mine (ap (λ (t : List AnyCall). call ∷ t) rest.own);
       others = λ conn apart. rw apart (rest.others conn apart);
-      callers = λ bound within. All-cons (λ (call : AnyCall). call.by.0 ≤ bound) call rest.more within (rest.callers bound within);
+      callers = λ bound within. All-cons (λ (call : AnyCall). call.by.0 ≤ bound) call rest.more within
+          (rest.callers bound within);
       shown = ap (λ (t : List Shown). item ∷ t) rest.shown;
       ends = ends_more rest.end rest.ends heard_now;
-      stood = λ at conn index bit stood. rest.stood at conn index bit (stood-next form entries by asked at conn index bit stood);
+      stood = λ at conn index bit stood. rest.stood at conn index bit (stood-next form entries by asked at conn index
+          bit stood);
     }
   where
     ends_more : (end : AgentEnd)
@@ -221,7 +180,8 @@ more_steps limit form line by on now entries items run run1 run' asked at kept t
         → heard (any_length entries + 1) (any_calls rest.later) ≡ Some (call_added form entries by asked)
         → EndsAs limit form.kind line by on now rest.later (shown.Call on (any_length entries + 1) ∷ rest.part) end
     ends_more ended.Done runs found = (any_told form entries by asked, refl, rw asks found, runs)
-    ends_more (ended.JournalFull place) (there, runs, full) found = (there, (any_told form entries by asked, refl, rw asks found, runs), full)
+    ends_more (ended.JournalFull place) (there, runs, full)
+        found = (there, (any_told form entries by asked, refl, rw asks found, runs), full)
     ends_more ended.NoMemory none found = absurd none
 
 -- a step that rests asks nothing more
@@ -230,26 +190,25 @@ resting : (limit most : ℕ) (form : StrForm) (line : Option AnyAsk) (by : ConnI
 resting limit zero form line by on run = refl
 resting limit (suc most) form line by on run = resting limit most form line by on run
 
-none_rests : (kind : Kind) (line : Option AnyAsk) (now : Step) → IsReady line now → asked_by kind line now ≡ None → now ≡ step.Rest
+none_rests : (kind : Kind) (line : Option AnyAsk) (now : Step) → IsReady line now → asked_by kind line now ≡ None
+    → now ≡ step.Rest
 none_rests kind (Some asked) (step.Call asks) ready none = absurd cc
 none_rests kind None (step.Call asks) ready none = absurd ready
 none_rests kind line (step.Next left behind) ready none = absurd cc
 none_rests kind line (step.Respond left behind) ready none = absurd cc
 none_rests kind line step.Rest ready none = refl
 
-some_goes : (kind : Kind) (line : Option AnyAsk) (now : Step) (asked : AnyAsk) → asked_by kind line now ≡ Some asked → now ≢ step.Rest
-some_goes kind line now asked asks rest =
-    let none : asked_by kind line now ≡ None = ap (asked_by kind line) rest in cc
-
 -- the line's call, if it has one, is of the structure's kind
 abbrev pub IsLineOf : Kind → Option AnyAsk → Type 0
 IsLineOf kind None = Unit {0}
 IsLineOf kind (Some asked) = IsAskOf kind asked
 
-ask_of_step : (kind : Kind) (line : Option AnyAsk) (now : Step) (asked : AnyAsk) → IsLineOf kind line → asked_by kind line now ≡ Some asked
+ask_of_step : (kind : Kind) (line : Option AnyAsk) (now : Step) (asked : AnyAsk) → IsLineOf kind line
+    → asked_by kind line now ≡ Some asked
     → IsAskOf kind asked
 ask_of_step kind None (step.Call asks) asked of_kind asks' = absurd cc
-ask_of_step kind (Some own) (step.Call asks) asked of_kind asks' = let same : own ≡ asked = cc in subst (IsAskOf kind) same of_kind
+ask_of_step kind (Some own) (step.Call asks) asked of_kind asks' = let same : own ≡ asked = cc in subst (IsAskOf kind)
+    same of_kind
 ask_of_step kind line (step.Next left behind) asked of_kind asks' =
     let same : common kind cmd.Next ≡ asked = cc in subst (IsAskOf kind) same (common_ask_of kind cmd.Next)
 ask_of_step kind line (step.Respond left behind) asked of_kind asks' =
@@ -263,29 +222,36 @@ is_full : (limit n : ℕ) → nat_le limit n ≡ true → limit ≤ n
 is_full limit n e = grind (arith, nat_tests)
 
 -- what was made of the first ask, and the steps behind it
-abbrev AreStepsFrom : ℕ → ℕ → StrForm → Option AnyAsk → ConnId → StrNo → Step → AnyHistory → List Shown → Run → Made → Type 0
+abbrev AreStepsFrom : ℕ → ℕ → StrForm → Option AnyAsk → ConnId → StrNo → Step → AnyHistory → List Shown → Run → Made
+    → Type 0
 AreStepsFrom limit most form line by on now entries items run made =
     AreSteps limit form line by on now entries items run (steps_made limit most form line by on made.now made.run)
 
 -- what holds of fewer steps
 abbrev HoldFor : ℕ → ℕ → StrForm → Option AnyAsk → ConnId → StrNo → Type 0
 HoldFor limit most form line by on =
-    (now : Step) (entries : AnyHistory) (items : List Shown) (run : Run) → IsAt run by on entries items → IsHistory form entries
+    (now : Step) (entries : AnyHistory) (items : List Shown) (run : Run) → IsAt run by on entries items
+    → IsHistory form entries
     → IsReady line now → most_asks now ≤ most
     → AreSteps limit form line by on now entries items run (steps_made limit most form line by on now run)
 
-first_step_is : (limit most : ℕ) (form : StrForm) (line : Option AnyAsk) (by : ConnId) (on : StrNo) (now : Step) (entries : AnyHistory)
-    (items : List Shown) (run : Run) → HoldFor limit most form line by on → IsAt run by on entries items → IsHistory form entries
+first_step_is : (limit most : ℕ) (form : StrForm) (line : Option AnyAsk) (by : ConnId) (on : StrNo) (now : Step)
+    (entries : AnyHistory)
+    (items : List Shown) (run : Run) → HoldFor limit most form line by on → IsAt run by on entries items
+    → IsHistory form entries
     → IsLineOf form.kind line → IsReady line now → most_asks now ≤ suc most
     → AreStepsFrom limit most form line by on now entries items run (step_made limit form line by on now run)
 first_step_is limit most form line by on now entries items run fewer_hold at kept of_kind ready enough =
     by_ask (asked_by form.kind line now) refl
   where
-    by_full : (asked : AnyAsk) → asked_by form.kind line now ≡ Some asked → (b : Bool) → nat_le limit (any_length entries) ≡ b
-        → AreStepsFrom limit most form line by on now entries items run (call_made limit form by on now asked entries run)
+    by_full : (asked : AnyAsk) → asked_by form.kind line now ≡ Some asked → (b : Bool)
+        → nat_le limit (any_length entries) ≡ b
+        → AreStepsFrom limit most form line by on now entries items run (call_made limit form by on now asked entries
+        run)
     by_full asked asks true full =
         rw (full, resting limit most form line by on (stopped_at by on run))
-        (full_steps limit form line by on now entries items run asked at kept asks (is_full limit (any_length entries) full))
+        (full_steps limit form line by on now entries items run asked at kept asks
+        (is_full limit (any_length entries) full))
     by_full asked asks false room =
         let takes : Takes entries asked =
         takes_of_kind form.kind entries asked kept.kind (ask_of_step form.kind line now asked of_kind asks) in
@@ -294,17 +260,21 @@ first_step_is limit most form line by on now entries items run fewer_hold at kep
         let later : AnyHistory = any_next form entries by asked in
         let run1 : Run = shown_to by item (record run { histories = set run.histories on.0 later }) in
         let is : transcript_of run by ≡ record { items = items; end = ended.Done } = ap transcript_at at.caller in
-        let transcripts : run1.transcripts ≡ set run.transcripts by.0 (record { items = items ++ item ∷ []; end = ended.Done }) =
+        let transcripts : run1.transcripts ≡ set run.transcripts by.0
+        (record { items = items ++ item ∷ []; end = ended.Done }) =
         ap (λ (t : Transcript). set run.transcripts by.0 (record t { items = t.items ++ item ∷ [] })) is in
         let at1 : IsAt run1 by on later (items ++ item ∷ []) = record {
           there = get-set_same run.histories on.0 entries later at.there;
-          caller = ap (λ (t : List Transcript). slice_get t by.0) transcripts ∙ get-set_same run.transcripts by.0 _ _ at.caller;
+          caller = ap (λ (t : List Transcript). slice_get t by.0) transcripts ∙ get-set_same run.transcripts by.0 _ _
+              at.caller;
         } in
-        let fewer : suc (most_asks (step_after now told)) ≤ most_asks now = fewer_asks now told (some_goes form.kind line now asked asks) in
+        let fewer : suc (most_asks (step_after now told)) ≤ most_asks now = fewer_asks now told
+        (some_goes form.kind line now asked asks) in
         rw room
         (more_steps limit form line by on now entries items run run1 _ asked at kept takes asks refl transcripts refl
         (fewer_hold (step_after now told) later (items ++ item ∷ []) run1 at1
-        (next_history form entries by asked takes kept) (ready_after line now told ready) (omega (arith, fewer, enough))))
+        (next_history form entries by asked takes kept) (ready_after line now told ready)
+        (omega (arith, fewer, enough))))
 
     by_ask : (o : Option AnyAsk) → asked_by form.kind line now ≡ o
         → AreStepsFrom limit most form line by on now entries items run (step_made limit form line by on now run)

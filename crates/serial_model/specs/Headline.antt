@@ -1,4 +1,5 @@
--- What a run shows: a legal history of each structure, each caller's calls in it once and in their order, and tests that tell what stood
+-- What a run shows: a legal history of each structure, each caller's calls in it once and in their order, and tests
+-- that tell what stood
 -- at a numbered point of it.
 use Rattle.std.specs.Prelude.{◌≡◌, ℕ, ◌+◌, ◌*◌, ◌^◌, ◌≤◌, ◌<◌, ◌&&◌, nat_lt, Bool, if◌then◌else◌, List, length, take, slice_get, Some, All, sum_by}
 use Rattle.cf_types.specs.declared.forms.StrForm.{StrForm}
@@ -18,26 +19,33 @@ use Rattle.serial_model.specs.Numbers.{seen_on}
 
 -- ---- tests
 
--- a test of one bit: the number isn't before anything seen, and the bit is what stood at a numbered point that isn't before anything seen
+-- a test of one bit: the number isn't before anything seen, and the bit is what stood at a numbered point that isn't
+-- before anything seen
 -- complete
-pub record TellsBit (form : StrForm) (entries : AnyHistory) (conn : ConnId) (on : StrNo) (before : List Shown) (at index : ℕ) (bit : Bool) : Type 0 where
+pub record TellsBit (form : StrForm) (entries : AnyHistory) (conn : ConnId) (on : StrNo) (before : List Shown)
+    (at index : ℕ) (bit : Bool) : Type 0 where
   pub seen : seen_on on before ≤ at
   pub tells : AnyTells form entries at (surest_on on before) conn index bit
 
 -- 32 bits as a word, those past the vector's end 0
 abbrev pub word_of : ℕ → ℕ → (ℕ → Bool) → ℕ
-word_of vector word bits = sum_by (λ k. if nat_lt (32 * word + k) vector && bits k then 2 ^ k else 0) (numbers_from 0 32)
+word_of vector word bits = sum_by (λ k. if nat_lt (32 * word + k) vector && bits k then 2 ^ k else 0)
+    (numbers_from 0 32)
 
 -- a test of a word is 32 tests of its bits
-pub record TellsWord (form : StrForm) (entries : AnyHistory) (conn : ConnId) (on : StrNo) (before : List Shown) (at word value : ℕ) : Type 0 where
+pub record TellsWord (form : StrForm) (entries : AnyHistory) (conn : ConnId) (on : StrNo) (before : List Shown)
+    (at word value : ℕ) : Type 0 where
   pub bits : ℕ → Bool
   pub made : value ≡ word_of form.vector word bits
-  pub each : (k : ℕ) → k < 32 → 32 * word + k < form.vector → TellsBit form entries conn on before at (32 * word + k) (bits k)
+  pub each : (k : ℕ) → k < 32 → 32 * word + k < form.vector → TellsBit form entries conn on before at (32 * word + k)
+      (bits k)
 
 -- what an item of a caller tells of a structure
 abbrev pub TellsOf : StrForm → AnyHistory → ConnId → StrNo → List Shown → Shown → Type 0
-TellsOf form entries conn on before (shown.Test place index bit at) = TellsBit form entries conn on before at index bit
-TellsOf form entries conn on before (shown.Word place word bits at) = TellsWord form entries conn on before at word bits
+TellsOf form entries conn on before (shown.Test place index bit at) = TellsBit form entries conn on before at index
+    bit
+TellsOf form entries conn on before (shown.Word place word bits at) = TellsWord form entries conn on before at word
+    bits
 TellsOf form entries conn on before (shown.Call place number) = Unit {0}
 TellsOf form entries conn on before (shown.BadIndex place index word len) = Unit {0}
 TellsOf form entries conn on before (shown.Posted place sure) = Unit {0}
@@ -73,7 +81,8 @@ pub record IsHistoryOf (script : Script) (form : StrForm) (entries : AnyHistory)
   pub legal : IsAnyLegal form entries
   pub callers : All (λ call. call.by.0 ≤ length script.connectors) (any_calls entries)
 
-pub record ShowsHistories (limit : ℕ) (script : Script) (histories : List AnyHistory) (transcripts : List Transcript) : Type 0 where
+pub record ShowsHistories (limit : ℕ) (script : Script) (histories : List AnyHistory)
+    (transcripts : List Transcript) : Type 0 where
   pub structures : length histories ≡ length script.structures
   pub histories_right : (x : ℕ) (form : StrForm) (entries : AnyHistory) → slice_get script.structures x ≡ Some form
       → slice_get histories x ≡ Some entries → IsHistoryOf script form entries

@@ -64,7 +64,12 @@ is_done run conn = is_done_as (transcript_of run conn).end
 abbrev pub shown_to : ConnId → Shown → Run → Run
 shown_to conn item run =
     let transcript = transcript_of run conn in
-    record run { transcripts = slice_set run.transcripts conn.0 (record transcript { items = transcript.items ++ item ∷ [] }) }
+    record run {
+      transcripts = slice_set run.transcripts conn.0 (record transcript {
+        items = transcript.items
+            ++ item ∷ [];
+      });
+    }
 
 -- the caller came to a full journal
 abbrev pub stopped_at : ConnId → StrNo → Run → Run
@@ -94,7 +99,8 @@ with_shown by (Some entries) item run = shown_to by (item entries) run
 
 -- the connectors, in number order
 abbrev pub connectors : Script → List ConnId
-connectors script = map (λ (number : ℕ). (let conn : ConnId = record { 0 = number } in conn)) (numbers_from 1 (length script.connectors))
+connectors script = map (λ (number : ℕ). (let conn : ConnId = record { 0 = number } in conn))
+    (numbers_from 1 (length script.connectors))
 
 -- ---- notes
 
@@ -120,7 +126,8 @@ pub record Made : Type 0 where
   pub now : Step
 
 module _ (limit : ℕ) where
-  -- a call is numbered, answered and journalled at once, and its caller is shown the number; a full journal takes no call
+  -- a call is numbered, answered and journalled at once, and its caller is shown the number; a full journal takes no
+  -- call
   abbrev pub call_made : StrForm → ConnId → StrNo → Step → AnyAsk → AnyHistory → Run → Made
   call_made form by on now asked entries run =
       if nat_le limit (any_length entries)
@@ -138,7 +145,8 @@ module _ (limit : ℕ) where
 
   -- what a step asks
   abbrev pub step_made : StrForm → Option AnyAsk → ConnId → StrNo → Step → Run → Made
-  step_made form line by on now run = ask_made form by on now (asked_by form.kind line now) (slice_get run.histories on.0) run
+  step_made form line by on now run = ask_made form by on now (asked_by form.kind line now)
+      (slice_get run.histories on.0) run
 
   -- a step and the steps behind it, so many at most
   abbrev pub steps_made : ℕ → StrForm → Option AnyAsk → ConnId → StrNo → Step → Run → Run

@@ -1,5 +1,5 @@
-//! What the run of a script on one thread is, and the law of what it shows. There is no code but the law: contracts
-//! cite `specs/`, and proofs cite `proofs/`.
+//! What the run of a script on one thread is, and the law of what it shows. There is no code but
+//! the law: contracts cite `specs/`, and proofs cite `proofs/`.
 #![tactic(auto)]
 
 mod laws;

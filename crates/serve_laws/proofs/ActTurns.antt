@@ -35,7 +35,8 @@ ShownUpTo form histories by on retry done part =
 
 abbrev pub TurnedBy : Caller → ℕ → StrForm → StrNo → ℕ → ConnId → AtWork → AtWork → Act → Type 0
 TurnedBy me limit form on retry by before after done =
-    Turned me limit by on (ShownWhole form me.histories by on retry done) (ShownUpTo form me.histories by on retry done)
+    Turned me limit by on (ShownWhole form me.histories by on retry done) (ShownUpTo form me.histories by on retry
+    done)
     before after
 
 module _ (me : Caller) (limit : ℕ) (form : StrForm) (on : StrNo) (retry : ℕ) (by : ConnId)
@@ -46,7 +47,8 @@ module _ (me : Caller) (limit : ℕ) (form : StrForm) (on : StrNo) (retry : ℕ)
 
   abbrev Ends : Act → List Shown → AgentEnd → Type 0
   Ends done =
-      EndsAs me limit on (ShownWhole form me.histories by on retry done) (ShownUpTo form me.histories by on retry done)
+      EndsAs me limit on (ShownWhole form me.histories by on retry done) (ShownUpTo form me.histories by on retry
+      done)
 
   abbrev was : PassShown
   was = pass_at before.desk on
@@ -73,7 +75,8 @@ module _ (me : Caller) (limit : ℕ) (form : StrForm) (on : StrNo) (retry : ℕ)
       }
 
   -- an item is shown, and nothing else happens
-  shows_bad : (done : Act) (index : ℕ) (word : Bool) → ShowsOnly (shown.BadIndex on index word form.vector) before after
+  shows_bad : (done : Act) (index : ℕ) (word : Bool) → ShowsOnly (shown.BadIndex on index word form.vector) before
+      after
       → ShownWhole form me.histories by on retry done (shown.BadIndex on index word form.vector ∷ []) → IsTurned done
   shows_bad done index word (desk, shows) whole =
       one_shown done (shown.BadIndex on index word form.vector)
@@ -96,13 +99,15 @@ module _ (me : Caller) (limit : ℕ) (form : StrForm) (on : StrNo) (retry : ℕ)
       (moves_by me on before after (with_test me on was index tests.bit tests.at) (item ∷ []) inside
       tests.desk (ap (λ (t : Transcript). t.items) tests.shown)
       (advances_one me on was (with_test me on was index tests.bit tests.at) item
-      (test_adds me on was index tests.bit tests.at tests.later (has_index index (ltb-true index form.vector within)))))
+      (test_adds me on was index tests.bit tests.at tests.later
+      (has_index index (ltb-true index form.vector within)))))
       (ap (λ (t : Transcript). t.end) tests.shown)
       (rw within (tests.bit, (tests.at, refl)))
   tested index false past only = shows_bad (act.Test index) index false only (rw past refl)
 
   word_tested : (word : ℕ) (b : Bool) → nat_lt (32 * word) form.vector ≡ b
-      → MatchBool b (TestsWord on word before after) (ShowsOnly (shown.BadIndex on word true form.vector) before after)
+      → MatchBool b (TestsWord on word before after) (ShowsOnly (shown.BadIndex on word true form.vector) before
+      after)
       → IsTurned (act.TestWord word)
   word_tested word true within tests =
       let item : Shown = shown.Word on word tests.bits tests.at in

@@ -116,7 +116,8 @@ module _ (form : StrForm) (entries : AnyHistory) (conn : ConnId) (on : StrNo) (b
       record {
         bits = λ k. bit_in bits (32 * word + k);
         made = sym
-            (all_bits bits 32 (λ k. nat_lt (32 * word + k) form.vector && bit_in bits (32 * word + k)) small bit_shown);
+            (all_bits bits 32 (λ k. nat_lt (32 * word + k) form.vector && bit_in bits (32 * word + k)) small
+            bit_shown);
         each = λ k within inside. record {
           seen = seen;
           tells = told_tells form entries conn (sight bits at sure (32 * word + k)) (surest_on on before)
@@ -207,7 +208,8 @@ module _ (me : Caller) (on : StrNo) (pass : PassShown) where
         good = λ within before is. (
           tt,
           λ form entries known there. word_tells form entries me.conn on before word bits at pass.sure
-              (all_behind (IsAnyTold form entries me.conn) pass.tests (map (sight bits at pass.sure) (indices_of word))
+              (all_behind (IsAnyTold form entries me.conn) pass.tests (map (sight bits at pass.sure)
+              (indices_of word))
               (within.tests form entries known there))
               small (omega (arith, is.seen, later)) is.sure,
         );

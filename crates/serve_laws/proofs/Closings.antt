@@ -88,7 +88,8 @@ module _ {L : Type 0} (limit : ℕ) (board : BoardShown L) (me : Caller)
 
   -- how departures end
   abbrev pub ClosingEnd : ℕ → List (CellShown L) → List Shown → AgentEnd → Type 0
-  ClosingEnd k cells part ended.Done = ShowsClosings me.histories me.conn k (map (λ cell. cell.form) cells) during part
+  ClosingEnd k cells part ended.Done = ShowsClosings me.histories me.conn k (map (λ cell. cell.form) cells) during
+      part
   ClosingEnd k cells part (ended.JournalFull on) = StoppedAt k cells part on
   ClosingEnd k cells part ended.NoMemory = Unit {0}
 
@@ -165,12 +166,14 @@ module _ {L : Type 0} (limit : ℕ) (board : BoardShown L) (me : Caller)
   abbrev place : ℕ → StrNo
   place k = record { 0 = k }
 
-  pub departs_rest : (k : ℕ) (cells : List (CellShown L)) (before after : AtWork) → is_done_as before.shown.end ≡ false
+  pub departs_rest : (k : ℕ) (cells : List (CellShown L)) (before after : AtWork) → is_done_as before.shown.end ≡
+      false
       → DepartsEach k cells before after → after ≡ before
   departs_rest k [] before after stopped does = does
   departs_rest k (cell ∷ cells) before after stopped (between, one, rest) =
       let same : between ≡ before = rw stopped at one in
-      departs_rest (k + 1) cells between after (ap (λ (w : AtWork). is_done_as w.shown.end) same ∙ stopped) rest ∙ same
+      departs_rest (k + 1) cells between after (ap (λ (w : AtWork). is_done_as w.shown.end) same ∙ stopped) rest
+      ∙ same
 
   -- how one departure ends
   abbrev OneEnds : Kind → ℕ → DeskShown → List Shown → AgentEnd → Type 0

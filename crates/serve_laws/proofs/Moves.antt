@@ -125,7 +125,8 @@ module _ (me : Caller) where
         passes = moves.passes;
         owners = λ other. owners other (on.0 == other.0) refl;
         back = λ within other. back within other (on.0 == other.0) refl;
-        forth = λ within is. by_here within (moves.here.forth (within on) before.shown.items (is.shows on) is.each) is;
+        forth = λ within is. by_here within (moves.here.forth (within on) before.shown.items (is.shows on) is.each)
+            is;
       }
     where
       owners : (other : StrNo) (b : Bool) → on.0 == other.0 ≡ b

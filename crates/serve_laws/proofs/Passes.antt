@@ -186,10 +186,12 @@ module _ (me : Caller) where
       }
     where
       same_calls : IsFront pass.calls pass'.calls
-      same_calls = subst (IsFront pass.calls) (ap (λ (p : PassShown). p.calls) (sym later.same)) (front_same pass.calls)
+      same_calls = subst (IsFront pass.calls) (ap (λ (p : PassShown). p.calls) (sym later.same))
+          (front_same pass.calls)
 
       same_tests : IsFront pass.tests pass'.tests
-      same_tests = subst (IsFront pass.tests) (ap (λ (p : PassShown). p.tests) (sym later.same)) (front_same pass.tests)
+      same_tests = subst (IsFront pass.tests) (ap (λ (p : PassShown). p.tests) (sym later.same))
+          (front_same pass.tests)
 
       shows : (before : List Shown) → IsShown on pass before → IsShown on pass' before
       shows before is =

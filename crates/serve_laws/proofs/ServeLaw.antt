@@ -1,4 +1,5 @@
--- Callers at work at one board, whatever the schedule was: each works at its own desk, and what is known of the others
+-- Callers at work at one board, whatever the schedule was: each works at its own desk, and what is known of the
+-- others
 -- is what the histories say.
 use Rattle.std.proofs.Common.{◌≡◌, ◌≢◌, ℕ, ◌+◌, ◌≤◌, ◌<◌, inl, inr, List, [], length, map, Some, None, Option, refl, sym, ap, subst, ◌∙◌, arith, append-nil, slice_get}
 use Rattle.std.specs.Prelude.{All}
@@ -181,7 +182,8 @@ module _ {L : Type 0} (limit : ℕ) (script : Script) (board : BoardShown L) (hi
     tests : TestsTell script.structures histories conn worker.shown.items
     tests k item form entries found known kept = (goes_with.each k item found).1 form entries known kept
 
-    ends : worker.shown.end ≢ ended.NoMemory → EndsRight limit script histories conn worker.shown.items worker.shown.end
+    ends : worker.shown.end ≢ ended.NoMemory → EndsRight limit script histories conn worker.shown.items
+        worker.shown.end
     ends found =
         by_end worker.shown.end found
         (subst (λ (items : List Shown). EndsAnyhow limit board script histories conn setting forms_are items

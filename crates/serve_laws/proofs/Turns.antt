@@ -111,7 +111,8 @@ module _ (me : Caller) where
 
   -- ---- calls
 
-  module _ (limit : ℕ) (kind : Kind) (line : Option AnyAsk) (on : StrNo) (by : ConnId) (first : Step) (before : AtWork)
+  module _ (limit : ℕ) (kind : Kind) (line : Option AnyAsk) (on : StrNo) (by : ConnId) (first : Step)
+      (before : AtWork)
       (rise : Rising 0 (calls_on me.histories on)) (inside : on.0 < length before.desk.passes) where
     abbrev pub RunsAll : List Shown → Type 0
     RunsAll part = Runs kind line (calls_on me.histories on) by on first part
@@ -177,9 +178,14 @@ module _ (me : Caller) where
             shows = λ owner within. (here, both.1 owner within, omega (arith, full, within.known));
           }
       ends ended.NoMemory stop =
-          record { part = map (call_item on) tolds; moves = (halts ended.NoMemory stop).0; shows = λ owner within. tt }
+          record {
+            part = map (call_item on) tolds;
+            moves = (halts ended.NoMemory stop).0;
+            shows = λ owner within. tt;
+          }
 
     pub asks_turned : (after : AtWork) → Asks limit kind line on first before after
         → Turned limit by on RunsAll RunsPart before after
     asks_turned after asks =
-        ends asks.tolds asks.last asks.pass asks.steps after.desk after.shown.items asks.items after.shown.end asks.ends
+        ends asks.tolds asks.last asks.pass asks.steps after.desk after.shown.items asks.items after.shown.end
+        asks.ends

@@ -67,7 +67,8 @@ begins_shown board me =
 abbrev pub caller_of : Script → List AnyHistory → ConnId → Caller
 caller_of script histories conn = record { forms = script.structures; histories = histories; conn = conn }
 
-module _ {L : Type 0} (limit : ℕ) (board : BoardShown L) (script : Script) (histories : List AnyHistory) (conn : ConnId)
+module _ {L : Type 0} (limit : ℕ) (board : BoardShown L) (script : Script) (histories : List AnyHistory)
+    (conn : ConnId)
     (setting : IsSetting limit board script.structures histories)
     (forms_are : map (λ cell. cell.form) board.cells ≡ script.structures) where
   abbrev me : Caller
@@ -216,7 +217,8 @@ module _ {L : Type 0} (limit : ℕ) (board : BoardShown L) (script : Script) (hi
                 departed.goes;
             ends = λ within agrees. by_end worker.shown.end (lines_shown going (departed.goes.back within))
                 (departed.shows
-                (owns_still me (beginner board conn) between played.part played.goes (begins_owning board conn)) within
+                (owns_still me (beginner board conn) between played.part played.goes (begins_owning board conn))
+                within
                 (links (departed.goes.back within)))
                 agrees;
           }
@@ -244,7 +246,8 @@ module _ {L : Type 0} (limit : ℕ) (board : BoardShown L) (script : Script) (hi
         by_end ended.Done going = by_owner (conn.0 == 0) refl going closing
         by_end (ended.JournalFull on) is =
             stopped_ends (ended.JournalFull on) is refl (still (conn.0 == 0) closing (ap is_done_as is))
-        by_end ended.NoMemory is = stopped_ends ended.NoMemory is refl (still (conn.0 == 0) closing (ap is_done_as is))
+        by_end ended.NoMemory is = stopped_ends ended.NoMemory is refl
+            (still (conn.0 == 0) closing (ap is_done_as is))
 
   pub finishes : (worker : AtWork) → Serves board script.lines (beginner board conn) worker → Finished worker
   finishes worker serves =

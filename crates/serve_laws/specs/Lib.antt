@@ -1,0 +1,1 @@
+-- No definitions of its own: its law is of those below.

@@ -52,7 +52,8 @@ word-fits f k found less is =
     fits (2 ^ k) found low most
   where
     fits : (p found : ℕ) → found < p → p ≤ 2147483648 → Fits w32 (found + 1 * p % 4294967296)
-    fits p found low most = let same : 1 * p % 4294967296 ≡ p = omega arith in let sum : found + 1 * p % 4294967296 < 4294967296 = omega (arith, same, low, most) in search rules
+    fits p found low most = let same : 1 * p % 4294967296 ≡ p = omega arith in let sum : found + 1 * p % 4294967296 <
+        4294967296 = omega (arith, same, low, most) in search rules
 
 -- the word that a loop over its 32 bits ends with
 pub whole : (f : ℕ → Bool) (k found : ℕ) → k ≡ 32 → found ≡ word_from f k → found ≡ whole_word f

@@ -60,7 +60,8 @@ module _ {C R I S L : Type 0} (meaning : Meaning C R I S) where
       let callers_are : key.callers ≡ seat.table.conns = ap (λ (k : CellKey C R L). k.callers) key_is in
       let words_are : key.words ≡ seat.table = ap (λ (k : CellKey C R L). k.words) key_is in
       let links_are : key.links ≡ links = ap (λ (k : CellKey C R L). k.links) key_is in
-      subst (λ (j : List (Entry C R)). IsCell meaning key key.limit standing touched j links seat) (sym none) (record {
+      subst (λ (j : List (Entry C R)). IsCell meaning key key.limit standing touched j links seat) (sym none)
+      (record {
         form = sym form_is;
         limit_is = refl;
         links_are = sym links_are;
@@ -101,7 +102,8 @@ module _ {C R I S L : Type 0} (meaning : Meaning C R I S) where
       → ((conn word : ℕ) → bits conn word ≡ words_in meaning standing'.form standing'.machine conn word)
       → seat' ≡ record stored { number = 0; log = stored.log ++ Committed stored.number by.0 (ask, reply) ∷ [] }
       → IsCell meaning key limit standing' touched' (entered journal by ask reply) links seat'
-  cell_called key limit standing standing' touched touched' journal links seat begun stored seat' bits by ask reply cell steps form_is same_table within few kept begun_is each are seat_is =
+  cell_called key limit standing standing' touched touched' journal links seat begun stored seat' bits by ask reply
+      cell steps form_is same_table within few kept begun_is each are seat_is =
       let form = key.form in
       let number_of = length journal + 1 in
       let history = next meaning form journal by ask in
@@ -158,7 +160,8 @@ module _ {C R I S L : Type 0} (meaning : Meaning C R I S) where
         numbered = numbered_next meaning form journal by ask cell.numbered;
         machine = machine_is;
         bits = subst (λ (l : List (Logged (About C R))). Shows meaning form key.callers l history) (sym log_is)
-            (shows_next meaning form key.callers journal by ask standing'.machine touched'.places bits seat begun stored by.0 about
+            (shows_next meaning form key.callers journal by ask standing'.machine touched'.places bits seat begun
+            stored by.0 about
             cell.bits cell.numbered begun_log begun_number
             (subst (λ (n : ℕ). StoresEach n form.vector bits touched'.places begun stored) cell.conns
             (subst (λ (n : ℕ). StoresEach key.words.conns n bits touched'.places begun stored) cell.len each))
@@ -174,7 +177,8 @@ module _ {C R I S L : Type 0} (meaning : Meaning C R I S) where
   -- so does a step that leaves the seat as it was
   pub cell_same : (key : CellKey C R L) (limit : ℕ) (standing : Standing S) (touched : TouchedWords)
       (journal : List (Entry C R)) (links : Links L)
-      (seat seat' : SeatSeen (About C R)) → IsCell meaning key limit standing touched journal links seat → seat' ≡ seat
+      (seat seat' : SeatSeen (About C R)) → IsCell meaning key limit standing touched journal links seat
+      → seat' ≡ seat
       → IsCell meaning key limit standing touched journal links seat'
   cell_same key limit standing touched journal links seat seat' cell same =
       subst (IsCell meaning key limit standing touched journal links) (sym same) cell
@@ -198,8 +202,10 @@ module _ {C R I S L : Type 0} (meaning : Meaning C R I S) where
       → seat' ≡ record stored { number = 0; log = stored.log ++ Committed stored.number owner (ask, reply) ∷ [] }
       → journal' ≡ journal ++ record { no = count; by = by; what = what.Call ask; reply = reply } ∷ []
       → IsCell meaning key limit standing' touched' journal' links seat'
-  cell_answered key limit standing standing' touched touched' journal journal' links seat learned begun stored seat' vectors named count owner by ask reply
-      cell steps form_is same_table few kept vectors_are named_are learned_is count_is by_is most begun_is each seat_is journal_is =
+  cell_answered key limit standing standing' touched touched' journal journal' links seat learned begun stored seat'
+      vectors named count owner by ask reply
+      cell steps form_is same_table few kept vectors_are named_are learned_is count_is by_is most begun_is each
+      seat_is journal_is =
       let within : by.0 ≤ key.callers =
       subst (λ (n : ℕ). n ≤ key.callers) (sym by_is)
       (subst (λ (n : ℕ). owner ≤ n) (ap (λ (w : WordTable). w.conns) vectors_are ∙ cell.conns) most) in

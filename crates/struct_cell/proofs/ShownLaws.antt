@@ -35,9 +35,11 @@ module _ {C R I S : Type 0} (meaning : Meaning C R I S) (form : StrForm) where
   shown-old history by ask n conn index was low =
       ap (λ (h : List (Entry C R)). shown_after meaning form h conn index)
       (ap (λ (k : ℕ). take k (next meaning form history by ask)) (last_below-next meaning form history by ask n low)
-      ∙ take-append-le (last_call_below history n) history (next_entry meaning form history by ask ∷ []) (was.below n))
+      ∙ take-append-le (last_call_below history n) history (next_entry meaning form history by ask ∷ [])
+      (was.below n))
 
-  shown-end : (history : List (Entry C R)) (n : ℕ) (conn : ConnId) (index : ℕ) → IsNumbered history → length history < n
+  shown-end : (history : List (Entry C R)) (n : ℕ) (conn : ConnId) (index : ℕ) → IsNumbered history
+      → length history < n
       → shown_below meaning form history n conn index ≡ shown_after meaning form history conn index
   shown-end history n conn index was past =
       ap (λ (h : List (Entry C R)). shown_after meaning form h conn index)
@@ -87,7 +89,8 @@ module _ {C R I S : Type 0} (meaning : Meaning C R I S) (form : StrForm) where
       → meaning.stands machine.content conn index ≡ meaning.stands (replay meaning form history).content conn index)
       → Shows meaning form conns (stored.log ++ Committed (length history + 1) caller about ∷ [])
       (next meaning form history by ask)
-  shows_next conns history by ask machine named bits before begun stored caller about shows was same_log number each are machine_is kept n index conn some most below =
+  shows_next conns history by ask machine named bits before begun stored caller about shows was same_log number each
+      are machine_is kept n index conn some most below =
       let number_of = length history + 1 in
       let w = word_number form.vector conn.0 (index / 32) in
       let after : shown_after meaning form
@@ -97,7 +100,8 @@ module _ {C R I S : Type 0} (meaning : Meaning C R I S) (form : StrForm) where
       ∙ elim (cases_lt n number_of) [
         | inl low ↦
             ap (λ (b : ℕ). bit_in b index)
-            (stores-below conns form.vector bits named begun stored w n each (subst (λ (k : ℕ). n < k) (sym number) low)
+            (stores-below conns form.vector bits named begun stored w n each (subst (λ (k : ℕ). n < k) (sym number)
+            low)
             ∙ ap (λ (l : List (Logged (About C R))). bits_at (steps_of l) w n) same_log)
             ∙ shows n index conn some most below
             ∙ sym (shown-old history by ask (n + 1) conn index was (omega (arith, low)))

@@ -70,7 +70,8 @@ module _ {C R I S L : Type 0} (meaning : Meaning C R I S) (key : CellKey C R L) 
 
   shown_none : (h : List (Entry C R)) (conn : ConnId) (index : ℕ) → key.form.vector ≤ index
       → shown_after meaning key.form h conn index ≡ false
-  shown_none h conn index past = let is : nat_lt index key.form.vector ≡ false = grind (arith, nat_tests) in rw is refl
+  shown_none h conn index past = let is : nat_lt index key.form.vector ≡ false = grind (arith, nat_tests) in rw is
+      refl
 
   pub told : (owner : ℕ) (test : Sight) → owner ≤ key.callers → IsHonest seat.log seat.number key.words.len owner test
       → IsTold meaning key.form journal owner test
@@ -82,7 +83,8 @@ module _ {C R I S L : Type 0} (meaning : Meaning C R I S) (key : CellKey C R L) 
       (bits_at (steps_of seat.log) (word_number len owner (test.index / 32)) n) test.index in
       let within : test.index / 32 < words_of key.form.vector = subst
       (λ (n : ℕ). test.index / 32 < words_of n) cell.len honest.within in
-      let at_number : (n : ℕ) → bits_of key.words.len n ≡ shown_below meaning key.form journal (n + 1) conn test.index =
+      let at_number : (n : ℕ) → bits_of key.words.len n ≡ shown_below meaning key.form journal (n + 1) conn test.index
+      =
       λ n. ap (λ (len : ℕ). bits_of len n) cell.len ∙ cell.bits n test.index conn honest.connector most within in
       let here : shown_below meaning key.form journal (test.at + 1) conn test.index ≡ shown_after meaning key.form
       (take test.at journal) conn test.index =
@@ -120,7 +122,8 @@ module _ {C R I S L : Type 0} (meaning : Meaning C R I S) (key : CellKey C R L) 
   tests_told pass table shown =
       let most : pass.owner ≤ key.callers = subst (λ (n : ℕ). pass.owner ≤ n)
       (ap (λ w. w.conns) table ∙ cell.conns) shown.owner in
-      All-weaker (IsHonest seat.log seat.number pass.table.len pass.owner) (IsTold meaning key.form journal pass.owner)
+      All-weaker (IsHonest seat.log seat.number pass.table.len pass.owner)
+      (IsTold meaning key.form journal pass.owner)
       (λ test honest. told pass.owner test most
       (subst (λ w. IsHonest seat.log seat.number w.len pass.owner test) table honest)) pass.tests shown.tests
 
@@ -143,7 +146,8 @@ module _ {C R I S L : Type 0} (meaning : Meaning C R I S) (key seen : CellKey C 
       (sym history_is) cell.callers)
 
   pub closed_mine : All (IsShown seat) passes
-      → All (λ (pass : PassSeen (About C R)). pass.mine ≡ map answered (own history (record { 0 = pass.owner }))) passes
+      → All (λ (pass : PassSeen (About C R)). pass.mine ≡ map answered (own history (record { 0 = pass.owner })))
+      passes
   closed_mine shown =
       subst (λ (h : List (Entry C R)). All
       (λ (pass : PassSeen (About C R)). pass.mine ≡ map answered (own h (record { 0 = pass.owner }))) passes)
@@ -158,7 +162,8 @@ module _ {C R I S L : Type 0} (meaning : Meaning C R I S) (key seen : CellKey C 
       subst (λ (h : List (Entry C R)). All (λ (pass : PassSeen (About C R)). pass.known ≤ length h) passes)
       (sym history_is)
       (All-weaker (IsShown seat) (λ (pass : PassSeen (About C R)). pass.known ≤ length journal)
-      (λ pass it. issued_within meaning key limit standing touched journal links seat cell pass.known it.known) passes shown)
+      (λ pass it. issued_within meaning key limit standing touched journal links seat cell pass.known it.known) passes
+      shown)
 
   pub closed_tests : All (λ (pass : PassSeen (About C R)). pass.table ≡ seen.words) passes → All (IsShown seat) passes
       → All (λ (pass : PassSeen (About C R)). All (IsTold meaning seen.form history pass.owner) pass.tests) passes

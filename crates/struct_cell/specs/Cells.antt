@@ -30,7 +30,8 @@ module _ {C R : Type 0} where
   abbrev pub answered : Call C R → ℕ × About C R
   answered call = (call.no, (call.ask, call.reply))
 
-  -- What the numbers of calls have to do with a history's length: none is past it, nor is the last call below any number; the
+  -- What the numbers of calls have to do with a history's length: none is past it, nor is the last call below any
+  -- number; the
   -- last call below a number past it is its end; and the last call up to a call's number is that call.
   pub record IsNumbered (history : List (Entry C R)) : Type 0 where
     pub within : (n : ℕ) → IsPoint history n → n ≤ length history
@@ -53,23 +54,27 @@ module _ {C R I S : Type 0} (meaning : Meaning C R I S) (form : StrForm) where
       → bit_in (bits_at (steps_of log) (word_number form.vector conn.0 (index / 32)) n) index
       ≡ shown_below history (n + 1) conn index
 
--- What lies under the lock stands to what never changes. Nothing is in flight; the log's commits are the journal's calls; the
--- journal is legal, and leads to the machine; and at each number the words show what stood after the last call up to it.
-pub record IsCell {C R I S L : Type 0} (meaning : Meaning C R I S) (key : CellKey C R L) (limit : ℕ) (standing : Standing S)
-    (touched : TouchedWords) (journal : List (Entry C R)) (links : Links L) (seat : SeatSeen (About C R)) : Type 0 where
-  pub form : standing.form ≡ key.form
-  pub limit_is : limit ≡ key.limit
-  pub links_are : links ≡ key.links
-  pub table : seat.table ≡ key.words
-  pub touches : (touched.conns ≡ key.callers) × (touched.len ≡ key.form.vector)
-  pub conns : key.words.conns ≡ key.callers
-  pub len : key.words.len ≡ key.form.vector
-  pub idle : seat.number ≡ 0
-  pub commits : commits_of seat.log ≡ map commit_of (calls journal)
-  pub count : count_of seat.log ≡ length journal
-  pub callers : All (λ call. call.by.0 ≤ key.callers) (calls journal)
-  pub most : length journal ≤ key.limit
-  pub legal : IsLegal meaning key.form journal
-  pub numbered : IsNumbered journal
-  pub machine : standing.machine ≡ replay meaning key.form journal
-  pub bits : Shows meaning key.form key.callers seat.log journal
+-- What lies under the lock stands to what never changes. Nothing is in flight; the log's commits are the journal's
+-- calls; the
+-- journal is legal, and leads to the machine; and at each number the words show what stood after the last call up to
+-- it.
+pub record IsCell {C R I S L : Type 0} (meaning : Meaning C R I S) (key : CellKey C R L) (limit : ℕ)
+    (standing : Standing S)
+    (touched : TouchedWords) (journal : List (Entry C R)) (links : Links L) (seat : SeatSeen (About C R)) : Type 0
+  where
+    pub form : standing.form ≡ key.form
+    pub limit_is : limit ≡ key.limit
+    pub links_are : links ≡ key.links
+    pub table : seat.table ≡ key.words
+    pub touches : (touched.conns ≡ key.callers) × (touched.len ≡ key.form.vector)
+    pub conns : key.words.conns ≡ key.callers
+    pub len : key.words.len ≡ key.form.vector
+    pub idle : seat.number ≡ 0
+    pub commits : commits_of seat.log ≡ map commit_of (calls journal)
+    pub count : count_of seat.log ≡ length journal
+    pub callers : All (λ call. call.by.0 ≤ key.callers) (calls journal)
+    pub most : length journal ≤ key.limit
+    pub legal : IsLegal meaning key.form journal
+    pub numbered : IsNumbered journal
+    pub machine : standing.machine ≡ replay meaning key.form journal
+    pub bits : Shows meaning key.form key.callers seat.log journal

@@ -20,4 +20,5 @@ shown_in meaning form machine conn index = nat_lt index form.vector && meaning.s
 
 -- the words of a machine's vectors, by connector and number
 abbrev pub words_in : {C R I S : Type 0} → Meaning C R I S → StrForm → Machine S → ℕ → ℕ → ℕ
-words_in meaning form machine conn word = whole_word (λ k. shown_in meaning form machine (record { 0 = conn }) (32 * word + k))
+words_in meaning form machine conn word = whole_word (λ k. shown_in meaning form machine (record { 0 = conn })
+    (32 * word + k))

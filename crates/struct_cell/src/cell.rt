@@ -47,8 +47,8 @@ impl<E: Engine, L: Link> Model for Cell<E, L> {
 }
 
 impl<E: Engine, L: Link> Cell<E, L> {
-    /// A cell of a structure without calls yet, with a pass for each caller from the operator, 0, on.
-    /// Its journal has at most `limit` entries. Where there is no memory the links come back.
+    /// A cell of a structure without calls yet, with a pass for each caller from the operator, 0,
+    /// on. Its journal has at most `limit` entries. Where there is no memory the links come back.
     pub fn start(
         alloc: Global,
         form: StrForm,
@@ -98,14 +98,14 @@ impl<E: Engine, L: Link> Cell<E, L> {
         }
     }
 
-    /// A call of the pass's owner. It waits for its turn; then it is judged and done at once, it stands
-    /// in the journal, and each word of a vector in which it changed a bit is stored, before its number
-    /// is published.
+    /// A call of the pass's owner. It waits for its turn; then it is judged and done at once, it
+    /// stands in the journal, and each word of a vector in which it changed a bit is stored, before
+    /// its number is published.
     ///
     /// # Errors
     ///
-    /// `JournalFull` where the journal has `limit` entries; `NoMemory`, before anything was changed. In
-    /// both cases nothing happened to the structure.
+    /// `JournalFull` where the journal has `limit` entries; `NoMemory`, before anything was
+    /// changed. In both cases nothing happened to the structure.
     pub fn call(
         &self,
         rt: &impl Wait,
@@ -202,8 +202,8 @@ impl<E: Engine, L: Link> Cell<E, L> {
         &self.vectors
     }
 
-    /// Ends the cell. Of its history each pass has its owner's calls, and it says what the pass's tests
-    /// answered. It may wait for a turn, and takes no memory.
+    /// Ends the cell. Of its history each pass has its owner's calls, and it says what the pass's
+    /// tests answered. It may wait for a turn, and takes no memory.
     pub fn close(
         self,
         rt: &impl Wait,

@@ -11,8 +11,8 @@ use std::marker::{Model, PhantomData};
 use struct_machine::{Changed, Machine};
 use vec_words::{EngineSeat, Vectors};
 
-/// What lies under a cell's lock: the structure's machine and its journal, its links, and the seat by
-/// which words are stored.
+/// What lies under a cell's lock: the structure's machine and its journal, its links, and the seat
+/// by which words are stored.
 #[derive(Drop)]
 pub struct Inside<E: Engine, L: Link> {
     pub(crate) limit: u32,

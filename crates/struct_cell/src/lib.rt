@@ -1,5 +1,5 @@
-//! A structure that connectors on threads of their own share: its machine and its journal behind one
-//! lock, and vectors that they test without it.
+//! A structure that connectors on threads of their own share: its machine and its journal behind
+//! one lock, and vectors that they test without it.
 #![tactic(auto)]
 
 mod cell;

@@ -12,7 +12,8 @@ use std::marker::Model;
 use struct_machine::Changed;
 use vec_words::Place;
 
-/// The words of vectors in which a call may have changed a bit: those that are named, or every word.
+/// The words of vectors in which a call may have changed a bit: those that are named, or every
+/// word.
 #[derive(Drop)]
 pub(crate) struct Touched {
     conns: u8,
@@ -29,7 +30,12 @@ impl Model for Touched {
 
     ghost Value = { TouchedWords };
 
-    ghost view = { λ t. record { conns = t.conns; len = t.len; places = if t.all then t.every.items else t.named.items } };
+    ghost view = { λ t. record {
+      conns = t.conns;
+      len = t.len;
+      places = if t.all then t.every.items
+          else t.named.items;
+    } };
 
     ghost invariant = { λ t. All (IsWithin t.conns t.len) t.named.items × AreDistinct t.named.items
         × All (IsWithin t.conns t.len) t.every.items × AreDistinct t.every.items
@@ -54,8 +60,8 @@ impl Touched {
         })
     }
 
-    /// The words of the bits that a call may have changed. It takes no memory: where there is no room
-    /// for all that are named, it is every word.
+    /// The words of the bits that a call may have changed. It takes no memory: where there is no
+    /// room for all that are named, it is every word.
     pub(crate) fn note(&mut self, changed: &Changed)
         ensures table { IsOfTable self.old self.new }
         ensures spared { (conn : ConnId) (index : ℕ) → 0 < conn.0 → conn.0 ≤ self.new.conns
@@ -84,8 +90,8 @@ impl Touched {
     }
 }
 
-// The words of these bits, behind others. False where there is no room for all of them. Bits past the
-// vectors have no word.
+// The words of these bits, behind others. False where there is no room for all of them. Bits past
+// the vectors have no word.
 fn name_all(named: &mut Vec<Place>, conns: u8, len: u32, bits: &[BitChange]) -> bool
     requires within { All (IsWithin conns len) named.old.items }
     requires distinct { AreDistinct named.old.items }

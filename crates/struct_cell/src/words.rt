@@ -55,8 +55,8 @@ fn store_one<E: Engine, D>(
     vectors.store_word(seat, place.conn, place.word, bits);
 }
 
-/// The 32 bits of a word of a connector's vector, the least index lowest. Past the vector's end they
-/// are 0.
+/// The 32 bits of a word of a connector's vector, the least index lowest. Past the vector's end
+/// they are 0.
 fn word_of<E: Engine>(machine: &Machine<E>, conn: ConnId, word: u32) -> u32
     requires conn { IsCaller conn }
     requires word { word < 2 ^ 27 }

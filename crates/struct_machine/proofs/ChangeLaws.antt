@@ -19,7 +19,8 @@ filter_none p [] none = refl
 filter_none p (x ∷ xs) none = rw none.0 (filter_none p xs none.1)
 
 -- nothing is told of a bit that isn't named
-told_unnamed : (changes : List BitChange) (conn : ConnId) (index : ℕ) → All (λ change. is_for conn index change ≡ false) changes
+told_unnamed : (changes : List BitChange) (conn : ConnId) (index : ℕ)
+    → All (λ change. is_for conn index change ≡ false) changes
     → told changes conn index ≡ []
 told_unnamed changes conn index unnamed =
     ap (map (λ (change : BitChange). change.bit))
@@ -31,23 +32,28 @@ difference_same false true none = absurd cc
 difference_same true false none = absurd cc
 difference_same true true none = refl
 
-pub covers_gains : (before after : Bits) (changed : ChangeList) → Gains before after [] changed.bits → Covers changed before after
+pub covers_gains : (before after : Bits) (changed : ChangeList) → Gains before after [] changed.bits
+    → Covers changed before after
 covers_gains before after changed gains conn index untouched =
     let nothing : told changed.bits conn index ≡ [] = told_unnamed changed.bits conn index untouched.unnamed in
     difference_same (before conn index) (after conn index)
-    (sym (gains.exactly conn index) ∙ ap (λ (changes : List BitChange). told changes conn index) (sym gains.behind) ∙ nothing)
+    (sym (gains.exactly conn index) ∙ ap (λ (changes : List BitChange). told changes conn index) (sym gains.behind)
+    ∙ nothing)
 
 -- the same of an engine that was got ready
-pub covers_ready : {C R I S : Type 0} (meaning : Meaning C R I S) (before ready after : Held S) (named : List BitChange) (changed : ChangeList)
+pub covers_ready : {C R I S : Type 0} (meaning : Meaning C R I S) (before ready after : Held S)
+    (named : List BitChange) (changed : ChangeList)
     → ready ≡ before → named ≡ [] → Gains (stands_in meaning ready) (stands_in meaning after) named changed.bits
     → Covers changed (stands_in meaning before) (stands_in meaning after)
 covers_ready {C} {R} {I} {S} meaning before ready after named changed same none gains =
     covers_gains (stands_in meaning before) (stands_in meaning after) changed
-    (subst₂ (λ (held : Held S) (names : List BitChange). Gains (stands_in meaning held) (stands_in meaning after) names changed.bits) same none gains)
+    (subst₂ (λ (held : Held S) (names : List BitChange). Gains (stands_in meaning held) (stands_in meaning after)
+    names changed.bits) same none gains)
 
 -- ---- deeds that are none leave the content
 
-none_of : (a b c d e f g h : Bool) → a || b || c || d || e || f || g || h ≡ false → (a ≡ false) × (b ≡ false) × (h ≡ false)
+none_of : (a b c d e f g h : Bool) → a || b || c || d || e || f || g || h ≡ false → (a ≡ false) × (b ≡ false)
+    × (h ≡ false)
 none_of false false false false false false false false same = (refl, refl, refl)
 none_of true b c d e f g h same = absurd cc
 none_of false true c d e f g h same = absurd cc
@@ -59,25 +65,32 @@ none_of false false false false false false true h same = absurd cc
 none_of false false false false false false false true same = absurd cc
 
 module _ {C R I S : Type 0} (meaning : Meaning C R I S) (shape : Shape) where
-  deeds_none : (deeds : Deeds) (state : S) → has_deeds deeds ≡ false → state_with_deeds meaning shape deeds state ≡ state
+  deeds_none : (deeds : Deeds) (state : S) → has_deeds deeds ≡ false → state_with_deeds meaning shape deeds state ≡
+      state
   deeds_none deeds state none =
-      let none = none_of (is_some deeds.back) (is_some deeds.make) (is_some deeds.second) (is_some deeds.drop_at) deeds.restart deeds.switch
+      let none = none_of (is_some deeds.back) (is_some deeds.make) (is_some deeds.second) (is_some deeds.drop_at)
+      deeds.restart deeds.switch
       deeds.drop_fresh deeds.drop_all none in
       by_deeds deeds.back deeds.make deeds.drop_all none.0 none.1 none.2
     where
-      by_deeds : (back : Option ConnId) (make : Option CfId) (drop_all : Bool) → is_some back ≡ false → is_some make ≡ false → drop_all ≡ false
-          → state_with_deeds meaning shape (record deeds { back = back; make = make; drop_all = drop_all }) state ≡ state
+      by_deeds : (back : Option ConnId) (make : Option CfId) (drop_all : Bool) → is_some back ≡ false
+          → is_some make ≡ false → drop_all ≡ false
+          → state_with_deeds meaning shape (record deeds { back = back; make = make; drop_all = drop_all }) state ≡
+          state
       by_deeds None None false no_back no_make kept = refl
       by_deeds (Some conn) make drop_all no_back no_make kept = absurd cc
       by_deeds None (Some cf) drop_all no_back no_make kept = absurd cc
       by_deeds None None true no_back no_make kept = absurd cc
 
   -- a departure whose bits are named, and then a command's deeds
-  pub covers_deeds : (deeds : Deeds) (before middle after : S) (named changed : ChangeList) → changed ≡ record named { all = has_deeds deeds }
-      → after ≡ state_with_deeds meaning shape deeds middle → Gains (meaning.stands before) (meaning.stands middle) [] named.bits
+  pub covers_deeds : (deeds : Deeds) (before middle after : S) (named changed : ChangeList) → changed ≡ record named
+      { all = has_deeds deeds }
+      → after ≡ state_with_deeds meaning shape deeds middle → Gains (meaning.stands before) (meaning.stands middle)
+      [] named.bits
       → Covers changed (meaning.stands before) (meaning.stands after)
   covers_deeds deeds before middle after named changed noted done gains =
       subst (λ (list : ChangeList). Covers list (meaning.stands before) (meaning.stands after)) (sym noted)
       (λ conn index untouched.
       ap (λ (state : S). meaning.stands state conn index) (done ∙ deeds_none deeds middle untouched.not_all)
-      ∙ covers_gains (meaning.stands before) (meaning.stands middle) (record named { all = has_deeds deeds }) gains conn index untouched)
+      ∙ covers_gains (meaning.stands before) (meaning.stands middle) (record named { all = has_deeds deeds }) gains
+      conn index untouched)

@@ -18,7 +18,8 @@ use Rattle.engine_api.specs.Shell.{Shell, Leaver, Acted, shell_done, leaver, tak
 use Rattle.struct_machine.specs.Kept.{state_with_deeds, taken_back}
 
 -- who departs is a caller
-pub leaver_caller : (shell : Shell) (by : ConnId) (command : ShellCmd) (who : Leaver) → MayCommand by command → leaver shell by command ≡ Some who
+pub leaver_caller : (shell : Shell) (by : ConnId) (command : ShellCmd) (who : Leaver) → MayCommand by command
+    → leaver shell by command ≡ Some who
     → IsCaller who.conn
 leaver_caller shell by (cmd.Connect keep) who may e = absurd cc
 leaver_caller shell by cmd.Disconnect who may e = let is : by ≡ who.conn = cc in rw (← is) (omega (arith, may.1))
@@ -30,7 +31,8 @@ leaver_caller shell by cmd.RebuildStop who may e = absurd cc
 leaver_caller shell by cmd.RebuildConnect who may e = absurd cc
 leaver_caller shell by (cmd.Copy n) who may e = absurd cc
 leaver_caller shell by cmd.RebuildComplete who may e = absurd cc
-leaver_caller shell by (cmd.ForceConn other) who may e = let is : other ≡ who.conn = cc in rw (← is) (omega (arith, may.1.1))
+leaver_caller shell by (cmd.ForceConn other) who may e = let is : other ≡ who.conn = cc in rw (← is)
+    (omega (arith, may.1.1))
 leaver_caller shell by cmd.ForceStr who may e = absurd cc
 leaver_caller shell by (cmd.LoseConn other cf) who may e = absurd cc
 leaver_caller shell by (cmd.RestoreConn other cf) who may e = absurd cc
@@ -38,15 +40,18 @@ leaver_caller shell by (cmd.Vary cf off) who may e = absurd cc
 leaver_caller shell by cmd.DuplexStart who may e = absurd cc
 leaver_caller shell by cmd.DuplexStop who may e = absurd cc
 
-either_back : (b : Bool) (x y : Acted) → IfSome x.deeds.back IsCaller → IfSome y.deeds.back IsCaller → IfSome (cond b x y).deeds.back IsCaller
+either_back : (b : Bool) (x y : Acted) → IfSome x.deeds.back IsCaller → IfSome y.deeds.back IsCaller
+    → IfSome (cond b x y).deeds.back IsCaller
 either_back true x y first second = first
 either_back false x y first second = second
 
-taken_none : (shell : Shell) (by : ConnId) (event : Option Event) → IfSome (take_event shell by event).deeds.back IsCaller
+taken_none : (shell : Shell) (by : ConnId) (event : Option Event) → IfSome (take_event shell by event).deeds.back
+    IsCaller
 taken_none shell by None = tt
 taken_none shell by (Some event) = tt
 
-respond_none : (shell : Shell) (by : ConnId) (event : Option Event) → IfSome (respond shell by event).deeds.back IsCaller
+respond_none : (shell : Shell) (by : ConnId) (event : Option Event) → IfSome (respond shell by event).deeds.back
+    IsCaller
 respond_none shell by None = tt
 respond_none shell by (Some event) = tt
 

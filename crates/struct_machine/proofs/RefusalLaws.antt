@@ -12,14 +12,16 @@ use Rattle.plex_shell.specs.Verdicts.{refused_or, verdict}
 use Rattle.plex_shell.specs.declared.verdicts.Verdict.{Verdict}
 use Rattle.plex_shell.specs.declared.verdicts.Verdict.TheVariants.{Refuse, Content, Act}
 
-cause_of : (cause : Option Refusal) (other : Verdict) (refusal : Refusal) → ((r : Refusal) → other ≡ Refuse r → ⊥) → refused_or cause other ≡ Refuse refusal
+cause_of : (cause : Option Refusal) (other : Verdict) (refusal : Refusal) → ((r : Refusal) → other ≡ Refuse r → ⊥)
+    → refused_or cause other ≡ Refuse refusal
     → cause ≡ Some refusal
 cause_of None other refusal apart e = absurd (apart refusal e)
 cause_of (Some cause) other refusal apart e = cc
 
 module _ {C R I S : Type 0} (meaning : Meaning C R I S) (form : StrForm) where
   -- a call that the shell refuses
-  pub refused_step : (machine : Machine S) (by : ConnId) (asked : Ask C) (refusal : Refusal) → verdict form machine.shell by asked ≡ Refuse refusal
+  pub refused_step : (machine : Machine S) (by : ConnId) (asked : Ask C) (refusal : Refusal)
+      → verdict form machine.shell by asked ≡ Refuse refusal
       → step meaning form machine by asked ≡ refusing machine refusal
   refused_step machine by (ask.Shell command) refusal e =
       let cause : shell_cause form machine.shell by command ≡ Some refusal =

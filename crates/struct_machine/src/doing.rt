@@ -15,7 +15,8 @@ use engine_api::{Ask, Deeds, Engine, Reply};
 use plex_shell::{ACT_LETTERS, Room, Shell, Verdict};
 use std::alloc::Global;
 
-// A call is judged, and done where the shell doesn't refuse it. What bits it may have changed is told.
+// A call is judged, and done where the shell doesn't refuse it. What bits it may have changed is
+// told.
 pub(crate) fn answer<E: Engine>(
     alloc: Global,
     form: &StrForm,
@@ -84,8 +85,8 @@ fn do_content<E: Engine>(
     Ok(content_reply(answer))
 }
 
-// A connector departs from the content, and the letters that this brings are posted. The effects name
-// the bits that it changed. Room for the letters of the command itself is left.
+// A connector departs from the content, and the letters that this brings are posted. The effects
+// name the bits that it changed. Room for the letters of the command itself is left.
 fn leave_content<E: Engine>(
     shell: &mut Shell,
     engine: &mut E,
@@ -136,8 +137,8 @@ fn do_deeds<E: Engine>(engine: &mut E, spare: E, deeds: Deeds)
     }
 }
 
-// Who departs leaves the content first, where an instance stands; room for the command's own letters
-// is taken in any case. The effects name the bits that the departure changed.
+// Who departs leaves the content first, where an instance stands; room for the command's own
+// letters is taken in any case. The effects name the bits that the departure changed.
 fn depart_first<E: Engine>(
     shell: &mut Shell,
     engine: &mut E,
@@ -152,10 +153,12 @@ fn depart_first<E: Engine>(
     ensures form { shell.new.form ≡ shell.old.form }
     ensures shape { (E.held engine.new).shape ≡ (E.held engine.old).shape }
     ensures caps { (E.held engine.new).caps ≡ (E.held engine.old).caps }
-    ensures ok_state { let gone = leaving E.meaning shell.old.form (leaver shell.old.shell by cmd.now)
+    ensures ok_state { let gone = leaving E.meaning shell.old.form
+        (leaver shell.old.shell by cmd.now)
         (machine_of shell.old (E.held engine.old)) in
         OnOk result ((E.held engine.new).state ≡ gone.state) }
-    ensures ok_shell { let gone = leaving E.meaning shell.old.form (leaver shell.old.shell by cmd.now)
+    ensures ok_shell { let gone = leaving E.meaning shell.old.form
+        (leaver shell.old.shell by cmd.now)
         (machine_of shell.old (E.held engine.old)) in
         OnOk result (shell.new.shell ≡ posting gone.letters shell.old.shell) }
     ensures room { OnOk result (ACT_LETTERS ≤ shell.new.room) }

@@ -15,8 +15,8 @@ use plex_shell::Shell;
 use std::alloc::Global;
 use std::marker::Model;
 
-/// A structure on one thread: its form, its shell and its content. It keeps no journal: contracts see
-/// the form and the state that the calls so far have led to.
+/// A structure on one thread: its form, its shell and its content. It keeps no journal: contracts
+/// see the form and the state that the calls so far have led to.
 #[derive(Drop)]
 pub struct Machine<E: Engine> {
     form: StrForm,

@@ -41,7 +41,8 @@ module _ {D : Type 0} where
       h
 
   pub kept-store : (log : List (Logged D)) (to bits stamp len conn : ℕ) (test : Sight) → IsOrderly log (flying_of log)
-      → CanStore log to bits stamp → IsKept log len conn test → IsKept (log ++ Stored to bits stamp ∷ []) len conn test
+      → CanStore log to bits stamp → IsKept log len conn test → IsKept (log ++ Stored to bits stamp ∷ []) len conn
+      test
   kept-store log to bits stamp len conn test orderly can k =
       let later : List (Logged D) = log ++ Stored to bits stamp ∷ [] in
       let word : ℕ = word_number len conn (test.index / 32) in

@@ -21,7 +21,8 @@ module _ {D : Type 0} where
   pub count-push : (log : List (Logged D)) (x : Logged D) → count_of (log ++ x ∷ []) ≡ count_after (count_of log) x
   count-push log x = fold-append count_after 0 log (x ∷ [])
 
-  pub flying-push : (log : List (Logged D)) (x : Logged D) → flying_of (log ++ x ∷ []) ≡ flying_after (flying_of log) x
+  pub flying-push : (log : List (Logged D)) (x : Logged D) → flying_of (log ++ x ∷ []) ≡ flying_after (flying_of log)
+      x
   flying-push log x = fold-append flying_after 0 log (x ∷ [])
 
   pub left-push : (log : List (Logged D)) (x : Logged D) (word : ℕ)

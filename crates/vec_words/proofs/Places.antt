@@ -36,7 +36,8 @@ indices_within word k d below =
     subst (λ n. n / 32 ≡ word) (sym (get_or-range_with_len (32 * word) 32 k d few)) (omega arith)
 
 -- two vectors have no word in common, nor has one vector two words of one number
-pub word_number-same : (len conn other word next : ℕ) → 0 < conn → 0 < other → word < words_of len → next < words_of len
+pub word_number-same : (len conn other word next : ℕ) → 0 < conn → 0 < other → word < words_of len
+    → next < words_of len
     → word_number len conn word ≡ word_number len other next → (conn ≡ other) × (word ≡ next)
 word_number-same len conn other word next some some' below below' same =
     let is : conn ≡ other = equal_by (dec_le conn other) (dec_le other conn) in (is, words is)

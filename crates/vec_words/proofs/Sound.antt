@@ -28,7 +28,8 @@ module _ {D : Type 0} where
       (λ i. (sym (steps-push log x) i, sym (count-push log x) i))
       (settled-store (steps_of log) (count_of log) flying to bits stamp n fresh h)
 
-  pub settled-committed : (log : List (Logged D)) (m by : ℕ) (about : D) (flying n : ℕ) → IsOpen (count_of log) flying m
+  pub settled-committed : (log : List (Logged D)) (m by : ℕ) (about : D) (flying n : ℕ) → IsOpen (count_of log) flying
+      m
       → IsSettled (steps_of log) (count_of log) flying n
       → IsSettled (steps_of (log ++ Committed m by about ∷ [])) (count_of (log ++ Committed m by about ∷ [])) 0 n
   settled-committed log m by about flying n fresh h =
@@ -95,7 +96,8 @@ module _ {D : Type 0} where
       record {
         small = omega (arith, count, orderly.small);
         count = ⊎_elim (λ (z : count_of log ≡ 0). inl (count ∙ z))
-            (λ (c : IsCommitted (steps_of log) (count_of log)). inr (subst (λ (y : List Step × ℕ). IsCommitted y.0 y.1)
+            (λ (c : IsCommitted (steps_of log) (count_of log)). inr
+            (subst (λ (y : List Step × ℕ). IsCommitted y.0 y.1)
             (λ i. (sym (steps-push log x) i, sym count i))
             (Contains-append_left (steps_of log) (Store to bits stamp ∷ []) (Commit (count_of log)) c)))
             orderly.count;
@@ -146,7 +148,8 @@ module _ {D : Type 0} where
             (λ (e : s ≡ flying). ⊎_elim (λ (z : flying ≡ 0). omega arith)
             (λ (q : flying ≡ m). omega (arith, count, e, q)) fresh.1)
             (orderly.stores w s (has_store-commit log m by about w s h)));
-        stamps = λ w. subst (λ k. IsSettled (steps_of later) (count_of later) 0 (stamp_of k)) (sym (left-push log x w))
+        stamps = λ w. subst (λ k. IsSettled (steps_of later) (count_of later) 0 (stamp_of k))
+            (sym (left-push log x w))
             (settled-committed log m by about flying (stamp_of (left_in log w)) fresh (orderly.stamps w));
         words = λ w. subst (λ (y : List Step × ℕ). CarriesWord y.0 w y.1)
             (λ i. (sym (steps-push log x) i, sym (left-push log x w) i))

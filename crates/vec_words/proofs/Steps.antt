@@ -217,7 +217,8 @@ module _ {D : Type 0} where
         fit = all_push shape.len roll views (log_alone v)
             (all_set shape.len roll s.views id (without_log v)
             (λ j u apart e. let f = kept.fit j u e in
-            handed shape.len old (length views) j u u.keeps u.log (λ k. absurd (apart ((f.keeps k).0 ∙ sym held.0))) f)
+            handed shape.len old (length views) j u u.keeps u.log (λ k. absurd (apart ((f.keeps k).0 ∙ sym held.0)))
+            f)
             (handed shape.len old (length views) id v false [] (λ k. absurd (off k)) mine))
             (handed shape.len old (length views) (length views) blank true v.log (λ _. (refl, held.1))
             (fits_blank shape.len old (length views)));
@@ -275,7 +276,8 @@ module _ {D : Type 0} where
       )
     where
       tested_fits : (roll : Roll D) (v : View D) → IsOrderly roll.log (flying_of roll.log) → Fits shape.len roll id v
-          → v.owner ≡ me.0.owner → v.sure ≤ v.known → Fits shape.len roll id (tested_of asked v (left_in roll.log word))
+          → v.owner ≡ me.0.owner → v.sure ≤ v.known → Fits shape.len roll id
+          (tested_of asked v (left_in roll.log word))
       tested_fits roll v sound mine owner ordered =
           let w = left_in roll.log word in
           let at : ℕ = max v.known (stamp_of w) in

@@ -20,7 +20,8 @@ use Rattle.vec_words.proofs.Commits.{commits_of-append}
 use Rattle.vec_words.proofs.Places.{word_number-same}
 
 -- a place is this word, or it isn't
-at_cases : (conn word : ℕ) (place : Place) (G : Type 0) → (IsAt conn word place → G) → (¬ IsAt conn word place → G) → G
+at_cases : (conn word : ℕ) (place : Place) (G : Type 0) → (IsAt conn word place → G) → (¬ IsAt conn word place → G)
+    → G
 at_cases conn word place G here apart =
     ⊎_elim
     (λ (a : place.conn.0 ≡ conn). ⊎_elim (λ (b : place.word ≡ word). here (a, b))
@@ -146,7 +147,8 @@ module _ {D : Type 0} (conns len : ℕ) (bits : ℕ → ℕ → ℕ) (named : Li
       → P (bits_at (steps_of after.log) (word_number len conn word) k)
   stores-from conn word k P each positive below from new old =
       subst (λ l. P (bits_at (steps_of l) (word_number len conn word) k)) (sym (log_is each each.places each.seat))
-      (stores_of-from len bits before.number conns before.log each.places conn word k P positive below from each.within
+      (stores_of-from len bits before.number conns before.log each.places conn word k P positive below from
+      each.within
       new
       (λ spared. old ((each.same conn word).0 spared)))
 
@@ -157,7 +159,8 @@ front P xs x all = (All-pop P (xs ++ x ∷ []) xs (Some x) refl all).0
 last : {A : Type 0} (P : A → Type 0) (xs : List A) (x : A) → All P (xs ++ x ∷ []) → P x
 last P xs x all = (All-pop P (xs ++ x ∷ []) xs (Some x) refl all).1
 
-take-next : {A : Type 0} (xs : List A) (i : ℕ) (x : A) → slice_get xs i ≡ Some x → take (i + 1) xs ≡ take i xs ++ x ∷ []
+take-next : {A : Type 0} (xs : List A) (i : ℕ) (x : A) → slice_get xs i ≡ Some x → take (i + 1) xs ≡ take i xs
+    ++ x ∷ []
 take-next xs i x is =
     take_more xs i x (slice_get_within xs i x is) ∙ ap (λ y. take i xs ++ y ∷ []) (get_or_from_slice_get xs i x x is)
 
@@ -240,8 +243,10 @@ module _ {D : Type 0} (conns len : ℕ) (bits : ℕ → ℕ → ℕ) (before : S
       → StoresEach conns len bits named before after → ((w : ℕ) → ¬ HasStore (steps_of before.log) w before.number)
       → ¬ HasStore (steps_of after.log) (word_number len p.conn.0 p.word) after.number
   each-once after named p within apart each fresh =
-      subst (λ (s : SeatSeen D). ¬ HasStore (steps_of s.log) (word_number len p.conn.0 p.word) s.number) (sym each.seat)
-      (stores_of-once len bits before.number conns before.log each.places p.conn.0 p.word within.0 within.2 each.within
+      subst (λ (s : SeatSeen D). ¬ HasStore (steps_of s.log) (word_number len p.conn.0 p.word) s.number)
+      (sym each.seat)
+      (stores_of-once len bits before.number conns before.log each.places p.conn.0 p.word within.0 within.2
+      each.within
       ((each.same p.conn.0 p.word).1 apart) (fresh (word_number len p.conn.0 p.word)))
 
   -- one step of the loop

@@ -11,7 +11,8 @@ use Rattle.vec_words.specs.declared.view.Shape.{Shape}
 use Rattle.vec_words.specs.Logged.{words_of, word_number, steps_of, count_of, flying_of, left_in, calls_of, IsOrderly}
 use Rattle.vec_words.specs.Logged.{Tells}
 
--- what the views of all seats have in common: the log and the seat that has it, the seat that makes passes and the next
+-- what the views of all seats have in common: the log and the seat that has it, the seat that makes passes and the
+-- next
 -- pass's number, and the seat of each pass by its owner
 pub record Roll (D : Type 0) : Type 0 where
   pub log : List (Logged D)
@@ -55,7 +56,8 @@ module _ {D : Type 0} where
   pub record AreLeft (shape : Shape) (log : List (Logged D)) (words : List ℕ) : Type 0 where
     pub count : slice_index words 0 ≡ count_of log
     pub length_is : length words ≡ suc (shape.conns * words_of shape.len)
-    pub vectors : (word : ℕ) → word < shape.conns * words_of shape.len → slice_index words (suc word) ≡ left_in log word
+    pub vectors : (word : ℕ) → word < shape.conns * words_of shape.len → slice_index words (suc word) ≡ left_in log
+        word
 
   pub record Kept (shape : Shape) (table : State ℕ (View D)) : Type 0 where
     pub roll : Roll D

@@ -15,8 +15,8 @@ use atomic_table::Seat;
 use std::marker::Brand;
 
 impl<C, R> Vectors<(C, R)> {
-    /// Commits as [`Vectors::commit`] does. The call's data are a command and its reply, which stay where
-    /// they are.
+    /// Commits as [`Vectors::commit`] does. The call's data are a command and its reply, which stay
+    /// where they are.
     pub fn commit_call(
         &self,
         seat: &mut EngineSeat<(C, R)>,
@@ -43,8 +43,8 @@ impl<C, R> Vectors<(C, R)> {
 }
 
 impl<D> Vectors<D> {
-    /// Commits the number in flight as a call of the pass's owner, with the call's data `about`, which
-    /// contracts alone see. The number is then published.
+    /// Commits the number in flight as a call of the pass's owner, with the call's data `about`,
+    /// which contracts alone see. The number is then published.
     pub fn commit(&self, seat: &mut EngineSeat<D>, pass: &mut Pass<D>)
         ghost about: { D }
         requires seat { seat.old.table ≡ self.now }
@@ -63,7 +63,8 @@ impl<D> Vectors<D> {
         self.commit_of::<Brand, ()>(seat, pass, &());
     }
 
-    /// Commits as [`Vectors::commit`] does, with the data that the caller has. They stay where they are.
+    /// Commits as [`Vectors::commit`] does, with the data that the caller has. They stay where they
+    /// are.
     pub fn commit_as(&self, seat: &mut EngineSeat<D>, pass: &mut Pass<D>, about: &D)
         requires seat { seat.old.table ≡ self.now }
         requires pass { pass.old.table ≡ self.now }
@@ -107,8 +108,9 @@ impl<D> Vectors<D> {
         pass.sure = number;
     }
 
-    /// Loads the number that was committed last, which the pass then knows and has seen complete. Beside
-    /// the engine's log it shows what the pass's tests answered and that the log has the pass's calls.
+    /// Loads the number that was committed last, which the pass then knows and has seen complete.
+    /// Beside the engine's log it shows what the pass's tests answered and that the log has the
+    /// pass's calls.
     pub fn learn(&self, seat: &mut EngineSeat<D>, pass: &mut Pass<D>)
         requires seat { seat.old.table ≡ self.now }
         requires pass { pass.old.table ≡ self.now }

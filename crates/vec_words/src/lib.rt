@@ -1,9 +1,9 @@
 //! Vector words that connectors race on.
 //!
-//! A word holds 32 bits of one connector's vector, and the number of the change that stored it last. The
-//! engine stores words and commits numbers while connectors test bits with one atomic load, no lock and
-//! no waiting. A test answers a bit and a number, and the contract of [`Vectors::learn`] says at which
-//! numbered point of the history the bit stood.
+//! A word holds 32 bits of one connector's vector, and the number of the change that stored it
+//! last. The engine stores words and commits numbers while connectors test bits with one atomic
+//! load, no lock and no waiting. A test answers a bit and a number, and the contract of
+//! [`Vectors::learn`] says at which numbered point of the history the bit stood.
 #![tactic(auto)]
 
 mod count;

@@ -11,8 +11,8 @@ use vec_world::{bits_of, stamp_of};
 
 impl<D> Vectors<D> {
     /// Tests a bit of the pass's own vector with one load: no lock, no memory, no waiting (IXLVECTR
-    /// TESTLOCALCACHE and TESTLISTSTATE). It answers the bit and the number that the answer is of, which the
-    /// pass then knows. The operator's pass doesn't test.
+    /// TESTLOCALCACHE and TESTLISTSTATE). It answers the bit and the number that the answer is of,
+    /// which the pass then knows. The operator's pass doesn't test.
     pub fn test(&self, pass: &mut Pass<D>, index: u32) -> Tested
         requires table { pass.old.table ≡ self.now }
         requires caller { 0 < pass.old.owner }

@@ -6,9 +6,9 @@ use atomic_table::Seat;
 use cf_types::ConnId;
 use std::marker::Model;
 
-/// With a pass a caller tests its own vector, is told numbers by notes, and has its calls committed. It
-/// takes no room in the table and may go to another thread. `D` is the data of one answered call. It is
-/// never stored.
+/// With a pass a caller tests its own vector, is told numbers by notes, and has its calls
+/// committed. It takes no room in the table and may go to another thread. `D` is the data of one
+/// answered call. It is never stored.
 pub struct Pass<D> {
     pub(crate) owner: ConnId,
     pub(crate) known: u32,
@@ -45,7 +45,8 @@ impl<D> Pass<D> {
         self.known
     }
 
-    /// The greatest number of a call that the pass has seen complete. It is at most the known number.
+    /// The greatest number of a call that the pass has seen complete. It is at most the known
+    /// number.
     pub fn sure(&self) -> u32
         ensures sure { result ≡ self.now.sure }
         ensures ordered { result ≤ self.now.known }

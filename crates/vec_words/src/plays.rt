@@ -82,7 +82,8 @@ impl<D, A: About<D>> Play<u8, View<D>> for Publish<A> {
 pub struct Learn;
 
 impl<D> Play<u8, View<D>> for Learn {
-    ghost then = { λ s me count after. Becomes me (learned_of me.0 count) after × Shows me.0.len me.0 count };
+    ghost then = { λ s me count after. Becomes me (learned_of me.0 count) after
+        × Shows me.0.len me.0 count };
 }
 
 // The engine's seat makes a pass.

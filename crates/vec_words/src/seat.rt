@@ -3,8 +3,9 @@ use crate::view::View;
 use atomic_table::Seat;
 use std::marker::Model;
 
-/// With its seat the engine stores the vectors' words, under the number of the call that it is making.
-/// There is one to a word table. Contracts see the number in flight and the log of all stores and commits.
+/// With its seat the engine stores the vectors' words, under the number of the call that it is
+/// making. There is one to a word table. Contracts see the number in flight and the log of all
+/// stores and commits.
 pub struct EngineSeat<D> {
     pub(crate) number: u32,
     pub(crate) seat: Seat<u8, View<D>>,

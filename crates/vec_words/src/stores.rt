@@ -16,8 +16,8 @@ pub struct Place {
     pub word: u32,
 }
 
-/// The words of vectors that a call changes, in whatever form a layer above has them: as a list of the bits
-/// that changed, say, beside the content that tells each bit.
+/// The words of vectors that a call changes, in whatever form a layer above has them: as a list of
+/// the bits that changed, say, beside the content that tells each bit.
 pub trait Changes {
     /// The words that are named, however often each.
     ghost places: { Self → List Place };
@@ -47,9 +47,9 @@ pub trait Changes {
 }
 
 impl<D> Vectors<D> {
-    /// Stores each word that is named, once, under the number in flight, which no store has yet. It takes
-    /// no memory. Where a word may be named again, it is looked for from the last one back, so a list that
-    /// names words in runs is stored in few steps.
+    /// Stores each word that is named, once, under the number in flight, which no store has yet. It
+    /// takes no memory. Where a word may be named again, it is looked for from the last one back,
+    /// so a list that names words in runs is stored in few steps.
     pub fn store_changed<C: Changes>(&self, seat: &mut EngineSeat<D>, changes: &C)
         requires table { seat.old.table ≡ self.now }
         requires begun { 0 < seat.old.number }

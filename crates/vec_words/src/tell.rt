@@ -39,8 +39,8 @@ impl<D> Vectors<D> {
         }
     }
 
-    /// Tells a note to the pass, whose numbers are then each the larger of both. It answers the number of
-    /// a call that the pass has now seen complete.
+    /// Tells a note to the pass, whose numbers are then each the larger of both. It answers the
+    /// number of a call that the pass has now seen complete.
     pub fn told(&self, pass: &mut Pass<D>, note: Note<D>) -> u32
         requires pass { pass.old.table ≡ self.now }
         requires note { note.table ≡ self.now }

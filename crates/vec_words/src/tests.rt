@@ -61,7 +61,8 @@ struct Race {
     found: AtomicU64,
 }
 
-// All calls, for the operator. The first comes once both threads run, and the second half once the tester has found a store.
+// All calls, for the operator. The first comes once both threads run, and the second half once the
+// tester has found a store.
 fn make_calls(
     rt: &impl Wait,
     race: &Race,
@@ -85,7 +86,8 @@ fn make_calls(
     seat
 }
 
-// What a connector found: how many tests answered a number between the first and the last, and how many bits that never stood.
+// What a connector found: how many tests answered a number between the first and the last, and how
+// many bits that never stood.
 #[derive(Clone, Copy, Debug)]
 struct Found {
     between: u32,

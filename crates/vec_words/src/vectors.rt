@@ -17,8 +17,8 @@ use std::alloc::{AllocError, Global};
 use std::marker::{Brand, Model};
 use vec_world::word_of;
 
-/// The words of all connectors' vectors, with the number that was committed last. Threads share it by `&`.
-/// `D` is the data of one answered call. It is never stored.
+/// The words of all connectors' vectors, with the number that was committed last. Threads share it
+/// by `&`. `D` is the data of one answered call. It is never stored.
 pub struct Vectors<D> {
     conns: u8,
     pub(crate) len: u32,
@@ -34,7 +34,8 @@ impl<D> Model for Vectors<D> {
 
     ghost view = { λ t. record { id = t.table.shared.table_id; conns = t.conns; len = t.len } };
 
-    ghost invariant = { λ t. IsVectors t.conns t.len t.span t.table.shared.key t.table.shared.table_id };
+    ghost invariant = { λ t. IsVectors t.conns t.len t.span t.table.shared.key
+        t.table.shared.table_id };
 }
 
 impl<D> Drop for Vectors<D> {
@@ -49,9 +50,9 @@ impl<D> Drop for Vectors<D> {
 }
 
 impl<D> Vectors<D> {
-    /// Makes a table of vectors of `len` bits for connectors 1 to `conns`, all 0, with the engine's seat and
-    /// one pass for each caller from the operator, 0, on (IXLVECTR CREATE for each connector). The only
-    /// error is that there was no memory.
+    /// Makes a table of vectors of `len` bits for connectors 1 to `conns`, all 0, with the engine's
+    /// seat and one pass for each caller from the operator, 0, on (IXLVECTR CREATE for each
+    /// connector). The only error is that there was no memory.
     pub fn start(
         alloc: Global,
         conns: u8,
@@ -130,8 +131,8 @@ impl<D> Vectors<D> {
         }
     }
 
-    /// Sets the number that the engine's stores, and then its commit, carry. It is above the number that
-    /// was committed last, and nothing is in flight.
+    /// Sets the number that the engine's stores, and then its commit, carry. It is above the number
+    /// that was committed last, and nothing is in flight.
     pub fn begin(&self, seat: &mut EngineSeat<D>, number: u32)
         requires table { seat.old.table ≡ self.now }
         requires idle { seat.old.number ≡ 0 }
@@ -144,8 +145,8 @@ impl<D> Vectors<D> {
         seat.number = number;
     }
 
-    /// Stores 32 bits of a connector's vector, under the number in flight. A word is stored at most once
-    /// under one number.
+    /// Stores 32 bits of a connector's vector, under the number in flight. A word is stored at most
+    /// once under one number.
     pub fn store_word(&self, seat: &mut EngineSeat<D>, conn: ConnId, word: u32, bits: u32)
         requires table { seat.old.table ≡ self.now }
         requires begun { 0 < seat.old.number }

@@ -36,7 +36,8 @@ logged_since-push : (before after : List Step) (step : Step) → length before �
     → drop (length before) (after ++ step ∷ []) ≡ drop (length before) after ++ step ∷ []
 logged_since-push before after step grown = drop-append-le (length before) after (step ∷ []) grown
 
-after_load-stored : (before after : World) (word bits number at new stamp : ℕ) → new < 2 ^ 32 → CanStore after at stamp
+after_load-stored : (before after : World) (word bits number at new stamp : ℕ) → new < 2 ^ 32
+    → CanStore after at stamp
     → IsAfterLoad before word bits number after → IsAfterLoad before word bits number (stored after at new stamp)
 after_load-stored before after word bits number at new stamp fits can since =
     let step : Step = Store at new stamp in
@@ -83,7 +84,8 @@ after_load-committed before after word bits number done fresh since =
 after_load-learned : (before after : World) (word bits number pass at : ℕ) → IsSound (learned after pass at)
     → IsAfterLoad before word bits number after → IsAfterLoad before word bits number (learned after pass at)
 after_load-learned before after word bits number pass at =
-    cond_both (has_pass after pass) (record after { known = set after.known pass (max (known_by after pass) at) }) after
+    cond_both (has_pass after pass) (record after { known = set after.known pass (max (known_by after pass) at) })
+    after
     (λ w. IsSound w → IsAfterLoad before word bits number after → IsAfterLoad before word bits number w)
     (λ _ sound since. record {
       sound = sound;
@@ -94,7 +96,8 @@ after_load-learned before after word bits number pass at =
     })
     (λ _ sound since. since)
 
-after_load-told : (before after : World) (word bits number into : ℕ) (note : Option ℕ) → IsSound (told after into note)
+after_load-told : (before after : World) (word bits number into : ℕ) (note : Option ℕ)
+    → IsSound (told after into note)
     → IsAfterLoad before word bits number after → IsAfterLoad before word bits number (told after into note)
 after_load-told before after word bits number into None sound since = since
 after_load-told before after word bits number into (Some note) sound since =
@@ -102,8 +105,20 @@ after_load-told before after word bits number into (Some note) sound since =
     after
     (λ w. IsSound (record w { notes = take (length after.notes - 1) after.notes })
     → IsAfterLoad before word bits number (record w { notes = take (length after.notes - 1) after.notes }))
-    (λ _ new. record { sound = new; settled = since.settled; count = since.count; log = since.log; told = since.told })
-    (λ _ new. record { sound = new; settled = since.settled; count = since.count; log = since.log; told = since.told })
+    (λ _ new. record {
+      sound = new;
+      settled = since.settled;
+      count = since.count;
+      log = since.log;
+      told = since.told;
+    })
+    (λ _ new. record {
+      sound = new;
+      settled = since.settled;
+      count = since.count;
+      log = since.log;
+      told = since.told;
+    })
     sound
 
 after_load-act : (before : World) (word bits number : ℕ) (after : World) (step : Step) → FitsHalf step

@@ -102,7 +102,8 @@ StampsUpTo-weaker log word low high order within =
     (OnStoreTo-weaker word low high order) log within
 
 -- what holds of the stamp of each store to the word
-OnStoreTo-from_each : (P : ℕ → Type 0) (log : List Step) (word : ℕ) → ((stamp : ℕ) → HasStore log word stamp → P stamp)
+OnStoreTo-from_each : (P : ℕ → Type 0) (log : List Step) (word : ℕ) → ((stamp : ℕ) → HasStore log word stamp
+    → P stamp)
     → (step : Step) → Contains log step → OnStoreTo word P step
 OnStoreTo-from_each P log word each (Store to bits stamp) has =
     λ same. each stamp (bits, subst (λ (w : ℕ). Contains log (Store w bits stamp)) same has)
@@ -167,7 +168,8 @@ pub CarriesWord-push_store : (log : List Step) (word old bits stamp : ℕ) → b
 CarriesWord-push_store log word old bits stamp fits order carries =
     subst (λ (s : ℕ). Carries (log ++ Store word bits stamp ∷ []) word (bits_of (word_of bits stamp)) s)
     (sym (stamp_of-word_of bits stamp fits))
-    (subst (λ (b : ℕ). Carries (log ++ Store word bits stamp ∷ []) word b stamp) (sym (bits_of-word_of bits stamp fits))
+    (subst (λ (b : ℕ). Carries (log ++ Store word bits stamp ∷ []) word b stamp)
+    (sym (bits_of-word_of bits stamp fits))
     (Carries-push_store log word (bits_of old) (stamp_of old) bits stamp order carries))
 
 -- Numbers stay settled.
@@ -212,7 +214,8 @@ settled-commit log count flying done number fresh (inr flies) =
           )
     ]
 
-pub settled-max : (log : List Step) (count flying a b : ℕ) → IsSettled log count flying a → IsSettled log count flying b
+pub settled-max : (log : List Step) (count flying a b : ℕ) → IsSettled log count flying a
+    → IsSettled log count flying b
     → IsSettled log count flying (max a b)
 settled-max log count flying a b left right =
     elim (cases_lt a b) [

@@ -38,7 +38,8 @@ pub record IsSound (world : World) : Type 0 where
 
 -- What the tests say.
 
-pub open_from_test : (world : World) (number : ℕ) → is_open world number ≡ true → IsOpen world.count world.flying number
+pub open_from_test : (world : World) (number : ℕ) → is_open world number ≡ true → IsOpen world.count world.flying
+    number
 open_from_test world number test =
     let parts = and_parts (ltb world.count number) (eqb world.flying 0 || eqb world.flying number) test in (
       ltb-true world.count number parts.0,
@@ -129,7 +130,8 @@ sound-stored world word bits stamp fits can sound =
             (subst (Log word) (sym (get_or-set_same world.words word (word_of bits stamp) 0 can.within)) last)
         | inr other ↦
             subst (Log at) (sym (get_or-set_other world.words word at (word_of bits stamp) 0 other))
-            (Carries-push_other world.log word bits stamp at (bits_of (word_at world at)) (stamp_of (word_at world at))
+            (Carries-push_other world.log word bits stamp at (bits_of (word_at world at))
+            (stamp_of (word_at world at))
             (λ same. other (sym same)) (sound.words at))
       ];
     }
@@ -196,7 +198,8 @@ sound-without_note world sound =
       words = sound.words;
     }
 
-settled-note : (world : World) (at note : ℕ) → slice_get world.notes at ≡ Some note → IsSound world → Settled world note
+settled-note : (world : World) (at note : ℕ) → slice_get world.notes at ≡ Some note → IsSound world
+    → Settled world note
 settled-note world at note there sound =
     subst (Settled world) (get_or_from_slice_get world.notes at note 0 there)
     (All-get_or (Settled world) world.notes at 0 (slice_get_within world.notes at note there) sound.notes)
@@ -272,7 +275,8 @@ fold-act P keeps world (step ∷ steps) fits holds =
     fold-act P keeps (act world step) steps (All-tail FitsHalf step steps fits)
     (keeps world step (All-head FitsHalf step steps fits) holds)
 
-pub sound-world_of : (words passes : ℕ) (steps : List Step) → All FitsHalf steps → IsSound (world_of words passes steps)
+pub sound-world_of : (words passes : ℕ) (steps : List Step) → All FitsHalf steps
+    → IsSound (world_of words passes steps)
 sound-world_of words passes steps fits = fold-act IsSound sound-act (start words passes) steps fits
     (sound-start words passes)
 

@@ -36,7 +36,8 @@ EachLoadTells words passes steps =
 -- the number is none, or committed, or in flight; and it isn't above the larger of the count and the number in flight
 abbrev pub IsGenuine : World → ℕ → Type 0
 IsGenuine world number =
-    ((number ≡ 0) ⊎ (IsCommitted world.log number ⊎ (number ≡ world.flying))) × (number ≤ max world.count world.flying)
+    ((number ≡ 0) ⊎ (IsCommitted world.log number ⊎ (number ≡ world.flying)))
+    × (number ≤ max world.count world.flying)
 
 -- each number that a pass knows, that a note carries, or that a word is stamped with, is genuine
 pub record HasGenuineNumbers (world : World) : Type 0 where

@@ -6,7 +6,8 @@ use Rattle.std.specs.Prelude.{if◌then◌else◌}
 use Rattle.vec_world.specs.declared.step.Step.{Step}
 use Rattle.vec_world.specs.declared.step.Step.TheVariants.{Store, Commit}
 
--- the bits of a word at a number after one more step: a store to that word with a stamp of at most that number puts its
+-- the bits of a word at a number after one more step: a store to that word with a stamp of at most that number puts
+-- its
 -- own there
 abbrev pub bits_after : ℕ → ℕ → ℕ → Step → ℕ
 bits_after word number bits (Store to new stamp) = if (to == word) && nat_le stamp number then new else bits

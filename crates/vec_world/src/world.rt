@@ -67,14 +67,16 @@ impl World {
         }
     }
 
-    /// Whether a change of this number may go on: it is above the count, and is the one in flight if there is one.
+    /// Whether a change of this number may go on: it is above the count, and is the one in flight
+    /// if there is one.
     fn is_open(&self, number: u32) -> bool
         ensures { result ≡ is_open self.now number }
     {
         self.count < number && (self.flying == 0 || self.flying == number)
     }
 
-    /// Puts bits and stamp into the word and logs that, where the stamp is open and isn't the word's already.
+    /// Puts bits and stamp into the word and logs that, where the stamp is open and isn't the
+    /// word's already.
     fn store(&mut self, word: u32, bits: u32, stamp: u32) -> Result<(), NoMemory>
         ensures ok { OnOk result (self.new ≡ act self.old (Store word bits stamp)) }
         ensures err { OnErr result (self.new ≡ self.old) }

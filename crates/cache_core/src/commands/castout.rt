@@ -51,7 +51,8 @@ pub(crate) fn reply(
 /// Does the command.
 pub(crate) fn act(rows: &mut Rows, by: ConnId, name: &Name16)
     requires { 1 ≤ rows.old.room }
-    ensures { rows.new.rows ≡ rows_replaced (castout.row_with_hold by (row_or_new name.now 1 rows.old.rows)) rows.old.rows }
+    ensures { rows.new.rows ≡ rows_replaced (castout.row_with_hold by
+        (row_or_new name.now 1 rows.old.rows)) rows.old.rows }
 {
     let row = take_or_new(rows, name, 1);
     rows.put(CacheItem {

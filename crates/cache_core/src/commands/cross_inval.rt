@@ -31,7 +31,8 @@ pub(crate) fn reply(regs: &Regs, by: ConnId, name: &Name16) -> CacheReply
 pub(crate) fn act(regs: &mut Regs, by: ConnId, name: &Name16, out: &mut Effects)
     requires { length regs.old.regs ≤ out.old.bits.room }
     ensures regs { regs.new.regs ≡ regs_without_name name.now (Some by) regs.old.regs }
-    ensures bits { Gains (stands regs.old.regs) (stands regs.new.regs) out.old.bits.items out.new.bits.items }
+    ensures bits { Gains (stands regs.old.regs) (stands regs.new.regs) out.old.bits.items
+        out.new.bits.items }
     ensures mail { out.new.mail ≡ out.old.mail }
 {
     let _ = regs.drop_name(name, Some(by), out);

@@ -25,7 +25,8 @@ pub(crate) fn act(rows: &mut Rows, regs: &mut Regs, name: &Name16, out: &mut Eff
     requires { length regs.old.regs ≤ out.old.bits.room }
     ensures content { record { rows = rows.new.rows; regs = regs.new.regs }
         ≡ delete.after (record { rows = rows.old.rows; regs = regs.old.regs }) name.now }
-    ensures bits { Gains (stands regs.old.regs) (stands regs.new.regs) out.old.bits.items out.new.bits.items }
+    ensures bits { Gains (stands regs.old.regs) (stands regs.new.regs) out.old.bits.items
+        out.new.bits.items }
     ensures mail { out.new.mail ≡ out.old.mail }
 {
     let _ = rows.take(name);

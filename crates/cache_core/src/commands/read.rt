@@ -40,7 +40,8 @@ pub(crate) fn refusal(
     stg: u32,
 ) -> Option<Refusal>
     requires { elements_in rows.now < 2 ^ 32 }
-    ensures { result ≡ first_refusal (read.causes vector caps (record { rows = rows.now; regs = regs.now.regs })
+    ensures { result ≡ first_refusal (read.causes vector caps
+        (record { rows = rows.now; regs = regs.now.regs })
         by name.now index old stg) }
 {
     let index_cause = index_refusal(vector, regs, by, name, index, old);
@@ -91,7 +92,8 @@ fn register(
     requires room { length regs.old.regs + 3 ≤ out.old.bits.room }
     requires spared { is_among gone.now name.now ≡ false }
     ensures regs { regs.new.regs ≡ regs_spared gone.now (regs_with by index name.now regs.old.regs) }
-    ensures bits { Gains (stands regs.old.regs) (stands regs.new.regs) out.old.bits.items out.new.bits.items }
+    ensures bits { Gains (stands regs.old.regs) (stands regs.new.regs) out.old.bits.items
+        out.new.bits.items }
     ensures mail { out.new.mail ≡ out.old.mail }
 {
     regs.set(by, index, *name, out);
@@ -114,8 +116,10 @@ pub(crate) fn act(
     requires bit_room { length regs.old.regs + 3 ≤ out.old.bits.room }
     requires spared { is_among gone.now name.now ≡ false }
     ensures content { record { rows = rows.new.rows; regs = regs.new.regs }
-        ≡ read.after gone.now (record { rows = rows.old.rows; regs = regs.old.regs }) by name.now index stg }
-    ensures bits { Gains (stands regs.old.regs) (stands regs.new.regs) out.old.bits.items out.new.bits.items }
+        ≡ read.after gone.now (record { rows = rows.old.rows; regs = regs.old.regs }) by name.now
+        index stg }
+    ensures bits { Gains (stands regs.old.regs) (stands regs.new.regs) out.old.bits.items
+        out.new.bits.items }
     ensures mail { out.new.mail ≡ out.old.mail }
 {
     let row = take_or_new(rows, name, stg);

@@ -18,7 +18,8 @@ fn push(list: &mut Vec<(u32, Name16)>, reg: &Registration) -> Result<(), NoMemor
 
 // The registrations of a connector, by index.
 fn indexes(alloc: Global, regs: &[Registration], by: ConnId) -> Result<Vec<(u32, Name16)>, NoMemory>
-    ensures { IfOk result (λ list. list.items ≡ map (λ (reg : Registration). (reg.index, reg.name)) (regs_of by regs.now)) }
+    ensures { IfOk result (λ list. list.items ≡ map (λ (reg : Registration). (reg.index, reg.name))
+        (regs_of by regs.now)) }
 {
     let mut list = Vec::new(alloc);
     for reg in regs {

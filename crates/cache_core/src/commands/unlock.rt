@@ -60,7 +60,8 @@ fn row_without_hold(row: CacheItem) -> CacheItem
 /// Does the command.
 pub(crate) fn act(rows: &mut Rows, name: &Name16)
     requires { 1 ≤ rows.old.room }
-    ensures { rows.new.rows ≡ rows_replaced (unlock.row_without_hold (row_or_new name.now 1 rows.old.rows)) rows.old.rows }
+    ensures { rows.new.rows ≡ rows_replaced (unlock.row_without_hold
+        (row_or_new name.now 1 rows.old.rows)) rows.old.rows }
 {
     let old = take_or_new(rows, name, 1);
     let row = row_without_hold(old);

@@ -1,5 +1,5 @@
-//! WRITE_DATA of IXLCACHE: replaces data, adjunct and class of a row, registers the caller for it, and ends the
-//! registrations of all others.
+//! WRITE_DATA of IXLCACHE: replaces data, adjunct and class of a row, registers the caller for it,
+//! and ends the registrations of all others.
 ghost use Rattle.std.specs.Prelude.{◌≡◌, ◌+◌, ◌^◌, ◌<◌, ◌≤◌, false, Some, length};
 ghost use Rattle.cf_types.specs.Gains.{Gains};
 ghost use Rattle.engine_api.specs.Meaning.{first_refusal};
@@ -46,7 +46,8 @@ pub(crate) fn refusal(
     when_reg: bool,
 ) -> Option<Refusal>
     requires { elements_in rows.now < 2 ^ 32 }
-    ensures { result ≡ first_refusal (write.causes vector caps (record { rows = rows.now; regs = regs.now.regs })
+    ensures { result ≡ first_refusal (write.causes vector caps
+        (record { rows = rows.now; regs = regs.now.regs })
         by name.now index body.now class old stg when_reg) }
 {
     let index_cause = index_refusal(vector, regs, by, name, index, old);
@@ -81,7 +82,8 @@ fn row_with(row: CacheItem, body: Body, class: Option<u32>, adj: Option<Adjunct>
     }
 }
 
-// The caller is registered for the name, and the registrations of all others for it and for other names end.
+// The caller is registered for the name, and the registrations of all others for it and for other
+// names end.
 fn register_alone(
     regs: &mut Regs,
     gone: &[Name16],
@@ -94,8 +96,10 @@ fn register_alone(
     requires room { length regs.old.regs + 3 ≤ out.old.bits.room }
     requires spared { is_among gone.now name.now ≡ false }
     ensures regs { regs.new.regs
-        ≡ regs_spared gone.now (regs_without_name name.now (Some by) (regs_with by index name.now regs.old.regs)) }
-    ensures bits { Gains (stands regs.old.regs) (stands regs.new.regs) out.old.bits.items out.new.bits.items }
+        ≡ regs_spared gone.now (regs_without_name name.now (Some by)
+        (regs_with by index name.now regs.old.regs)) }
+    ensures bits { Gains (stands regs.old.regs) (stands regs.new.regs) out.old.bits.items
+        out.new.bits.items }
     ensures mail { out.new.mail ≡ out.old.mail }
 {
     regs.set(by, index, *name, out);
@@ -122,8 +126,10 @@ pub(crate) fn act(
     requires bit_room { length regs.old.regs + 3 ≤ out.old.bits.room }
     requires spared { is_among gone.now name.now ≡ false }
     ensures content { record { rows = rows.new.rows; regs = regs.new.regs }
-        ≡ write.after gone.now (record { rows = rows.old.rows; regs = regs.old.regs }) by name.now index body class adj stg }
-    ensures bits { Gains (stands regs.old.regs) (stands regs.new.regs) out.old.bits.items out.new.bits.items }
+        ≡ write.after gone.now (record { rows = rows.old.rows; regs = regs.old.regs }) by name.now
+        index body class adj stg }
+    ensures bits { Gains (stands regs.old.regs) (stands regs.new.regs) out.old.bits.items
+        out.new.bits.items }
     ensures mail { out.new.mail ≡ out.old.mail }
 {
     let old = take_or_new(rows, name, stg);

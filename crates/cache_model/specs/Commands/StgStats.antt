@@ -12,4 +12,5 @@ causes stg = storage_refusal stg ∷ []
 
 abbrev pub reply : List CacheItem → ℕ → CacheReply
 reply rows stg =
-    replies.Stg (length (filter (has_storage stg) rows)) (length (filter (λ row. has_storage stg row && is_changed row) rows))
+    replies.Stg (length (filter (has_storage stg) rows))
+    (length (filter (λ row. has_storage stg row && is_changed row) rows))

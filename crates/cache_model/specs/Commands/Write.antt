@@ -1,4 +1,5 @@
--- WRITE: replaces data, adjunct and class, registers the caller, and ends the registrations of all others for the name.
+-- WRITE: replaces data, adjunct and class, registers the caller, and ends the registrations of all others for the
+-- name.
 use Rattle.std.specs.Prelude.{ℕ, Bool, true, List, [], ◌∷◌, Option, Some, option_map}
 use Rattle.cf_types.specs.declared.forms.Caps.{Caps}
 use Rattle.cf_types.specs.declared.names.Name16.{Name16}
@@ -18,7 +19,8 @@ use Rattle.cache_model.specs.Refusals.{index_refusal, storage_refusal, castout_r
 abbrev pub request : Name16 → List ℕ → ℕ → Request
 request name body stg = record { name = name; elements = elements_of (Some body); stg = stg }
 
-abbrev pub causes : ℕ → Caps → Content → ConnId → Name16 → ℕ → List ℕ → Option ℕ → Option Name16 → ℕ → Bool → List (Option Refusal)
+abbrev pub causes : ℕ → Caps → Content → ConnId → Name16 → ℕ → List ℕ → Option ℕ → Option Name16 → ℕ → Bool
+    → List (Option Refusal)
 causes vector caps content by name index body class old stg when_reg =
     index_refusal vector content.regs by name index old ∷ castout_refusal class ∷ storage_refusal stg
     ∷ registration_refusal content.regs by name when_reg ∷ change_refusal content.rows name class
@@ -36,6 +38,7 @@ row_with body class adj row =
 abbrev pub after : List Name16 → Content → ConnId → Name16 → ℕ → List ℕ → Option ℕ → Option (List ℕ) → ℕ → Content
 after gone content by name index body class adj stg =
     record {
-      rows = rows_replaced (row_with body class adj (row_or_new name stg content.rows)) (rows_spared gone content.rows);
+      rows = rows_replaced (row_with body class adj (row_or_new name stg content.rows))
+          (rows_spared gone content.rows);
       regs = regs_spared gone (regs_without_name name (Some by) (regs_with by index name content.regs));
     }

@@ -24,7 +24,8 @@ pub(crate) fn act(kept: &mut Kept, at: At, out: &mut Effects)
     requires room { IsRoomy kept.old out.old.bits.room }
     requires found { IsFound kept.old.content.lists at }
     ensures content { kept.new.content ≡ delete.after kept.old.content at }
-    ensures bits { Gains (stands kept.old.content) (stands kept.new.content) out.old.bits.items out.new.bits.items }
+    ensures bits { Gains (stands kept.old.content) (stands kept.new.content) out.old.bits.items
+        out.new.bits.items }
     ensures mail { out.new.mail ≡ out.old.mail }
 {
     let id = id_at(kept, at);

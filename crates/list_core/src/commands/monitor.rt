@@ -42,7 +42,8 @@ pub(crate) fn reply(kept: &Kept, header: u32) -> ListReply
 pub(crate) fn act(kept: &mut Kept, by: ConnId, header: u32, index: u32, out: &mut Effects)
     requires { IsRoomy kept.old out.old.bits.room }
     ensures content { kept.new.content ≡ monitor.after kept.old.content by header index }
-    ensures bits { Gains (stands kept.old.content) (stands kept.new.content) out.old.bits.items out.new.bits.items }
+    ensures bits { Gains (stands kept.old.content) (stands kept.new.content) out.old.bits.items
+        out.new.bits.items }
     ensures mail { out.new.mail ≡ out.old.mail }
 {
     kept.monitor(by, index, header, out);

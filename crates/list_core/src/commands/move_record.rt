@@ -1,4 +1,5 @@
-//! MOVE of IXLLIST: a record is taken out and comes to its place in a header, with a new key if one is given.
+//! MOVE of IXLLIST: a record is taken out and comes to its place in a header, with a new key if one
+//! is given.
 ghost use Rattle.std.specs.Prelude.{◌≡◌, ◌<◌, length};
 ghost use Rattle.cf_types.specs.Gains.{Gains};
 ghost use Rattle.engine_api.specs.Meaning.{first_refusal};
@@ -72,7 +73,8 @@ pub(crate) fn act(
     requires header { header < length kept.old.content.lists }
     requires found { IsFound kept.old.content.lists at }
     ensures content { kept.new.content ≡ moving.after kept.old.content at header head key }
-    ensures bits { Gains (stands kept.old.content) (stands kept.new.content) out.old.bits.items out.new.bits.items }
+    ensures bits { Gains (stands kept.old.content) (stands kept.new.content) out.old.bits.items
+        out.new.bits.items }
     ensures mail { out.new.mail ≡ out.old.mail }
 {
     let id = id_at(kept, at);

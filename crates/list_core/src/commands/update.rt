@@ -75,7 +75,8 @@ pub(crate) fn data(
     at: At,
     body: &Option<Body>,
 ) -> Result<Option<Body>, NoMemory>
-    ensures { IfOk result (λ copy. copy ≡ option_or body.now (the_record kept.now.content.lists at).body) }
+    ensures { IfOk result (λ copy. copy ≡ option_or body.now
+        (the_record kept.now.content.lists at).body) }
 {
     match body {
         Some(_) => copy_data(alloc, body),

@@ -24,7 +24,8 @@ use list_store::Rec;
 // The data need more elements than all records leave free. No record has the next id.
 fn room_refusal(caps: Caps, need: u32, kept: &Kept) -> Option<Refusal>
     requires elements { elements_in (all_records kept.now.content.lists) < 2 ^ 32 }
-    requires alone { list_any (is_id (write.new_id kept.now.content)) (all_records kept.now.content.lists) ≡ false }
+    requires alone { list_any (is_id (write.new_id kept.now.content))
+        (all_records kept.now.content.lists) ≡ false }
     ensures { result ≡ elements_refusal caps need (all_records kept.now.content.lists) }
 {
     elements_refusal(caps, need, kept, EntryId(kept.next()))
@@ -46,8 +47,10 @@ pub(crate) fn refusal(
 ) -> Option<Refusal>
     requires few { count_of kept.now.content.lists < 2 ^ 32 }
     requires elements { elements_in (all_records kept.now.content.lists) < 2 ^ 32 }
-    requires alone { list_any (is_id (write.new_id kept.now.content)) (all_records kept.now.content.lists) ≡ false }
-    ensures { result ≡ first_refusal (write.causes shape caps kept.now.content by header name key body.now cond) }
+    requires alone { list_any (is_id (write.new_id kept.now.content))
+        (all_records kept.now.content.lists) ≡ false }
+    ensures { result ≡ first_refusal (write.causes shape caps kept.now.content by header name key
+        body.now cond) }
 {
     let lock_cause = cond_lock_refusal(locks_of(shape.kind), cond);
     let cond_cause = cond_refusal(kept, by, cond);
@@ -91,9 +94,11 @@ pub(crate) fn act(
 )
     requires room { IsRoomy kept.old out.old.bits.room }
     requires header { header < length kept.old.content.lists }
-    requires alone { list_any (is_id (write.new_id kept.old.content)) (all_records kept.old.content.lists) ≡ false }
+    requires alone { list_any (is_id (write.new_id kept.old.content))
+        (all_records kept.old.content.lists) ≡ false }
     ensures content { kept.new.content ≡ write.after kept.old.content header head name key body adj }
-    ensures bits { Gains (stands kept.old.content) (stands kept.new.content) out.old.bits.items out.new.bits.items }
+    ensures bits { Gains (stands kept.old.content) (stands kept.new.content) out.old.bits.items
+        out.new.bits.items }
     ensures mail { out.new.mail ≡ out.old.mail }
 {
     let rec = Rec {

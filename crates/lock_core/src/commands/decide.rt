@@ -23,8 +23,10 @@ pub(crate) fn act(locks: &mut Locks, how: Decision, r: &Resource, conn: ConnId, 
     requires room { HasRoom 1 locks.old out.old }
     requires told { length locks.old.content.interests ≤ out.old.mail.room }
     ensures content { locks.new.content ≡ (decide.after how r.now conn locks.old.content).content }
-    ensures mail { out.new.mail.items ≡ out.old.mail.items ++ (decide.after how r.now conn locks.old.content).letters }
-    ensures letters { out.new.mail.room + length (decide.after how r.now conn locks.old.content).letters ≡ out.old.mail.room }
+    ensures mail { out.new.mail.items ≡ out.old.mail.items
+        ++ (decide.after how r.now conn locks.old.content).letters }
+    ensures letters { out.new.mail.room + length
+        (decide.after how r.now conn locks.old.content).letters ≡ out.old.mail.room }
     ensures bits { out.new.bits ≡ out.old.bits }
     ensures limit { locks.new.limit ≡ locks.old.limit }
 {

@@ -53,8 +53,10 @@ pub(crate) fn act(locks: &mut Locks, w: &Waiter, out: &mut Effects) -> LockReply
     requires waiter { 1 ≤ locks.old.waiter_room }
     ensures reply { result ≡ obtain.reply w.now locks.old.content }
     ensures content { locks.new.content ≡ (obtain.after w.now locks.old.content).content }
-    ensures mail { out.new.mail.items ≡ out.old.mail.items ++ (obtain.after w.now locks.old.content).letters }
-    ensures letters { out.new.mail.room + length (obtain.after w.now locks.old.content).letters ≡ out.old.mail.room }
+    ensures mail { out.new.mail.items ≡ out.old.mail.items
+        ++ (obtain.after w.now locks.old.content).letters }
+    ensures letters { out.new.mail.room + length (obtain.after w.now locks.old.content).letters ≡
+        out.old.mail.room }
     ensures bits { out.new.bits ≡ out.old.bits }
     ensures limit { locks.new.limit ≡ locks.old.limit }
 {

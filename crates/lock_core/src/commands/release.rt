@@ -22,8 +22,10 @@ pub(crate) fn refusal(locks: &Locks, by: ConnId, r: &Resource) -> Option<Refusal
 pub(crate) fn act(locks: &mut Locks, by: ConnId, r: &Resource, out: &mut Effects)
     requires { HasRoom 1 locks.old out.old }
     ensures content { locks.new.content ≡ (release.after by r.now locks.old.content).content }
-    ensures mail { out.new.mail.items ≡ out.old.mail.items ++ (release.after by r.now locks.old.content).letters }
-    ensures letters { out.new.mail.room + length (release.after by r.now locks.old.content).letters ≡ out.old.mail.room }
+    ensures mail { out.new.mail.items ≡ out.old.mail.items
+        ++ (release.after by r.now locks.old.content).letters }
+    ensures letters { out.new.mail.room + length (release.after by r.now locks.old.content).letters
+        ≡ out.old.mail.room }
     ensures bits { out.new.bits ≡ out.old.bits }
     ensures limit { locks.new.limit ≡ locks.old.limit }
 {

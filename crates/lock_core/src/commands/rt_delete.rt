@@ -22,8 +22,10 @@ pub(crate) fn refusal(interests: &Interests, r: &Resource, conn: ConnId) -> Opti
 pub(crate) fn act(locks: &mut Locks, r: &Resource, conn: ConnId, out: &mut Effects)
     requires { HasRoom 1 locks.old out.old }
     ensures content { locks.new.content ≡ (rt_delete.after r.now conn locks.old.content).content }
-    ensures mail { out.new.mail.items ≡ out.old.mail.items ++ (rt_delete.after r.now conn locks.old.content).letters }
-    ensures letters { out.new.mail.room + length (rt_delete.after r.now conn locks.old.content).letters ≡ out.old.mail.room }
+    ensures mail { out.new.mail.items ≡ out.old.mail.items
+        ++ (rt_delete.after r.now conn locks.old.content).letters }
+    ensures letters { out.new.mail.room + length
+        (rt_delete.after r.now conn locks.old.content).letters ≡ out.old.mail.room }
     ensures bits { out.new.bits ≡ out.old.bits }
     ensures limit { locks.new.limit ≡ locks.old.limit }
 {

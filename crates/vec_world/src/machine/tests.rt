@@ -57,7 +57,8 @@ fn world_table(rt: HostRuntime) -> Result<(), Fail> {
         },
     )?;
 
-    // pass 0 loads both words while change 2 has stored into word 0 alone: it knows 2, and finds the bits of change 1 in word 1
+    // pass 0 loads both words while change 2 has stored into word 0 alone: it knows 2, and finds
+    // the bits of change 1 in word 1
     let one = Step::Commit { number: 1 };
     let two = Step::Commit { number: 2 };
     let torn = [

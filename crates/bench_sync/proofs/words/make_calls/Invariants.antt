@@ -3,4 +3,5 @@ use Rattle.vec_words.specs.Logged.{count_of}
 use Rattle.bench_sync.proofs.words.make_calls.Given as goal
 
 abbrev pub invariant-loop-made : goal.invariant-loop-made
-invariant-loop-made l = (l.seat.table ≡ l.vectors) × (l.pass.table ≡ l.vectors) × (l.seat.number ≡ 0) × (count_of l.seat.log ≡ l.made-counter)
+invariant-loop-made l = (l.seat.table ≡ l.vectors) × (l.pass.table ≡ l.vectors) × (l.seat.number ≡ 0)
+    × (count_of l.seat.log ≡ l.made-counter)

@@ -7,9 +7,12 @@ drop_name-requires c = ending_room _ c.loop-name.regs.regs c.loop-name.out.bits.
 
 pub loop-name-preserved : goal.loop-name-preserved
 loop-name-preserved c = (
-  ending_more c.args.names.now c.args.regs.now.regs c.loop-name.regs.regs c.drop_name.new.self.regs c.loop-name.name-index c.loop-name.out.bits.room
-      c.drop_name.new.out.bits.room c.drop_name.result c.args.out.now.bits.items c.loop-name.out.bits.items c.drop_name.new.out.bits.items _
-      (omega arith) c.loop-name.invariant.0 c.drop_name.ensures.regs c.drop_name.ensures.fewer c.drop_name.ensures.room c.drop_name.ensures.bits,
+  ending_more c.args.names.now c.args.regs.now.regs c.loop-name.regs.regs c.drop_name.new.self.regs
+      c.loop-name.name-index c.loop-name.out.bits.room
+      c.drop_name.new.out.bits.room c.drop_name.result c.args.out.now.bits.items c.loop-name.out.bits.items
+      c.drop_name.new.out.bits.items _
+      (omega arith) c.loop-name.invariant.0 c.drop_name.ensures.regs c.drop_name.ensures.fewer
+      c.drop_name.ensures.room c.drop_name.ensures.bits,
   c.drop_name.ensures.mail ∙ c.loop-name.invariant.1,
 )
 

@@ -18,7 +18,8 @@ returns-then-is_enough c =
     let l = c.loop-k in
     let enough : is_enough c.args.room.now (vec_len l.names) l.given ≡ true =
     rw c.len.ensures at (sym c.if-is_enough.ensures) in
-    fronting_enough c.args.request.now c.args.rows.now.rows c.args.room.now l.names.items (vec_len l.names) l.given l.k
+    fronting_enough c.args.request.now c.args.rows.now.rows c.args.room.now l.names.items (vec_len l.names) l.given
+    l.k
     enough l.invariant
 
 pub overflow_add-given : goal.overflow_add-given

@@ -5,4 +5,5 @@ use Rattle.cache_core.proofs.room.reclaimable_elements.Given as goal
 
 abbrev pub invariant-loop-row : goal.invariant-loop-row
 invariant-loop-row l =
-    l.total + elements_in (filter (is_reclaimable l.name) (drop l.row-index l.rows)) ≡ elements_in (filter (is_reclaimable l.name) l.rows)
+    l.total + elements_in (filter (is_reclaimable l.name) (drop l.row-index l.rows)) ≡ elements_in
+    (filter (is_reclaimable l.name) l.rows)

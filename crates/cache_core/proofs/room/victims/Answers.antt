@@ -17,6 +17,7 @@ returns c =
     (reclaimable_from request rows 0))
     (λ names. names.items ≡ victims c.args.caps request rows)
     (λ names h. h ∙ ap (λ (room : Room). front_names room (reclaimable_from request rows 0)) measured
-    ∙ ap (λ (l : List Reclaimable). front_names (room_for c.args.caps request rows) l) (reclaimable-order request rows)
+    ∙ ap (λ (l : List Reclaimable). front_names (room_for c.args.caps request rows) l)
+    (reclaimable-order request rows)
     ∙ victims-measured c.args.caps request rows)
     c.front.ensures

@@ -6,7 +6,8 @@ use Rattle.cache_core.proofs.rows.put_row.Goals as goal
 
 pub insert_at-requires-clause-place : goal.insert_at-requires-clause-place
 insert_at-requires-clause-place c =
-    let within : c.place_among_changed-at.result ≤ length c.deref.result.now = rw c.place_among_changed-at.ensures (prefix_len-le-length (stands_before c.args.row) c.deref.result.now) in
+    let within : c.place_among_changed-at.result ≤ length c.deref.result.now = rw c.place_among_changed-at.ensures
+    (prefix_len-le-length (stands_before c.args.row) c.deref.result.now) in
     omega arith
 
 pub returns-then-is_some-clause-items : goal.returns-then-is_some-clause-items

@@ -5,5 +5,6 @@ use Rattle.cache_core.proofs.rows.release_all.Goals as goal
 
 pub loop-row-preserved : goal.loop-row-preserved
 loop-row-preserved c =
-    mapped_more (without_hold c.args.conn) c.deref_mut-row-items.result.now c.loop-row.row-items c.loop-row.row-index c.row-item.result c.release.new.row
+    mapped_more (without_hold c.args.conn) c.deref_mut-row-items.result.now c.loop-row.row-items c.loop-row.row-index
+    c.row-item.result c.release.new.row
     (omega arith) c.release.ensures c.loop-row.invariant.0 c.loop-row.invariant.1

@@ -10,5 +10,12 @@ returns-in-Some-clause-term c =
     (λ wrong. absurd (cc), λ term. let passes = term.characters in cc)
 
 pub returns-in-None-clause-term : goal.returns-in-None-clause-term
-returns-in-None-clause-term c =
-    (λ _. record { nonempty = grind (arith, common_steps); short = omega arith; characters = passes_at_none term_byte c.args.text.now (cc) }, λ _. refl)
+returns-in-None-clause-term c = (
+  λ _. record {
+    nonempty = grind (arith, common_steps);
+    short = omega arith;
+    characters = passes_at_none term_byte
+        c.args.text.now (cc);
+  },
+  λ _. refl,
+)

@@ -18,13 +18,15 @@ returns-then-left-len c =
     let rec = c.index-records-left.result in
     let within : left < length recs = omega (arith, c.if-left-len.true, c.len-len.ensures) in
     let read = rw c.records.ensures.records at c.index-records-left.is in
-    let here : slice_get recs left ≡ Some rec = slice_get-get_or recs left rec within ∙ ap (λ (r : Rec). Some r) (sym read) in
+    let here : slice_get recs left ≡ Some rec = slice_get-get_or recs left rec within ∙ ap (λ (r : Rec). Some r)
+    (sym read) in
     let there : slice_get (rows_from 0 lists) c.args.k ≡ Some (row_of header rec) =
     sym c.loop-header.invariant.0
     ∙ ap (λ (l : Lists). slice_get (rows_from header l) left) (drop_lists lists header (omega arith))
     ∙ row-here header left recs (drop (header + 1) lists) within
     ∙ ap (λ (o : Option Rec). option_map (row_of header) o) here in
-    IfOk-weaker c.row.result (λ item. item ≡ row_of header rec) (λ item. slice_get (rows_from 0 lists) c.args.k ≡ Some item)
+    IfOk-weaker c.row.result (λ item. item ≡ row_of header rec) (λ item. slice_get (rows_from 0 lists) c.args.k ≡ Some
+    item)
     (λ item h. there ∙ ap (λ (i : ListItem). Some i) (sym h)) c.row.ensures
 
 pub loop-header-preserved : goal.loop-header-preserved

@@ -18,7 +18,8 @@ take_over-requires-clause-monitors c =
     let rows : c.in-Ok.rows.items ≡ map (told_row lists) c.in-Controls.watches =
     c.in-Ok.ensures.rows ∙ ap (λ (l : List Triple). map (told_row lists) l) c.items.ensures in
     let apart : AreMonitors (map monitor_of c.in-Controls.watches) = rw c.in-Controls.is at c.requires in
-    subst AreMonitors (sym (ap (λ (l : List Watched). monitors_of l) rows ∙ monitors-told_rows lists c.in-Controls.watches)) apart
+    subst AreMonitors (sym (ap (λ (l : List Watched). monitors_of l) rows
+    ∙ monitors-told_rows lists c.in-Controls.watches)) apart
 
 pub take_over-requires-clause-told : goal.take_over-requires-clause-told
 take_over-requires-clause-told c =
@@ -35,5 +36,12 @@ returns-in-Ok-clause-ok c =
     let monitors : monitors_of c.in-Ok.rows.items ≡ map monitor_of c.in-Controls.watches =
     ap (λ (l : List Watched). monitors_of l) rows ∙ monitors-told_rows lists c.in-Controls.watches in
     let made : List ℕ → List (Option ConnId) → List Monitor → Content =
-    λ limits locks ms. record { lists = lists; limits = limits; locks = locks; monitors = ms; next = c.in-Controls.next } in
-    rw c.in-Controls.is (c.take_over.ensures ∙ (λ i. made (c.into_vec.ensures i) (c.into_vec-in-Ok.ensures i) (monitors i)))
+    λ limits locks ms. record {
+      lists = lists;
+      limits = limits;
+      locks = locks;
+      monitors = ms;
+      next = c.in-Controls.next;
+    } in
+    rw c.in-Controls.is (c.take_over.ensures ∙ (λ i. made (c.into_vec.ensures i) (c.into_vec-in-Ok.ensures i)
+    (monitors i)))

@@ -11,5 +11,6 @@ returns c =
     let lists = c.args.store.now.lists in
     c.add.ensures
     ∙ ap (λ (n : ℕ). lists_with c.args.header n c.args.rec lists)
-    (c.place_of-place.ensures.place ∙ ap (λ (l : List Rec). prefix_len (comes_behind c.args.head c.args.rec.key) l) c.records.ensures.records)
+    (c.place_of-place.ensures.place ∙ ap (λ (l : List Rec). prefix_len (comes_behind c.args.head c.args.rec.key) l)
+    c.records.ensures.records)
     ∙ placed-with c.args.head c.args.header c.args.rec lists

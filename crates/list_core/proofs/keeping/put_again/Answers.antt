@@ -11,9 +11,11 @@ pub put-requires-clause-alone : goal.put-requires-clause-alone
 put-requires-clause-alone c =
     ap (λ (l : Lists). list_any (is_id c.in-Some.rec.id) (all_records l)) c.take.ensures.lists
     ∙ gone c.args.id c.args.store.now.lists c.in-Some.rec
-    (found_passes (is_id c.args.id) (all_records c.args.store.now.lists) c.in-Some.rec (sym c.take.ensures.«record» ∙ c.in-Some.is))
+    (found_passes (is_id c.args.id) (all_records c.args.store.now.lists) c.in-Some.rec (sym c.take.ensures.«record»
+    ∙ c.in-Some.is))
 
 pub unreachable-requires : goal.unreachable-requires
 unreachable-requires c =
     let none = ap is_some (sym c.take.ensures.«record» ∙ c.in-None.is) in
-    false≢true (sym none ∙ sym (any_is_found (is_id c.args.id) (all_records c.args.store.now.lists)) ∙ c.requires.there)
+    false≢true (sym none ∙ sym (any_is_found (is_id c.args.id) (all_records c.args.store.now.lists))
+    ∙ c.requires.there)

@@ -15,7 +15,8 @@ returns-in-Update-clause-content c =
     let copied = rw u.is at c.requires.copied in
     rw u.is
     (c.act-in-Update.ensures
-    ∙ ap (λ (b : Option (List ℕ)). content_at (lists_replaced (updated_with b u.adj (the_record content.lists u.at)) content.lists)
+    ∙ ap (λ (b : Option (List ℕ)). content_at (lists_replaced (updated_with b u.adj (the_record content.lists u.at))
+    content.lists)
     content.limits content.locks content.monitors content.next) copied)
 
 pub returns-in-Update-clause-bits : goal.returns-in-Update-clause-bits

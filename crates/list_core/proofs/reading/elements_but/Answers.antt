@@ -7,6 +7,7 @@ overflow_add-total c =
     omega (
       arith,
       c.elements_of-total.ensures,
-      part_bound c.args.id c.args.recs.now c.loop-rec.rec-index c.loop-rec.total c.rec-item.result (omega arith) c.rec-item.is
+      part_bound c.args.id c.args.recs.now c.loop-rec.rec-index c.loop-rec.total c.rec-item.result (omega arith)
+          c.rec-item.is
           (sym c.ne.ensures ∙ c.if-ne.true) c.loop-rec.invariant c.requires,
     )

@@ -12,13 +12,22 @@ elements_but-total-requires c =
 pub overflow_add-total : goal.overflow_add-total
 overflow_add-total c =
     let lists = c.args.kept.now.content.lists in
-    let told : c.elements_but-total.result ≡ elements_in (records_without c.args.id (records_of lists c.loop-header.header)) =
+    let told : c.elements_but-total.result ≡ elements_in
+    (records_without c.args.id (records_of lists c.loop-header.header)) =
     rw c.records.ensures.records at c.elements_but-total.ensures in
-    omega (arith, told, elements_more c.args.id lists c.loop-header.header (omega arith), c.loop-header.invariant, elements_fewer c.args.id (all_records lists), c.requires)
+    omega (
+      arith,
+      told,
+      elements_more c.args.id lists c.loop-header.header (omega arith),
+      c.loop-header.invariant,
+      elements_fewer c.args.id (all_records lists),
+      c.requires,
+    )
 
 pub loop-header-preserved : goal.loop-header-preserved
 loop-header-preserved c =
     let lists = c.args.kept.now.content.lists in
-    let told : c.elements_but-total.result ≡ elements_in (records_without c.args.id (records_of lists c.loop-header.header)) =
+    let told : c.elements_but-total.result ≡ elements_in
+    (records_without c.args.id (records_of lists c.loop-header.header)) =
     rw c.records.ensures.records at c.elements_but-total.ensures in
     omega (arith, told, elements_more c.args.id lists c.loop-header.header (omega arith), c.loop-header.invariant)

@@ -11,7 +11,8 @@ returns-in-Some c =
     let lists = c.args.kept.now.content.lists in
     let here : Some c.in-Some.rec.now ≡ find (has_name c.args.name.now) (records_of lists c.loop-header.header) =
     rw (c.in-Some.is, c.records.ensures.records) at c.named_in.ensures in
-    ap (λ (o : Option Rec). option_or o (find (has_name c.args.name.now) (all_records (drop (c.loop-header.header + 1) lists)))) here
+    ap (λ (o : Option Rec). option_or o (find (has_name c.args.name.now)
+    (all_records (drop (c.loop-header.header + 1) lists)))) here
     ∙ sym (find_more (has_name c.args.name.now) lists c.loop-header.header (omega arith))
     ∙ c.loop-header.invariant
 
@@ -20,6 +21,7 @@ loop-header-preserved c =
     let lists = c.args.kept.now.content.lists in
     let here : None ≡ find (has_name c.args.name.now) (records_of lists c.loop-header.header) =
     rw (c.in-None.is, c.records.ensures.records) at c.named_in.ensures in
-    ap (λ (o : Option Rec). option_or o (find (has_name c.args.name.now) (all_records (drop (c.loop-header.header + 1) lists)))) here
+    ap (λ (o : Option Rec). option_or o (find (has_name c.args.name.now)
+    (all_records (drop (c.loop-header.header + 1) lists)))) here
     ∙ sym (find_more (has_name c.args.name.now) lists c.loop-header.header (omega arith))
     ∙ c.loop-header.invariant

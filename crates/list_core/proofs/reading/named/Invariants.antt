@@ -5,4 +5,5 @@ use Rattle.list_core.proofs.reading.named.Given as goal
 
 abbrev pub invariant-loop-header : goal.invariant-loop-header
 invariant-loop-header l =
-    find (has_name l.name) (all_records (drop l.header l.kept.content.lists)) ≡ find (has_name l.name) (all_records l.kept.content.lists)
+    find (has_name l.name) (all_records (drop l.header l.kept.content.lists)) ≡ find (has_name l.name)
+    (all_records l.kept.content.lists)

@@ -16,7 +16,8 @@ loop-left-preserved c =
     let at = c.loop-left.left - 1 in
     let recs = c.index-lists-left.result in
     let here : list_of at (lists_in vs) ≡ recs.items = list_of-in vs at recs (omega arith) c.index-lists-left.is in
-    let none : recs.items ≡ [] = nil_from_length recs.items (sym recs.ok.0 ∙ eqb-true recs.len 0 (sym c.is_empty.ensures ∙ c.if-not-is_empty.false)) in
+    let none : recs.items ≡ [] = nil_from_length recs.items (sym recs.ok.0 ∙ eqb-true recs.len 0
+    (sym c.is_empty.ensures ∙ c.if-not-is_empty.false)) in
     let next : at + 1 ≡ c.loop-left.left = omega arith in
     let rest : drop at (lists_in vs) ≡ list_of at (lists_in vs) ∷ drop c.loop-left.left (lists_in vs) =
     drop_more (lists_in vs) at [] (omega (arith, length-map vs (λ (v : Vec Rec Global). v.items)))

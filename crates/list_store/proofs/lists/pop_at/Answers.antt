@@ -14,4 +14,5 @@ returns-clause-lists c =
     let last : c.pop.new.self.items ≡ take (length old.items - 1) old.items =
     c.pop.ensures.rest ∙ ap (λ n. take (n - 1) old.items) (sym old_long) in
     lists_in-set lists c.args.header c.pop.new.self
-    ∙ ap (λ (recs : List Rec). set (lists_in lists) c.args.header recs) (last ∙ ap (λ (recs : List Rec). take (length recs - 1) recs) (sym here))
+    ∙ ap (λ (recs : List Rec). set (lists_in lists) c.args.header recs)
+    (last ∙ ap (λ (recs : List Rec). take (length recs - 1) recs) (sym here))

@@ -15,5 +15,6 @@ returns-clause-lists c =
 
 pub returns-clause-few : goal.returns-clause-few
 returns-clause-few c =
-    few-more c.args.lists.now.items c.args.header c.index_mut.result.now c.insert_at.new.recs (omega arith) c.index_mut.ensures.value
+    few-more c.args.lists.now.items c.args.header c.index_mut.result.now c.insert_at.new.recs (omega arith)
+    c.index_mut.ensures.value
     c.insert_at.ensures.len c.requires.room c.requires.few

@@ -4,13 +4,15 @@ use Rattle.list_store.proofs.lists.reserve.Goals as goal
 
 pub returns-in_err-reserve_one-clause-lists : goal.returns-in_err-reserve_one-clause-lists
 returns-in_err-reserve_one-clause-lists c =
-    lists_in-kept c.loop-header.lists.items c.loop-header.header c.index_mut.result.now c.reserve_one.new.recs (omega arith)
+    lists_in-kept c.loop-header.lists.items c.loop-header.header c.index_mut.result.now c.reserve_one.new.recs
+    (omega arith)
     c.index_mut.ensures.value c.reserve_one.ensures.items
     ∙ c.loop-header.invariant.0
 
 pub loop-header-preserved : goal.loop-header-preserved
 loop-header-preserved c = (
-  lists_in-kept c.loop-header.lists.items c.loop-header.header c.index_mut.result.now c.reserve_one.new.recs (omega arith)
+  lists_in-kept c.loop-header.lists.items c.loop-header.header c.index_mut.result.now c.reserve_one.new.recs
+      (omega arith)
       c.index_mut.ensures.value c.reserve_one.ensures.items
       ∙ c.loop-header.invariant.0,
   c.loop-header.invariant.1,

@@ -17,4 +17,5 @@ returns-clause-lists c =
 pub returns-clause-room : goal.returns-clause-room
 returns-clause-room c =
     place-less c.args.lists.now.items c.args.header c.index_mut.result.now
-    (with_item c.index_mut.result.now c.args.place c.replace.new.dest) (omega arith) c.index_mut.ensures.value (omega arith) (omega arith)
+    (with_item c.index_mut.result.now c.args.place c.replace.new.dest) (omega arith) c.index_mut.ensures.value
+    (omega arith) (omega arith)

@@ -15,5 +15,6 @@ returns-clause-lists c =
 
 pub returns-clause-room : goal.returns-clause-room
 returns-clause-room c =
-    place-less c.args.lists.now.items c.args.header c.index_mut.result.now c.remove.new.self (omega arith) c.index_mut.ensures.value
+    place-less c.args.lists.now.items c.args.header c.index_mut.result.now c.remove.new.self (omega arith)
+    c.index_mut.ensures.value
     (omega (arith, c.remove.ensures.len)) (omega (arith, c.remove.ensures.capacity))

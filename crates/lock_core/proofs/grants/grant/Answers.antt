@@ -16,8 +16,10 @@ loop-w-preserved c =
     let new = c.grant_one.new.self.content in
     let step : grant r old ≡ sent_before (granted_letter w ∷ []) (grant r new) =
     rw c.grant_one.ensures.content (grant-next old r w c.next.ensures.queue (sym c.in-Some.ensures.next)) in
-    let letters : (grant r old).letters ≡ granted_letter w ∷ (grant r new).letters = ap (λ (l : Left). l.letters) step in
-    let many : length (grant r old).letters ≡ length (granted_letter w ∷ (grant r new).letters) = ap (λ (l : List Letter). length l) letters in (
+    let letters : (grant r old).letters ≡ granted_letter w ∷ (grant r new).letters = ap (λ (l : Left). l.letters) step
+    in
+    let many : length (grant r old).letters ≡ length (granted_letter w ∷ (grant r new).letters) = ap
+    (λ (l : List Letter). length l) letters in (
       ap (λ (l : Left). l.content) (sym step) ∙ c.loop-w.invariant.0,
       ap (λ (l : List Letter). l ++ (grant r new).letters) c.grant_one.ensures.mail
           ∙ append_assoc c.loop-w.out.mail.items (granted_letter w ∷ []) (grant r new).letters
@@ -41,7 +43,8 @@ returns-clause-mail c =
     let r = c.args.r.now in
     let none : grant r c.loop-w.locks.content ≡ left_so c.loop-w.locks.content =
     grant-none c.loop-w.locks.content r (sym c.next.ensures.next ∙ c.in_default.is) in
-    sym (append-nil c.loop-w.out.mail.items) ∙ ap (λ (l : Left). c.loop-w.out.mail.items ++ l.letters) (sym none) ∙ c.loop-w.invariant.1
+    sym (append-nil c.loop-w.out.mail.items) ∙ ap (λ (l : Left). c.loop-w.out.mail.items ++ l.letters) (sym none)
+    ∙ c.loop-w.invariant.1
 
 pub returns-clause-letters : goal.returns-clause-letters
 returns-clause-letters c =

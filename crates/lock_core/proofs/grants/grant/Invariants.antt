@@ -6,8 +6,10 @@ use Rattle.lock_core.proofs.grants.grant.Given as goal
 abbrev pub invariant-loop-w : goal.invariant-loop-w
 invariant-loop-w l =
     ((grant l.r l.locks.content).content ≡ (grant l.r l.initial.locks.content).content)
-    × (l.out.mail.items ++ (grant l.r l.locks.content).letters ≡ l.initial.out.mail.items ++ (grant l.r l.initial.locks.content).letters)
-    × (l.initial.out.mail.room + length (grant l.r l.locks.content).letters ≡ l.out.mail.room + length (grant l.r l.initial.locks.content).letters)
+    × (l.out.mail.items ++ (grant l.r l.locks.content).letters ≡ l.initial.out.mail.items
+    ++ (grant l.r l.initial.locks.content).letters)
+    × (l.initial.out.mail.room + length (grant l.r l.locks.content).letters ≡ l.out.mail.room + length
+    (grant l.r l.initial.locks.content).letters)
     × (l.out.bits ≡ l.initial.out.bits)
     × HasRoom 0 l.locks l.out
     × (l.locks.limit ≡ l.initial.locks.limit)

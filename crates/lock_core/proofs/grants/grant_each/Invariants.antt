@@ -5,7 +5,8 @@ use Rattle.lock_core.proofs.grants.grant_each.Given as goal
 
 abbrev pub invariant-loop-r : goal.invariant-loop-r
 invariant-loop-r l =
-    ((grant_each (drop l.r-index l.resources) l.locks.content).content ≡ (grant_each l.resources l.initial.locks.content).content)
+    ((grant_each (drop l.r-index l.resources) l.locks.content).content ≡
+    (grant_each l.resources l.initial.locks.content).content)
     × (l.out.mail.items ++ (grant_each (drop l.r-index l.resources) l.locks.content).letters
     ≡ l.initial.out.mail.items ++ (grant_each l.resources l.initial.locks.content).letters)
     × (l.initial.out.mail.room + length (grant_each (drop l.r-index l.resources) l.locks.content).letters

@@ -18,7 +18,8 @@ overflow_add-result c =
     )
 
 pub returns-clause-count : goal.returns-clause-count
-returns-clause-count c = rw (c.count_waiting_others.ensures, c.records_of.ensures) (waiting-with c.args.w.now c.args.waiters.now)
+returns-clause-count c = rw (c.count_waiting_others.ensures, c.records_of.ensures)
+    (waiting-with c.args.w.now c.args.waiters.now)
 
 pub returns-clause-few : goal.returns-clause-few
 returns-clause-few c =

@@ -8,7 +8,8 @@ use Rattle.lock_record.proofs.records.put_in.Goals as goal
 
 pub insert_at-requires-clause-place : goal.insert_at-requires-clause-place
 insert_at-requires-clause-place c =
-    let within = prefix_len-le-length (λ (other : Record). resource_up_to other.r c.args.new.r) c.take_out.new.records.items in
+    let within = prefix_len-le-length (λ (other : Record). resource_up_to other.r c.args.new.r)
+    c.take_out.new.records.items in
     rw (c.place_of-at.ensures, c.deref.ensures.value) (omega (arith, within, c.take_out.new.records.ok.0))
 
 pub returns-clause-items : goal.returns-clause-items

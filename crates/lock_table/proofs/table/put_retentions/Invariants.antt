@@ -4,5 +4,6 @@ use Rattle.lock_table.proofs.table.put_retentions.Given as goal
 
 abbrev pub invariant-loop-held : goal.invariant-loop-held
 invariant-loop-held l =
-    (take l.held-index l.held-items ≡ map (in_retention l.r l.conn l.retained) (take l.held-index l.initial.held-items))
+    (take l.held-index l.held-items ≡ map (in_retention l.r l.conn l.retained)
+    (take l.held-index l.initial.held-items))
     × (drop l.held-index l.held-items ≡ drop l.held-index l.initial.held-items)

@@ -5,5 +5,7 @@ use Rattle.lock_table.proofs.table.put_retentions_of.Goals as goal
 
 pub loop-held-preserved : goal.loop-held-preserved
 loop-held-preserved c =
-    mapped_more (in_retention_of c.args.conn c.args.retained) c.deref_mut-held-items.result.now c.loop-held.held-items c.loop-held.held-index
-    _ c.put_retention_of.new.held (omega arith) c.put_retention_of.ensures c.loop-held.invariant.0 c.loop-held.invariant.1
+    mapped_more (in_retention_of c.args.conn c.args.retained) c.deref_mut-held-items.result.now c.loop-held.held-items
+    c.loop-held.held-index
+    _ c.put_retention_of.new.held (omega arith) c.put_retention_of.ensures c.loop-held.invariant.0
+    c.loop-held.invariant.1

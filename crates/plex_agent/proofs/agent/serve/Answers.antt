@@ -10,7 +10,8 @@ gated_turn-requires-clause-line g c κs within =
 
 pub loop-line-preserved : goal.loop-line-preserved
 loop-line-preserved g c =
-    let fits = line_fits c.args.board.now c.args.lines.now c.loop-line.line-index c.line-item.result c.line-item.result
+    let fits = line_fits c.args.board.now c.args.lines.now c.loop-line.line-index c.line-item.result
+    c.line-item.result
     (search rules) c.line-item.is c.requires.lines in
     elim c.if-eq.branch [
       | then-eq w ↦ rw (w.desk-is, w.shown-is) (record {

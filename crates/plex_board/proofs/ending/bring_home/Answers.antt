@@ -25,10 +25,12 @@ put-requires-clause-room c =
 pub loop-place-preserved : goal.loop-place-preserved
 loop-place-preserved c =
     let passes : passes_shown c.put.new.self ≡ passes_shown c.index_mut.result.now ++ c.in-Some.place ∷ [] =
-    c.put.ensures.passes ∙ ap (λ (p : PassShown). passes_shown c.index_mut.result.now ++ p ∷ []) c.into_pass.ensures in
+    c.put.ensures.passes ∙ ap (λ (p : PassShown). passes_shown c.index_mut.result.now ++ p ∷ []) c.into_pass.ensures
+    in
     record {
       fits =
-          put-fits c.loop-place.homes.items c.loop-place.places.items c.pop.new.self.items c.in-Some.place c.len.result
+          put-fits c.loop-place.homes.items c.loop-place.places.items c.pop.new.self.items c.in-Some.place
+          c.len.result
           c.loop-place.invariant.fits c.in-Some.ensures.items (c.len.ensures ∙ c.pop.new.self.ok.0)
           c.index_mut.result.now c.index_mut.ensures.value c.put.new.self passes
           c.put.ensures.str_type c.put.ensures.room;

@@ -22,7 +22,8 @@ close-histories-requires-clause-owners g c κs within =
 
 pub returns-clause-histories : goal.returns-clause-histories
 returns-clause-histories g c =
-    finished_histories c.args.limit c.args.script.now c.in-Ok.begun.0 c.play-shown.result.0 c.play-shown.result.1.items
+    finished_histories c.args.limit c.args.script.now c.in-Ok.begun.0 c.play-shown.result.0
+    c.play-shown.result.1.items
     c.close-histories.result.0.items c.finish.result c.requires.script
     (record { forms = c.in-Ok.ensures.forms; cells = c.in-Ok.ensures.cells; callers = c.in-Ok.ensures.callers })
     c.play-shown.ensures.played c.close-histories.ensures.histories c.finish.ensures.histories

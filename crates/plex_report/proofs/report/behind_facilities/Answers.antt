@@ -10,7 +10,8 @@ returns-in-Within c =
     ++ (histories_lines c.args.script.now c.args.histories.now ++ (transcripts_lines c.args.script.now
     c.args.transcripts.now ++ codes "END" ∷ [])) in
     let at = rw c.items-forms.ensures at c.in-Within.ensures in
-    rw (structure_spot c.args.script.now rest c.in-Within.section c.args.k c.in-Within.line c.index-forms-section.result
+    rw (structure_spot c.args.script.now rest c.in-Within.section c.args.k c.in-Within.line
+    c.index-forms-section.result
     at.0 (rw c.items-forms.ensures at c.index-forms-section.is) at.1 at.2)
     c.structure_line.ensures
 

@@ -4,4 +4,5 @@ use Rattle.plex_script.specs.Reading.{minus}
 use Rattle.plex_script.proofs.checks.less.Given as goal
 
 abbrev pub invariant-loop-pref : goal.invariant-loop-pref
-invariant-loop-pref l = minus l.left (units_of (drop l.pref-index l.prefs) l.cf) ≡ minus l.units (units_of l.prefs l.cf)
+invariant-loop-pref l = minus l.left (units_of (drop l.pref-index l.prefs) l.cf) ≡ minus l.units
+    (units_of l.prefs l.cf)

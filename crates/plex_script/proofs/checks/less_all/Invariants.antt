@@ -4,4 +4,5 @@ use Rattle.plex_script.specs.Reading.{minus}
 use Rattle.plex_script.proofs.checks.less_all.Given as goal
 
 abbrev pub invariant-loop-form : goal.invariant-loop-form
-invariant-loop-form l = minus l.left (units_of (all_prefs (drop l.form-index l.structures)) l.cf) ≡ minus l.units (units_of (all_prefs l.structures) l.cf)
+invariant-loop-form l = minus l.left (units_of (all_prefs (drop l.form-index l.structures)) l.cf) ≡ minus l.units
+    (units_of (all_prefs l.structures) l.cf)

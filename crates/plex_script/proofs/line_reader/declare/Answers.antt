@@ -11,7 +11,9 @@ returns-in_err-declaration-clause-wrong c =
     let script = script_of c.args.draft.now in
     let early : has_lines script ≡ false = sym c.if-has_lines.ensures in
     let p = err_from_is_err_and c.from_residual.result c.from_residual.ensures.1 in
-    rw (p.1, p.2) (policy-fault script c.args.long c.args.first.now (words_of c.args.line.now) c.is_excess-excess.result c.in_err-declaration.field-0.0 early c.is_excess-excess.ensures c.in_err-declaration.ensures)
+    rw (p.1, p.2) (policy-fault script c.args.long c.args.first.now (words_of c.args.line.now)
+    c.is_excess-excess.result c.in_err-declaration.field-0.0 early c.is_excess-excess.ensures
+    c.in_err-declaration.ensures)
 
 pub returns-then-is_twice-clause-wrong : goal.returns-then-is_twice-clause-wrong
 returns-then-is_twice-clause-wrong c =
@@ -20,9 +22,11 @@ returns-then-is_twice-clause-wrong c =
     let words = words_of c.args.line.now in
     let d = c.in_ok-declaration.declaration in
     let early : has_lines script ≡ false = sym c.if-has_lines.ensures in
-    let fits = fits-judged script c.args.long first words c.is_excess-excess.result d c.is_excess-excess.ensures c.in_ok-declaration.ensures in
+    let fits = fits-judged script c.args.long first words c.is_excess-excess.result d c.is_excess-excess.ensures
+    c.in_ok-declaration.ensures in
     let twice : is_twice script d ≡ true = sym c.if-is_twice.ensures in
-    policy-twice script c.args.long first words d early (no_excess script c.args.long first words d fits) fits.declares twice
+    policy-twice script c.args.long first words d early (no_excess script c.args.long first words d fits)
+    fits.declares twice
 
 pub returns-then-is_too_much-clause-wrong : goal.returns-then-is_too_much-clause-wrong
 returns-then-is_too_much-clause-wrong c =
@@ -31,10 +35,12 @@ returns-then-is_too_much-clause-wrong c =
     let words = words_of c.args.line.now in
     let d = c.in_ok-declaration.declaration in
     let early : has_lines script ≡ false = sym c.if-has_lines.ensures in
-    let fits = fits-judged script c.args.long first words c.is_excess-excess.result d c.is_excess-excess.ensures c.in_ok-declaration.ensures in
+    let fits = fits-judged script c.args.long first words c.is_excess-excess.result d c.is_excess-excess.ensures
+    c.in_ok-declaration.ensures in
     let once : is_twice script d ≡ false = sym c.if-is_twice.ensures in
     let much : is_too_much script d ≡ true = sym c.if-is_too_much.ensures in
-    policy-space script c.args.long first words d early (no_excess script c.args.long first words d fits) fits.declares once much
+    policy-space script c.args.long first words d early (no_excess script c.args.long first words d fits)
+    fits.declares once much
 
 pub add_declaration-requires : goal.add_declaration-requires
 add_declaration-requires c =
@@ -42,7 +48,8 @@ add_declaration-requires c =
     let first = c.args.first.now in
     let words = words_of c.args.line.now in
     let d = c.in_ok-declaration.declaration in
-    let fits = fits-judged script c.args.long first words c.is_excess-excess.result d c.is_excess-excess.ensures c.in_ok-declaration.ensures in
+    let fits = fits-judged script c.args.long first words c.is_excess-excess.result d c.is_excess-excess.ensures
+    c.in_ok-declaration.ensures in
     room-fits script c.args.long first words c.requires.0 d c.requires.1 fits
 
 pub returns-clause-ok : goal.returns-clause-ok
@@ -52,8 +59,10 @@ returns-clause-ok c =
     let words = words_of c.args.line.now in
     let d = c.in_ok-declaration.declaration in
     let early : has_lines script ≡ false = sym c.if-has_lines.ensures in
-    let fits = fits-judged script c.args.long first words c.is_excess-excess.result d c.is_excess-excess.ensures c.in_ok-declaration.ensures in
+    let fits = fits-judged script c.args.long first words c.is_excess-excess.result d c.is_excess-excess.ensures
+    c.in_ok-declaration.ensures in
     let once : is_twice script d ≡ false = sym c.if-is_twice.ensures in
     let within : is_too_much script d ≡ false = sym c.if-is_too_much.ensures in
     on_ok_weaker c.add_declaration.result
-    (λ same. adds-fits script (script_of c.add_declaration.new.draft) c.args.long first words d early fits once within same) c.add_declaration.ensures.ok
+    (λ same. adds-fits script (script_of c.add_declaration.new.draft) c.args.long first words d early fits once within
+    same) c.add_declaration.ensures.ok

@@ -11,4 +11,5 @@ returns c =
     c.unwrap_or-len.ensures ∙ (rw c.first_blank.ensures (place_or_length is_blank text)) in
     let front = rw len at c.split_at.ensures.front in
     let back = rw len at c.split_at.ensures.back in
-    words_of-first text c.requires ∙ (ap (λ (w : List ℕ). w ∷ words_of (drop (prefix_len is_mark text) text)) (sym front) ∙ ap (λ (r : List ℕ). c.split_at.result.0.now ∷ words_of r) (sym back))
+    words_of-first text c.requires ∙ (ap (λ (w : List ℕ). w ∷ words_of (drop (prefix_len is_mark text) text))
+    (sym front) ∙ ap (λ (r : List ℕ). c.split_at.result.0.now ∷ words_of r) (sym back))

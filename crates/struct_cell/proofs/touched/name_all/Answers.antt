@@ -8,6 +8,7 @@ loop-change-preserved c = record {
   distinct = c.name_one.ensures.distinct;
   spared = λ conn index some most below spared.
       none-named _ c.args.bits.now c.loop-change.change-index conn index c.loop-change-test.true
-      (c.loop-change.invariant.spared conn index some most below (c.name_one.ensures.others conn.0 (index / 32) spared))
+      (c.loop-change.invariant.spared conn index some most below (c.name_one.ensures.others conn.0 (index / 32)
+      spared))
       (c.name_one.ensures.spared (search rules) conn index some most below spared);
 }

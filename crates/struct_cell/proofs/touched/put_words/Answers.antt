@@ -9,5 +9,6 @@ loop-word-preserved c =
       within = put.within;
       distinct = put.distinct;
       others = λ other word spared. inv.others other word (put.others other word spared);
-      here = words-more c.loop-word.places.items c.put_word.new.places.items c.args.conn.0 c.loop-word.word put.others put.here inv.here;
+      here = words-more c.loop-word.places.items c.put_word.new.places.items c.args.conn.0 c.loop-word.word put.others
+          put.here inv.here;
     }

@@ -27,5 +27,8 @@ loop-place-preserved g c =
     (slice_get-get_or c.args.places.now c.loop-place.place-index _ c.loop-place-test.true)
     (c.requires.within c.loop-place.place-index _ c.loop-place-test.true)
     c.loop-place.invariant
-    (λ _. (spared-before c.args.places.now c.loop-place.place-index _ c.loop-place-test.true c.requires.distinct, c.store_one.ensures))
+    (λ _. (
+      spared-before c.args.places.now c.loop-place.place-index _ c.loop-place-test.true c.requires.distinct,
+      c.store_one.ensures,
+    ))
     (λ e. absurd cc)

@@ -16,12 +16,15 @@ returns-in_ok-cell-in-Lock-clause-passes g c = shown_new OfLock ask.Lock _ _ _ _
 
 pub returns-in_ok-cell-in-Cache-clause-room : goal.returns-in_ok-cell-in-Cache-clause-room
 returns-in_ok-cell-in-Cache-clause-room g c =
-    room_for (new_pass _) (c.args.callers + 1) _ _ _ c.in_ok-cell-in-Cache.passes.ok c.in_ok-cell-in-Cache.ensures.passes
+    room_for (new_pass _) (c.args.callers + 1) _ _ _ c.in_ok-cell-in-Cache.passes.ok
+    c.in_ok-cell-in-Cache.ensures.passes
 
 pub returns-in_ok-cell-in-List-clause-room : goal.returns-in_ok-cell-in-List-clause-room
 returns-in_ok-cell-in-List-clause-room g c =
-    room_for (new_pass _) (c.args.callers + 1) _ _ _ c.in_ok-cell-in-List.passes.ok c.in_ok-cell-in-List.ensures.passes
+    room_for (new_pass _) (c.args.callers + 1) _ _ _ c.in_ok-cell-in-List.passes.ok
+    c.in_ok-cell-in-List.ensures.passes
 
 pub returns-in_ok-cell-in-Lock-clause-room : goal.returns-in_ok-cell-in-Lock-clause-room
 returns-in_ok-cell-in-Lock-clause-room g c =
-    room_for (new_pass _) (c.args.callers + 1) _ _ _ c.in_ok-cell-in-Lock.passes.ok c.in_ok-cell-in-Lock.ensures.passes
+    room_for (new_pass _) (c.args.callers + 1) _ _ _ c.in_ok-cell-in-Lock.passes.ok
+    c.in_ok-cell-in-Lock.ensures.passes

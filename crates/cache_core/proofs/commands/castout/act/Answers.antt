@@ -16,4 +16,5 @@ returns c =
     c.put.ensures.rows
     ∙ ap (λ (l : List CacheItem). rows_with row l) c.take_or_new-row.ensures.rest
     ∙ replaced-named row c.args.name.now c.args.rows.now.rows c.take_or_new-row.ensures.named
-    ∙ ap (λ (r : CacheItem). rows_replaced (row_with_hold c.args.by r) c.args.rows.now.rows) c.take_or_new-row.ensures.row
+    ∙ ap (λ (r : CacheItem). rows_replaced (row_with_hold c.args.by r) c.args.rows.now.rows)
+    c.take_or_new-row.ensures.row

@@ -8,14 +8,18 @@ use Rattle.cache_core.proofs.commands.read.act.Goals as goal
 pub put-requires-clause-alone : goal.put-requires-clause-alone
 put-requires-clause-alone c =
     rw (c.end_named.ensures.rows, c.take_or_new-row.ensures.rest)
-    (alone-spared c.take_or_new-row.result.name c.args.name.now c.args.gone.now c.args.rows.now.rows c.take_or_new-row.ensures.named)
+    (alone-spared c.take_or_new-row.result.name c.args.name.now c.args.gone.now c.args.rows.now.rows
+    c.take_or_new-row.ensures.named)
 
 pub returns-clause-content : goal.returns-clause-content
 returns-clause-content c =
     let row = c.take_or_new-row.result in
-    let rows : c.put.new.self.rows ≡ rows_replaced (row_or_new c.args.name.now c.args.stg c.args.rows.now.rows) (rows_spared c.args.gone.now c.args.rows.now.rows) =
+    let rows : c.put.new.self.rows ≡ rows_replaced (row_or_new c.args.name.now c.args.stg c.args.rows.now.rows)
+    (rows_spared c.args.gone.now c.args.rows.now.rows) =
     c.put.ensures.rows
-    ∙ ap (λ (l : List CacheItem). rows_with row l) (c.end_named.ensures.rows ∙ ap (λ (l : List CacheItem). rows_spared c.args.gone.now l) c.take_or_new-row.ensures.rest)
+    ∙ ap (λ (l : List CacheItem). rows_with row l) (c.end_named.ensures.rows
+    ∙ ap (λ (l : List CacheItem). rows_spared c.args.gone.now l) c.take_or_new-row.ensures.rest)
     ∙ replaced-spared row c.args.name.now c.args.gone.now c.args.rows.now.rows c.take_or_new-row.ensures.named
-    ∙ ap (λ (r : CacheItem). rows_replaced r (rows_spared c.args.gone.now c.args.rows.now.rows)) c.take_or_new-row.ensures.row in
+    ∙ ap (λ (r : CacheItem). rows_replaced r (rows_spared c.args.gone.now c.args.rows.now.rows))
+    c.take_or_new-row.ensures.row in
     rw (rows, c.register.ensures.regs) refl

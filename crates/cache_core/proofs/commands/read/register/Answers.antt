@@ -14,4 +14,5 @@ returns-clause-bits c =
     rw (c.end_regs.ensures.regs, c.set.ensures.regs)
     (gains_then_falls c.args.by c.args.index c.args.name.now c.args.regs.now.regs (regs_spared c.args.gone.now made)
     c.args.out.now.bits.items c.set.new.out.bits.items c.end_regs.new.out.bits.items
-    (stands_kept q c.args.by c.args.index c.args.name.now c.args.regs.now.regs (ap not c.requires.spared)) (falls_filter q made) first second)
+    (stands_kept q c.args.by c.args.index c.args.name.now c.args.regs.now.regs (ap not c.requires.spared))
+    (falls_filter q made) first second)

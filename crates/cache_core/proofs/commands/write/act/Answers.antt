@@ -9,15 +9,20 @@ use Rattle.cache_core.proofs.commands.write.act.Goals as goal
 pub put-requires-clause-alone : goal.put-requires-clause-alone
 put-requires-clause-alone c =
     rw (c.row_with-row.ensures, c.end_named.ensures.rows, c.take_or_new-old.ensures.rest)
-    (alone-spared c.take_or_new-old.result.name c.args.name.now c.args.gone.now c.args.rows.now.rows c.take_or_new-old.ensures.named)
+    (alone-spared c.take_or_new-old.result.name c.args.name.now c.args.gone.now c.args.rows.now.rows
+    c.take_or_new-old.ensures.named)
 
 pub returns-clause-content : goal.returns-clause-content
 returns-clause-content c =
     let row = row_with c.args.body c.args.class c.args.adj c.take_or_new-old.result in
-    let rows : c.put.new.self.rows ≡ rows_replaced (row_with c.args.body c.args.class c.args.adj (row_or_new c.args.name.now c.args.stg c.args.rows.now.rows)) (rows_spared c.args.gone.now c.args.rows.now.rows) =
+    let rows : c.put.new.self.rows ≡ rows_replaced (row_with c.args.body c.args.class c.args.adj
+    (row_or_new c.args.name.now c.args.stg c.args.rows.now.rows))
+    (rows_spared c.args.gone.now c.args.rows.now.rows) =
     c.put.ensures.rows
     ∙ ap (λ (r : CacheItem). rows_with r c.end_named.new.self.rows) c.row_with-row.ensures
-    ∙ ap (λ (l : List CacheItem). rows_with row l) (c.end_named.ensures.rows ∙ ap (λ (l : List CacheItem). rows_spared c.args.gone.now l) c.take_or_new-old.ensures.rest)
+    ∙ ap (λ (l : List CacheItem). rows_with row l) (c.end_named.ensures.rows
+    ∙ ap (λ (l : List CacheItem). rows_spared c.args.gone.now l) c.take_or_new-old.ensures.rest)
     ∙ replaced-spared row c.args.name.now c.args.gone.now c.args.rows.now.rows c.take_or_new-old.ensures.named
-    ∙ ap (λ (r : CacheItem). rows_replaced (row_with c.args.body c.args.class c.args.adj r) (rows_spared c.args.gone.now c.args.rows.now.rows)) c.take_or_new-old.ensures.row in
+    ∙ ap (λ (r : CacheItem). rows_replaced (row_with c.args.body c.args.class c.args.adj r)
+    (rows_spared c.args.gone.now c.args.rows.now.rows)) c.take_or_new-old.ensures.row in
     rw (rows, c.register_alone.ensures.regs) refl

@@ -10,7 +10,14 @@ use Rattle.cache_core.proofs.commands.write.register_alone.Goals as goal
 
 pub drop_name-requires : goal.drop_name-requires
 drop_name-requires c =
-    omega (arith, c.requires.room, c.set.ensures.more, c.set.ensures.room, length-filter-le (ends_with_name c.args.name.now (Some c.args.by)) c.set.new.self.regs)
+    omega (
+      arith,
+      c.requires.room,
+      c.set.ensures.more,
+      c.set.ensures.room,
+      length-filter-le
+          (ends_with_name c.args.name.now (Some c.args.by)) c.set.new.self.regs,
+    )
 
 pub returns-clause-bits : goal.returns-clause-bits
 returns-clause-bits c =
@@ -21,11 +28,14 @@ returns-clause-bits c =
     let later = regs_spared c.args.gone.now alone in
     let first = rw c.set.ensures.regs at c.set.ensures.bits in
     let second = rw (c.drop_name.ensures.regs, c.set.ensures.regs) at c.drop_name.ensures.bits in
-    let third = rw (c.end_regs.ensures.regs, c.drop_name.ensures.regs, c.set.ensures.regs) at c.end_regs.ensures.bits in
-    let both = gains_falls (stands made) (stands alone) (stands later) c.set.new.out.bits.items c.drop_name.new.out.bits.items c.end_regs.new.out.bits.items
+    let third = rw (c.end_regs.ensures.regs, c.drop_name.ensures.regs, c.set.ensures.regs) at c.end_regs.ensures.bits
+    in
+    let both = gains_falls (stands made) (stands alone) (stands later) c.set.new.out.bits.items
+    c.drop_name.new.out.bits.items c.end_regs.new.out.bits.items
     (falls_filter p made) (falls_filter q alone) second third in
     rw (c.end_regs.ensures.regs, c.drop_name.ensures.regs, c.set.ensures.regs)
     (gains_then_falls c.args.by c.args.index c.args.name.now c.args.regs.now.regs later
     c.args.out.now.bits.items c.set.new.out.bits.items c.end_regs.new.out.bits.items
-    (stands_kept_twice p q c.args.by c.args.index c.args.name.now c.args.regs.now.regs (own_spared c.args.by c.args.index c.args.name.now) (ap not c.requires.spared))
+    (stands_kept_twice p q c.args.by c.args.index c.args.name.now c.args.regs.now.regs
+    (own_spared c.args.by c.args.index c.args.name.now) (ap not c.requires.spared))
     (falls_twice p q made) first both)

@@ -12,31 +12,44 @@ use Rattle.cache_core.proofs.engine.CacheEngineEngine.apply.Goals as goal
 pub act-requires-clause-spared : goal.act-requires-clause-spared
 act-requires-clause-spared c =
     let e = c.self.inside in
-    let planned = subst (λ (s : Seen). s.plan ≡ Some (plan_for s.held.shape.vector s.held.caps s.held.state c.args.by c.args.cmd.now)) (sym c.self.view_is) c.requires.ready.planned in
-    let is = plan_taken c.take.result e.plan c.in-Some.plan (plan_for e.shape.vector e.caps (content_of e) c.args.by c.args.cmd.now) c.take.ensures.value c.in-Some.is planned in
-    let accepted = plan_accepted e.shape.vector e.caps (content_of e) c.args.by c.args.cmd.now c.in-Some.plan c.in-Ok.reply is c.in-Ok.is in
-    rw (c.items.ensures, accepted.gone) (spared_victims e.caps e.rows.rows c.args.cmd.now c.self.invariant.content.directory)
+    let planned = subst (λ (s : Seen). s.plan ≡ Some (plan_for s.held.shape.vector s.held.caps s.held.state c.args.by
+    c.args.cmd.now)) (sym c.self.view_is) c.requires.ready.planned in
+    let is = plan_taken c.take.result e.plan c.in-Some.plan (plan_for e.shape.vector e.caps (content_of e) c.args.by
+    c.args.cmd.now) c.take.ensures.value c.in-Some.is planned in
+    let accepted = plan_accepted e.shape.vector e.caps (content_of e) c.args.by c.args.cmd.now c.in-Some.plan
+    c.in-Ok.reply is c.in-Ok.is in
+    rw (c.items.ensures, accepted.gone) (spared_victims e.caps e.rows.rows c.args.cmd.now
+    c.self.invariant.content.directory)
 
 pub act-requires-clause-copied : goal.act-requires-clause-copied
 act-requires-clause-copied c =
     let e = c.self.inside in
-    let planned = subst (λ (s : Seen). s.plan ≡ Some (plan_for s.held.shape.vector s.held.caps s.held.state c.args.by c.args.cmd.now)) (sym c.self.view_is) c.requires.ready.planned in
-    let is = plan_taken c.take.result e.plan c.in-Some.plan (plan_for e.shape.vector e.caps (content_of e) c.args.by c.args.cmd.now) c.take.ensures.value c.in-Some.is planned in
-    (plan_accepted e.shape.vector e.caps (content_of e) c.args.by c.args.cmd.now c.in-Some.plan c.in-Ok.reply is c.in-Ok.is).body
+    let planned = subst (λ (s : Seen). s.plan ≡ Some (plan_for s.held.shape.vector s.held.caps s.held.state c.args.by
+    c.args.cmd.now)) (sym c.self.view_is) c.requires.ready.planned in
+    let is = plan_taken c.take.result e.plan c.in-Some.plan (plan_for e.shape.vector e.caps (content_of e) c.args.by
+    c.args.cmd.now) c.take.ensures.value c.in-Some.is planned in
+    (plan_accepted e.shape.vector e.caps (content_of e) c.args.by c.args.cmd.now c.in-Some.plan c.in-Ok.reply is
+    c.in-Ok.is).body
 
 pub invariant_of-self : goal.invariant_of-self
 invariant_of-self c =
     let e = c.self.inside in
-    let planned = subst (λ (s : Seen). s.plan ≡ Some (plan_for s.held.shape.vector s.held.caps s.held.state c.args.by c.args.cmd.now)) (sym c.self.view_is) c.requires.ready.planned in
-    let is = plan_taken c.take.result e.plan c.in-Some.plan (plan_for e.shape.vector e.caps (content_of e) c.args.by c.args.cmd.now) c.take.ensures.value c.in-Some.is planned in
-    let accepted = plan_accepted e.shape.vector e.caps (content_of e) c.args.by c.args.cmd.now c.in-Some.plan c.in-Ok.reply is c.in-Ok.is in
-    let left : record { rows = c.act.new.rows.rows; regs = c.act.new.regs.regs } ≡ after (victims e.caps e.rows.rows c.args.cmd.now) (content_of e) c.args.by c.args.cmd.now =
-    c.act.ensures.content ∙ ap (λ (l : List Name16). after l (content_of e) c.args.by c.args.cmd.now) (c.items.ensures ∙ accepted.gone) in
+    let planned = subst (λ (s : Seen). s.plan ≡ Some (plan_for s.held.shape.vector s.held.caps s.held.state c.args.by
+    c.args.cmd.now)) (sym c.self.view_is) c.requires.ready.planned in
+    let is = plan_taken c.take.result e.plan c.in-Some.plan (plan_for e.shape.vector e.caps (content_of e) c.args.by
+    c.args.cmd.now) c.take.ensures.value c.in-Some.is planned in
+    let accepted = plan_accepted e.shape.vector e.caps (content_of e) c.args.by c.args.cmd.now c.in-Some.plan
+    c.in-Ok.reply is c.in-Ok.is in
+    let left : record { rows = c.act.new.rows.rows; regs = c.act.new.regs.regs } ≡ after
+    (victims e.caps e.rows.rows c.args.cmd.now) (content_of e) c.args.by c.args.cmd.now =
+    c.act.ensures.content ∙ ap (λ (l : List Name16). after l (content_of e) c.args.by c.args.cmd.now) (c.items.ensures
+    ∙ accepted.gone) in
     record {
       cache = c.self.invariant.cache;
       caps = c.self.invariant.caps;
       content = subst (λ (k : Content). IsContent e.caps k) (sym left)
-          (content-done e.shape.vector e.caps (content_of e) c.args.by c.args.cmd.now c.self.invariant.content accepted.none);
+          (content-done e.shape.vector e.caps (content_of e) c.args.by c.args.cmd.now c.self.invariant.content
+          accepted.none);
     }
 
 pub returns-in-Some-clause-bits : goal.returns-in-Some-clause-bits

@@ -2,4 +2,8 @@ use Rattle.std.proofs.Common.{arith}
 use Rattle.cache_core.proofs.engine.CacheEngineEngine.count.Goals as goal
 
 pub overflow_cast-result : goal.overflow_cast-result
-overflow_cast-result c = rw c.items.ensures (omega (arith, c.self.invariant.content.entries, c.self.invariant.caps.most_entries))
+overflow_cast-result c = rw c.items.ensures (omega (
+  arith,
+  c.self.invariant.content.entries,
+  c.self.invariant.caps.most_entries,
+))

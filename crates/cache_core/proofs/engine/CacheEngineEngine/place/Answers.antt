@@ -41,7 +41,9 @@ invariant_of-self c =
       content =
           either_way (λ (l : List CacheItem). IsContent c.self.inside.caps
           (record { rows = l; regs = c.self.inside.regs.regs })) c.push.result
-          c.self.inside.rows.rows (c.self.inside.rows.rows ++ c.args.item ∷ []) c.push.new.self.rows c.push.ensures.ok c.push.ensures.err
-          (content-next c.self.inside.caps (content_of c.self.inside) next.whole c.args.item next.others c.self.invariant.content whole first)
+          c.self.inside.rows.rows (c.self.inside.rows.rows ++ c.args.item ∷ []) c.push.new.self.rows c.push.ensures.ok
+          c.push.ensures.err
+          (content-next c.self.inside.caps (content_of c.self.inside) next.whole c.args.item next.others
+          c.self.invariant.content whole first)
           c.self.invariant.content;
     }

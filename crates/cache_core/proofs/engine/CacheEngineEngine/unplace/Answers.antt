@@ -7,5 +7,6 @@ invariant_of-self c =
     record {
       cache = c.self.invariant.cache;
       caps = c.self.invariant.caps;
-      content = rw (c.pop.ensures, c.clear.ensures) (content-without_last c.self.inside.caps (content_of c.self.inside) c.self.invariant.content);
+      content = rw (c.pop.ensures, c.clear.ensures) (content-without_last c.self.inside.caps
+          (content_of c.self.inside) c.self.invariant.content);
     }

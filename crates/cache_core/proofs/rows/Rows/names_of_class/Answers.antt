@@ -14,5 +14,6 @@ returns c =
     rw (← c.self.view_is)
     (IfOk-weaker c.names.result (λ names. names.items ≡ names_of class c.self.inside.classes.names)
     (λ names. names.items ≡ map (λ (row : CacheItem). row.name) (filter (has_class class) rows))
-    (λ names h. h ∙ ap (λ (l : List Changed). names_of class l) c.self.invariant.classes ∙ names-classes_of class rows)
+    (λ names h. h ∙ ap (λ (l : List Changed). names_of class l) c.self.invariant.classes
+    ∙ names-classes_of class rows)
     c.names.ensures)

@@ -7,6 +7,8 @@ use Rattle.cache_regs.proofs.regs.Regs.drop_name.Goals as goal
 pub invariant_of-self : goal.invariant_of-self
 invariant_of-self c =
     record {
-      registry = rw c.end.ensures.regs (registry-filter (λ (reg : Registration). not (ends_with_name c.args.name.now c.args.spare reg)) c.self.inside.regs.items c.self.invariant.registry);
+      registry = rw c.end.ensures.regs (registry-filter
+          (λ (reg : Registration). not (ends_with_name c.args.name.now c.args.spare reg)) c.self.inside.regs.items
+          c.self.invariant.registry);
       few = omega (arith, c.end.ensures.fewer, c.self.invariant.few);
     }

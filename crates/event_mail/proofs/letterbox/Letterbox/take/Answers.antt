@@ -26,5 +26,6 @@ returns-else-owes_response-clause-mailbox c =
     let events = c.self.inside.events.items in
     let first : c.in_ok-event.event ≡ get_or events c.self.inside.owed c.in_ok-event.event = search rules in
     let within : c.self.inside.owed < length events = search rules in
-    taken_out events c.remove.new.self.items c.self.inside.owed c.in_ok-event.event c.args.self.now.mailbox within first
+    taken_out events c.remove.new.self.items c.self.inside.owed c.in_ok-event.event c.args.self.now.mailbox within
+    first
     (search rules) (search rules) (ap (λ (b : Box). b.mailbox) c.self.view_is)

@@ -11,29 +11,39 @@ use Rattle.list_core.proofs.engine.ListEngineEngine.apply.Goals as goal
 pub act-requires-clause-possible : goal.act-requires-clause-possible
 act-requires-clause-possible c =
     let e = c.self.inside in
-    let planned = subst (λ (s : Seen). s.plan ≡ Some (plan_for s.held.shape s.held.caps s.held.state c.args.by c.args.cmd.now)) (sym c.self.view_is) c.requires.ready.planned in
-    let is = plan_taken c.take.result e.plan c.in-Some.plan (plan_for e.shape e.caps e.kept.content c.args.by c.args.cmd.now) c.take.ensures.value c.in-Some.is planned in
-    let accepted = plan_accepted e.shape e.caps e.kept.content c.args.by c.args.cmd.now c.in-Some.plan c.in-Ok.reply is c.in-Ok.is in
+    let planned = subst (λ (s : Seen). s.plan ≡ Some (plan_for s.held.shape s.held.caps s.held.state c.args.by
+    c.args.cmd.now)) (sym c.self.view_is) c.requires.ready.planned in
+    let is = plan_taken c.take.result e.plan c.in-Some.plan (plan_for e.shape e.caps e.kept.content c.args.by
+    c.args.cmd.now) c.take.ensures.value c.in-Some.is planned in
+    let accepted = plan_accepted e.shape e.caps e.kept.content c.args.by c.args.cmd.now c.in-Some.plan c.in-Ok.reply
+    is c.in-Ok.is in
     possible e.shape e.caps e.kept.content c.args.by c.args.cmd.now c.self.invariant.content accepted.none
 
 pub act-requires-clause-copied : goal.act-requires-clause-copied
 act-requires-clause-copied c =
     let e = c.self.inside in
-    let planned = subst (λ (s : Seen). s.plan ≡ Some (plan_for s.held.shape s.held.caps s.held.state c.args.by c.args.cmd.now)) (sym c.self.view_is) c.requires.ready.planned in
-    let is = plan_taken c.take.result e.plan c.in-Some.plan (plan_for e.shape e.caps e.kept.content c.args.by c.args.cmd.now) c.take.ensures.value c.in-Some.is planned in
-    (plan_accepted e.shape e.caps e.kept.content c.args.by c.args.cmd.now c.in-Some.plan c.in-Ok.reply is c.in-Ok.is).body
+    let planned = subst (λ (s : Seen). s.plan ≡ Some (plan_for s.held.shape s.held.caps s.held.state c.args.by
+    c.args.cmd.now)) (sym c.self.view_is) c.requires.ready.planned in
+    let is = plan_taken c.take.result e.plan c.in-Some.plan (plan_for e.shape e.caps e.kept.content c.args.by
+    c.args.cmd.now) c.take.ensures.value c.in-Some.is planned in
+    (plan_accepted e.shape e.caps e.kept.content c.args.by c.args.cmd.now c.in-Some.plan c.in-Ok.reply is
+    c.in-Ok.is).body
 
 pub invariant_of-self : goal.invariant_of-self
 invariant_of-self c =
     let e = c.self.inside in
-    let planned = subst (λ (s : Seen). s.plan ≡ Some (plan_for s.held.shape s.held.caps s.held.state c.args.by c.args.cmd.now)) (sym c.self.view_is) c.requires.ready.planned in
-    let is = plan_taken c.take.result e.plan c.in-Some.plan (plan_for e.shape e.caps e.kept.content c.args.by c.args.cmd.now) c.take.ensures.value c.in-Some.is planned in
-    let accepted = plan_accepted e.shape e.caps e.kept.content c.args.by c.args.cmd.now c.in-Some.plan c.in-Ok.reply is c.in-Ok.is in
+    let planned = subst (λ (s : Seen). s.plan ≡ Some (plan_for s.held.shape s.held.caps s.held.state c.args.by
+    c.args.cmd.now)) (sym c.self.view_is) c.requires.ready.planned in
+    let is = plan_taken c.take.result e.plan c.in-Some.plan (plan_for e.shape e.caps e.kept.content c.args.by
+    c.args.cmd.now) c.take.ensures.value c.in-Some.is planned in
+    let accepted = plan_accepted e.shape e.caps e.kept.content c.args.by c.args.cmd.now c.in-Some.plan c.in-Ok.reply
+    is c.in-Ok.is in
     record {
       list = c.self.invariant.list;
       caps = c.self.invariant.caps;
       content = subst (λ (k : Content). IsContent e.shape e.caps k) (sym c.act.ensures.content)
-          (content-done e.shape e.caps e.kept.content c.args.by c.args.cmd.now c.self.invariant.content accepted.none);
+          (content-done e.shape e.caps e.kept.content c.args.by c.args.cmd.now c.self.invariant.content
+          accepted.none);
     }
 
 pub returns-in-Err-clause-bits : goal.returns-in-Err-clause-bits

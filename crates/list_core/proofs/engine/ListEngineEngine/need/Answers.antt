@@ -15,7 +15,8 @@ returns c =
     let content = e.kept.content in
     let all = all_records content.lists in
     let same : records_without (new_id content) all ≡ all =
-    filter_all (λ rec. not (is_id (new_id content) rec)) all (all_from_none (is_id (new_id content)) all (new-alone e.shape e.caps content c.self.invariant.content)) in
+    filter_all (λ rec. not (is_id (new_id content) rec)) all (all_from_none (is_id (new_id content)) all
+    (new-alone e.shape e.caps content c.self.invariant.content)) in
     let told = rw c.next.ensures at c.elements_of_others.ensures in
     let caps : ℕ → ℕ → Caps = λ n m. record { entries = n; elements = m } in
     rw (← c.self.view_is)

@@ -23,18 +23,21 @@ placeable shape caps content (Row header id name key body adj) comes =
 pub place_item-requires : goal.place_item-requires
 place_item-requires c =
     let e = c.self.inside in
-    let next = subst (λ (s : Seen). IsNextItem list_meaning (IsContent s.held.shape s.held.caps) s.held.shape s.held.state c.args.item) (sym c.self.view_is) c.requires.next in
+    let next = subst (λ (s : Seen). IsNextItem list_meaning (IsContent s.held.shape s.held.caps) s.held.shape
+    s.held.state c.args.item) (sym c.self.view_is) c.requires.next in
     placeable e.shape e.caps e.kept.content c.args.item next
 
 pub invariant_of-self : goal.invariant_of-self
 invariant_of-self c =
     let e = c.self.inside in
-    let next = subst (λ (s : Seen). IsNextItem list_meaning (IsContent s.held.shape s.held.caps) s.held.shape s.held.state c.args.item) (sym c.self.view_is) c.requires.next in
+    let next = subst (λ (s : Seen). IsNextItem list_meaning (IsContent s.held.shape s.held.caps) s.held.shape
+    s.held.state c.args.item) (sym c.self.view_is) c.requires.next in
     record {
       list = c.self.invariant.list;
       caps = c.self.invariant.caps;
       content =
-          either_way (λ (k : Content). IsContent e.shape e.caps k) c.place_item.result e.kept.content (content_with e.kept.content c.args.item)
+          either_way (λ (k : Content). IsContent e.shape e.caps k) c.place_item.result e.kept.content
+          (content_with e.kept.content c.args.item)
           c.place_item.new.kept.content c.place_item.ensures.ok c.place_item.ensures.err
           (content-place e.shape e.caps e.kept.content c.args.item next) c.self.invariant.content;
     }

@@ -13,7 +13,8 @@ still_told c =
     let lists = c.self.inside.store.lists in
     let rows = c.self.inside.watch.rows in
     ap (λ (l : List Watched). list_all (is_told lists) l) c.set.ensures.rows
-    ∙ ap (λ b. list_all (is_told lists) (rows_with c.args.conn c.args.index c.args.header b rows)) c.has_records-full.ensures
+    ∙ ap (λ b. list_all (is_told lists) (rows_with c.args.conn c.args.index c.args.header b rows))
+    c.has_records-full.ensures
     ∙ told-with c.args.conn c.args.index c.args.header lists rows c.self.invariant
 
 pub invariant_of-self : goal.invariant_of-self
@@ -31,5 +32,6 @@ pub returns-clause-bits : goal.returns-clause-bits
 returns-clause-bits c =
     let k = c.self.inside in
     rw (← c.self.view_is)
-    (gains-told k.store.lists k.store.lists k.watch.rows c.set.new.self.rows c.args.out.now.bits.items c.set.new.out.bits.items
+    (gains-told k.store.lists k.store.lists k.watch.rows c.set.new.self.rows c.args.out.now.bits.items
+    c.set.new.out.bits.items
     c.self.invariant (still_told c) c.set.ensures.bits)

@@ -16,7 +16,8 @@ use Rattle.list_core.proofs.keeping.Kept.pop_record.Goals as goal
 
 popped : (c : goal.After-settle) → c.pop.new.self.lists
     ≡ with_records c.self.inside.store.lists c.in-Some.header
-    (take (length (records_of c.self.inside.store.lists c.in-Some.header) - 1) (records_of c.self.inside.store.lists c.in-Some.header))
+    (take (length (records_of c.self.inside.store.lists c.in-Some.header) - 1) (records_of c.self.inside.store.lists
+    c.in-Some.header))
 popped c = c.in-Some.ensures.lists
 
 pub invariant_of-self : goal.invariant_of-self
@@ -30,18 +31,21 @@ invariant_of-self c =
     ∙ ap (λ b. list_all (is_told later) (rows_turned header b rows)) c.has_records-full.ensures
     ∙ told-one header lists later rows
     (λ other e. ap (λ (l : Lists). has_records l other) (popped c)
-    ∙ ap (λ (l : List Rec). not (length l == 0)) (records-elsewhere lists header other recs (sym_test other header e))) c.self.invariant
+    ∙ ap (λ (l : List Rec). not (length l == 0)) (records-elsewhere lists header other recs
+    (sym_test other header e))) c.self.invariant
 
 pub returns-in-Some-clause-there : goal.returns-in-Some-clause-there
 returns-in-Some-clause-there c =
-    rw (← c.self.view_is) (sym (some_test (count_of c.self.inside.store.lists) (last-count c.self.inside.store.lists c.in-Some.header c.in-Some.ensures.header)))
+    rw (← c.self.view_is) (sym (some_test (count_of c.self.inside.store.lists) (last-count c.self.inside.store.lists
+    c.in-Some.header c.in-Some.ensures.header)))
 
 pub returns-in-Some-clause-content : goal.returns-in-Some-clause-content
 returns-in-Some-clause-content c =
     let k = c.self.inside in
     rw (← c.self.view_is)
     (ap (λ (m : List Monitor). content_at c.pop.new.self.lists k.limits.items k.locks.items m k.next)
-    (ap (λ (l : List Watched). monitors_of l) c.settle.ensures ∙ monitors-turned c.in-Some.header c.has_records-full.result k.watch.rows)
+    (ap (λ (l : List Watched). monitors_of l) c.settle.ensures ∙ monitors-turned c.in-Some.header
+    c.has_records-full.result k.watch.rows)
     ∙ ap (λ (l : Lists). content_at l k.limits.items k.locks.items (monitors_of k.watch.rows) k.next)
     (popped c ∙ last-gone k.store.lists c.in-Some.header c.in-Some.ensures.header))
 

@@ -25,7 +25,8 @@ still_told c =
     ∙ ap (λ b. list_all (is_told later) (rows_turned spot.header b rows)) c.has_records-full.ensures
     ∙ told-one spot.header lists later rows
     (λ other e. ap (λ (l : Lists). has_records l other) c.drop_record.ensures
-    ∙ full-others c.args.id lists spot other c.whereabouts.ensures.apart (sym c.whereabouts.ensures.spot ∙ c.in-Some.is) (sym_test other spot.header e)) c.self.invariant
+    ∙ full-others c.args.id lists spot other c.whereabouts.ensures.apart (sym c.whereabouts.ensures.spot
+    ∙ c.in-Some.is) (sym_test other spot.header e)) c.self.invariant
 
 pub invariant_of-self : goal.invariant_of-self
 invariant_of-self c = still_told c
@@ -34,20 +35,25 @@ pub unreachable-requires : goal.unreachable-requires
 unreachable-requires c =
     let lists = c.self.inside.store.lists in
     let there : list_any (is_id c.args.id) (all_records lists) ≡ true =
-    subst (λ (k : Keeping). list_any (is_id c.args.id) (all_records k.content.lists) ≡ true) (sym c.self.view_is) c.requires.there in
-    false≢true (sym (unplaced c.args.id lists (sym c.whereabouts.ensures.spot ∙ c.in-None.is)) ∙ sym (any_all (is_id c.args.id) lists) ∙ there)
+    subst (λ (k : Keeping). list_any (is_id c.args.id) (all_records k.content.lists) ≡ true) (sym c.self.view_is)
+    c.requires.there in
+    false≢true (sym (unplaced c.args.id lists (sym c.whereabouts.ensures.spot ∙ c.in-None.is))
+    ∙ sym (any_all (is_id c.args.id) lists) ∙ there)
 
 pub returns-clause-content : goal.returns-clause-content
 returns-clause-content c =
     let k = c.self.inside in
     rw (← c.self.view_is)
     (ap (λ (m : List Monitor). content_at c.drop_record.new.store.lists k.limits.items k.locks.items m k.next)
-    (ap (λ (l : List Watched). monitors_of l) c.turned.ensures.rows ∙ monitors-turned c.in-Some.spot.header c.has_records-full.result k.watch.rows)
-    ∙ ap (λ (l : Lists). content_at l k.limits.items k.locks.items (monitors_of k.watch.rows) k.next) c.drop_record.ensures)
+    (ap (λ (l : List Watched). monitors_of l) c.turned.ensures.rows ∙ monitors-turned c.in-Some.spot.header
+    c.has_records-full.result k.watch.rows)
+    ∙ ap (λ (l : Lists). content_at l k.limits.items k.locks.items (monitors_of k.watch.rows) k.next)
+    c.drop_record.ensures)
 
 pub returns-clause-bits : goal.returns-clause-bits
 returns-clause-bits c =
     let k = c.self.inside in
     rw (← c.self.view_is)
-    (gains-told k.store.lists c.drop_record.new.store.lists k.watch.rows c.turned.new.self.rows c.args.out.now.bits.items c.turned.new.out.bits.items
+    (gains-told k.store.lists c.drop_record.new.store.lists k.watch.rows c.turned.new.self.rows
+    c.args.out.now.bits.items c.turned.new.out.bits.items
     c.self.invariant (still_told c) c.turned.ensures.bits)

@@ -8,5 +8,6 @@ use Rattle.list_core.proofs.keeping.Kept.replace.Goals as goal
 pub invariant_of-self : goal.invariant_of-self
 invariant_of-self c =
     told-same c.self.inside.store.lists c.set.new.self.lists c.self.inside.watch.rows
-    (λ header. ap (λ (l : Lists). has_records l header) c.set.ensures.lists ∙ full-replaced c.args.rec c.self.inside.store.lists header)
+    (λ header. ap (λ (l : Lists). has_records l header) c.set.ensures.lists
+    ∙ full-replaced c.args.rec c.self.inside.store.lists header)
     c.self.invariant

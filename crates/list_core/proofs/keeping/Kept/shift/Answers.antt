@@ -14,7 +14,8 @@ use Rattle.list_core.specs.Told.{is_told}
 use Rattle.list_core.proofs.ToldLaws.{told-two, gains-told, content_at, full-put_back}
 use Rattle.list_core.proofs.keeping.Kept.shift.Goals as goal
 
-still_told : (c : goal.After-turned-in-Some) → list_all (is_told c.put_again.new.store.lists) c.turned-in-Some.new.self.rows ≡ true
+still_told : (c : goal.After-turned-in-Some) → list_all (is_told c.put_again.new.store.lists)
+    c.turned-in-Some.new.self.rows ≡ true
 still_told c =
     let lists = c.self.inside.store.lists in
     let rows = c.self.inside.watch.rows in
@@ -22,8 +23,10 @@ still_told c =
     let spot = c.in-Some.spot in
     ap (λ (l : List Watched). list_all (is_told later) l) (c.turned-in-Some.ensures.rows
     ∙ ap (λ (l : List Watched). rows_turned c.args.header c.has_records-full-in-Some.result l) c.turned.ensures.rows)
-    ∙ ap (λ b. list_all (is_told later) (rows_turned c.args.header b (rows_turned spot.header c.has_records-full.result rows))) c.has_records-full-in-Some.ensures
-    ∙ ap (λ b. list_all (is_told later) (rows_turned c.args.header (has_records later c.args.header) (rows_turned spot.header b rows))) c.has_records-full.ensures
+    ∙ ap (λ b. list_all (is_told later) (rows_turned c.args.header b
+    (rows_turned spot.header c.has_records-full.result rows))) c.has_records-full-in-Some.ensures
+    ∙ ap (λ b. list_all (is_told later) (rows_turned c.args.header (has_records later c.args.header)
+    (rows_turned spot.header b rows))) c.has_records-full.ensures
     ∙ told-two spot.header c.args.header lists later rows
     (λ other e f. ap (λ (l : Lists). has_records l other) c.put_again.ensures
     ∙ full-put_back c.args.head c.args.id c.args.header c.args.key lists spot other c.whereabouts.ensures.apart
@@ -36,8 +39,10 @@ pub unreachable-requires : goal.unreachable-requires
 unreachable-requires c =
     let lists = c.self.inside.store.lists in
     let there : list_any (is_id c.args.id) (all_records lists) ≡ true =
-    subst (λ (k : Keeping). list_any (is_id c.args.id) (all_records k.content.lists) ≡ true) (sym c.self.view_is) c.requires.there in
-    false≢true (sym (unplaced c.args.id lists (sym c.whereabouts.ensures.spot ∙ c.in-None.is)) ∙ sym (any_all (is_id c.args.id) lists) ∙ there)
+    subst (λ (k : Keeping). list_any (is_id c.args.id) (all_records k.content.lists) ≡ true) (sym c.self.view_is)
+    c.requires.there in
+    false≢true (sym (unplaced c.args.id lists (sym c.whereabouts.ensures.spot ∙ c.in-None.is))
+    ∙ sym (any_all (is_id c.args.id) lists) ∙ there)
 
 pub returns-clause-content : goal.returns-clause-content
 returns-clause-content c =
@@ -48,7 +53,8 @@ returns-clause-content c =
     ∙ monitors-turned c.args.header c.has_records-full-in-Some.result c.turned.new.self.rows
     ∙ ap (λ (l : List Watched). monitors_of l) c.turned.ensures.rows
     ∙ monitors-turned c.in-Some.spot.header c.has_records-full.result k.watch.rows)
-    ∙ ap (λ (l : Lists). content_at l k.limits.items k.locks.items (monitors_of k.watch.rows) k.next) c.put_again.ensures)
+    ∙ ap (λ (l : Lists). content_at l k.limits.items k.locks.items (monitors_of k.watch.rows) k.next)
+    c.put_again.ensures)
 
 pub returns-clause-bits : goal.returns-clause-bits
 returns-clause-bits c =
@@ -58,11 +64,14 @@ returns-clause-bits c =
     let x = c.has_records-full.result in
     let y = c.has_records-full-in-Some.result in
     let same : (from == c.args.header) ≡ true → y ≡ x =
-    λ e. c.has_records-full-in-Some.ensures ∙ ap (λ (n : ℕ). has_records later n) (sym (eqb-true from c.args.header e)) ∙ sym c.has_records-full.ensures in
+    λ e. c.has_records-full-in-Some.ensures ∙ ap (λ (n : ℕ). has_records later n)
+    (sym (eqb-true from c.args.header e)) ∙ sym c.has_records-full.ensures in
     let first = rw c.turned.ensures.rows at c.turned.ensures.bits in
     let second = rw (c.turned-in-Some.ensures.rows, c.turned.ensures.rows) at c.turned-in-Some.ensures.bits in
-    let both = gains_two from c.args.header x y k.watch.rows c.args.out.now.bits.items c.turned.new.out.bits.items c.turned-in-Some.new.out.bits.items
+    let both = gains_two from c.args.header x y k.watch.rows c.args.out.now.bits.items c.turned.new.out.bits.items
+    c.turned-in-Some.new.out.bits.items
     same c.turned.ensures.monitors.one_at_index first second in
     rw (← c.self.view_is)
-    (gains-told k.store.lists later k.watch.rows c.turned-in-Some.new.self.rows c.args.out.now.bits.items c.turned-in-Some.new.out.bits.items
+    (gains-told k.store.lists later k.watch.rows c.turned-in-Some.new.self.rows c.args.out.now.bits.items
+    c.turned-in-Some.new.out.bits.items
     c.self.invariant (still_told c) (rw (c.turned-in-Some.ensures.rows, c.turned.ensures.rows) both))

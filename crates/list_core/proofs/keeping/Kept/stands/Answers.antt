@@ -5,4 +5,5 @@ use Rattle.list_core.proofs.keeping.Kept.stands.Goals as goal
 pub returns : goal.returns
 returns c =
     rw (← c.self.view_is)
-    (c.stands.ensures ∙ sym (told-stands c.self.inside.store.lists c.self.inside.watch.rows c.self.invariant c.args.conn c.args.index))
+    (c.stands.ensures ∙ sym (told-stands c.self.inside.store.lists c.self.inside.watch.rows c.self.invariant
+    c.args.conn c.args.index))

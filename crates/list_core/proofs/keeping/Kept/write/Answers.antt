@@ -20,7 +20,8 @@ still_told c =
     ∙ ap (λ b. list_all (is_told later) (rows_turned c.args.header b rows)) c.has_records-full.ensures
     ∙ told-one c.args.header lists later rows
     (λ other e. ap (λ (l : Lists). has_records l other) c.put.ensures
-    ∙ full-elsewhere c.args.head c.args.header other c.args.rec lists (sym_test other c.args.header e)) c.self.invariant
+    ∙ full-elsewhere c.args.head c.args.header other c.args.rec lists (sym_test other c.args.header e))
+    c.self.invariant
 
 pub invariant_of-self : goal.invariant_of-self
 invariant_of-self c = still_told c
@@ -30,12 +31,15 @@ returns-clause-content c =
     let k = c.self.inside in
     rw (← c.self.view_is)
     (ap (λ (m : List Monitor). content_at c.put.new.store.lists k.limits.items k.locks.items m (k.next + 1))
-    (ap (λ (l : List Watched). monitors_of l) c.turned.ensures.rows ∙ monitors-turned c.args.header c.has_records-full.result k.watch.rows)
-    ∙ ap (λ (l : Lists). content_at l k.limits.items k.locks.items (monitors_of k.watch.rows) (k.next + 1)) c.put.ensures)
+    (ap (λ (l : List Watched). monitors_of l) c.turned.ensures.rows ∙ monitors-turned c.args.header
+    c.has_records-full.result k.watch.rows)
+    ∙ ap (λ (l : Lists). content_at l k.limits.items k.locks.items (monitors_of k.watch.rows) (k.next + 1))
+    c.put.ensures)
 
 pub returns-clause-bits : goal.returns-clause-bits
 returns-clause-bits c =
     let k = c.self.inside in
     rw (← c.self.view_is)
-    (gains-told k.store.lists c.put.new.store.lists k.watch.rows c.turned.new.self.rows c.args.out.now.bits.items c.turned.new.out.bits.items
+    (gains-told k.store.lists c.put.new.store.lists k.watch.rows c.turned.new.self.rows c.args.out.now.bits.items
+    c.turned.new.out.bits.items
     c.self.invariant (still_told c) c.turned.ensures.bits)

@@ -12,7 +12,8 @@ rest c = filter_same _ _ _ (λ x b f h. search rules) _ _ c.retain.ensures.filte
 pub invariant_of-self : goal.invariant_of-self
 invariant_of-self c =
     ap (λ (l : List Named). pairwise names_apart l) (rest c)
-    ∙ pairwise-filter names_apart (λ named. not (is_named c.args.name.now named)) c.self.inside.names.items c.self.invariant
+    ∙ pairwise-filter names_apart (λ named. not (is_named c.args.name.now named)) c.self.inside.names.items
+    c.self.invariant
 
 pub returns-clause-names : goal.returns-clause-names
 returns-clause-names c = rw (← c.self.view_is) (rest c)

@@ -11,11 +11,14 @@ use Rattle.list_store.proofs.store.Store.add.Goals as goal
 pub invariant_of-self : goal.invariant_of-self
 invariant_of-self c =
     let lists = lists_in c.self.inside.lists.items in
-    let header : c.args.header < length lists = subst (λ (s : Stored). c.args.header < length s.lists) (sym c.self.view_is) c.requires.header in
+    let header : c.args.header < length lists = subst (λ (s : Stored). c.args.header < length s.lists)
+    (sym c.self.view_is) c.requires.header in
     let place : c.args.place ≤ length (list_of c.args.header lists) =
-    subst (λ (s : Stored). c.args.place ≤ length (list_of c.args.header s.lists)) (sym c.self.view_is) c.requires.place in
+    subst (λ (s : Stored). c.args.place ≤ length (list_of c.args.header s.lists)) (sym c.self.view_is)
+    c.requires.place in
     let alone : list_any (is_id c.args.rec.id) (all_records lists) ≡ false =
-    subst (λ (s : Stored). list_any (is_id c.args.rec.id) (all_records s.lists) ≡ false) (sym c.self.view_is) c.requires.alone in
+    subst (λ (s : Stored). list_any (is_id c.args.rec.id) (all_records s.lists) ≡ false) (sym c.self.view_is)
+    c.requires.alone in
     record {
       apart =
           ap (λ (l : List (List Rec)). pairwise ids_apart (all_records l)) c.put.ensures.lists

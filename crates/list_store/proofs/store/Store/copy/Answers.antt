@@ -11,9 +11,11 @@ use Rattle.list_store.proofs.store.Store.copy.Goals as goal
 
 pub invariant_of-result : goal.invariant_of-result
 invariant_of-result c =
-    let same : lists_in c.in_ok-lists.lists.items ≡ lists_in c.self.inside.lists.items = rw c.as_slice.ensures.value at c.in_ok-lists.ensures in
+    let same : lists_in c.in_ok-lists.lists.items ≡ lists_in c.self.inside.lists.items = rw c.as_slice.ensures.value
+    at c.in_ok-lists.ensures in
     let long : length c.in_ok-lists.lists.items ≡ length c.self.inside.lists.items =
-    sym (length-map c.in_ok-lists.lists.items (λ (v : Vec Rec Global). v.items)) ∙ ap (λ (l : List (List Rec)). length l) same
+    sym (length-map c.in_ok-lists.lists.items (λ (v : Vec Rec Global). v.items))
+    ∙ ap (λ (l : List (List Rec)). length l) same
     ∙ length-map c.self.inside.lists.items (λ (v : Vec Rec Global). v.items) in
     record {
       apart = ap (λ (l : List (List Rec)). pairwise ids_apart (all_records l)) same ∙ c.self.invariant.apart;

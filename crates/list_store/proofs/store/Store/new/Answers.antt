@@ -15,9 +15,11 @@ invariant_of-result c =
     let made : lists_in c.in_ok-lists.lists.items ≡ replicate c.args.headers [] = c.in_ok-lists.ensures in
     let none : List Rec = [] in
     let long : length c.in_ok-lists.lists.items ≡ length (replicate c.args.headers none) =
-    sym (length-map c.in_ok-lists.lists.items (λ (v : Vec Rec Global). v.items)) ∙ ap (λ (l : List (List Rec)). length l) made in
+    sym (length-map c.in_ok-lists.lists.items (λ (v : Vec Rec Global). v.items))
+    ∙ ap (λ (l : List (List Rec)). length l) made in
     record {
-      apart = ap (λ (l : List (List Rec)). pairwise ids_apart (all_records l)) made ∙ ap (λ (l : List Rec). pairwise ids_apart l) (all-replicate c.args.headers);
+      apart = ap (λ (l : List (List Rec)). pairwise ids_apart (all_records l)) made
+          ∙ ap (λ (l : List Rec). pairwise ids_apart l) (all-replicate c.args.headers);
       few = ap (λ (l : List (List Rec)). list_all is_few l) made ∙ few-replicate c.args.headers;
       headers = omega (arith, long, length-replicate c.args.headers none, c.in_ok-lists.lists.ok.0, c.ranges.headers);
     }

@@ -14,7 +14,8 @@ is_last : (c : goal.After-pop_at) → IsLastFull c.in-Some.header (lists_in c.se
 is_last c = rw c.as_slice.ensures.value at c.in-Some.ensures.found
 
 gone : (c : goal.After-pop_at) → lists_in c.pop_at.new.lists.items
-    ≡ first_records (length (all_records (lists_in c.self.inside.lists.items)) - 1) (lists_in c.self.inside.lists.items)
+    ≡ first_records (length (all_records (lists_in c.self.inside.lists.items)) - 1)
+    (lists_in c.self.inside.lists.items)
 gone c = c.pop_at.ensures.lists ∙ popped (lists_in c.self.inside.lists.items) c.in-Some.header (is_last c)
 
 pub invariant_of-self : goal.invariant_of-self

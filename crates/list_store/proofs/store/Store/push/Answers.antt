@@ -16,9 +16,11 @@ either (Err rec) P old pushed new ok err h k = subst P (sym err) h
 pub invariant_of-self : goal.invariant_of-self
 invariant_of-self c =
     let lists = lists_in c.self.inside.lists.items in
-    let header : c.args.header < length lists = subst (λ (s : Stored). c.args.header < length s.lists) (sym c.self.view_is) c.requires.header in
+    let header : c.args.header < length lists = subst (λ (s : Stored). c.args.header < length s.lists)
+    (sym c.self.view_is) c.requires.header in
     let alone : list_any (is_id c.args.rec.id) (all_records lists) ≡ false =
-    subst (λ (s : Stored). list_any (is_id c.args.rec.id) (all_records s.lists) ≡ false) (sym c.self.view_is) c.requires.alone in
+    subst (λ (s : Stored). list_any (is_id c.args.rec.id) (all_records s.lists) ≡ false) (sym c.self.view_is)
+    c.requires.alone in
     record {
       apart =
           either c.push.result (λ l. pairwise ids_apart (all_records l) ≡ true) lists

@@ -12,9 +12,11 @@ pub add-requires-clause-alone : goal.add-requires-clause-alone
 add-requires-clause-alone c =
     ap (λ (l : List (List Rec)). list_any (is_id c.in-Some.rec.id) (all_records l)) c.take.ensures.lists
     ∙ gone c.args.id c.args.self.now.lists c.in-Some.rec
-    (found_passes (is_id c.args.id) (all_records c.args.self.now.lists) c.in-Some.rec (sym c.take.ensures.«record» ∙ c.in-Some.is))
+    (found_passes (is_id c.args.id) (all_records c.args.self.now.lists) c.in-Some.rec (sym c.take.ensures.«record»
+    ∙ c.in-Some.is))
 
 pub unreachable-requires : goal.unreachable-requires
 unreachable-requires c =
     let none = ap is_some (sym c.take.ensures.«record» ∙ c.in-None.is) in
-    false≢true (sym none ∙ sym (any_is_found (is_id c.args.id) (all_records c.args.self.now.lists)) ∙ c.requires.there)
+    false≢true (sym none ∙ sym (any_is_found (is_id c.args.id) (all_records c.args.self.now.lists))
+    ∙ c.requires.there)

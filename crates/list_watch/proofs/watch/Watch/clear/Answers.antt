@@ -11,12 +11,18 @@ pub end-requires-clause-room : goal.end-requires-clause-room
 end-requires-clause-room c =
     let room : length c.self.inside.rows.items ≤ c.args.out.now.bits.room =
     subst (λ (w : Watching). length w.rows ≤ c.args.out.now.bits.room) (sym c.self.view_is) c.requires in
-    omega (arith, room, length-filter-le (λ (row : Watched). row.full && is_for c.args.conn c.args.header row.monitor) c.self.inside.rows.items)
+    omega (
+      arith,
+      room,
+      length-filter-le (λ (row : Watched). row.full && is_for c.args.conn c.args.header row.monitor)
+          c.self.inside.rows.items,
+    )
 
 pub invariant_of-self : goal.invariant_of-self
 invariant_of-self c =
     record {
       monitors = subst (λ (l : List Watched). AreMonitors (monitors_of l)) (sym c.end.ensures.rows)
-          (monitors-filter (λ row. not (is_for c.args.conn c.args.header row.monitor)) c.self.inside.rows.items c.self.invariant.monitors);
+          (monitors-filter (λ row. not (is_for c.args.conn c.args.header row.monitor)) c.self.inside.rows.items
+          c.self.invariant.monitors);
       few = omega (arith, c.end.ensures.fewer, c.self.invariant.few);
     }

@@ -21,14 +21,25 @@ pub tell-requires : goal.tell-requires
 tell-requires c =
     let room : length c.self.inside.rows.items ≤ c.args.out.now.bits.room =
     subst (λ (w : Watching). length w.rows ≤ c.args.out.now.bits.room) (sym c.self.view_is) c.requires in
-    rw c.deref.ensures.value (omega (arith, room, length-filter-le (is_turned c.args.header c.args.full) c.self.inside.rows.items))
+    rw c.deref.ensures.value (omega (
+      arith,
+      room,
+      length-filter-le (is_turned c.args.header c.args.full)
+          c.self.inside.rows.items,
+    ))
 
 pub returns-clause-bits : goal.returns-clause-bits
 returns-clause-bits c =
     rw (← c.self.view_is, c.turn_all.ensures.rows, c.tell.ensures.bits, c.deref.ensures.value)
-    (gains_turned c.args.header c.args.full c.self.inside.rows.items c.args.out.now.bits.items c.self.invariant.monitors.one_at_index)
+    (gains_turned c.args.header c.args.full c.self.inside.rows.items c.args.out.now.bits.items
+    c.self.invariant.monitors.one_at_index)
 
 pub returns-clause-room : goal.returns-clause-room
 returns-clause-room c =
     let told = rw c.deref.ensures.value at c.tell.ensures.room in
-    rw (← c.self.view_is) (omega (arith, told, length-filter-le (is_turned c.args.header c.args.full) c.self.inside.rows.items))
+    rw (← c.self.view_is) (omega (
+      arith,
+      told,
+      length-filter-le (is_turned c.args.header c.args.full)
+          c.self.inside.rows.items,
+    ))

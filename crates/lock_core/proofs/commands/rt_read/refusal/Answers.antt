@@ -8,4 +8,5 @@ use Rattle.lock_core.proofs.commands.rt_read.refusal.Goals as goal
 pub returns : goal.returns
 returns c =
     rw (c.first_refusal.ensures, c.record_refusal-record_cause.ensures, c.has_records.ensures)
-    (ap (λ (cause : Option Refusal). first_refusal (cause ∷ [])) (sym (record_refusal-any (rt_read.is_recorded c.args.conn) c.args.interests.now.interests)))
+    (ap (λ (cause : Option Refusal). first_refusal (cause ∷ []))
+    (sym (record_refusal-any (rt_read.is_recorded c.args.conn) c.args.interests.now.interests)))

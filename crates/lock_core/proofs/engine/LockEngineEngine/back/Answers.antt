@@ -9,6 +9,8 @@ invariant_of-self c =
       lock = c.self.invariant.lock;
       caps = c.self.invariant.caps;
       limit = c.back.ensures.limit ∙ c.self.invariant.limit;
-      content = rw c.back.ensures.content (back-content c.self.inside.caps c.self.inside.locks.content c.args.conn c.self.invariant.content);
-      counted = rw c.back.ensures.content (counted-returned c.args.conn c.self.inside.locks.content c.self.invariant.counted);
+      content = rw c.back.ensures.content (back-content c.self.inside.caps c.self.inside.locks.content c.args.conn
+          c.self.invariant.content);
+      counted = rw c.back.ensures.content (counted-returned c.args.conn c.self.inside.locks.content
+          c.self.invariant.counted);
     }

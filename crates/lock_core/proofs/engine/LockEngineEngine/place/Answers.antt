@@ -11,12 +11,15 @@ invariant_of-self c =
     let e = c.self.inside in
     let next = c.requires.next in
     let first : items next.whole ≡ items e.locks.content ++ c.args.item ∷ next.others =
-    subst (λ (s : Seen). items next.whole ≡ items s.held.state ++ c.args.item ∷ next.others) (sym c.self.view_is) next.first in
-    let whole : IsContent e.caps next.whole = subst (λ (s : Seen). IsContent s.held.caps next.whole) (sym c.self.view_is) next.content in
+    subst (λ (s : Seen). items next.whole ≡ items s.held.state ++ c.args.item ∷ next.others) (sym c.self.view_is)
+    next.first in
+    let whole : IsContent e.caps next.whole = subst (λ (s : Seen). IsContent s.held.caps next.whole)
+    (sym c.self.view_is) next.content in
     let placed = placed-next e.caps e.locks.content next.whole c.args.item next.others whole first in
     let kept = kept_either e.caps c.place.result e.locks.content c.place.new.self.content c.args.item
     (ok_weaker c.place.result (λ h. h ∙ placed) c.place.ensures.ok) c.place.ensures.err c.place.ensures.few
-    (content-next e.caps e.locks.content next.whole c.args.item next.others whole first) c.self.invariant.content c.self.invariant.counted in
+    (content-next e.caps e.locks.content next.whole c.args.item next.others whole first) c.self.invariant.content
+    c.self.invariant.counted in
     record {
       lock = c.self.invariant.lock;
       caps = c.self.invariant.caps;
@@ -30,8 +33,10 @@ returns-clause-ok c =
     let e = c.self.inside in
     let next = c.requires.next in
     let first : items next.whole ≡ items e.locks.content ++ c.args.item ∷ next.others =
-    subst (λ (s : Seen). items next.whole ≡ items s.held.state ++ c.args.item ∷ next.others) (sym c.self.view_is) next.first in
-    let whole : IsContent e.caps next.whole = subst (λ (s : Seen). IsContent s.held.caps next.whole) (sym c.self.view_is) next.content in
+    subst (λ (s : Seen). items next.whole ≡ items s.held.state ++ c.args.item ∷ next.others) (sym c.self.view_is)
+    next.first in
+    let whole : IsContent e.caps next.whole = subst (λ (s : Seen). IsContent s.held.caps next.whole)
+    (sym c.self.view_is) next.content in
     let placed = placed-next e.caps e.locks.content next.whole c.args.item next.others whole first in
     let held : Content → Held Content = λ (k : Content). record { shape = e.shape; caps = e.caps; state = k } in
     rw (← c.self.view_is) (ok_weaker c.place.result (λ h. ap held (h ∙ placed)) c.place.ensures.ok)

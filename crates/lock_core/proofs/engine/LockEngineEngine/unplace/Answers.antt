@@ -9,6 +9,7 @@ invariant_of-self c =
       lock = c.self.invariant.lock;
       caps = c.self.invariant.caps;
       limit = c.unplace.ensures.limit ∙ c.self.invariant.limit;
-      content = rw c.unplace.ensures.content (content-without_last c.self.inside.caps c.self.inside.locks.content c.self.invariant.content);
+      content = rw c.unplace.ensures.content (content-without_last c.self.inside.caps c.self.inside.locks.content
+          c.self.invariant.content);
       counted = rw c.unplace.ensures.content (counted-last c.self.inside.locks.content c.self.invariant.counted);
     }

@@ -12,11 +12,13 @@ returns-clause-count c =
 
 pub returns-clause-few : goal.returns-clause-few
 returns-clause-few c =
-    let same : length c.items.result.now ≡ length c.self.inside.owners.owners = ap (λ (l : List Held). length l) c.items.ensures.items in
+    let same : length c.items.result.now ≡ length c.self.inside.owners.owners = ap (λ (l : List Held). length l)
+    c.items.ensures.items in
     omega (
       arith,
       c.count_recorded.ensures,
       c.items.ensures.few,
       same,
-      length-filter-le (λ (held : Held). is_some (record_of held.r held.conn c.self.inside.records.records)) c.items.result.now,
+      length-filter-le (λ (held : Held). is_some (record_of held.r held.conn c.self.inside.records.records))
+          c.items.result.now,
     )

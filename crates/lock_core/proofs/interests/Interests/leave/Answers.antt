@@ -9,7 +9,8 @@ use Rattle.lock_core.proofs.interests.Interests.leave.Goals as goal
 pub returns-then-not-keep-clause-interests : goal.returns-then-not-keep-clause-interests
 returns-then-not-keep-clause-interests c =
     let kept : c.retain.new.self.owners
-    ≡ filter (λ (held : Held). stays c.args.conn c.args.keep (with_record c.self.inside.records.records held)) c.self.inside.owners.owners =
+    ≡ filter (λ (held : Held). stays c.args.conn c.args.keep (with_record c.self.inside.records.records held))
+    c.self.inside.owners.owners =
     filter_same _ _ _ (λ x b f h. search rules) _ _ c.retain.ensures.owners in
     rw (← c.self.view_is, c.set_retained_of.ensures.owners, kept, c.drop_conn.ensures.records, c.if-not-keep.true)
     (joined-gone c.args.conn c.self.inside.owners.owners c.self.inside.records.records)
@@ -17,7 +18,8 @@ returns-then-not-keep-clause-interests c =
 pub returns-else-not-keep-clause-interests : goal.returns-else-not-keep-clause-interests
 returns-else-not-keep-clause-interests c =
     let kept : c.retain.new.self.owners
-    ≡ filter (λ (held : Held). stays c.args.conn c.args.keep (with_record c.self.inside.records.records held)) c.self.inside.owners.owners =
+    ≡ filter (λ (held : Held). stays c.args.conn c.args.keep (with_record c.self.inside.records.records held))
+    c.self.inside.owners.owners =
     filter_same _ _ _ (λ x b f h. search rules) _ _ c.retain.ensures.owners in
     rw (← c.self.view_is, c.set_retained_of.ensures.owners, kept)
     (joined-kept c.args.conn c.args.keep c.self.inside.owners.owners c.self.inside.records.records)

@@ -9,6 +9,7 @@ invariant_of-self c =
     record {
       queue =
           rw c.take_out.ensures.items
-          (queue-filter (λ (waiter : Waiter). not (is_waiter c.args.r.now c.args.conn waiter)) c.self.inside.waiters.items c.self.invariant.queue);
+          (queue-filter (λ (waiter : Waiter). not (is_waiter c.args.r.now c.args.conn waiter))
+          c.self.inside.waiters.items c.self.invariant.queue);
       few = omega (arith, c.take_out.ensures.len, c.self.invariant.few);
     }

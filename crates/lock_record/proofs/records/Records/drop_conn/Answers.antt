@@ -9,6 +9,7 @@ invariant_of-self c =
     record {
       records =
           rw c.take_out_conn.ensures.items
-          (records-filter (λ (recorded : Record). not (is_of c.args.conn recorded)) c.self.inside.records.items c.self.invariant.records);
+          (records-filter (λ (recorded : Record). not (is_of c.args.conn recorded)) c.self.inside.records.items
+          c.self.invariant.records);
       few = omega (arith, c.take_out_conn.ensures.len, c.self.invariant.few);
     }

@@ -9,6 +9,7 @@ invariant_of-self c =
     record {
       records =
           rw c.put_in.ensures.items
-          (records-with (record { r = c.args.r; conn = c.args.conn; rec = c.args.rec }) c.self.inside.records.items c.self.invariant.records);
+          (records-with (record { r = c.args.r; conn = c.args.conn; rec = c.args.rec }) c.self.inside.records.items
+          c.self.invariant.records);
       few = omega (arith, room, c.put_in.ensures.len);
     }

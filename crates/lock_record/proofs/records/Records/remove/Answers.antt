@@ -9,7 +9,8 @@ invariant_of-self c =
     record {
       records =
           rw c.take_out.ensures.items
-          (records-filter (λ (recorded : Record). not (is_record c.args.r.now c.args.conn recorded)) c.self.inside.records.items
+          (records-filter (λ (recorded : Record). not (is_record c.args.r.now c.args.conn recorded))
+          c.self.inside.records.items
           c.self.invariant.records);
       few = omega (arith, c.take_out.ensures.len, c.self.invariant.few);
     }

@@ -9,6 +9,7 @@ invariant_of-self c =
     record {
       owners =
           rw c.take_out.ensures.items
-          (owners-filter (λ (held : Held). not (is_interest c.args.r.now c.args.conn held)) c.self.inside.owners.items c.self.invariant.owners);
+          (owners-filter (λ (held : Held). not (is_interest c.args.r.now c.args.conn held)) c.self.inside.owners.items
+          c.self.invariant.owners);
       few = omega (arith, c.take_out.ensures.len, c.self.invariant.few);
     }

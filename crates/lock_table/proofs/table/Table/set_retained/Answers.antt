@@ -7,6 +7,7 @@ invariant_of-self c =
     record {
       owners =
           rw c.put_retentions.ensures.items
-          (owners-in_retention c.args.r.now c.args.conn c.args.retained c.self.inside.owners.items c.self.invariant.owners);
+          (owners-in_retention c.args.r.now c.args.conn c.args.retained c.self.inside.owners.items
+          c.self.invariant.owners);
       few = omega (arith, c.put_retentions.ensures.len, c.self.invariant.few);
     }

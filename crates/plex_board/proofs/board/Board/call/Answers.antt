@@ -18,7 +18,8 @@ call-requires-clause-ask g c κs within =
 pub call-requires-clause-may : goal.call-requires-clause-may
 call-requires-clause-may g c κs within =
     subst (λ owner. MayAskAny owner c.args.ask)
-    (sym (place-is _ _ _ _ c.args.on _ _ _ _ (sym c.self.view_is) (sym c.desk.view_is) c.requires.desk c.requires.place
+    (sym (place-is _ _ _ _ c.args.on _ _ _ _ (sym c.self.view_is) (sym c.desk.view_is) c.requires.desk
+    c.requires.place
     c.from.ensures c.from-2.ensures c.index.ensures c.index_mut.ensures.value).owner_is) c.requires.may
 
 pub returns-clause-full : goal.returns-clause-full

@@ -37,13 +37,15 @@ pub returns-clause-forms : goal.returns-clause-forms
 returns-clause-forms g c =
     opened-forms c.loop-form.opening.stations.items (length c.items.result.now) (into_iter_items c.loop-form.left)
     c.open.result _
-    (c.loop-form.invariant.forms ∙ take_all c.loop-form.form-index c.items-form-items.result.now c.loop-form-test.false
+    (c.loop-form.invariant.forms ∙ take_all c.loop-form.form-index c.items-form-items.result.now
+    c.loop-form-test.false
     ∙ c.items-form-items.ensures) c.open.ensures.board
 
 pub returns-clause-cells : goal.returns-clause-cells
 returns-clause-cells g c =
     opened-cells c.loop-form.opening.stations.items (length c.items.result.now) (into_iter_items c.loop-form.left)
-    c.open.result _ c.args.limit (ap length c.items.ensures) c.loop-form.invariant.opening.started c.open.ensures.board
+    c.open.result _ c.args.limit (ap length c.items.ensures) c.loop-form.invariant.opening.started
+    c.open.ensures.board
 
 pub returns-clause-links : goal.returns-clause-links
 returns-clause-links g c =

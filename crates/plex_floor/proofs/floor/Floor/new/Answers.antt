@@ -21,4 +21,5 @@ returns-in-Ok-clause-of_board g c =
 
 pub returns-in-Ok-clause-memory : goal.returns-in-Ok-clause-memory
 returns-in-Ok-clause-memory g c =
-    subst (λ (floor : Floor). HasMemory floor) (sym (returns-in-Ok-clause-new g c)) (new_floor-memory c.args.board.now)
+    subst (λ (floor : Floor). HasMemory floor) (sym (returns-in-Ok-clause-new g c))
+    (new_floor-memory c.args.board.now)

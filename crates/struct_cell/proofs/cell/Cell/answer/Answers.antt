@@ -15,8 +15,10 @@ store_words-requires-clause-len g c κs within =
 
 pub returns-clause-cell : goal.returns-clause-cell
 returns-clause-cell g c =
-    cell_answered g.E.Engine.meaning c.args.self.now c.args.inside.now.limit c.args.inside.now.machine c.answer.new.self
-    c.args.inside.now.touched c.note.new.self c.args.inside.now.journal.items c.push_reserved.new.self.items c.args.inside.now.links
+    cell_answered g.E.Engine.meaning c.args.self.now c.args.inside.now.limit c.args.inside.now.machine
+    c.answer.new.self
+    c.args.inside.now.touched c.note.new.self c.args.inside.now.journal.items c.push_reserved.new.self.items
+    c.args.inside.now.links
     c.args.inside.now.seat c.learn.new.seat c.begin.new.seat c.store_words.new.seat c.commit_call.new.seat
     c.self.inside.vectors c.places-words.result.now (c.len-count.result + 1) c.args.pass.now.owner
     c.owner-by.result c.args.ask c.in_ok-reply.reply
@@ -29,7 +31,9 @@ returns-clause-cell g c =
 
 pub returns-clause-later : goal.returns-clause-later
 returns-clause-later g c =
-    let most = issued_within g.E.Engine.meaning c.args.self.now c.args.inside.now.limit c.args.inside.now.machine c.args.inside.now.touched
-    c.args.inside.now.journal.items c.args.inside.now.links c.args.inside.now.seat c.requires.cell c.args.pass.now.known c.learn.ensures.before in
+    let most = issued_within g.E.Engine.meaning c.args.self.now c.args.inside.now.limit c.args.inside.now.machine
+    c.args.inside.now.touched
+    c.args.inside.now.journal.items c.args.inside.now.links c.args.inside.now.seat c.requires.cell
+    c.args.pass.now.known c.learn.ensures.before in
     let no : c.of-told.result.no ≡ c.len-count.result + 1 = search rules in
     omega (arith, most, no)

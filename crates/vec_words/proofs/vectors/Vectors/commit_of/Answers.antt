@@ -10,7 +10,8 @@ invariant_of-seat g c =
     let n = c.seat.inside.number in
     let x = c.requires.one.0 in
     let back = c.hand_log-2.ensures.to in
-    let some = subst (λ k. 0 < k) (sym (ap (λ (s : SeatSeen g.row.D.Denot). s.number) c.seat.view_is)) c.requires.begun
+    let some = subst (λ k. 0 < k) (sym (ap (λ (s : SeatSeen g.row.D.Denot). s.number) c.seat.view_is))
+    c.requires.begun
     in
     let log = ap (λ (v : View g.row.D.Denot). v.log) back.0
     ∙ ap (λ (v : View g.row.D.Denot). v.log) c.publish.ensures.view.0
