@@ -1,9 +1,9 @@
 -- A command after others: copies are fresh, and changed pages that aren't cast out are kept.
-use Rattle.std.proofs.Common.{◌≡◌, List, [], ◌∷◌, ◌++◌, None, sym, ap, ◌∙◌, subst}
+use Rattle.std.proofs.Common.{◌≡◌, List, [], ◌∷◌, ◌++◌, sym, ap, ◌∙◌, subst}
 use Rattle.cf_types.specs.declared.cache_commands.CacheCmd.{CacheCmd}
 use Rattle.cf_types.specs.declared.numbers.ConnId.{ConnId}
 use Rattle.engine_api.specs.Meaning.{Held}
-use Rattle.cache_model.specs.Contents.{Content, IsContent, nothing}
+use Rattle.cache_model.specs.Contents.{Content, nothing}
 use Rattle.cache_model.specs.Runs.{Deed, Copies, after_deed, after_run}
 use Rattle.cache_model.specs.Runs.Deed.{Calls}
 use Rattle.cache_model.proofs.CopyLaws.{fresh-copy, content-run}
