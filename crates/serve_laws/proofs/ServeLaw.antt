@@ -278,15 +278,13 @@ serve_right limit script board histories workers c worker forms_are started clos
 -- tells what stood.
 pub serves_right : {L : Type 0} (limit : ℕ) (script : Script) (board : BoardShown L) (histories : List AnyHistory)
     (workers : List AtWork)
-    → length script.structures ≤ 16 → length script.connectors ≤ 32
     → map (λ cell. cell.form) board.cells ≡ script.structures
     → All (IsStarted (length script.connectors) limit) board.cells
-    → board.callers ≡ length script.connectors
     → length workers ≡ length script.connectors + 1
     → ((c : ℕ) (worker : AtWork) → slice_get workers c ≡ Some worker
     → Serves board script.lines (record { desk = new_desk board c; shown = no_items }) worker)
     → All (λ worker. worker.shown.end ≢ ended.NoMemory) workers
     → AreClosed board (map (λ worker. worker.desk) workers) histories
     → ShowsHistories limit script histories (map (λ worker. worker.shown) workers)
-serves_right limit script board histories workers _ _ forms_are started _ as_workers serve found closed =
+serves_right limit script board histories workers forms_are started as_workers serve found closed =
     shows_all limit script board histories workers forms_are started closed as_workers serve found
