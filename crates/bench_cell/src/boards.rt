@@ -1,0 +1,180 @@
+//! READs and tests through a board.
+ghost use Rattle.std.specs.Prelude.{◌≡◌, ◌≤◌, ◌+◌, IfOk, map};
+ghost use Rattle.std.specs.List.{range_with_len};
+ghost use Rattle.engine_api.specs.Asking.{MayAsk, IsBuilt};
+ghost use Rattle.desk_model.specs.Boards.{new_desk};
+ghost use Rattle.bench_cell.specs.Seats.{IsOneCache, IsCacheBoard, IsSeated};
+
+use crate::faults::{Timed, call_error};
+use crate::pages::{PAGES, form, name, read, write};
+use cf_link::Steady;
+use cf_types::{CacheCmd, Listing, NoMemory, ShellCmd, StrNo};
+use engine_api::{Ask, Told};
+use plex_board::{Board, Desk};
+use plex_script::{AnyAsk, Script};
+use std::alloc::Global;
+use std::io;
+use std::sync::Wait;
+use std::time::{Clock, Instant};
+use struct_cell::CallRefused;
+
+/// How many calls a journal takes.
+const JOURNAL_LIMIT: u32 = 65_536;
+
+/// How many links there are to the facilities: four for each of 16 structures.
+const LINKS: usize = 64;
+
+// The structure of the pages.
+const POOL: StrNo = StrNo(0);
+
+// A script of one cache structure and one connector, without lines.
+fn policy(alloc: Global) -> Result<Script, NoMemory>
+    ensures { IfOk result IsOneCache }
+{
+    let mut structures = Listing::new(alloc);
+    structures.push(form(alloc)?)?;
+    let mut connectors = Listing::new(alloc);
+    connectors.push(name(b'C', 1))?;
+    Ok(Script {
+        facilities: Listing::new(alloc),
+        structures,
+        connectors,
+        lines: Listing::new(alloc),
+    })
+}
+
+// The desk of the last caller.
+fn last_desk(board: &Board<Steady>, desks: Vec<Desk>) -> Result<Desk, NoMemory>
+    requires board { IsCacheBoard board.now }
+    requires desks { desks.items ≡ map (new_desk board.now) (range_with_len 0 (1 + 1)) }
+    ensures { IfOk result (IsSeated board.now) }
+{
+    let mut desks = desks;
+    desks.pop().ok_or(NoMemory)
+}
+
+// A call to the structure.
+fn call(
+    rt: &impl Wait,
+    alloc: Global,
+    board: &Board<Steady>,
+    desk: &mut Desk,
+    ask: Ask<CacheCmd>,
+) -> Result<Told, CallRefused>
+    requires seated { IsSeated board.now desk.old }
+    requires may { MayAsk desk.old.owner ask × IsBuilt ask }
+    ensures { IsSeated board.now desk.new }
+{
+    board.call(rt, alloc, desk, POOL, AnyAsk::Cache(ask))
+}
+
+// Connects, and writes all pages.
+fn fill(
+    rt: &impl Wait,
+    alloc: Global,
+    board: &Board<Steady>,
+    desk: &mut Desk,
+) -> Result<(), CallRefused>
+    requires { IsSeated board.now desk.old }
+    ensures { IsSeated board.now desk.new }
+{
+    call(rt, alloc, board, desk, Ask::Shell(ShellCmd::Connect { keep: false }))?;
+    for k in 0..PAGES {
+        call(rt, alloc, board, desk, Ask::Content(write(alloc, k)?))?;
+    }
+    Ok(())
+}
+
+// A board with all pages, and the desk of the connector that wrote them.
+fn start(rt: &impl Wait, alloc: Global) -> Result<(Board<Steady>, Desk), CallRefused>
+    ensures { IfOk result (λ r. IsSeated r.0 r.1) }
+{
+    let policy = policy(alloc)?;
+    let Ok(links) = vec![in alloc; Steady; LINKS] else {
+        return Err(CallRefused::NoMemory);
+    };
+    let Ok((board, desks)) = Board::start(rt, alloc, &policy, JOURNAL_LIMIT, links) else {
+        return Err(CallRefused::NoMemory);
+    };
+    let mut desk = last_desk(&board, desks)?;
+    fill(rt, alloc, &board, &mut desk)?;
+    Ok((board, desk))
+}
+
+// Reads the pages in turn, and says the number of the last call.
+#[inline(never)]
+fn read_pages(
+    rt: &impl Wait,
+    alloc: Global,
+    board: &Board<Steady>,
+    desk: &mut Desk,
+    reads: u32,
+) -> Result<u32, CallRefused>
+    requires { IsSeated board.now desk.old }
+    ensures { IsSeated board.now desk.new }
+{
+    let mut last = 0;
+    for k in 0..reads {
+        last = call(rt, alloc, board, desk, Ask::Content(read(k)))?.no;
+    }
+    Ok(last)
+}
+
+// Tests the bits in turn, and says how often one was set.
+#[inline(never)]
+fn test_bits(board: &Board<Steady>, desk: &mut Desk, tests: u32) -> u32
+    requires { IsSeated board.now desk.old }
+{
+    let mut set = 0u32;
+    for k in 0..tests {
+        if board.test(desk, POOL, k % PAGES).bit {
+            set = set.wrapping_add(1);
+        }
+    }
+    set
+}
+
+fn time_reads(
+    rt: &(impl Wait + Clock),
+    alloc: Global,
+    board: &Board<Steady>,
+    desk: &mut Desk,
+    reads: u32,
+) -> io::Result<Timed>
+    requires { IsSeated board.now desk.old }
+    ensures { IsSeated board.now desk.new }
+{
+    let start = Instant::now(rt)?;
+    let read = read_pages(rt, alloc, board, desk, reads);
+    let nanos = start.elapsed(rt)?.as_nanos();
+    let count = read.map_err(call_error)?;
+    Ok(Timed { count, nanos })
+}
+
+fn time_tests(
+    rt: &impl Clock,
+    board: &Board<Steady>,
+    desk: &mut Desk,
+    tests: u32,
+) -> io::Result<Timed>
+    requires { IsSeated board.now desk.old }
+{
+    let start = Instant::now(rt)?;
+    let count = test_bits(board, desk, tests);
+    let nanos = start.elapsed(rt)?.as_nanos();
+    Ok(Timed { count, nanos })
+}
+
+/// Reads the pages through a board in turn, up to 65,503 times, and says the number of the last
+/// call; then tests the bits in turn, and counts those that were set.
+pub fn use_board(
+    rt: &(impl Wait + Clock),
+    alloc: Global,
+    reads: u32,
+    tests: u32,
+) -> io::Result<(Timed, Timed)> {
+    let (board, mut desk) = start(rt, alloc).map_err(call_error)?;
+    let read = time_reads(rt, alloc, &board, &mut desk, reads)?;
+    let tested = time_tests(rt, &board, &mut desk, tests)?;
+    Ok((read, tested))
+}

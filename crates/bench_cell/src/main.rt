@@ -1,0 +1,55 @@
+#![tactic(auto)]
+//! READs of a cache structure and tests of a vector's bits, through a board, and beside them the
+//! same READs of the engine alone and the same tests of the vector words alone. With the word
+//! `time` it prints how long they take, a line for each: `board read`, `engine read`, `board test`
+//! and `words test`, each followed by how many there were and by the nanoseconds.
+mod below;
+mod boards;
+mod faults;
+mod pages;
+
+use below::{use_engine, use_words};
+use boards::use_board;
+use std::alloc::Global;
+use std::sync::Wait;
+use std::time::Clock;
+use std::{env, io};
+
+/// The READs and the tests, where they are only counted.
+const SHORT: u32 = 100;
+
+/// The READs, where they are timed. A journal takes 65,536 calls.
+const TIMED_READS: u32 = 60_000;
+
+/// The tests, where they are timed.
+const TIMED_TESTS: u32 = 100_000_000;
+
+fn main(rt: HostRuntime) -> io::Result<()> {
+    if env::args(&rt)?.any(|word| word.as_str() == "time") {
+        print_times(&rt, rt.alloc())
+    } else {
+        print_counts(&rt, rt.alloc())
+    }
+}
+
+fn print_counts(rt: &(impl Wait + Clock + Print), alloc: Global) -> io::Result<()> {
+    let (reads, tests) = use_board(rt, alloc, SHORT, SHORT)?;
+    let (last, set) = (reads.count, tests.count);
+    println!(rt; "{SHORT} READs through a board: the last is call {last}")?;
+    println!(rt; "{SHORT} tests through a board: {set} bits set")?;
+    let with_data = use_engine(rt, alloc, SHORT)?.count;
+    println!(rt; "{SHORT} READs of an engine: {with_data} with data")?;
+    let set = use_words(rt, alloc, SHORT)?.count;
+    println!(rt; "{SHORT} tests of vector words: {set} bits set")
+}
+
+fn print_times(rt: &(impl Wait + Clock + Print), alloc: Global) -> io::Result<()> {
+    let (reads, tests) = use_board(rt, alloc, TIMED_READS, TIMED_TESTS)?;
+    let (read_nanos, test_nanos) = (reads.nanos, tests.nanos);
+    println!(rt; "board read {TIMED_READS} {read_nanos}")?;
+    println!(rt; "board test {TIMED_TESTS} {test_nanos}")?;
+    let nanos = use_engine(rt, alloc, TIMED_READS)?.nanos;
+    println!(rt; "engine read {TIMED_READS} {nanos}")?;
+    let nanos = use_words(rt, alloc, TIMED_TESTS)?.nanos;
+    println!(rt; "words test {TIMED_TESTS} {nanos}")
+}
