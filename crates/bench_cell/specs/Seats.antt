@@ -1,5 +1,5 @@
 -- A script of one cache structure with vectors of 32 bits, and a connector's desk at a board that begins with such a structure.
-use Rattle.std.specs.Prelude.{◌≡◌, ◌<◌, List, [], ◌∷◌, length, IfSome, ⊥}
+use Rattle.std.specs.Prelude.{◌≡◌, ◌<◌, List, [], ◌∷◌, length, IfSome}
 use Rattle.cf_types.specs.declared.forms.Kind.TheVariants as kind
 use Rattle.cf_types.specs.declared.forms.StrForm.{StrForm}
 use Rattle.cf_types.specs.declared.numbers.StrNo.{StrNo}

@@ -1,5 +1,7 @@
 //! READs of an engine alone, and tests of vector words alone.
-ghost use Rattle.std.specs.Prelude.{◌≡◌, ◌<◌, All, IfOk};
+ghost use Rattle.std.specs.Prelude.{◌≡◌, ◌<◌, ◌+◌, IfOk, IfSome, map};
+ghost use Rattle.std.specs.List.{range_with_len};
+ghost use Rattle.vec_words.specs.Tokens.{new_pass};
 
 use crate::faults::Timed;
 use crate::pages::{PAGES, form, read, write};
@@ -77,12 +79,20 @@ fn test_bits(vectors: &Vectors<u32>, pass: &mut Pass<u32>, tests: u32) -> u32
     set
 }
 
+// The pass of the last caller.
+fn last_pass(vectors: &Vectors<u32>, mut passes: Vec<Pass<u32>>) -> Option<Pass<u32>>
+    requires { passes.items ≡ map (new_pass vectors.now) (range_with_len 0 (1 + 1)) }
+    ensures { IfSome result (λ pass. (pass.table ≡ vectors.now) × (0 < pass.owner)) }
+{
+    passes.pop()
+}
+
 // The words of one connector's vector, with all bits set, and the connector's pass.
 fn words_of(alloc: Global) -> Result<(Vectors<u32>, Pass<u32>), NoMemory>
     ensures { IfOk result (λ r. (r.0.len ≡ 32) × (r.1.table ≡ r.0) × (0 < r.1.owner)) }
 {
-    let (vectors, mut seat, mut passes) = Vectors::start(alloc, 1, PAGES)?;
-    let Some(mut pass) = passes.pop() else {
+    let (vectors, mut seat, passes) = Vectors::start(alloc, 1, PAGES)?;
+    let Some(mut pass) = last_pass(&vectors, passes) else {
         return Err(NoMemory);
     };
     vectors.begin(&mut seat, 1);

@@ -1,5 +1,5 @@
 //! READs and tests through a board.
-ghost use Rattle.std.specs.Prelude.{◌≡◌, ◌≤◌, ◌+◌, IfOk, map};
+ghost use Rattle.std.specs.Prelude.{◌≡◌, ◌<◌, ◌+◌, IfOk, IfSome, map};
 ghost use Rattle.std.specs.List.{range_with_len};
 ghost use Rattle.engine_api.specs.Asking.{MayAsk, IsBuilt};
 ghost use Rattle.desk_model.specs.Boards.{new_desk};
@@ -17,6 +17,7 @@ use std::io;
 use std::sync::Wait;
 use std::time::{Clock, Instant};
 use struct_cell::CallRefused;
+use vec_words::Tested;
 
 /// How many calls a journal takes.
 const JOURNAL_LIMIT: u32 = 65_536;
@@ -44,13 +45,12 @@ fn policy(alloc: Global) -> Result<Script, NoMemory>
 }
 
 // The desk of the last caller.
-fn last_desk(board: &Board<Steady>, desks: Vec<Desk>) -> Result<Desk, NoMemory>
+fn last_desk(board: &Board<Steady>, mut desks: Vec<Desk>) -> Option<Desk>
     requires board { IsCacheBoard board.now }
     requires desks { desks.items ≡ map (new_desk board.now) (range_with_len 0 (1 + 1)) }
-    ensures { IfOk result (IsSeated board.now) }
+    ensures { IfSome result (IsSeated board.now) }
 {
-    let mut desks = desks;
-    desks.pop().ok_or(NoMemory)
+    desks.pop()
 }
 
 // A call to the structure.
@@ -68,6 +68,15 @@ fn call(
     board.call(rt, alloc, desk, POOL, AnyAsk::Cache(ask))
 }
 
+// A test of a bit of the connector's vector.
+fn test(board: &Board<Steady>, desk: &mut Desk, index: u32) -> Tested
+    requires seated { IsSeated board.now desk.old }
+    requires index { index < 32 }
+    ensures { IsSeated board.now desk.new }
+{
+    board.test(desk, POOL, index)
+}
+
 // Connects, and writes all pages.
 fn fill(
     rt: &impl Wait,
@@ -78,7 +87,13 @@ fn fill(
     requires { IsSeated board.now desk.old }
     ensures { IsSeated board.now desk.new }
 {
-    call(rt, alloc, board, desk, Ask::Shell(ShellCmd::Connect { keep: false }))?;
+    call(
+        rt,
+        alloc,
+        board,
+        desk,
+        Ask::Shell(ShellCmd::Connect { keep: false }),
+    )?;
     for k in 0..PAGES {
         call(rt, alloc, board, desk, Ask::Content(write(alloc, k)?))?;
     }
@@ -96,7 +111,9 @@ fn start(rt: &impl Wait, alloc: Global) -> Result<(Board<Steady>, Desk), CallRef
     let Ok((board, desks)) = Board::start(rt, alloc, &policy, JOURNAL_LIMIT, links) else {
         return Err(CallRefused::NoMemory);
     };
-    let mut desk = last_desk(&board, desks)?;
+    let Some(mut desk) = last_desk(&board, desks) else {
+        return Err(CallRefused::NoMemory);
+    };
     fill(rt, alloc, &board, &mut desk)?;
     Ok((board, desk))
 }
@@ -127,7 +144,7 @@ fn test_bits(board: &Board<Steady>, desk: &mut Desk, tests: u32) -> u32
 {
     let mut set = 0u32;
     for k in 0..tests {
-        if board.test(desk, POOL, k % PAGES).bit {
+        if test(board, desk, k % PAGES).bit {
             set = set.wrapping_add(1);
         }
     }

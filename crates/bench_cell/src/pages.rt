@@ -2,9 +2,7 @@
 ghost use Rattle.std.specs.Prelude.{◌≡◌, IfOk};
 ghost use Rattle.bench_cell.specs.Seats.{IsCacheForm};
 
-use cf_types::{
-    CacheCmd, Caps, CfId, Kind, Listing, Name16, NoMemory, Pref, StrForm, parse_body,
-};
+use cf_types::{CacheCmd, Caps, CfId, Kind, Listing, Name16, NoMemory, Pref, StrForm, parse_body};
 use std::alloc::Global;
 
 /// How many pages there are. A vector has a bit for each.
