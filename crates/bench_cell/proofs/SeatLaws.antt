@@ -57,6 +57,22 @@ module _ {L : Type 0} where
       let found = first-pool callers limit board.cells script.structures is one.structures all in
       record { some = found.0; pool_is = found.1 }
 
+  -- the same of a board that may have begun
+  pub begun-board : {V E : Type 0} (callers limit : ℕ) (script : Script) (answer : Result (BoardShown L × V) E)
+      → IsOneCache script
+      → IfOk answer (λ r. map (λ (cell : CellShown L). cell.form) r.0.cells ≡ script.structures)
+      → IfOk answer (λ r. All (IsStarted callers limit) r.0.cells) → IfOk answer (λ r. IsCacheBoard r.0)
+  begun-board callers limit script (Ok r) one forms cells = board_is callers limit r.0 script forms one cells
+  begun-board callers limit script (Err e) one forms cells = tt
+
+  pub begun-desks : {V E : Type 0} (items : V → List DeskShown) (script : Script)
+      (answer : Result (BoardShown L × V) E) → IsOneCache script
+      → IfOk answer (λ r. items r.1 ≡ map (new_desk r.0) (range_with_len 0 (length script.connectors + 1)))
+      → IfOk answer (λ r. items r.1 ≡ map (new_desk r.0) (range_with_len 0 (1 + 1)))
+  begun-desks items script (Ok r) one are =
+      are ∙ ap (λ (n : ℕ). map (new_desk r.0) (range_with_len 0 (n + 1))) one.connectors
+  begun-desks items script (Err e) one are = tt
+
 -- ---- the desk
 
 -- a call leaves the desk its owner's
@@ -67,11 +83,6 @@ call-owner (Ok told) asked before after is none = ap (λ (d : DeskShown). d.owne
 call-owner (Err refusal) asked before after none later = ap (λ (d : DeskShown). d.owner) later.rest
 
 module _ {L : Type 0} (board : BoardShown L) where
-  -- the desks of a new board with one connector
-  pub two-desks : (desks : List DeskShown) (count : ℕ) → desks ≡ map (new_desk board) (range_with_len 0 (count + 1))
-      → count ≡ 1 → desks ≡ map (new_desk board) (range_with_len 0 (1 + 1))
-  two-desks desks count are one = are ∙ ap (λ (n : ℕ). map (new_desk board) (range_with_len 0 (n + 1))) one
-
   -- the last desk of a new board with one connector is the connector's
   pub last-seated : (desks front : List DeskShown) (found : Option DeskShown) → IsCacheBoard board
       → desks ≡ map (new_desk board) (range_with_len 0 (1 + 1)) → desks ≡ front ++ option_to_list found

@@ -1,5 +1,6 @@
 //! READs and tests through a board.
 ghost use Rattle.std.specs.Prelude.{◌≡◌, ◌<◌, ◌+◌, IfOk, IfSome, map};
+ghost use Rattle.std.specs.Vec.{vec_len};
 ghost use Rattle.std.specs.List.{range_with_len};
 ghost use Rattle.engine_api.specs.Asking.{MayAsk, IsBuilt};
 ghost use Rattle.desk_model.specs.Boards.{new_desk};
@@ -100,6 +101,22 @@ fn fill(
     Ok(())
 }
 
+// A board of the script's structure, and the desks of its callers.
+fn open(
+    rt: &impl Wait,
+    alloc: Global,
+    policy: &Script,
+    links: Vec<Steady>,
+) -> Result<(Board<Steady>, Vec<Desk>), Vec<Steady>>
+    requires policy { IsOneCache policy.now }
+    requires links { vec_len links ≡ 64 }
+    ensures board { IfOk result (λ r. IsCacheBoard r.0) }
+    ensures desks { IfOk result
+        (λ r. r.1.items ≡ map (new_desk r.0) (range_with_len 0 (1 + 1))) }
+{
+    Board::start(rt, alloc, policy, JOURNAL_LIMIT, links)
+}
+
 // A board with all pages, and the desk of the connector that wrote them.
 fn start(rt: &impl Wait, alloc: Global) -> Result<(Board<Steady>, Desk), CallRefused>
     ensures { IfOk result (λ r. IsSeated r.0 r.1) }
@@ -108,7 +125,7 @@ fn start(rt: &impl Wait, alloc: Global) -> Result<(Board<Steady>, Desk), CallRef
     let Ok(links) = vec![in alloc; Steady; LINKS] else {
         return Err(CallRefused::NoMemory);
     };
-    let Ok((board, desks)) = Board::start(rt, alloc, &policy, JOURNAL_LIMIT, links) else {
+    let Ok((board, desks)) = open(rt, alloc, &policy, links) else {
         return Err(CallRefused::NoMemory);
     };
     let Some(mut desk) = last_desk(&board, desks) else {
