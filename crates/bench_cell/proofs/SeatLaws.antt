@@ -41,7 +41,8 @@ policy_is script one =
 module _ {L : Type 0} where
   -- the cell of one form
   first-pool : (callers limit : ℕ) (cells : List (CellShown L)) (forms : List StrForm)
-      → map (λ (cell : CellShown L). cell.form) cells ≡ forms → IsCacheAlone forms → All (IsStarted callers limit) cells
+      → map (λ (cell : CellShown L). cell.form) cells ≡ forms → IsCacheAlone forms
+      → All (IsStarted callers limit) cells
       → (0 < length cells) × IfSome (slice_get cells 0) IsPool
   first-pool callers limit [] forms is alone all = absurd (subst IsCacheAlone (sym is) alone)
   first-pool callers limit (cell ∷ []) forms is alone all =

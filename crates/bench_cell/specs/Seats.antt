@@ -1,4 +1,4 @@
--- A script of one cache structure with vectors of 32 bits, and a connector's desk at a board that begins with such a structure.
+-- A script of one cache structure with vectors of 32 bits, and a connector's desk at a board that begins with one.
 use Rattle.std.specs.Prelude.{◌≡◌, ◌<◌, List, [], ◌∷◌, length, IfSome}
 use Rattle.cf_types.specs.declared.forms.Kind.TheVariants as kind
 use Rattle.cf_types.specs.declared.forms.StrForm.{StrForm}

@@ -1,6 +1,7 @@
 //! READs of an engine alone, and tests of vector words alone.
 ghost use Rattle.std.specs.Prelude.{◌≡◌, ◌<◌, ◌+◌, IfOk, IfSome, map};
 ghost use Rattle.std.specs.List.{range_with_len};
+ghost use Rattle.vec_words.specs.Logged.{count_of};
 ghost use Rattle.vec_words.specs.Tokens.{new_pass};
 
 use crate::faults::Timed;
@@ -11,7 +12,7 @@ use engine_api::Engine;
 use std::alloc::Global;
 use std::io;
 use std::time::{Clock, Instant};
-use vec_words::{Pass, Vectors};
+use vec_words::{EngineSeat, Pass, Vectors};
 
 // The connector that reads.
 const READER: ConnId = ConnId(1);
@@ -87,17 +88,28 @@ fn last_pass(vectors: &Vectors<u32>, mut passes: Vec<Pass<u32>>) -> Option<Pass<
     passes.pop()
 }
 
+// Sets the 32 bits of the connector's vector, in a call of the connector.
+fn set_bits(vectors: &Vectors<u32>, mut seat: EngineSeat<u32>, pass: &mut Pass<u32>)
+    requires form { (vectors.now.conns ≡ 1) × (vectors.now.len ≡ 32) }
+    requires tokens { (seat.table ≡ vectors.now) × (pass.old.table ≡ vectors.now) }
+    requires idle { (seat.number ≡ 0) × (count_of seat.log ≡ 0) }
+    ensures table { pass.new.table ≡ pass.old.table }
+    ensures owner { pass.new.owner ≡ pass.old.owner }
+{
+    vectors.begin(&mut seat, 1);
+    vectors.store_word(&mut seat, READER, 0, u32::MAX);
+    vectors.commit_as(&mut seat, pass, &1);
+}
+
 // The words of one connector's vector, with all bits set, and the connector's pass.
 fn words_of(alloc: Global) -> Result<(Vectors<u32>, Pass<u32>), NoMemory>
     ensures { IfOk result (λ r. (r.0.len ≡ 32) × (r.1.table ≡ r.0) × (0 < r.1.owner)) }
 {
-    let (vectors, mut seat, passes) = Vectors::start(alloc, 1, PAGES)?;
+    let (vectors, seat, passes) = Vectors::start(alloc, 1, PAGES)?;
     let Some(mut pass) = last_pass(&vectors, passes) else {
         return Err(NoMemory);
     };
-    vectors.begin(&mut seat, 1);
-    vectors.store_word(&mut seat, READER, 0, u32::MAX);
-    vectors.commit_as(&mut seat, &mut pass, &1);
+    set_bits(&vectors, seat, &mut pass);
     Ok((vectors, pass))
 }
 
