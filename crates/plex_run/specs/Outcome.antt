@@ -148,8 +148,7 @@ abbrev pub WritesHistories : ℕ → Option (List ℕ) → Option (List ℕ) →
 WritesHistories status held held_now text =
     (script : Script) × ((reading : Reading) × IsServed text script × ShowsRun script reading
     × ShowsFresh script reading.histories reading.transcripts × CanFill script (full_of script reading)
-    × (status ≡ run_status script reading)
-    × Appends held held_now (run_text script reading))
+    × (status ≡ run_status script reading) × Appends held held_now (run_text script reading))
 
 -- the report was written of histories and transcripts that each caller's work was done in, and of no others could it
 -- have been
