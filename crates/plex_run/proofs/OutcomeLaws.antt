@@ -21,6 +21,7 @@ use Rattle.plex_run.specs.Written.{GainsPrefix}
 use Rattle.plex_run.specs.NotYet.{not_yet}
 use Rattle.plex_run.specs.StatusLines.{why_word, full_line}
 use Rattle.plex_run.specs.Outcome.{IsServed, IsRefused, IsUnserved, IsExact, WritesRun, WritesRunFront, WritesReport, WritesFull, WritesHistories, WritesFront, WritesSerialFront, script_limit, journal_limit, serial_report, full_in_run, run_text, run_status, served_text, served_status}
+use Rattle.plex_run.proofs.FullLaws.{AreWithin, can_fill}
 
 -- whatever a run shows, tests that tell VALID tell fresh copies
 abbrev pub AreFresh : Type 0
@@ -133,9 +134,9 @@ full_written held held_now text script status served eight is gains = at_full (f
 
 -- what was written of a run shows histories
 pub histories_written : (held held_now : Option (List ℕ)) (text : List ℕ) (by : Way) (script : Script) (status : ℕ)
-    → IsServed text script → AreFresh → WritesRun by script status held held_now → WritesHistories status held
-    held_now text
-histories_written held held_now text by script status served fresh wrote =
+    → IsServed text script → AreFresh → AreWithin → WritesRun by script status held held_now
+    → WritesHistories status held held_now text
+histories_written held held_now text by script status served fresh within wrote =
     let shows = wrote.run.shows in (
       script,
       (
@@ -143,14 +144,16 @@ histories_written held held_now text by script status served fresh wrote =
         served,
         shows,
         fresh journal_limit script wrote.reading.histories wrote.reading.transcripts shows,
+        can_fill script wrote.reading within shows,
         wrote.status_right,
         wrote.wrote,
       ),
     )
 
 pub front_written : (held held_now : Option (List ℕ)) (text : List ℕ) (by : Way) (script : Script)
-    → IsServed text script → AreFresh → WritesRunFront by script held held_now → WritesFront held held_now text
-front_written held held_now text by script served fresh wrote =
+    → IsServed text script → AreFresh → AreWithin → WritesRunFront by script held held_now
+    → WritesFront held held_now text
+front_written held held_now text by script served fresh within wrote =
     let shows = wrote.run.shows in (
       script,
       (
@@ -158,6 +161,7 @@ front_written held held_now text by script served fresh wrote =
         served,
         shows,
         fresh journal_limit script wrote.reading.histories wrote.reading.transcripts shows,
+        can_fill script wrote.reading within shows,
         wrote.front,
       ),
     )

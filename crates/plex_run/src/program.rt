@@ -18,6 +18,7 @@ use cf_io::{ReadEnd, Sink, Source, WriteFault, read_all, write_all};
 use cf_link::Link;
 use cf_types::NoMemory;
 use plex_agent::Gate;
+use plex_bounds::within_script;
 use plex_crew::threads;
 use plex_floor::{Finished, serial};
 use plex_reading::only_reading;
@@ -253,6 +254,7 @@ fn judged<R: Threads + Wait + Sync, K: Sink, L: Link, G: Gate>(
     }
     well_formed(text, &script);
     valid_is_fresh();
+    within_script();
     only_reading();
     reported(rt, alloc, way, &script, sink, links, gate)
 }
@@ -366,7 +368,10 @@ pub fn run<R: Threads + Wait + Sync, S: Source, K: Sink, L: Link, G: Gate>(
     // nothing else, shows a legal history of each structure, each caller's calls in them once and
     // in their order, and tests that tell what stood at a numbered point; where a cache's test
     // tells VALID, the connector's copy was fresh there. The status is 8 where one of the
-    // transcripts ends at a full journal, which is told before the report, and else 0.
+    // transcripts ends at a full journal, which is told before the report, and else 0. And 8 comes
+    // only where the script can fill that journal: the calls of its lines on that structure, as
+    // often as each may ask again, their event rounds, and one departure of each connector come to
+    // 65,536 calls or more.
     ensures headline { (result ≡ 0) ⊎ (result ≡ 8) → IfSome (S.left source.old)
         (WritesHistories result (K.held sink.old) (K.held sink.new)) }
     // And no other legal histories, with transcripts that follow the script, have that report.

@@ -43,7 +43,7 @@ returns-clause-headline g c = λ is.
     let served : IsServed c.args.text.now c.in-Ok.script =
     record { says = c.in-Ok.ensures.script; built = sym c.not_yet.ensures ∙ c.in_default.is } in
     histories_written _ _ c.args.text.now c.args.way c.in-Ok.script c.reported.result served c.valid_is_fresh.ensures
-    (c.reported.ensures.whole is)
+    c.within_script.ensures (c.reported.ensures.whole is)
 
 pub returns-clause-reading : goal.returns-clause-reading
 returns-clause-reading g c = λ zero.
@@ -57,7 +57,9 @@ returns-clause-sink_fault g c = λ five.
     let served : IsServed c.args.text.now c.in-Ok.script =
     record { says = c.in-Ok.ensures.script; built = sym c.not_yet.ensures ∙ c.in_default.is } in
     let fault = c.reported.ensures.sink_fault five in
-    (fault.0, front_written _ _ c.args.text.now c.args.way c.in-Ok.script served c.valid_is_fresh.ensures fault.1)
+    let wrote = front_written _ _ c.args.text.now c.args.way c.in-Ok.script served c.valid_is_fresh.ensures
+    c.within_script.ensures fault.1 in
+    (fault.0, wrote)
 
 pub returns-clause-front : goal.returns-clause-front
 returns-clause-front g c = λ turn five.
