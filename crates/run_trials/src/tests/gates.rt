@@ -16,6 +16,7 @@ struct Flag {
 }
 
 impl Flag {
+    // A flag that isn't raised.
     fn new() -> Flag {
         Flag {
             raised: AtomicU64::new(0),
@@ -50,6 +51,7 @@ pub(super) struct Guest {
 }
 
 impl Guest {
+    /// A line that hasn't come yet.
     pub(super) fn new(line: LineOf) -> Guest {
         Guest {
             line,
@@ -66,6 +68,7 @@ pub(super) struct Meeting<'a> {
 }
 
 impl<'a> Meeting<'a> {
+    /// A gate for these lines, each of which comes once.
     pub(super) fn new(guests: &'a [Guest]) -> Meeting<'a> {
         Meeting {
             guests,
@@ -78,6 +81,7 @@ impl<'a> Meeting<'a> {
         self.met.load(SeqCst)
     }
 
+    // Waits for all of the lines.
     fn meet(&self) {
         if self.guests.iter().all(|guest| guest.came.is_seen()) {
             self.met.fetch_add(1, SeqCst);
@@ -107,6 +111,7 @@ pub(super) struct Hold {
 }
 
 impl Hold {
+    /// The first line begins once the second has been done.
     pub(super) fn new(held: LineOf, until: LineOf) -> Hold {
         Hold {
             held,
@@ -124,6 +129,7 @@ pub(super) struct Order<'a> {
 }
 
 impl<'a> Order<'a> {
+    /// A gate that keeps these orders.
     pub(super) fn new(holds: &'a [Hold]) -> Order<'a> {
         Order {
             holds,
