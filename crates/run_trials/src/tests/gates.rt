@@ -28,7 +28,7 @@ impl Flag {
     }
 
     // Waits until the flag is raised, and tells whether it was.
-    fn is_seen(&self) -> bool {
+    fn wait(&self) -> bool {
         for _ in 0..PATIENCE {
             if self.raised.load(SeqCst) > 0 {
                 return true;
@@ -83,7 +83,7 @@ impl<'a> Meeting<'a> {
 
     // Waits for all of the lines.
     fn meet(&self) {
-        if self.guests.iter().all(|guest| guest.came.is_seen()) {
+        if self.guests.iter().all(|guest| guest.came.wait()) {
             self.met.fetch_add(1, SeqCst);
         }
     }
@@ -146,7 +146,7 @@ impl<'a> Order<'a> {
 impl<'a> Gate for Order<'a> {
     fn before(&self, who: ConnId, line: u32) {
         for hold in self.holds {
-            if hold.held == LineOf(who, line) && hold.done.is_seen() {
+            if hold.held == LineOf(who, line) && hold.done.wait() {
                 self.kept.fetch_add(1, SeqCst);
             }
         }
