@@ -7,7 +7,8 @@ mod fault;
 ghost use Rattle.std.specs.Prelude.{◌≡◌, IsTrue, IfOk, false};
 ghost use Rattle.any_model.specs.Kinds.{MayAskAny};
 ghost use Rattle.plex_script.specs.declared.scripts.AnyAsk.TheVariants as any;
-ghost use Rattle.two_members.specs.Members.{HasPool, IsMember, Stays};
+ghost use Rattle.desk_model.specs.Boards.{IsPolicy};
+ghost use Rattle.two_members.specs.Members.{HasPool, IsMember, Stays, HasTested, IsOutcome};
 
 use cf_link::Steady;
 use cf_types::{CacheCmd, Kind, Name16, ShellCmd, StrNo, parse_body};
@@ -15,7 +16,7 @@ use engine_api::Ask;
 use fault::Fault;
 use plex_board::{Board, Desk};
 use plex_report::render;
-use plex_script::{AnyAsk, read};
+use plex_script::{AnyAsk, AnyHistory, Script, read};
 use std::alloc::Global;
 use std::io::Write;
 use std::sync::Wait;
@@ -48,8 +49,11 @@ const CALLS: u32 = 100;
 const LOOKS: u32 = 10_000_000;
 
 fn main(rt: HostRuntime) -> Result<(), Fault> {
-    let (history, last) = members(&rt, rt.alloc())?;
-    rt.stdout().write_all(history.as_slice())?;
+    let alloc = rt.alloc();
+    let script = read(alloc, POLICY.as_bytes())?;
+    let (histories, last) = members(&rt, alloc, &script)?;
+    let report = render(alloc, &script, histories.as_slice(), &[])?;
+    rt.stdout().write_all(report.as_slice())?;
     print_test(&rt, last)
 }
 
@@ -60,14 +64,21 @@ fn print_test(rt: &impl Print, Tested { bit, at }: Tested) -> Result<(), Fault> 
     Ok(())
 }
 
-// Starts the structure of the policy, has both members work, and ends it. What is left is the
-// report of its history, and the reader's last test.
-fn members<R: Threads + Wait + Sync>(rt: &R, alloc: Global) -> Result<(Vec<u8>, Tested), Fault> {
-    let script = read(alloc, POLICY.as_bytes())?;
+// Starts the structures of the policy, has both members work at the first, and ends them. What is
+// left is their histories, and the reader's last test.
+fn members<R: Threads + Wait + Sync>(
+    rt: &R,
+    alloc: Global,
+    script: &Script,
+) -> Result<(Vec<AnyHistory>, Tested), Fault>
+    requires { IsPolicy script.now }
+    ensures invalid { IfOk result (λ left. left.1.bit ≡ false) }
+    ensures outcome { IfOk result (λ left. IsOutcome script.now left.0.items left.1) }
+{
     let Ok(links) = vec![in alloc; Steady; LINKS] else {
         return Err(Fault::NoMemory);
     };
-    let Ok((board, mut desks)) = Board::start(rt, alloc, &script, CALLS, links) else {
+    let Ok((board, mut desks)) = Board::start(rt, alloc, script, CALLS, links) else {
         return Err(Fault::NoMemory);
     };
     if desks.len() != 3 || !has_pool(&board) {
@@ -77,17 +88,32 @@ fn members<R: Threads + Wait + Sync>(rt: &R, alloc: Global) -> Result<(Vec<u8>, 
     let (Some(mut b), Some(mut a)) = (desks.pop(), desks.pop()) else {
         return Err(Fault::Policy);
     };
-    let (written, last) = join_mut(
-        rt,
-        &mut || writer(rt, alloc, &board, &mut a),
-        &mut || reader(rt, alloc, &board, &mut b),
-    );
+    let (written, last) = work(rt, alloc, &board, &mut a, &mut b);
     desks.push_reserved(a);
     desks.push_reserved(b);
     let (histories, _) = board.close(rt, desks);
     written?;
-    let report = render(alloc, &script, histories.as_slice(), &[])?;
-    Ok((report, last?))
+    Ok((histories, last?))
+}
+
+// Both members work, each on a thread of its own.
+fn work<R: Threads + Wait + Sync>(
+    rt: &R,
+    alloc: Global,
+    board: &Board<Steady>,
+    a: &mut Desk,
+    b: &mut Desk,
+) -> (Result<(), Fault>, Result<Tested, Fault>)
+    requires members { IsMember board.now a.old × IsMember board.now b.old }
+    ensures stay { Stays board.now a.old a.new × Stays board.now b.old b.new }
+    ensures invalid { IfOk result.1 (λ tested. tested.bit ≡ false) }
+    ensures tested { IfOk result.1 (λ tested. HasTested b.new tested) }
+{
+    join_mut(
+        rt,
+        &mut || writer(rt, alloc, board, a),
+        &mut || reader(rt, alloc, board, b),
+    )
 }
 
 // Whether the first structure is a cache, where each vector has the bit that is tested.
@@ -136,6 +162,7 @@ fn reader(
     requires { IsMember board.now desk.old }
     ensures stays { Stays board.now desk.old desk.new }
     ensures invalid { IfOk result (λ tested. tested.bit ≡ false) }
+    ensures tested { IfOk result (λ tested. HasTested desk.new tested) }
 {
     wait_past(rt, board, desk, 0)?;
     connect(rt, alloc, board, desk)?;
@@ -156,6 +183,7 @@ fn test_copy(board: &Board<Steady>, desk: &mut Desk) -> Result<Tested, Fault>
     requires { IsMember board.now desk.old }
     ensures stays { Stays board.now desk.old desk.new }
     ensures invalid { IfOk result (λ tested. tested.bit ≡ false) }
+    ensures tested { IfOk result (λ tested. HasTested desk.new tested) }
 {
     for _ in 0..LOOKS {
         // IXLVECTR TESTLOCALCACHE: no lock, no call.
