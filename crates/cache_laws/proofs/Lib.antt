@@ -6,3 +6,4 @@ pub mod FreshLaws
 pub mod Allocated
 pub mod Pages
 mod Examples
+pub mod ApplyLaws

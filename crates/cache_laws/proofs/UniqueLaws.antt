@@ -4,6 +4,7 @@ use Rattle.std.specs.List.{list_all}
 use Rattle.std.proofs.lemmas.Bool.{and_parts, false≢true}
 use Rattle.std.proofs.lemmas.Bool.Decides.{nat_tests}
 use Rattle.cf_types.specs.declared.cache_commands.CacheCmd.{CacheCmd}
+use Rattle.cf_types.specs.declared.forms.Caps.{Caps}
 use Rattle.cf_types.specs.declared.forms.StrForm.{StrForm}
 use Rattle.cf_types.specs.declared.names.Name16.{Name16}
 use Rattle.cf_types.specs.declared.numbers.ConnId.{ConnId}
@@ -135,9 +136,8 @@ sound-fold form machine (entry ∷ entries) is =
 pub content-after : (form : StrForm) (history : CacheHistory) → IsContent form.caps (content_after form history)
 content-after form history = sound-fold form (opening cache_meaning form) history (content-nothing form.caps)
 
-pub unique : (form : StrForm) (history : CacheHistory) → IsUnique (content_after form history)
-unique form history =
-    let is = content-after form history in
+pub unique-content : (caps : Caps) (content : Content) → IsContent caps content → IsUnique content
+unique-content caps content is =
     record {
       row = λ name. one_passes names_apart (is_row_of name) (rows_apart name) _ is.directory.one_for_name;
       index = λ conn index. one_passes stands_before (is_at conn index) (places_apart conn index) _
@@ -145,3 +145,6 @@ unique form history =
       name = λ conn name. one_passes regs_apart (is_for conn name)
           (registered_once conn name) _ is.registry.one_for_name;
     }
+
+pub unique : (form : StrForm) (history : CacheHistory) → IsUnique (content_after form history)
+unique form history = unique-content form.caps (content_after form history) (content-after form history)

@@ -1,9 +1,13 @@
-ghost use Rattle.std.specs.Prelude.{ℕ, IsTrue, true};
+ghost use Rattle.std.specs.Prelude.{ℕ, IsTrue, true, List};
+ghost use Rattle.cf_types.specs.declared.cache_commands.CacheCmd.{CacheCmd};
 ghost use Rattle.cf_types.specs.declared.names.Name16.{Name16};
 ghost use Rattle.cf_types.specs.declared.numbers.ConnId.{ConnId};
 ghost use Rattle.engine_api.specs.History.{Tells, stands_after};
-ghost use Rattle.cache_model.specs.Contents.{IsContent};
+ghost use Rattle.engine_api.specs.Meaning.{Held};
+ghost use Rattle.cache_model.specs.Contents.{Content, IsContent};
 ghost use Rattle.cache_model.specs.Meaning.{cache_meaning};
+ghost use Rattle.cache_model.specs.Runs.{Deed, Copies};
+ghost use Rattle.cache_laws.specs.Applied.{IsHeldAfter, applied, copies_then, uncast_then, AreFresh, AreKept};
 ghost use Rattle.cache_laws.specs.Copies.{IsAsRead, IsFresh, TellsFresh};
 ghost use Rattle.cache_laws.specs.Histories.{IsLegalCache, content_after};
 ghost use Rattle.cache_laws.specs.Uncast.{HasPage, IsAnswered, IsUncast, Page};
@@ -54,4 +58,19 @@ pub fn uncast_kept(form: &StrForm, history: &History<CacheCmd, CacheReply>)
         → HasPage form.now history.now name page }
     ensures answered { (name : Name16) (page : Page) → IsUncast form.now history.now name page
         → IsAnswered form.now history.now name page }
+{}
+
+/// What an engine's `apply` leaves of a cache that was empty at first, whatever commands, departures and
+/// ends of registrations came before. At each index where a connector is registered for a name, it has a
+/// copy of what the name's entry has: what its last accepted READ_DATA there answered, or WRITE_DATA
+/// wrote. A name whose changed WRITE_DATA isn't cast out has a changed entry, with the data, adjunct and
+/// class of that WRITE_DATA. And names, indexes and registrations are unique.
+pub fn after_apply()
+    ensures fresh { (held : Held Content) (deeds : List Deed) (by : ConnId) (cmd : CacheCmd)
+        (copies : Copies) → IsHeldAfter deeds held
+        → AreFresh (applied held by cmd) (copies_then held copies deeds by cmd) }
+    ensures kept { (held : Held Content) (deeds : List Deed) (by : ConnId) (cmd : CacheCmd)
+        → IsHeldAfter deeds held → AreKept (applied held by cmd) (uncast_then held deeds by cmd) }
+    ensures unique { (held : Held Content) (deeds : List Deed) (by : ConnId) (cmd : CacheCmd)
+        → IsHeldAfter deeds held → IsUnique (applied held by cmd) }
 {}

@@ -4,4 +4,4 @@
 
 mod laws;
 
-pub use laws::{fresh_copy, fresh_test, uncast_kept, unique};
+pub use laws::{after_apply, fresh_copy, fresh_test, uncast_kept, unique};

@@ -10,3 +10,4 @@ mod vectors;
 
 pub use agent::{closing, serve, turn};
 pub use gate::{Gate, OpenGate};
+pub use plex_script::{AgentEnd, AnyAsk, AnyHistory, Shown, Transcript};

@@ -163,8 +163,7 @@ module _ {L : Type 0} (limit : ℕ) (script : Script) (board : BoardShown L) (li
       let worked' : WorkEach board script.lines crew workers =
       subst (λ (lines : List Line). WorkEach board lines crew workers) all worked in
       subst (ShowsHistories limit script histories) (sym were_shown)
-      (serves_right limit script board histories workers runs.structures runs.connectors
-      fits.forms fits.cells fits.callers
+      (serves_right limit script board histories workers fits.forms fits.cells
       (length-worked board script.lines crew workers new worked' ∙ ap (λ n. n + 1) fits.callers)
       (serves board script.lines crew workers new worked')
       (had_memory workers (subst (All HadMemory) were_shown had))

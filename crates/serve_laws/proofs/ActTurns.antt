@@ -20,6 +20,7 @@ use Rattle.any_cell.specs.Passes.{PassShown}
 use Rattle.any_model.specs.Kinds.{Rising}
 use Rattle.desk_model.specs.Desks.{pass_at}
 use Rattle.desk_model.specs.Turns.{AtWork, Tests, TestsWord, ShowsOnly, RunsOut, Acts}
+use Rattle.serve_laws.specs.Ends.{ShowsUpTo}
 use Rattle.serve_laws.proofs.Passes.{Caller, advances_none, advances_one}
 use Rattle.serve_laws.proofs.Adds.{test_adds, word_adds, bad_adds, post_adds, take_adds, with_test, with_word}
 use Rattle.serve_laws.proofs.Moves.{Moves, moves_by, moves_still}
@@ -33,11 +34,14 @@ abbrev pub ShownUpTo : StrForm → List AnyHistory → ConnId → StrNo → ℕ 
 ShownUpTo form histories by on retry done part =
     RunsUpTo form.kind (call_of done) (calls_on histories on) by on (first_step done retry) part
 
+-- the same where memory was lacking: up to a next item
+abbrev pub ShownCut : StrForm → List AnyHistory → ConnId → StrNo → ℕ → Act → List Shown → Type 0
+ShownCut form histories by on retry done part = ShowsUpTo form (calls_on histories on) by on retry done part
+
 abbrev pub TurnedBy : Caller → ℕ → StrForm → StrNo → ℕ → ConnId → AtWork → AtWork → Act → Type 0
 TurnedBy me limit form on retry by before after done =
-    Turned me limit by on (ShownWhole form me.histories by on retry done) (ShownUpTo form me.histories by on retry
-    done)
-    before after
+    Turned me limit by on (ShownWhole form me.histories by on retry done)
+    (ShownUpTo form me.histories by on retry done) (ShownCut form me.histories by on retry done) before after
 
 module _ (me : Caller) (limit : ℕ) (form : StrForm) (on : StrNo) (retry : ℕ) (by : ConnId)
     (before after : AtWork) (going : before.shown.end ≡ ended.Done) (known : slice_get me.forms on.0 ≡ Some form)
@@ -47,8 +51,8 @@ module _ (me : Caller) (limit : ℕ) (form : StrForm) (on : StrNo) (retry : ℕ)
 
   abbrev Ends : Act → List Shown → AgentEnd → Type 0
   Ends done =
-      EndsAs me limit on (ShownWhole form me.histories by on retry done) (ShownUpTo form me.histories by on retry
-      done)
+      EndsAs me limit on (ShownWhole form me.histories by on retry done)
+      (ShownUpTo form me.histories by on retry done) (ShownCut form me.histories by on retry done)
 
   abbrev was : PassShown
   was = pass_at before.desk on
@@ -63,15 +67,15 @@ module _ (me : Caller) (limit : ℕ) (form : StrForm) (on : StrNo) (retry : ℕ)
             subst (Ends done (item ∷ [])) (sym (same ∙ going)) whole;
       }
 
-  runs_out : (done : Act) → RunsOut before after → IsTurned done
-  runs_out done (desk, shows) =
+  runs_out : (done : Act) → RunsOut before after → ShownCut form me.histories by on retry done [] → IsTurned done
+  runs_out done (desk, shows) cut =
       record {
         part = [];
         moves = moves_still me on before after [] desk
             (ap (λ (t : Transcript). t.items) shows ∙ sym (append-nil before.shown.items))
             (advances_none me on (pass_at before.desk on));
         shows = λ owner within.
-            subst (Ends done []) (sym (ap (λ (t : Transcript). t.end) shows)) tt;
+            subst (Ends done []) (sym (ap (λ (t : Transcript). t.end) shows)) cut;
       }
 
   -- an item is shown, and nothing else happens
@@ -126,16 +130,16 @@ module _ (me : Caller) (limit : ℕ) (form : StrForm) (on : StrNo) (retry : ℕ)
   acts_turned act.Events asks =
       asks_turned me limit form.kind None on by (first_step act.Events retry) before rise inside after asks
   acts_turned (act.Test index) (inl tests) = tested index (nat_lt index form.vector) refl tests
-  acts_turned (act.Test index) (inr out) = runs_out (act.Test index) out
+  acts_turned (act.Test index) (inr out) = runs_out (act.Test index) out refl
   acts_turned (act.TestWord word) (inl tests) = word_tested word (nat_lt (32 * word) form.vector) refl tests
-  acts_turned (act.TestWord word) (inr out) = runs_out (act.TestWord word) out
+  acts_turned (act.TestWord word) (inr out) = runs_out (act.TestWord word) out refl
   acts_turned act.Post (inl posts) =
       let pass : PassShown = pass_at before.desk on in
       one_shown act.Post (shown.Posted on pass.sure)
       (moves_still me on before after _ posts.shows.0 (ap (λ (t : Transcript). t.items) posts.shows.1)
       (advances_one me on pass pass (shown.Posted on pass.sure) (post_adds me on pass posts.known)))
       (ap (λ (t : Transcript). t.end) posts.shows.1) (pass.sure, refl)
-  acts_turned act.Post (inr out) = runs_out act.Post out
+  acts_turned act.Post (inr out) = runs_out act.Post out refl
   acts_turned act.Take (inl takes) =
       let pass : PassShown = pass_at after.desk on in
       one_shown act.Take (shown.Took on pass.sure)
@@ -144,4 +148,4 @@ module _ (me : Caller) (limit : ℕ) (form : StrForm) (on : StrNo) (retry : ℕ)
       (advances_one me on (pass_at before.desk on) pass (shown.Took on pass.sure)
       (take_adds me on (pass_at before.desk on) pass takes.later.later takes.known)))
       (ap (λ (t : Transcript). t.end) takes.shown) (pass.sure, refl)
-  acts_turned act.Take (inr out) = runs_out act.Take out
+  acts_turned act.Take (inr out) = runs_out act.Take out refl

@@ -86,12 +86,21 @@ module _ {L : Type 0} (limit : ℕ) (board : BoardShown L) (me : Caller)
     pub linked : is_linked_by (calls_on me.histories on) me.conn on during ≡ true
     pub full : limit ≤ length_on me.histories on
 
+  -- among its departures a caller's work ended for want of memory
+  pub record BrokenAt (k : ℕ) (cells : List (CellShown L)) (part : List Shown) : Type 0 where
+    pub on : StrNo
+    pub past : ℕ
+    pub at : on.0 ≡ k + past
+    pub within : past < length cells
+    pub closings : ShowsClosings me.histories me.conn k (take past (map (λ cell. cell.form) cells)) during part
+    pub linked : is_linked_by (calls_on me.histories on) me.conn on during ≡ true
+
   -- how departures end
   abbrev pub ClosingEnd : ℕ → List (CellShown L) → List Shown → AgentEnd → Type 0
   ClosingEnd k cells part ended.Done = ShowsClosings me.histories me.conn k (map (λ cell. cell.form) cells) during
       part
   ClosingEnd k cells part (ended.JournalFull on) = StoppedAt k cells part on
-  ClosingEnd k cells part ended.NoMemory = Unit {0}
+  ClosingEnd k cells part ended.NoMemory = BrokenAt k cells part
 
   pub record Departed (k : ℕ) (cells : List (CellShown L)) (before after : AtWork) : Type 0 where
     pub part : List Shown
@@ -104,17 +113,20 @@ module _ {L : Type 0} (limit : ℕ) (board : BoardShown L) (me : Caller)
   ends_departing : (kind : Kind) (on : StrNo) (linked : Bool) (part : List Shown) (end : AgentEnd) → linked ≡ true
       → EndsAs me limit on
       (λ part. Runs kind (departing kind) (calls_on me.histories on) me.conn on (step.Call 0) part)
+      (λ part. RunsUpTo kind (departing kind) (calls_on me.histories on) me.conn on (step.Call 0) part)
       (λ part. RunsUpTo kind (departing kind) (calls_on me.histories on) me.conn on (step.Call 0) part) part end
-      → EndsAs me limit on (DepartsWhole kind me.histories me.conn on linked) (DepartsUpTo linked) part end
+      → EndsAs me limit on (DepartsWhole kind me.histories me.conn on linked) (DepartsUpTo linked)
+      (DepartsUpTo linked) part end
   ends_departing kind on linked part ended.Done active whole = rw active whole
   ends_departing kind on linked part (ended.JournalFull place) active (here, runs, full) =
       (here, (active, one_call_stops kind (departing kind) (calls_on me.histories on) me.conn on part runs), full)
-  ends_departing kind on linked part ended.NoMemory active ends = tt
+  ends_departing kind on linked part ended.NoMemory active runs =
+      (active, one_call_stops kind (departing kind) (calls_on me.histories on) me.conn on part runs)
 
   abbrev DepartedOne : Kind → StrNo → AtWork → AtWork → Type 0
   DepartedOne kind on before after =
       Turned me limit me.conn on (DepartsWhole kind me.histories me.conn on (is_active before.desk on))
-      (DepartsUpTo (is_active before.desk on)) before after
+      (DepartsUpTo (is_active before.desk on)) (DepartsUpTo (is_active before.desk on)) before after
 
   abbrev AsksToDepart : CellShown L → StrNo → AtWork → AtWork → Type 0
   AsksToDepart cell on before after =
@@ -158,7 +170,8 @@ module _ {L : Type 0} (limit : ℕ) (board : BoardShown L) (me : Caller)
                 (advances_none me on (pass_at before.desk on));
             shows = λ owner within. subst (EndsAs me limit on
                 (DepartsWhole cell.form.kind me.histories me.conn on (is_active before.desk on))
-                (DepartsUpTo (is_active before.desk on)) []) (sym open') (rw inactive refl);
+                (DepartsUpTo (is_active before.desk on)) (DepartsUpTo (is_active before.desk on)) []) (sym open')
+                (rw inactive refl);
           }
 
   -- ---- one after another
@@ -179,7 +192,7 @@ module _ {L : Type 0} (limit : ℕ) (board : BoardShown L) (me : Caller)
   abbrev OneEnds : Kind → ℕ → DeskShown → List Shown → AgentEnd → Type 0
   OneEnds kind k desk part end =
       EndsAs me limit (place k) (DepartsWhole kind me.histories me.conn (place k) (is_active desk (place k)))
-      (DepartsUpTo (is_active desk (place k))) part end
+      (DepartsUpTo (is_active desk (place k))) (DepartsUpTo (is_active desk (place k))) part end
 
   -- one departure before others
   closing_then : (k : ℕ) (cell : CellShown L) (cells : List (CellShown L)) (desk : DeskShown)
@@ -202,7 +215,15 @@ module _ {L : Type 0} (limit : ℕ) (board : BoardShown L) (me : Caller)
             linked = rest.linked;
             full = rest.full;
           }
-      by_end ended.NoMemory rest = tt
+      by_end ended.NoMemory rest =
+          record {
+            on = rest.on;
+            past = suc rest.past;
+            at = omega (arith, rest.at);
+            within = omega (arith, rest.within);
+            closings = (part, (more, refl, shows, rest.closings));
+            linked = rest.linked;
+          }
 
   closing_stops : (k : ℕ) (cell : CellShown L) (cells : List (CellShown L)) (desk : DeskShown) (part : List Shown)
       (on : StrNo) → AreLinked k desk
@@ -218,6 +239,18 @@ module _ {L : Type 0} (limit : ℕ) (board : BoardShown L) (me : Caller)
         linked = links (place k) (omega arith) ∙ linked;
         full = full;
       })
+
+  closing_breaks : (k : ℕ) (cell : CellShown L) (cells : List (CellShown L)) (desk : DeskShown) (part : List Shown)
+      → AreLinked k desk → DepartsUpTo (is_active desk (place k)) part → BrokenAt k (cell ∷ cells) part
+  closing_breaks k cell cells desk part links (linked, none) =
+      record {
+        on = place k;
+        past = 0;
+        at = omega arith;
+        within = omega arith;
+        closings = none;
+        linked = links (place k) (omega arith) ∙ linked;
+      }
 
   pub departs_play : (k : ℕ) (cells : List (CellShown L)) (before after : AtWork) → AreFrom board k cells
       → before.shown.end ≡ ended.Done
@@ -289,4 +322,6 @@ module _ {L : Type 0} (limit : ℕ) (board : BoardShown L) (me : Caller)
       by_end (ended.JournalFull on) is later =
           still (ended.JournalFull on) is refl
           (λ links ends. closing_stops k cell cells before.desk turned.part on links ends)
-      by_end ended.NoMemory is later = still ended.NoMemory is refl (λ links ends. tt)
+      by_end ended.NoMemory is later =
+          still ended.NoMemory is refl
+          (λ links ends. closing_breaks k cell cells before.desk turned.part links ends)

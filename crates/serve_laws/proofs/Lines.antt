@@ -21,7 +21,7 @@ use Rattle.desk_model.specs.Callers.{DoesLines, lines_by}
 use Rattle.serve_laws.proofs.Passes.{Caller}
 use Rattle.serve_laws.proofs.Moves.{same_number, AreWithin, Goes, goes_none, goes_then, moves_go}
 use Rattle.serve_laws.proofs.Turns.{EndsAs}
-use Rattle.serve_laws.proofs.ActTurns.{ShownWhole, ShownUpTo, TurnedBy, acts_turned}
+use Rattle.serve_laws.proofs.ActTurns.{ShownWhole, ShownUpTo, ShownCut, TurnedBy, acts_turned}
 
 -- ---- where callers work
 
@@ -77,11 +77,25 @@ module _ {L : Type 0} (limit : ℕ) (board : BoardShown L) (me : Caller)
         (first_step line.act line.retry) last
     pub full : limit ≤ length_on me.histories on
 
+  -- among its lines a caller's work ended for want of memory
+  pub record BrokenIn (lines : List Line) (part : List Shown) : Type 0 where
+    pub before : List Line
+    pub line : Line
+    pub later : List Line
+    pub split : lines ≡ before ++ line ∷ later
+    pub form : StrForm
+    pub known : slice_get me.forms line.on.0 ≡ Some form
+    pub during : List Shown
+    pub last : List Shown
+    pub shows : part ≡ during ++ last
+    pub played : ShowsLines me.forms me.histories before during
+    pub broken : ShownCut form me.histories me.conn line.on line.retry line.act last
+
   -- how lines end
   abbrev pub LinesEnd : List Line → List Shown → AgentEnd → Type 0
   LinesEnd lines part ended.Done = ShowsLines me.forms me.histories lines part
   LinesEnd lines part (ended.JournalFull on) = StoppedIn lines part on
-  LinesEnd lines part ended.NoMemory = Unit {0}
+  LinesEnd lines part ended.NoMemory = BrokenIn lines part
 
   pub record Played (lines : List Line) (before after : AtWork) : Type 0 where
     pub part : List Shown
@@ -117,7 +131,8 @@ module _ {L : Type 0} (limit : ℕ) (board : BoardShown L) (me : Caller)
   abbrev LineEnds : Line → StrForm → List Shown → AgentEnd → Type 0
   LineEnds line form part end =
       EndsAs me limit line.on (ShownWhole form me.histories line.by line.on line.retry line.act)
-      (ShownUpTo form me.histories line.by line.on line.retry line.act) part end
+      (ShownUpTo form me.histories line.by line.on line.retry line.act)
+      (ShownCut form me.histories line.by line.on line.retry line.act) part end
 
   -- one line before others
   line_then : (line : Line) (lines : List Line) (form : StrForm) (part more : List Shown) (end : AgentEnd)
@@ -141,7 +156,20 @@ module _ {L : Type 0} (limit : ℕ) (board : BoardShown L) (me : Caller)
         stopped = rest.stopped;
         full = rest.full;
       }
-  line_then line lines form part more ended.NoMemory known whole rest = tt
+  line_then line lines form part more ended.NoMemory known whole rest =
+      record {
+        before = line ∷ rest.before;
+        line = rest.line;
+        later = rest.later;
+        split = ap (λ (t : List Line). line ∷ t) rest.split;
+        form = rest.form;
+        known = rest.known;
+        during = part ++ rest.during;
+        last = rest.last;
+        shows = ap (λ (t : List Shown). part ++ t) rest.shows ∙ sym (append_assoc part rest.during rest.last);
+        played = (form, (part, (rest.during, known, refl, whole, rest.played)));
+        broken = rest.broken;
+      }
 
   -- a line before whose next call the journal was full
   line_stops : (line : Line) (lines : List Line) (form : StrForm) (part : List Shown) (on : StrNo) → line.by ≡ me.conn
@@ -166,6 +194,25 @@ module _ {L : Type 0} (limit : ℕ) (board : BoardShown L) (me : Caller)
         stopped = subst (λ (by : ConnId). ShownUpTo form me.histories by line.on line.retry line.act part) mine runs;
         full = full;
       })
+
+  -- a line in which memory was lacking
+  line_breaks : (line : Line) (lines : List Line) (form : StrForm) (part : List Shown) → line.by ≡ me.conn
+      → slice_get me.forms line.on.0 ≡ Some form
+      → ShownCut form me.histories line.by line.on line.retry line.act part → BrokenIn (line ∷ lines) part
+  line_breaks line lines form part mine known cut =
+      record {
+        before = [];
+        line = line;
+        later = lines;
+        split = refl;
+        form = form;
+        known = known;
+        during = [];
+        last = part;
+        shows = refl;
+        played = refl;
+        broken = subst (λ (by : ConnId). ShownCut form me.histories by line.on line.retry line.act part) mine cut;
+      }
 
   pub lines_play : (lines : List Line) (before after : AtWork) → before.shown.end ≡ ended.Done
       → length before.desk.passes ≡ length board.cells
@@ -225,4 +272,5 @@ module _ {L : Type 0} (limit : ℕ) (board : BoardShown L) (me : Caller)
       by_end (ended.JournalFull on) is later =
           still (ended.JournalFull on) is refl
           (λ ends. line_stops line lines cell.form turned.part on mine.0 known ends)
-      by_end ended.NoMemory is later = still ended.NoMemory is refl (λ ends. tt)
+      by_end ended.NoMemory is later =
+          still ended.NoMemory is refl (λ ends. line_breaks line lines cell.form turned.part mine.0 known ends)

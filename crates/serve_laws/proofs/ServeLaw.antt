@@ -1,6 +1,5 @@
 -- Callers at work at one board, whatever the schedule was: each works at its own desk, and what is known of the
--- others
--- is what the histories say.
+-- others is what the histories say.
 use Rattle.std.proofs.Common.{◌≡◌, ◌≢◌, ℕ, ◌+◌, ◌≤◌, ◌<◌, inl, inr, List, [], length, map, Some, None, Option, refl, sym, ap, subst, ◌∙◌, arith, append-nil, slice_get}
 use Rattle.std.specs.Prelude.{All}
 use Rattle.std.proofs.lemmas.Bool.{cases_lt}
@@ -26,11 +25,12 @@ use Rattle.desk_model.specs.Desks.{DeskShown, no_pass, pass_at}
 use Rattle.desk_model.specs.Boards.{BoardShown, IsStarted, IsClosed, IsAccount, AreClosed, new_desk}
 use Rattle.desk_model.specs.Turns.{AtWork}
 use Rattle.desk_model.specs.Callers.{Serves, no_items}
+use Rattle.serve_laws.specs.Ends.{WorkEnds, ShowsWork}
 use Rattle.serve_laws.proofs.Passes.{Caller, IsWithin}
 use Rattle.serve_laws.proofs.Moves.{AreWithin, IsTranscript}
 use Rattle.serve_laws.proofs.Lines.{IsSetting}
 use Rattle.serve_laws.proofs.Lookups.{get_within, get_map, get_mapped, all_get, kind_of_type}
-use Rattle.serve_laws.proofs.Work.{caller_of, begins_long, begins_owning, begins_shown, Finished, EndsAnyhow, finishes}
+use Rattle.serve_laws.proofs.Work.{caller_of, begins_long, begins_owning, begins_shown, Finished, finishes}
 
 module _ {L : Type 0} (limit : ℕ) (script : Script) (board : BoardShown L) (histories : List AnyHistory)
     (workers : List AtWork)
@@ -182,20 +182,26 @@ module _ {L : Type 0} (limit : ℕ) (script : Script) (board : BoardShown L) (hi
     tests : TestsTell script.structures histories conn worker.shown.items
     tests k item form entries found known kept = (goes_with.each k item found).1 form entries known kept
 
-    ends : worker.shown.end ≢ ended.NoMemory → EndsRight limit script histories conn worker.shown.items
-        worker.shown.end
-    ends found =
-        by_end worker.shown.end found
-        (subst (λ (items : List Shown). EndsAnyhow limit board script histories conn setting forms_are items
-        worker.shown.end) (sym finished.goes.items)
-        (finished.ends are_within (subst (AgreesWith histories conn) finished.goes.items agrees)))
-      where
-        by_end : (end : AgentEnd) → end ≢ ended.NoMemory
-            → EndsAnyhow limit board script histories conn setting forms_are worker.shown.items end
-            → EndsRight limit script histories conn worker.shown.items end
-        by_end ended.Done found ends = ends
-        by_end (ended.JournalFull on) found ends = ends
-        by_end ended.NoMemory found ends = absurd (found refl)
+    work : ShowsWork limit script histories conn worker.shown
+    work =
+        record {
+          ends = subst
+              (λ (items : List Shown). WorkEnds limit script histories conn items worker.shown.end)
+              (sym finished.goes.items)
+              (finished.ends are_within (subst (AgreesWith histories conn) finished.goes.items agrees));
+          tests = tests;
+        }
+
+  -- where memory was found, the items follow the script, or stop at a full journal
+  ends_right : (conn : ConnId) (shown : Transcript) → shown.end ≢ ended.NoMemory
+      → ShowsWork limit script histories conn shown → EndsRight limit script histories conn shown.items shown.end
+  ends_right conn shown found work = by_end shown.end found work.ends
+    where
+      by_end : (end : AgentEnd) → end ≢ ended.NoMemory → WorkEnds limit script histories conn shown.items end
+          → EndsRight limit script histories conn shown.items end
+      by_end ended.Done found ends = ends
+      by_end (ended.JournalFull on) found ends = ends
+      by_end ended.NoMemory found ends = absurd (found refl)
 
   -- ---- all callers
 
@@ -216,6 +222,14 @@ module _ {L : Type 0} (limit : ℕ) (script : Script) (board : BoardShown L) (hi
             is.callers;
       })
 
+  -- each caller, at its own desk
+  work_of : (c : ℕ) (worker : AtWork) → slice_get workers c ≡ Some worker
+      → Serves board script.lines (record { desk = new_desk board c; shown = no_items }) worker
+      → ShowsWork limit script histories (record { 0 = c }) worker.shown
+  work_of c worker there serves =
+      work (record { 0 = c }) worker there
+      (finishes limit board script histories (record { 0 = c }) setting forms_are worker serves)
+
   shows_all : length workers ≡ length script.connectors + 1
       → ((c : ℕ) (worker : AtWork) → slice_get workers c ≡ Some worker
       → Serves board script.lines (record { desk = new_desk board c; shown = no_items }) worker)
@@ -230,40 +244,47 @@ module _ {L : Type 0} (limit : ℕ) (script : Script) (board : BoardShown L) (hi
         tests = λ c transcript shown'. tests_of c transcript (get_mapped shown_of workers c transcript shown');
       }
     where
-      finished : (c : ℕ) (worker : AtWork) → slice_get workers c ≡ Some worker
-          → Finished limit board script histories (record { 0 = c }) setting forms_are worker
-      finished c worker there =
-          finishes limit board script histories (record { 0 = c }) setting forms_are worker (serve c worker there)
-
       ends_of : (c : ℕ) (transcript : Transcript)
           → (worker : AtWork) × (slice_get workers c ≡ Some worker) × (worker.shown ≡ transcript)
           → EndsRight limit script histories (record { 0 = c }) transcript.items transcript.end
       ends_of c transcript (worker, there, is) =
           subst (λ (t : Transcript). EndsRight limit script histories (record { 0 = c }) t.items t.end) is
-          (ends (record { 0 = c }) worker there (finished c worker there)
-          (all_get (λ (worker : AtWork). worker.shown.end ≢ ended.NoMemory) workers c worker found there))
+          (ends_right (record { 0 = c }) worker.shown
+          (all_get (λ (worker : AtWork). worker.shown.end ≢ ended.NoMemory) workers c worker found there)
+          (work_of c worker there (serve c worker there)))
 
       tests_of : (c : ℕ) (transcript : Transcript)
           → (worker : AtWork) × (slice_get workers c ≡ Some worker) × (worker.shown ≡ transcript)
           → TestsTell script.structures histories (record { 0 = c }) transcript.items
       tests_of c transcript (worker, there, is) =
           subst (λ (t : Transcript). TestsTell script.structures histories (record { 0 = c }) t.items) is
-          (tests (record { 0 = c }) worker there (finished c worker there))
+          (work_of c worker there (serve c worker there)).tests
+
+-- However a caller's work ended, and whatever the others did: what it was shown are the caller's calls, each once and in
+-- their order, as far as its work came, and tests that tell what stood.
+pub serve_right : {L : Type 0} (limit : ℕ) (script : Script) (board : BoardShown L) (histories : List AnyHistory)
+    (workers : List AtWork) (c : ℕ) (worker : AtWork)
+    → map (λ cell. cell.form) board.cells ≡ script.structures
+    → All (IsStarted (length script.connectors) limit) board.cells
+    → AreClosed board (map (λ worker. worker.desk) workers) histories
+    → slice_get workers c ≡ Some worker
+    → Serves board script.lines (record { desk = new_desk board c; shown = no_items }) worker
+    → ShowsWork limit script histories (record { 0 = c }) worker.shown
+serve_right limit script board histories workers c worker forms_are started closed there serves =
+    work_of limit script board histories workers forms_are started closed c worker there serves
 
 -- Whatever the schedule was, what the callers were shown goes with the histories: these are legal, and hold each
 -- caller's calls once and in its order; each transcript follows the script, or stops at a full journal; and each test
 -- tells what stood.
 pub serves_right : {L : Type 0} (limit : ℕ) (script : Script) (board : BoardShown L) (histories : List AnyHistory)
     (workers : List AtWork)
-    → length script.structures ≤ 16 → length script.connectors ≤ 32
     → map (λ cell. cell.form) board.cells ≡ script.structures
     → All (IsStarted (length script.connectors) limit) board.cells
-    → board.callers ≡ length script.connectors
     → length workers ≡ length script.connectors + 1
     → ((c : ℕ) (worker : AtWork) → slice_get workers c ≡ Some worker
     → Serves board script.lines (record { desk = new_desk board c; shown = no_items }) worker)
     → All (λ worker. worker.shown.end ≢ ended.NoMemory) workers
     → AreClosed board (map (λ worker. worker.desk) workers) histories
     → ShowsHistories limit script histories (map (λ worker. worker.shown) workers)
-serves_right limit script board histories workers _ _ forms_are started _ as_workers serve found closed =
+serves_right limit script board histories workers forms_are started as_workers serve found closed =
     shows_all limit script board histories workers forms_are started closed as_workers serve found

@@ -95,19 +95,20 @@ module _ (me : Caller) where
 
   -- ---- turns
 
-  -- how a turn ends: all of it was shown, or what comes before a call to a full journal
-  abbrev pub EndsAs : ℕ → StrNo → (List Shown → Type 0) → (List Shown → Type 0) → List Shown → AgentEnd → Type 0
-  EndsAs limit on Whole UpTo part ended.Done = Whole part
-  EndsAs limit on Whole UpTo part (ended.JournalFull place) =
+  -- how a turn ends: all of it was shown, or what comes before a call to a full journal, or before memory was lacking
+  abbrev pub EndsAs : ℕ → StrNo → (List Shown → Type 0) → (List Shown → Type 0) → (List Shown → Type 0) → List Shown
+      → AgentEnd → Type 0
+  EndsAs limit on Whole UpTo Cut part ended.Done = Whole part
+  EndsAs limit on Whole UpTo Cut part (ended.JournalFull place) =
       (place ≡ on) × UpTo part × (limit ≤ length_on me.histories on)
-  EndsAs limit on Whole UpTo part ended.NoMemory = Unit {0}
+  EndsAs limit on Whole UpTo Cut part ended.NoMemory = Cut part
 
-  pub record Turned (limit : ℕ) (by : ConnId) (on : StrNo) (Whole UpTo : List Shown → Type 0)
+  pub record Turned (limit : ℕ) (by : ConnId) (on : StrNo) (Whole UpTo Cut : List Shown → Type 0)
       (before after : AtWork) : Type 0 where
     pub part : List Shown
     pub moves : Moves me on before after part
     pub shows : (pass_at before.desk on).owner ≡ by → IsWithin me on (pass_at after.desk on)
-        → EndsAs limit on Whole UpTo part after.shown.end
+        → EndsAs limit on Whole UpTo Cut part after.shown.end
 
   -- ---- calls
 
@@ -159,7 +160,7 @@ module _ (me : Caller) where
               (advances_later me on (pass_at (with_pass on pass before.desk) on) (pass_at desk on) stop.later.later)
 
       ends : (end : AgentEnd) → EndsAt limit kind line on last (with_pass on pass before.desk) desk end
-          → Turned limit by on RunsAll RunsPart before (at_work desk items end)
+          → Turned limit by on RunsAll RunsPart RunsPart before (at_work desk items end)
       ends ended.Done (rests, same) =
           record {
             part = map (call_item on) tolds;
@@ -178,14 +179,11 @@ module _ (me : Caller) where
             shows = λ owner within. (here, both.1 owner within, omega (arith, full, within.known));
           }
       ends ended.NoMemory stop =
-          record {
-            part = map (call_item on) tolds;
-            moves = (halts ended.NoMemory stop).0;
-            shows = λ owner within. tt;
-          }
+          let both = halts ended.NoMemory stop in
+          record { part = map (call_item on) tolds; moves = both.0; shows = λ owner within. both.1 owner within }
 
     pub asks_turned : (after : AtWork) → Asks limit kind line on first before after
-        → Turned limit by on RunsAll RunsPart before after
+        → Turned limit by on RunsAll RunsPart RunsPart before after
     asks_turned after asks =
         ends asks.tolds asks.last asks.pass asks.steps after.desk after.shown.items asks.items after.shown.end
         asks.ends

@@ -10,13 +10,14 @@ use Rattle.plex_script.specs.declared.transcripts.AgentEnd.{AgentEnd}
 use Rattle.plex_script.specs.declared.transcripts.AgentEnd.TheVariants as ended
 use Rattle.plex_script.specs.declared.transcripts.Shown.{Shown}
 use Rattle.plex_script.specs.Heard.{AnyCall, own_calls, is_linked, calls_on}
-use Rattle.plex_script.specs.Follows.{Follows, Stops, AgreesWith, ShowsLines, ShowsClosings, lines_of, numbers_on}
+use Rattle.plex_script.specs.Follows.{AgreesWith, ShowsLines, ShowsClosings, lines_of, numbers_on}
 use Rattle.any_cell.specs.Passes.{PassShown, unused_pass}
 use Rattle.any_cell.specs.Cells.{CellShown}
 use Rattle.desk_model.specs.Desks.{no_pass, pass_at}
 use Rattle.desk_model.specs.Boards.{BoardShown, new_desk}
 use Rattle.desk_model.specs.Turns.{AtWork, is_done_as}
 use Rattle.desk_model.specs.Callers.{Serves, DepartsEach, no_items}
+use Rattle.serve_laws.specs.Ends.{WorkEnds}
 use Rattle.serve_laws.proofs.Fronts.{take_front}
 use Rattle.serve_laws.proofs.Items.{each_none}
 use Rattle.serve_laws.proofs.Passes.{Caller, IsGood, IsShown}
@@ -74,16 +75,11 @@ module _ {L : Type 0} (limit : ℕ) (board : BoardShown L) (script : Script) (hi
   abbrev me : Caller
   me = caller_of script histories conn
 
-  -- where memory was found, the items follow the script, or stop at a full journal
-  abbrev pub EndsAnyhow : List Shown → AgentEnd → Type 0
-  EndsAnyhow items ended.Done = Follows script histories conn items
-  EndsAnyhow items (ended.JournalFull on) = Stops limit script histories conn items on
-  EndsAnyhow items ended.NoMemory = Unit {0}
-
   pub record Finished (worker : AtWork) : Type 0 where
     pub part : List Shown
     pub goes : Goes me (beginner board conn) worker part
-    pub ends : AreWithin me worker.desk → AgreesWith histories conn part → EndsAnyhow part worker.shown.end
+    pub ends : AreWithin me worker.desk → AgreesWith histories conn part
+        → WorkEnds limit script histories conn part worker.shown.end
 
   module _ (between worker : AtWork)
       (played : Played limit board me setting (lines_of script conn) (beginner board conn) between) where
@@ -100,7 +96,7 @@ module _ {L : Type 0} (limit : ℕ) (board : BoardShown L) (script : Script) (hi
         (record {
           part = played.part;
           goes = played.goes;
-          ends = λ within agrees. subst (EndsAnyhow played.part) (sym going) (record {
+          ends = λ within agrees. subst (WorkEnds limit script histories conn played.part) (sym going) (record {
             during = played.part;
             after = [];
             shows = sym (append-nil played.part);
@@ -117,14 +113,14 @@ module _ {L : Type 0} (limit : ℕ) (board : BoardShown L) (script : Script) (hi
         (record {
           part = played.part;
           goes = played.goes;
-          ends = λ within agrees. subst (EndsAnyhow played.part) (sym is)
+          ends = λ within agrees. subst (WorkEnds limit script histories conn played.part) (sym is)
               (by_end end stopped agrees
               (subst (LinesEnd limit board me setting (lines_of script conn) played.part) is
               (played.shows (begins_owning board conn) within)));
         })
       where
         by_end : (end : AgentEnd) → is_done_as end ≡ false → AgreesWith histories conn played.part
-            → LinesEnd limit board me setting (lines_of script conn) played.part end → EndsAnyhow played.part end
+            → LinesEnd limit board me setting (lines_of script conn) played.part end → WorkEnds limit script histories conn played.part end
         by_end ended.Done stopped agrees ends = absurd cc
         by_end (ended.JournalFull on) stopped agrees ends =
             record {
@@ -145,7 +141,23 @@ module _ {L : Type 0} (limit : ℕ) (board : BoardShown L) (script : Script) (hi
               agrees = agrees;
               full = ends.full;
             }
-        by_end ended.NoMemory stopped agrees ends = tt
+        by_end ended.NoMemory stopped agrees ends =
+            record {
+              at = inl (record {
+                before = ends.before;
+                line = ends.line;
+                later = ends.later;
+                lines = ends.split;
+                form = ends.form;
+                known = ends.known;
+                during = ends.during;
+                last = ends.last;
+                shows = ends.shows;
+                played = ends.played;
+                broken = ends.broken;
+              });
+              agrees = agrees;
+            }
 
     -- a connector's departures
     module _ (going : between.shown.end ≡ ended.Done) (connector : conn.0 == 0 ≡ false)
@@ -176,7 +188,7 @@ module _ {L : Type 0} (limit : ℕ) (board : BoardShown L) (script : Script) (hi
 
       by_end : (end : AgentEnd) → ShowsLines script.structures histories (lines_of script conn) played.part
           → ClosingEnd limit board me setting played.part 0 board.cells departed.part end
-          → AgreesWith histories conn (played.part ++ departed.part) → EndsAnyhow (played.part ++ departed.part) end
+          → AgreesWith histories conn (played.part ++ departed.part) → WorkEnds limit script histories conn (played.part ++ departed.part) end
       by_end ended.Done lines closing agrees =
           record {
             during = played.part;
@@ -207,7 +219,26 @@ module _ {L : Type 0} (limit : ℕ) (board : BoardShown L) (script : Script) (hi
             agrees = agrees;
             full = closing.full;
           }
-      by_end ended.NoMemory lines closing agrees = tt
+      by_end ended.NoMemory lines closing agrees =
+          let past : closing.past ≡ closing.on.0 = omega (arith, closing.at) in
+          let long : length board.cells ≡ length script.structures =
+          sym (length-map board.cells (λ (cell : CellShown L). cell.form)) ∙ ap length forms_are in
+          record {
+            at = inr (record {
+              during = played.part;
+              after = departed.part;
+              shows = refl;
+              lines = lines;
+              connector = not_operator;
+              on = closing.on;
+              within = omega (arith, past, closing.within, long);
+              closings = subst (λ (n : ℕ). Departures (take n script.structures)) past
+                  (subst (λ (forms : List StrForm). Departures (take closing.past forms)) forms_are
+                  closing.closings);
+              linked = closing.linked;
+            });
+            agrees = agrees;
+          }
 
       connector_ends : Finished worker
       connector_ends =
