@@ -5,10 +5,19 @@ use Rattle.std.specs.List.{range_with_len}
 use Rattle.std.proofs.lemmas.List.{length-append}
 use Rattle.std.proofs.lemmas.List.FromFn.{length-map-range_with_len}
 use Rattle.std.proofs.lemmas.List.Elements.{All-nil, All-cons, All-same}
+use Rattle.plex_script.specs.declared.scripts.Script.{Script}
+use Rattle.plex_script.specs.Scripts.{IsScript}
+use Rattle.plex_script.proofs.FormedLines.{script-formed}
 use Rattle.desk_model.specs.Desks.{DeskShown}
-use Rattle.desk_model.specs.Boards.{BoardShown, IsDeskOf, new_desk}
+use Rattle.desk_model.specs.Boards.{BoardShown, IsPolicy, IsDeskOf, new_desk}
 use Rattle.desk_model.proofs.DeskLaws.{new_desk-of_board}
 use Rattle.two_members.specs.Members.{HasPool, IsMember, Stays}
+
+-- what a text says states a policy
+pub policy_of : (text : List ℕ) (script : Script) → IsScript text script → IsPolicy script
+policy_of text script says =
+    let formed = script-formed text script says in
+    record { structures = formed.structures; connectors = formed.connectors; forms = formed.forms }
 
 -- three are these, where the last two stand behind others
 three_are : {A : Type 0} (front : List A) (a b x y z : A)

@@ -20,7 +20,7 @@ use Rattle.two_members.specs.Members.{HasPool, HasTested, IsOutcome, gbp, reader
 all_last : {A : Type 0} (P : A → Type 0) (front all : List A) (x : A) → all ≡ front ++ x ∷ [] → All P all → P x
 all_last P front all x are each =
     let below : length front < length all = omega (arith, ap length are, length-append front (x ∷ [])) in
-    subst P (ap (λ l. get_or l (length front) x) are ∙ get_or-append_seam front [] x x) (each (length front) x below)
+    subst P (ap (λ l. get_or l (length front) x) are ∙ get_or-append_seam front x [] x) (each (length front) x below)
 
 module _ {L : Type 0} (board : BoardShown L) (script : Script) (histories : List AnyHistory)
     (left desks : List DeskShown) (b : DeskShown) (tested : Tested) where

@@ -227,12 +227,7 @@ fn call(
 }
 
 // Takes notes till one tells of a call past this one.
-fn wait_past(
-    rt: &impl Wait,
-    board: &Board<Steady>,
-    desk: &mut Desk,
-    call: u32,
-) -> Result<(), Fault>
+fn wait_past(rt: &impl Wait, board: &Board<Steady>, desk: &mut Desk, call: u32) -> Result<(), Fault>
     requires { IsMember board.now desk.old }
     ensures { Stays board.now desk.old desk.new }
 {
