@@ -1,6 +1,5 @@
 -- The definitions on one short history: connectors 1 and 2 of a cache share a page, which is written, cast out while
--- it
--- is written again, unlocked, and cast out and unlocked once more.
+-- it is written again, unlocked, and cast out and unlocked once more.
 use Rattle.std.proofs.Common.{◌≡◌, ℕ, true, false, [], ◌∷◌, None, Some, take, drop, map, refl}
 use Rattle.cf_types.specs.declared.cache_commands.CacheCmd.{CacheCmd}
 use Rattle.cf_types.specs.declared.cache_commands.CacheCmd.TheVariants.{Read, Write, Castout, Unlock}

@@ -393,8 +393,7 @@ fresh_at rows copies conn index name (reg ∷ regs) all h =
     (fresh_at rows copies conn index name regs all.1) h
 
 -- A valid bit: after every run from the empty content, what a connector has a copy of at an index where it is
--- registered for a name
--- is what the name's row has
+-- registered for a name is what the name's row has
 pub fresh-copy : (vector : ℕ) (caps : Caps) (copies : Copies) (deeds : List Deed) (conn : ConnId) (index : ℕ)
     (name : Name16)
     → registered_at (after_run vector caps nothing deeds).regs conn index ≡ Some name

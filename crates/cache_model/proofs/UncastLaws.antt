@@ -293,8 +293,7 @@ run_kept vector caps content uncast (deed ∷ deeds) is all =
     (content-deed vector caps content deed is) (deed_kept vector caps content uncast deed is all)
 
 -- A changed WRITE: after every run from the empty content, a name whose last changed WRITE isn't cast out nor deleted
--- has a changed
--- row with what was written
+-- has a changed row with what was written
 pub uncast-kept : (vector : ℕ) (caps : Caps) (deeds : List Deed) (name : Name16)
     → Kept (row_of name (after_run vector caps nothing deeds).rows) (uncast_run vector caps nothing (λ n. None) deeds
     name)

@@ -20,8 +20,7 @@ reclaim_order request rows =
     filter (has_storage request.stg) reclaimable ++ filter (λ row. not (has_storage request.stg row)) reclaimable
 
 -- once these rows are gone: whether the name has a row or there is a place for one, and how many elements are free
--- for its data, of which
--- its own old data count as free
+-- for its data, of which its own old data count as free
 abbrev pub has_place : Caps → Request → List CacheItem → List CacheItem → Bool
 has_place caps request rows gone = has_row request.name rows || nat_lt (length rows - length gone) caps.entries
 

@@ -1,6 +1,5 @@
 -- An entry of the directory, and the directory as a list of rows. The rows stand in one order: the changed ones by
--- name, then the
--- unchanged ones from least to most recently used.
+-- name, then the unchanged ones from least to most recently used.
 use Rattle.std.specs.Prelude.{ℕ, ◌+◌, ◌/◌, Bool, IsTrue, true, false, not, ◌&&◌, ◌||◌, ◌==◌, if◌then◌else◌, List, [], ◌∷◌, ◌++◌, length, Option, Some, None, is_some, is_none, unwrap_or, filter, find, sum_by}
 use Rattle.std.specs.List.{list_any, list_all}
 use Rattle.cf_types.specs.declared.names.Name16.{Name16}

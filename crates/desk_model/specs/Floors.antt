@@ -1,6 +1,5 @@
 -- A script's work on one thread: its callers at work at one board, a line after another, and then the closings.
--- Before a caller's
--- call or test it is told what the caller before it has seen of the structure.
+-- Before a caller's call or test it is told what the caller before it has seen of the structure.
 use Rattle.std.specs.Prelude.{◌≡◌, ◌+◌, ◌*◌, ◌==◌, nat_lt, Bool, true, false, if◌then◌else◌, MatchBool, List, [], ◌∷◌, length, map, fold, replicate, slice_index_or, slice_set, Option, None, Some}
 use Rattle.std.specs.List.{range_with_len}
 use Rattle.cf_types.specs.declared.forms.StrForm.{StrForm}

@@ -1,6 +1,5 @@
 -- What a caller's turn at a structure does to its desk and its transcript: the work of one line of a script, or of
--- its
--- closing.
+-- its closing.
 use Rattle.std.specs.Prelude.{◌≡◌, ◌⊎◌, ℕ, ◌*◌, ◌^◌, ◌≤◌, ◌<◌, nat_lt, Bool, true, false, MatchBool, List, [], ◌∷◌, ◌++◌, map, Option, None, Some}
 use Rattle.cf_types.specs.declared.forms.Kind.{Kind}
 use Rattle.cf_types.specs.declared.forms.StrForm.{StrForm}

@@ -1,6 +1,5 @@
 -- What an engine over a store of records goes by: the record that is named by its id, where a record comes to stand,
--- which
--- headers have records then, and how many records and elements there are.
+-- which headers have records then, and how many records and elements there are.
 use Rattle.std.proofs.Common.{◌≡◌, ℕ, zero, suc, ◌+◌, ◌<◌, ◌≤◌, ◌==◌, ◌&&◌, ◌||◌, Bool, true, false, not, cond, List, [], ◌∷◌, ◌++◌, Option, Some, None, is_none, unwrap_or, option_map, length, find, map, position, nat_lt, sum_by, refl, sym, ap, ◌∙◌, subst, arith}
 use Rattle.std.specs.List.{list_all, list_any, position_or_len, prefix_len}
 use Rattle.std.proofs.lemmas.Bool.{and_parts, not-true, or_right, false≢true}

@@ -45,9 +45,8 @@ stands_before other waiter =
     resource_up_to other.r waiter.r
     && (resource_before other.r waiter.r || other.alter || not waiter.alter)
 
--- one waiter more: where it alters, directly before the first of its resource that doesn't alter,
--- and else as the last of its resource. It
--- takes the place of the connector's own, if it waits already
+-- one waiter more: where it alters, directly before the first of its resource that doesn't alter, and else as the
+-- last of its resource. It takes the place of the connector's own, if it waits already
 abbrev pub waiters_with : Waiter → List Waiter → List Waiter
 waiters_with waiter waiters =
     insertion (λ other. stands_before other waiter) waiter

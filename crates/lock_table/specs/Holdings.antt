@@ -1,6 +1,5 @@
--- Interests: which connector owns which resource. They stand in the order of resources and, of one
--- resource, in the order in which they
--- came to stand.
+-- Interests: which connector owns which resource. They stand in the order of resources and, of one resource, in the
+-- order in which they came to stand.
 use Rattle.std.specs.Prelude.{Bool, IsTrue, not, ◌&&◌, ◌==◌, if◌then◌else◌, List, Option, filter, find, map}
 use Rattle.std.specs.List.{list_any}
 use Rattle.cf_types.specs.declared.numbers.ConnId.{ConnId}

@@ -133,9 +133,8 @@ WritesFull held held_now text =
     × Appends held held_now (full_line (Some name) ++ serial_report script)
 
 -- what was written shows histories: each is legal and holds each caller's calls once and in their order; each test
--- tells what stood at a
--- numbered point of it; and a test of a cache that tells VALID tells a fresh copy at that point. The status says
--- whether a journal got full.
+-- tells what stood at a numbered point of it; and a test of a cache that tells VALID tells a fresh copy at that
+-- point. The status says whether a journal got full.
 abbrev pub WritesHistories : ℕ → Option (List ℕ) → Option (List ℕ) → List ℕ → Type 0
 WritesHistories status held held_now text =
     (script : Script) × ((reading : Reading) × IsServed text script × ShowsRun script reading

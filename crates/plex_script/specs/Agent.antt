@@ -1,6 +1,5 @@
 -- What a caller asks in the work of one line: its call, again after an event round while it is refused for the stage
--- of a rebuild; or an
--- event round alone.
+-- of a rebuild; or an event round alone.
 use Rattle.std.specs.Prelude.{◌≡◌, ℕ, zero, suc, ◌+◌, ◌*◌, if◌then◌else◌, Option, None, Some}
 use Rattle.cf_types.specs.declared.forms.Kind.{Kind}
 use Rattle.cf_types.specs.declared.forms.Kind.TheVariants as kind
@@ -35,8 +34,7 @@ taking zero behind = after_round behind
 taking (suc left) behind = Next left behind
 
 -- a call that may be asked again is, after an event round, as often as the line says. A round goes on while there are
--- events, and
--- answers those that owe a response
+-- events, and answers those that owe a response
 abbrev pub step_after : Step → Told → Step
 step_after (Call zero) told = Rest
 step_after (Call (suc asks)) told = if told.again then Next 63 (Some asks) else Rest

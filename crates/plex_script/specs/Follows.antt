@@ -29,8 +29,7 @@ IsHeard calls by (Some asked) number told = heard number calls ≡ Some
     (record { no = number; by = by; ask = asked; told = told })
 
 -- a step and the steps behind it show these items: the number of each call, which asks what the step asks, and the
--- next step goes by what
--- was told of it
+-- next step goes by what was told of it
 abbrev pub Runs : Kind → Option AnyAsk → List AnyCall → ConnId → StrNo → Step → List Shown → Type 0
 Runs kind line calls by on now [] = now ≡ step.Rest
 Runs kind line calls by on now (shown.Call place number ∷ items) =
@@ -100,8 +99,7 @@ abbrev pub is_linked_by : List AnyCall → ConnId → StrNo → List Shown → B
 is_linked_by calls conn on items = is_linked (take (length (numbers_on on items)) (own_calls calls conn))
 
 -- a connector departs from each structure at which it is active once its lines are done, in the order of the
--- structures. The operator has
--- no closing
+-- structures. The operator has no closing
 abbrev pub ShowsClosing : StrForm → List AnyCall → ConnId → StrNo → List Shown → List Shown → Type 0
 ShowsClosing form calls conn on before items =
     MatchBool (is_linked_by calls conn on before)
@@ -143,8 +141,7 @@ IsNote histories before (shown.BadIndex place index word len) = Unit {0}
 -- ---- the whole
 
 -- what holds of a transcript however it ends: for each structure the numbers of its calls are those of the caller's
--- own calls, each once and
--- in order; and what it shows of notes is right
+-- own calls, each once and in order; and what it shows of notes is right
 pub record AgreesWith (histories : List AnyHistory) (conn : ConnId) (items : List Shown) : Type 0 where
   pub numbers : (on : StrNo) → on.0 < length histories
       → numbers_on on items ≡ map (λ call. call.no) (own_calls (calls_on histories on) conn)

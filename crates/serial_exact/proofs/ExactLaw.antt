@@ -1,6 +1,5 @@
--- The law of a script's work at one board on one thread: the callers were shown what the run by the machine
--- alone shows, and the
--- histories that the closed structures left are the run's.
+-- The law of a script's work at one board on one thread: the callers were shown what the run by the machine alone
+-- shows, and the histories that the closed structures left are the run's.
 use Rattle.std.proofs.Common.{◌≡◌, ◌≢◌, ℕ, ◌≤◌, ◌<◌, List, [], length, map, fold, get_or, slice_get, Option, None, Some, sym, ap, subst, ◌∙◌, arith, append-nil}
 use Rattle.std.specs.Prelude.{All, option_map}
 use Rattle.std.proofs.lemmas.List.{length-map, get_or-map}

@@ -87,9 +87,8 @@ own_push_other calls call c apart =
 
 -- ---- a structure
 
--- the callers' passes, the note in the tray, who acted last; all calls that were made, in the order of the
--- run, and a number that
--- no pass is above
+-- the callers' passes, the note in the tray, who acted last; all calls that were made, in the order of the run, and a
+-- number that no pass is above
 pub record Spot : Type 0 where
   pub passes : ℕ → PassShown
   pub note : Option NoteShown

@@ -1,6 +1,5 @@
--- What has been done at all structures, and the steps of it: what each keeps, what it says of what was done
--- before, and that the run by
--- the machine alone goes with it.
+-- What has been done at all structures, and the steps of it: what each keeps, what it says of what was done before,
+-- and that the run by the machine alone goes with it.
 use Rattle.std.proofs.Common.{◌≡◌, ◌≢◌, ℕ, ◌+◌, ◌≤◌, ◌<◌, List, length, set, slice_get, Some, ap, subst, ◌∙◌, length-set}
 use Rattle.cf_types.specs.declared.forms.StrForm.{StrForm}
 use Rattle.plex_script.specs.declared.asks.AnyHistory.{AnyHistory}

@@ -1,6 +1,5 @@
 -- What a run shows: a legal history of each structure, each caller's calls in it once and in their order, and tests
--- that tell what stood
--- at a numbered point of it.
+-- that tell what stood at a numbered point of it.
 use Rattle.std.specs.Prelude.{◌≡◌, ℕ, ◌+◌, ◌*◌, ◌^◌, ◌≤◌, ◌<◌, ◌&&◌, nat_lt, Bool, if◌then◌else◌, List, length, take, slice_get, Some, All, sum_by}
 use Rattle.cf_types.specs.declared.forms.StrForm.{StrForm}
 use Rattle.cf_types.specs.declared.numbers.ConnId.{ConnId}
@@ -20,8 +19,7 @@ use Rattle.serial_model.specs.Numbers.{seen_on}
 -- ---- tests
 
 -- a test of one bit: the number isn't before anything seen, and the bit is what stood at a numbered point that isn't
--- before anything seen
--- complete
+-- before anything seen complete
 pub record TellsBit (form : StrForm) (entries : AnyHistory) (conn : ConnId) (on : StrNo) (before : List Shown)
     (at index : ℕ) (bit : Bool) : Type 0 where
   pub seen : seen_on on before ≤ at

@@ -1,6 +1,5 @@
 -- Callers at work at one board, whatever the schedule was: each works at its own desk, and what is known of the
--- others
--- is what the histories say.
+-- others is what the histories say.
 use Rattle.std.proofs.Common.{◌≡◌, ◌≢◌, ℕ, ◌+◌, ◌≤◌, ◌<◌, inl, inr, List, [], length, map, Some, None, Option, refl, sym, ap, subst, ◌∙◌, arith, append-nil, slice_get}
 use Rattle.std.specs.Prelude.{All}
 use Rattle.std.proofs.lemmas.Bool.{cases_lt}

@@ -8,8 +8,7 @@ use Rattle.vec_words.specs.Tokens.{PassSeen}
 use Rattle.struct_cell.specs.Cells.{About}
 
 -- The call was answered: it is the pass's last one, of which the caller was told, and the pass knows its number and
--- has seen it
--- complete. Nothing else of the pass is different.
+-- has seen it complete. Nothing else of the pass is different.
 pub record IsAnswered {C R : Type 0} (ask : Ask C) (it : Told) (before after : PassSeen (About C R)) : Type 0 where
   pub reply : Reply R
   pub told : it ≡ told it.no ask reply

@@ -31,8 +31,7 @@ module _ {C R : Type 0} where
   answered call = (call.no, (call.ask, call.reply))
 
   -- What the numbers of calls have to do with a history's length: none is past it, nor is the last call below any
-  -- number; the
-  -- last call below a number past it is its end; and the last call up to a call's number is that call.
+  -- number; the last call below a number past it is its end; and the last call up to a call's number is that call.
   pub record IsNumbered (history : List (Entry C R)) : Type 0 where
     pub within : (n : ℕ) → IsPoint history n → n ≤ length history
     pub below : (n : ℕ) → last_call_below history n ≤ length history
@@ -55,9 +54,8 @@ module _ {C R I S : Type 0} (meaning : Meaning C R I S) (form : StrForm) where
       ≡ shown_below history (n + 1) conn index
 
 -- What lies under the lock stands to what never changes. Nothing is in flight; the log's commits are the journal's
--- calls; the
--- journal is legal, and leads to the machine; and at each number the words show what stood after the last call up to
--- it.
+-- calls; the journal is legal, and leads to the machine; and at each number the words show what stood after the last
+-- call up to it.
 pub record IsCell {C R I S L : Type 0} (meaning : Meaning C R I S) (key : CellKey C R L) (limit : ℕ)
     (standing : Standing S)
     (touched : TouchedWords) (journal : List (Entry C R)) (links : Links L) (seat : SeatSeen (About C R)) : Type 0

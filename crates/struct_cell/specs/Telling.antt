@@ -7,8 +7,7 @@ use Rattle.engine_api.specs.History.{IsPoint, Tells}
 use Rattle.vec_words.specs.declared.logged.Sight.{Sight}
 
 -- The test of a bit that the vector has tells what stood, at a numbered point that isn't before anything its caller
--- had seen
--- complete; past the vector's end it shows no bit.
+-- had seen complete; past the vector's end it shows no bit.
 pub record IsTold {C R I S : Type 0} (meaning : Meaning C R I S) (form : StrForm) (history : List (Entry C R))
     (owner : ℕ) (test : Sight) : Type 0 where
   pub point : IsPoint history test.at

@@ -87,10 +87,8 @@ module _ {D : Type 0} where
   calls_of caller log = calls_in caller (commits_of log)
 
   -- What holds of a log beside the number in flight, 0 where there is none. The count is 0 or a commit's number, and
-  -- no
-  -- commit is above it. The stamp of a store is at most the count, or is the number in flight. Each word has a stamp
-  -- of
-  -- these, and from that stamp on its bits are those that the log leaves in it.
+  -- no commit is above it. The stamp of a store is at most the count, or is the number in flight. Each word has a
+  -- stamp of these, and from that stamp on its bits are those that the log leaves in it.
   pub record IsOrderly (log : List (Logged D)) (flying : ℕ) : Type 0 where
     pub small : count_of log < 2 ^ 32
     pub count : (count_of log ≡ 0) ⊎ IsCommitted (steps_of log) (count_of log)

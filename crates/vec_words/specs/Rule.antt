@@ -12,8 +12,7 @@ use Rattle.vec_words.specs.Logged.{words_of, word_number, steps_of, count_of, fl
 use Rattle.vec_words.specs.Logged.{Tells}
 
 -- what the views of all seats have in common: the log and the seat that has it, the seat that makes passes and the
--- next
--- pass's number, and the seat of each pass by its owner
+-- next pass's number, and the seat of each pass by its owner
 pub record Roll (D : Type 0) : Type 0 where
   pub log : List (Logged D)
   pub holder : ℕ

@@ -46,8 +46,7 @@ module _ {D : Type 0} where
   learned_pass count pass = record pass { known = max pass.known count; sure = max pass.sure count }
 
   -- What the engine's seat shows of a pass: each test told the truth, the log has its owner's calls, the number that
-  -- it
-  -- knows is none, committed or in flight, and what it saw complete is at most that number and the count.
+  -- it knows is none, committed or in flight, and what it saw complete is at most that number and the count.
   pub record IsShown (seat : SeatSeen D) (pass : PassSeen D) : Type 0 where
     pub tests : All (IsHonest seat.log seat.number pass.table.len pass.owner) pass.tests
     pub mine : pass.mine ≡ calls_of pass.owner seat.log
