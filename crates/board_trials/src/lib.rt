@@ -9,10 +9,10 @@ mod trials;
 mod waits;
 
 pub use halts::Halt;
-pub use past::{Answer, bits_after, counted, never_falls, tells};
-pub use seats::{connect, post, read, take, test, write};
+pub use past::{Answer, bits_after, counted, is_of, never_falls, tells};
+pub use seats::{post, read, take, test, write};
 pub use trials::{Trial, close, start};
-pub use waits::{raise, wait_for};
+pub use waits::{PATIENCE, raise, wait_for};
 
 #[cfg(test)]
 mod tests;

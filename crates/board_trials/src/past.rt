@@ -50,6 +50,13 @@ pub fn never_falls(answers: &[Answer]) -> bool {
     answers.windows(2).all(|pair| pair[0].at <= pair[1].at)
 }
 
+/// Whether the call of this number is the caller's.
+pub fn is_of(entries: &[Entry<CacheCmd, CacheReply>], number: u32, caller: ConnId) -> bool {
+    entries
+        .iter()
+        .any(|entry| entry.no == number && entry.by == caller)
+}
+
 /// How many calls of the caller were done.
 pub fn counted(entries: &[Entry<CacheCmd, CacheReply>], caller: ConnId) -> usize {
     entries

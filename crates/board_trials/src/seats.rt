@@ -38,7 +38,7 @@ fn call(
 }
 
 /// Connects the caller.
-pub fn connect(
+pub(crate) fn connect(
     rt: &impl Wait,
     alloc: Global,
     board: &Board<Steady>,

@@ -1,10 +1,10 @@
 //! A board with one cache and two connectors, from its start to its history.
-ghost use Rattle.std.specs.Prelude.{◌≡◌, ◌≤◌, IfOk, IfSome, All};
+ghost use Rattle.std.specs.Prelude.{◌≡◌, ◌≤◌, ◌∷◌, [], IfOk, All};
 ghost use Rattle.desk_model.specs.Boards.{IsDeskOf, IsPolicy};
-ghost use Rattle.board_trials.specs.Seats.{HasCache, IsSeat, IsTrial};
+ghost use Rattle.board_trials.specs.Seats.{HasCache, IsTrial};
 
 use crate::halts::Halt;
-use crate::seats::CACHE;
+use crate::seats::{CACHE, connect};
 use cf_link::Steady;
 use cf_types::{CacheCmd, CacheReply, ConnId, Kind};
 use engine_api::History;
@@ -63,7 +63,8 @@ fn check_cache(board: &Board<Steady>) -> Result<(), Halt>
     Ok(())
 }
 
-/// A board at which nothing was done yet, whose journal takes `limit` entries.
+/// A board at which both connectors are connected, the first by entry 1 of a journal that takes
+/// `limit` entries, the second by entry 2.
 pub fn start(rt: &impl Wait, alloc: Global, limit: u32) -> Result<Trial, Halt>
     requires { (1 ≤ limit) × (limit ≤ 4294967000) }
     ensures { IfOk result IsTrial }
@@ -77,9 +78,11 @@ pub fn start(rt: &impl Wait, alloc: Global, limit: u32) -> Result<Trial, Halt>
         return Err(Halt::NoMemory);
     };
     check_cache(&board)?;
-    let second = take_desk(&board, &mut desks, ConnId(2))?;
-    let first = take_desk(&board, &mut desks, ConnId(1))?;
+    let mut second = take_desk(&board, &mut desks, ConnId(2))?;
+    let mut first = take_desk(&board, &mut desks, ConnId(1))?;
     let operator = take_desk(&board, &mut desks, ConnId(0))?;
+    connect(rt, alloc, &board, &mut first)?;
+    connect(rt, alloc, &board, &mut second)?;
     Ok(Trial {
         board,
         operator,
@@ -89,7 +92,9 @@ pub fn start(rt: &impl Wait, alloc: Global, limit: u32) -> Result<Trial, Halt>
 }
 
 // The desks of all callers.
-fn desks_of(alloc: Global, operator: Desk, first: Desk, second: Desk) -> Result<Vec<Desk>, Halt> {
+fn desks_of(alloc: Global, operator: Desk, first: Desk, second: Desk) -> Result<Vec<Desk>, Halt>
+    ensures { IfOk result (λ desks. desks.items ≡ operator ∷ first ∷ second ∷ []) }
+{
     let mut desks = Vec::new(alloc);
     desks.push(operator)?;
     desks.push(first)?;
@@ -98,10 +103,22 @@ fn desks_of(alloc: Global, operator: Desk, first: Desk, second: Desk) -> Result<
 }
 
 /// Ends the board, and answers the history of the cache.
-pub fn close(rt: &impl Wait, alloc: Global, trial: Trial) -> Result<History<CacheCmd, CacheReply>, Halt>
+pub fn close(
+    rt: &impl Wait,
+    alloc: Global,
+    trial: Trial,
+) -> Result<History<CacheCmd, CacheReply>, Halt>
     requires { IsTrial trial }
 {
-    let Trial { board, operator, first, second } = trial;
+    let Trial {
+        board,
+        operator,
+        first,
+        second,
+    } = trial;
+    if operator.owner().0 != 0 || first.owner().0 != 1 || second.owner().0 != 2 {
+        return Err(Halt::OtherDesks);
+    }
     let desks = desks_of(alloc, operator, first, second)?;
     let (mut histories, _) = board.close(rt, desks);
     match histories.pop() {

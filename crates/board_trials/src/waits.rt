@@ -5,7 +5,7 @@ use std::sync::atomic::AtomicU64;
 use std::sync::atomic::Ordering::SeqCst;
 
 /// How often a thread looks for what another is to do.
-pub(crate) const PATIENCE: u64 = 500_000_000;
+pub const PATIENCE: u64 = 500_000_000;
 
 /// Adds one to a count.
 pub fn raise(count: &AtomicU64) {
