@@ -1,8 +1,7 @@
 -- A board with one cache, and who works at it.
-use Rattle.std.specs.Prelude.{◌≡◌, ℕ, ◌<◌, IfSome, length}
+use Rattle.std.specs.Prelude.{◌≡◌, ◌<◌, IfSome, length}
 use Rattle.cf_types.specs.declared.numbers.StrNo.{StrNo}
 use Rattle.cf_types.specs.Forms.{IsConnector}
-use Rattle.cf_link.specs.declared.steady.Steady.{Steady}
 use Rattle.any_model.specs.Types.{OfCache}
 use Rattle.desk_model.specs.Desks.{DeskShown}
 use Rattle.desk_model.specs.Boards.{BoardShown, IsDeskOf, cell_on}
