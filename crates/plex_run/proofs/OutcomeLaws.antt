@@ -178,13 +178,12 @@ serial_front_written held held_now text by script served turn wrote = (
 -- ---- which status
 
 -- where no write failed and memory was found, a run was written
-pub run_ends : (faults faults_now status : ℕ) → (status ≡ 0) ⊎ ((status ≡ 8) ⊎ ((status ≡ 5) ⊎ (status ≡ 6)))
-    → (status ≡ 5 → Rises faults faults_now) → (Rises faults faults_now → ⊥) → status ≢ 6
-    → (status ≡ 0) ⊎ (status ≡ 8)
-run_ends faults faults_now status (inl e) cause fine memory = inl e
-run_ends faults faults_now status (inr (inl e)) cause fine memory = inr e
-run_ends faults faults_now status (inr (inr (inl e))) cause fine memory = absurd (fine (cause e))
-run_ends faults faults_now status (inr (inr (inr e))) cause fine memory = absurd (memory e)
+pub run_ends : (status : ℕ) → (status ≡ 0) ⊎ ((status ≡ 8) ⊎ ((status ≡ 5) ⊎ (status ≡ 6))) → status ≢ 5
+    → status ≢ 6 → (status ≡ 0) ⊎ (status ≡ 8)
+run_ends status (inl e) written memory = inl e
+run_ends status (inr (inl e)) written memory = inr e
+run_ends status (inr (inr (inl e))) written memory = absurd (written e)
+run_ends status (inr (inr (inr e))) written memory = absurd (memory e)
 
 -- a text that is served is served as one script
 pub served_once : (text : List ℕ) (script other : Script) (status : ℕ) → SaysOne → IsServed text script
