@@ -14,6 +14,7 @@ use Rattle.plex_valid.specs.Valid.{ShowsFresh}
 use Rattle.plex_bounds.specs.Bounds.{most_calls}
 use Rattle.plex_floor.specs.declared.runs.Finished.{Finished}
 use Rattle.plex_reading.specs.Readings.{Reading, IsReading, IsTheReading, report_of}
+use Rattle.plex_run.specs.declared.program.TheConstants.{SCRIPT_LIMIT, JOURNAL_LIMIT}
 use Rattle.plex_run.specs.declared.way.Way.{Way}
 use Rattle.plex_run.specs.declared.way.Way.TheVariants as ways
 use Rattle.plex_run.specs.Written.{Gains, GainsPrefix}
@@ -23,11 +24,11 @@ use Rattle.plex_run.specs.StatusLines.{why_word, script_line, full_line, memory_
 
 -- the greatest length of a script, in bytes
 abbrev pub script_limit : ℕ
-script_limit = 1048576
+script_limit = SCRIPT_LIMIT
 
 -- how many calls a journal takes
 abbrev pub journal_limit : ℕ
-journal_limit = 65536
+journal_limit = JOURNAL_LIMIT
 
 -- the words are the one word `serial`
 abbrev pub IsSerial : {A : Type 0} → List (String A) → Type 0
