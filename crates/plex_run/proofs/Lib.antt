@@ -1,5 +1,6 @@
 pub mod Written
 pub mod Found
 pub mod RunnableLaws
+pub mod FullLaws
 pub mod OutcomeLaws
 pub mod ReadingLaws

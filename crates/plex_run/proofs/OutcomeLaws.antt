@@ -21,6 +21,7 @@ use Rattle.plex_run.specs.Written.{GainsPrefix}
 use Rattle.plex_run.specs.NotYet.{not_yet}
 use Rattle.plex_run.specs.StatusLines.{why_word, full_line}
 use Rattle.plex_run.specs.Outcome.{IsServed, IsRefused, IsUnserved, IsExact, WritesRun, WritesRunFront, WritesReport, WritesFull, WritesHistories, WritesFront, WritesSerialFront, script_limit, journal_limit, serial_report, full_in_run, run_text, run_status, served_text, served_status}
+use Rattle.plex_run.proofs.FullLaws.{AreWithin, can_fill}
 
 -- whatever a run shows, tests that tell VALID tell fresh copies
 abbrev pub AreFresh : Type 0
@@ -133,9 +134,9 @@ full_written held held_now text script status served eight is gains = at_full (f
 
 -- what was written of a run shows histories
 pub histories_written : (held held_now : Option (List ℕ)) (text : List ℕ) (by : Way) (script : Script) (status : ℕ)
-    → IsServed text script → AreFresh → WritesRun by script status held held_now → WritesHistories status held
-    held_now text
-histories_written held held_now text by script status served fresh wrote =
+    → IsServed text script → AreFresh → AreWithin → WritesRun by script status held held_now
+    → WritesHistories status held held_now text
+histories_written held held_now text by script status served fresh within wrote =
     let shows = wrote.run.shows in (
       script,
       (
@@ -143,14 +144,16 @@ histories_written held held_now text by script status served fresh wrote =
         served,
         shows,
         fresh journal_limit script wrote.reading.histories wrote.reading.transcripts shows,
+        can_fill script wrote.reading within shows,
         wrote.status_right,
         wrote.wrote,
       ),
     )
 
 pub front_written : (held held_now : Option (List ℕ)) (text : List ℕ) (by : Way) (script : Script)
-    → IsServed text script → AreFresh → WritesRunFront by script held held_now → WritesFront held held_now text
-front_written held held_now text by script served fresh wrote =
+    → IsServed text script → AreFresh → AreWithin → WritesRunFront by script held held_now
+    → WritesFront held held_now text
+front_written held held_now text by script served fresh within wrote =
     let shows = wrote.run.shows in (
       script,
       (
@@ -158,6 +161,7 @@ front_written held held_now text by script served fresh wrote =
         served,
         shows,
         fresh journal_limit script wrote.reading.histories wrote.reading.transcripts shows,
+        can_fill script wrote.reading within shows,
         wrote.front,
       ),
     )
@@ -174,13 +178,12 @@ serial_front_written held held_now text by script served turn wrote = (
 -- ---- which status
 
 -- where no write failed and memory was found, a run was written
-pub run_ends : (faults faults_now status : ℕ) → (status ≡ 0) ⊎ ((status ≡ 8) ⊎ ((status ≡ 5) ⊎ (status ≡ 6)))
-    → (status ≡ 5 → Rises faults faults_now) → (Rises faults faults_now → ⊥) → status ≢ 6
-    → (status ≡ 0) ⊎ (status ≡ 8)
-run_ends faults faults_now status (inl e) cause fine memory = inl e
-run_ends faults faults_now status (inr (inl e)) cause fine memory = inr e
-run_ends faults faults_now status (inr (inr (inl e))) cause fine memory = absurd (fine (cause e))
-run_ends faults faults_now status (inr (inr (inr e))) cause fine memory = absurd (memory e)
+pub run_ends : (status : ℕ) → (status ≡ 0) ⊎ ((status ≡ 8) ⊎ ((status ≡ 5) ⊎ (status ≡ 6))) → status ≢ 5
+    → status ≢ 6 → (status ≡ 0) ⊎ (status ≡ 8)
+run_ends status (inl e) written memory = inl e
+run_ends status (inr (inl e)) written memory = inr e
+run_ends status (inr (inr (inl e))) written memory = absurd (written e)
+run_ends status (inr (inr (inr e))) written memory = absurd (memory e)
 
 -- a text that is served is served as one script
 pub served_once : (text : List ℕ) (script other : Script) (status : ℕ) → SaysOne → IsServed text script

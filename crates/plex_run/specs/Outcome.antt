@@ -1,16 +1,20 @@
 -- What a run of the program means: which script came in, what goes out, and what each status says.
-use Rattle.std.specs.Prelude.{◌≡◌, ◌⊎◌, ◌↔◌, ℕ, ◌≤◌, ◌<◌, ◌==◌, if◌then◌else◌, List, [], ◌∷◌, ◌++◌, ◌^◌, length, map, Option, None, Some, is_some, codes, String, string_bytes, nat_eq, IsTrue}
+use Rattle.std.specs.Prelude.{◌≡◌, ◌⊎◌, ◌↔◌, ℕ, ◌≤◌, ◌<◌, ◌==◌, if◌then◌else◌, List, [], ◌∷◌, ◌++◌, ◌^◌, length, map, slice_get, Option, None, Some, IfSome, is_some, codes, String, string_bytes, nat_eq, IsTrue}
 use Rattle.std.specs.List.{list_any}
 use Rattle.std.specs.Io.KnownBytes.{Appends}
+use Rattle.cf_types.specs.declared.forms.StrForm.{StrForm}
 use Rattle.cf_types.specs.declared.names.Name16.{Name16}
+use Rattle.cf_types.specs.declared.numbers.StrNo.{StrNo}
 use Rattle.plex_script.specs.declared.faults.Why.{Why}
 use Rattle.plex_script.specs.declared.scripts.Script.{Script}
 use Rattle.plex_script.specs.Scripts.{IsScript, IsFault}
 use Rattle.serial_model.specs.Serial.{serial_run}
 use Rattle.serial_model.specs.Headline.{ShowsHistories}
 use Rattle.plex_valid.specs.Valid.{ShowsFresh}
+use Rattle.plex_bounds.specs.Bounds.{most_calls}
 use Rattle.plex_floor.specs.declared.runs.Finished.{Finished}
 use Rattle.plex_reading.specs.Readings.{Reading, IsReading, IsTheReading, report_of}
+use Rattle.plex_run.specs.declared.program.TheConstants.{SCRIPT_LIMIT, JOURNAL_LIMIT}
 use Rattle.plex_run.specs.declared.way.Way.{Way}
 use Rattle.plex_run.specs.declared.way.Way.TheVariants as ways
 use Rattle.plex_run.specs.Written.{Gains, GainsPrefix}
@@ -20,11 +24,11 @@ use Rattle.plex_run.specs.StatusLines.{why_word, script_line, full_line, memory_
 
 -- the greatest length of a script, in bytes
 abbrev pub script_limit : ℕ
-script_limit = 1048576
+script_limit = SCRIPT_LIMIT
 
 -- how many calls a journal takes
 abbrev pub journal_limit : ℕ
-journal_limit = 65536
+journal_limit = JOURNAL_LIMIT
 
 -- the words are the one word `serial`
 abbrev pub IsSerial : {A : Type 0} → List (String A) → Type 0
@@ -69,6 +73,12 @@ IsUnserved text = (line : ℕ) × (told : List ℕ) × IsRefused text line told
 -- the first structure whose journal got full in a run
 abbrev pub full_of : Script → Reading → Option Name16
 full_of script reading = full_structure script.structures reading.transcripts
+
+-- the lines on the structure that is told, and the closings, can fill its journal
+abbrev pub CanFill : Script → Option Name16 → Type 0
+CanFill script full =
+    IfSome full (λ name. (on : StrNo) × (form : StrForm) × (slice_get script.structures on.0 ≡ Some form)
+    × (form.name ≡ name) × (journal_limit ≤ most_calls script on))
 
 -- what is written of a run: its report, behind the line of a structure whose journal got full
 abbrev pub run_text : Script → Reading → List ℕ
@@ -134,12 +144,12 @@ WritesFull held held_now text =
 
 -- what was written shows histories: each is legal and holds each caller's calls once and in their order; each test
 -- tells what stood at a numbered point of it; and a test of a cache that tells VALID tells a fresh copy at that
--- point. The status says whether a journal got full.
+-- point. The status says whether a journal got full, and then the script can fill it.
 abbrev pub WritesHistories : ℕ → Option (List ℕ) → Option (List ℕ) → List ℕ → Type 0
 WritesHistories status held held_now text =
     (script : Script) × ((reading : Reading) × IsServed text script × ShowsRun script reading
-    × ShowsFresh script reading.histories reading.transcripts × (status ≡ run_status script reading)
-    × Appends held held_now (run_text script reading))
+    × ShowsFresh script reading.histories reading.transcripts × CanFill script (full_of script reading)
+    × (status ≡ run_status script reading) × Appends held held_now (run_text script reading))
 
 -- the report was written of histories and transcripts that each caller's work was done in, and of no others could it
 -- have been
@@ -152,7 +162,8 @@ WritesOneReading held held_now text =
 abbrev pub WritesFront : Option (List ℕ) → Option (List ℕ) → List ℕ → Type 0
 WritesFront held held_now text =
     (script : Script) × ((reading : Reading) × IsServed text script × ShowsRun script reading
-    × ShowsFresh script reading.histories reading.transcripts × GainsPrefix held held_now (run_text script reading))
+    × ShowsFresh script reading.histories reading.transcripts × CanFill script (full_of script reading)
+    × GainsPrefix held held_now (run_text script reading))
 
 -- a front of what is written of the run on one thread was written
 abbrev pub WritesSerialFront : Option (List ℕ) → Option (List ℕ) → List ℕ → Type 0

@@ -1,5 +1,5 @@
 ghost use Rattle.std.specs.Prelude.{◌≡◌, ◌≢◌, ◌⊎◌, ◌↔◌, ℕ, ◌≤◌, ◌<◌, ◌++◌, ◌^◌, length, IfSome, IfOk, OnOk, OnErr};
-ghost use Rattle.std.specs.Io.KnownBytes.{Appends};
+ghost use Rattle.std.specs.Io.KnownBytes.{Appends, IsAtEnd};
 ghost use Rattle.std.specs.Vec.{vec_len};
 ghost use Rattle.cf_io.specs.Count.{Rises};
 ghost use Rattle.plex_script.specs.declared.scripts.Script.{Script};
@@ -18,6 +18,7 @@ use cf_io::{ReadEnd, Sink, Source, WriteFault, read_all, write_all};
 use cf_link::Link;
 use cf_types::NoMemory;
 use plex_agent::Gate;
+use plex_bounds::within_script;
 use plex_crew::threads;
 use plex_floor::{Finished, serial};
 use plex_reading::only_reading;
@@ -228,11 +229,10 @@ fn judged<R: Threads + Wait + Sync, K: Sink, L: Link, G: Gate>(
     ensures line { IfSome (status_line result)
         (Gains (K.held sink.old) (K.held sink.new) (K.faults sink.old) (K.faults sink.new)) }
     ensures exact { result ≢ 6 → (result ≡ 3) ↔ IsUnserved text.now }
-    ensures complete { way ≡ ways.InTurn → ¬ Rises (K.faults sink.old) (K.faults sink.new)
-        → result ≢ 6 → (script : Script) → IsServed text.now script
-        → result ≡ served_status script }
-    ensures ends { ¬ Rises (K.faults sink.old) (K.faults sink.new) → result ≢ 6
-        → (script : Script) → IsServed text.now script → (result ≡ 0) ⊎ (result ≡ 8) }
+    ensures complete { way ≡ ways.InTurn → result ≢ 5 → result ≢ 6 → (script : Script)
+        → IsServed text.now script → result ≡ served_status script }
+    ensures ends { result ≢ 5 → result ≢ 6 → (script : Script) → IsServed text.now script
+        → (result ≡ 0) ⊎ (result ≡ 8) }
     ensures statuses { (result ≡ 0) ⊎ ((result ≡ 8) ⊎ ((result ≡ 5)
         ⊎ ((result ≡ 6) ⊎ (result ≡ 3)))) }
     ensures faults { K.faults sink.old ≤ K.faults sink.new }
@@ -253,6 +253,7 @@ fn judged<R: Threads + Wait + Sync, K: Sink, L: Link, G: Gate>(
     }
     well_formed(text, &script);
     valid_is_fresh();
+    within_script();
     only_reading();
     reported(rt, alloc, way, &script, sink, links, gate)
 }
@@ -288,14 +289,14 @@ fn served<R: Threads + Wait + Sync, S: Source, K: Sink, L: Link, G: Gate>(
         (WritesSerialFront (K.held sink.old) (K.held sink.new)) }
     ensures line { IfSome (status_line result)
         (Gains (K.held sink.old) (K.held sink.new) (K.faults sink.old) (K.faults sink.new)) }
-    ensures exact { ¬ Rises (S.faults source.old) (S.faults source.new) → result ≢ 6 →
-        IfSome (S.left source.old) (λ text. IsExact text result) }
-    ensures complete { way ≡ ways.InTurn → ¬ Rises (S.faults source.old) (S.faults source.new)
-        → ¬ Rises (K.faults sink.old) (K.faults sink.new) → result ≢ 6 →
-        IfSome (S.left source.old) (λ text. IsComplete text result) }
-    ensures ends { ¬ Rises (S.faults source.old) (S.faults source.new)
-        → ¬ Rises (K.faults sink.old) (K.faults sink.new) → result ≢ 6 →
-        IfSome (S.left source.old) (λ text. IsCompleteOnThreads text result) }
+    ensures at_end { (result ≡ 0) ⊎ ((result ≡ 3) ⊎ ((result ≡ 5) ⊎ (result ≡ 8)))
+        → IsAtEnd (S.left source.new) }
+    ensures exact { result ≢ 4 → result ≢ 6
+        → IfSome (S.left source.old) (λ text. IsExact text result) }
+    ensures complete { way ≡ ways.InTurn → result ≢ 4 → result ≢ 5 → result ≢ 6
+        → IfSome (S.left source.old) (λ text. IsComplete text result) }
+    ensures ends { result ≢ 4 → result ≢ 5 → result ≢ 6
+        → IfSome (S.left source.old) (λ text. IsCompleteOnThreads text result) }
     ensures statuses { IsStatus result × (result ≢ 2) }
     ensures source_faults { S.faults source.old ≤ S.faults source.new }
     ensures sink_faults { K.faults sink.old ≤ K.faults sink.new }
@@ -366,7 +367,10 @@ pub fn run<R: Threads + Wait + Sync, S: Source, K: Sink, L: Link, G: Gate>(
     // nothing else, shows a legal history of each structure, each caller's calls in them once and
     // in their order, and tests that tell what stood at a numbered point; where a cache's test
     // tells VALID, the connector's copy was fresh there. The status is 8 where one of the
-    // transcripts ends at a full journal, which is told before the report, and else 0.
+    // transcripts ends at a full journal, which is told before the report, and else 0. And 8 comes
+    // only where the script can fill that journal: the calls of its lines on that structure, as
+    // often as each may ask again, their event rounds, and one departure of each connector come to
+    // 65,536 calls or more.
     ensures headline { (result ≡ 0) ⊎ (result ≡ 8) → IfSome (S.left source.old)
         (WritesHistories result (K.held sink.old) (K.held sink.new)) }
     // And no other legal histories, with transcripts that follow the script, have that report.
@@ -389,16 +393,16 @@ pub fn run<R: Threads + Wait + Sync, S: Source, K: Sink, L: Link, G: Gate>(
 
     // Where no read failed and memory was found, the text decides; where no write failed either, a
     // script that is built is served.
-    ensures exact { IsSerial words.now ⊎ IsThreads words.now
-        → ¬ Rises (S.faults source.old) (S.faults source.new) → result ≢ 6
+    ensures exact { IsSerial words.now ⊎ IsThreads words.now → result ≢ 4 → result ≢ 6
         → IfSome (S.left source.old) (λ text. IsExact text result) }
-    ensures complete { IsSerial words.now → ¬ Rises (S.faults source.old) (S.faults source.new)
-        → ¬ Rises (K.faults sink.old) (K.faults sink.new) → result ≢ 6 →
-        IfSome (S.left source.old) (λ text. IsComplete text result) }
-    ensures complete_threads { IsThreads words.now
-        → ¬ Rises (S.faults source.old) (S.faults source.new)
-        → ¬ Rises (K.faults sink.old) (K.faults sink.new) → result ≢ 6 →
-        IfSome (S.left source.old) (λ text. IsCompleteOnThreads text result) }
+    ensures complete { IsSerial words.now → result ≢ 4 → result ≢ 5 → result ≢ 6
+        → IfSome (S.left source.old) (λ text. IsComplete text result) }
+    ensures complete_threads { IsThreads words.now → result ≢ 4 → result ≢ 5 → result ≢ 6
+        → IfSome (S.left source.old) (λ text. IsCompleteOnThreads text result) }
+
+    // A text that is judged was read to its end.
+    ensures at_end { (result ≡ 0) ⊎ ((result ≡ 3) ⊎ ((result ≡ 5) ⊎ (result ≡ 8)))
+        → IsAtEnd (S.left source.new) }
 
     // What is written with the statuses that have no report, whole unless a write failed. With
     // faulty words nothing is read.

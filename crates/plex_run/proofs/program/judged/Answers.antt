@@ -43,7 +43,7 @@ returns-clause-headline g c = λ is.
     let served : IsServed c.args.text.now c.in-Ok.script =
     record { says = c.in-Ok.ensures.script; built = sym c.not_yet.ensures ∙ c.in_default.is } in
     histories_written _ _ c.args.text.now c.args.way c.in-Ok.script c.reported.result served c.valid_is_fresh.ensures
-    (c.reported.ensures.whole is)
+    c.within_script.ensures (c.reported.ensures.whole is)
 
 pub returns-clause-reading : goal.returns-clause-reading
 returns-clause-reading g c = λ zero.
@@ -57,7 +57,9 @@ returns-clause-sink_fault g c = λ five.
     let served : IsServed c.args.text.now c.in-Ok.script =
     record { says = c.in-Ok.ensures.script; built = sym c.not_yet.ensures ∙ c.in_default.is } in
     let fault = c.reported.ensures.sink_fault five in
-    (fault.0, front_written _ _ c.args.text.now c.args.way c.in-Ok.script served c.valid_is_fresh.ensures fault.1)
+    let wrote = front_written _ _ c.args.text.now c.args.way c.in-Ok.script served c.valid_is_fresh.ensures
+    c.within_script.ensures fault.1 in
+    (fault.0, wrote)
 
 pub returns-clause-front : goal.returns-clause-front
 returns-clause-front g c = λ turn five.
@@ -74,15 +76,13 @@ returns-clause-exact g c = λ other.
     c.reported.ensures.statuses
 
 pub returns-clause-complete : goal.returns-clause-complete
-returns-clause-complete g c = λ turn fine memory script again.
+returns-clause-complete g c = λ turn written memory script again.
     let served : IsServed c.args.text.now c.in-Ok.script =
     record { says = c.in-Ok.ensures.script; built = sym c.not_yet.ensures ∙ c.in_default.is } in
-    let ends = run_ends _ _ c.reported.result c.reported.ensures.statuses
-    (λ five. (c.reported.ensures.sink_fault five).0) fine memory in
+    let ends = run_ends c.reported.result c.reported.ensures.statuses written memory in
     served_once c.args.text.now c.in-Ok.script script c.reported.result c.one_script.ensures served again
     (in_turn_status _ _ c.args.way c.in-Ok.script c.reported.result turn (c.reported.ensures.whole ends))
 
 pub returns-clause-ends : goal.returns-clause-ends
-returns-clause-ends g c = λ fine memory script again.
-    run_ends _ _ c.reported.result c.reported.ensures.statuses (λ five. (c.reported.ensures.sink_fault five).0) fine
-    memory
+returns-clause-ends g c = λ written memory script again.
+    run_ends c.reported.result c.reported.ensures.statuses written memory

@@ -38,7 +38,7 @@ returns-clause-sink_fault g c = λ is.
     )
 
 pub returns-clause-exact : goal.returns-clause-exact
-returns-clause-exact g c = λ fine other.
+returns-clause-exact g c = λ read other.
     let short : length c.deref.result.now ≤ script_limit = omega (arith, c.in-Ok.ensures.fits, c.deref.ensures.len) in
     of_left (g.S.Source.left c.args.source.now) c.in-Ok.text.items c.deref.result.now
     (λ text. IsExact text c.judged.result)

@@ -1,0 +1,150 @@
+//! Tests of a bit that race with the calls that clear it.
+ghost use Rattle.board_trials.specs.Seats.{IsSeat};
+
+use super::{FIRST, PLENTY, READS, Race, SECOND, WRITES, new_race};
+use crate::halts::Halt;
+use crate::past::{Answer, bits_after, counted, never_falls, tells};
+use crate::seats::{read, test, write};
+use crate::trials::{Trial, close, start};
+use crate::waits::{PATIENCE, raise, wait_for};
+use cf_link::Steady;
+use plex_board::{Board, Desk};
+use std::alloc::{AllocFailed, Global};
+use std::sync::Wait;
+use std::test::Fail;
+use std::thread::{Threads, join};
+use vec_words::Tested;
+
+// Writes again and again; each READ lets it go on for some writes.
+fn write_again(
+    rt: &impl Wait,
+    alloc: Global,
+    board: &Board<Steady>,
+    desk: &mut Desk,
+    race: &Race,
+) -> Result<(), Halt>
+    requires { IsSeat board.now desk.old }
+    ensures { IsSeat board.now desk.new }
+{
+    for made in 0..READS * WRITES {
+        wait_for(&race.reads, made / WRITES + 1)?;
+        write(rt, alloc, board, desk)?;
+    }
+    Ok(())
+}
+
+// Puts down an answer, unless the last one was the same.
+fn put_down(answers: &mut Vec<Answer>, answer: Answer) -> Result<(), AllocFailed<Answer>> {
+    if answers.last() != Some(&answer) {
+        answers.push(answer)?;
+    }
+    Ok(())
+}
+
+// Reads the page, and tests till the other's WRITE has cleared the bit.
+fn read_till_cleared(
+    rt: &impl Wait,
+    alloc: Global,
+    board: &Board<Steady>,
+    desk: &mut Desk,
+    race: &Race,
+    answers: &mut Vec<Answer>,
+) -> Result<(), Halt>
+    requires { IsSeat board.now desk.old }
+    ensures { IsSeat board.now desk.new }
+{
+    let sure = read(rt, alloc, board, desk)?;
+    raise(&race.reads);
+    for _ in 0..PATIENCE {
+        let Tested { bit, at } = test(board, desk);
+        put_down(answers, Answer { bit, at, sure })?;
+        if !bit {
+            return Ok(());
+        }
+    }
+    Err(Halt::Late)
+}
+
+// Reads and tests again and again. It answers what the tests answered.
+fn read_again(
+    rt: &impl Wait,
+    alloc: Global,
+    board: &Board<Steady>,
+    desk: &mut Desk,
+    race: &Race,
+) -> Result<Vec<Answer>, Halt>
+    requires { IsSeat board.now desk.old }
+    ensures { IsSeat board.now desk.new }
+{
+    let mut answers = Vec::new(alloc);
+    for _ in 0..READS {
+        read_till_cleared(rt, alloc, board, desk, race, &mut answers)?;
+    }
+    Ok(answers)
+}
+
+// The first connector writes while the second reads and tests.
+fn race_in_two<R: Threads + Wait + Sync>(
+    rt: &R,
+    alloc: Global,
+    board: &Board<Steady>,
+    mut first: Desk,
+    mut second: Desk,
+) -> ((Desk, Result<(), Halt>), (Desk, Result<Vec<Answer>, Halt>))
+    requires { IsSeat board.now first × IsSeat board.now second }
+    ensures { IsSeat board.now result.0.0 × IsSeat board.now result.1.0 }
+{
+    let race = &new_race();
+    join(
+        rt,
+        move || -> (Desk, Result<(), Halt>)
+            requires { IsSeat board.now first }
+            ensures { IsSeat board.entry.now result.0 }
+        {
+            let wrote = write_again(rt, alloc, board, &mut first, race);
+            (first, wrote)
+        },
+        move || -> (Desk, Result<Vec<Answer>, Halt>)
+            requires { IsSeat board.now second }
+            ensures { IsSeat board.entry.now result.0 }
+        {
+            let answers = read_again(rt, alloc, board, &mut second, race);
+            (second, answers)
+        },
+    )
+}
+
+#[test]
+fn tests_race_with_writes(rt: HostRuntime) -> Result<(), Fail> {
+    let alloc = rt.alloc();
+    let Trial {
+        board,
+        operator,
+        first,
+        second,
+    } = start(&rt, alloc, PLENTY)?;
+    let ((first, wrote), (second, answers)) = race_in_two(&rt, alloc, &board, first, second);
+    let history = close(
+        &rt,
+        alloc,
+        Trial {
+            board,
+            operator,
+            first,
+            second,
+        },
+    )?;
+    wrote?;
+    let answers = answers?;
+    let entries = history.entries();
+    assert_eq!(rt; counted(entries, FIRST), 1 + (READS * WRITES) as usize);
+    assert_eq!(rt; counted(entries, SECOND), 1 + READS as usize);
+    let bits = bits_after(alloc, entries, SECOND)?;
+    for answer in &answers {
+        assert!(rt; tells(&bits, *answer), "{answer:?}");
+    }
+    assert!(rt; never_falls(&answers));
+    let cleared = answers.iter().filter(|answer| !answer.bit).count();
+    assert_eq!(rt; cleared, READS as usize);
+    Ok(())
+}

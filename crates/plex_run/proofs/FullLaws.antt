@@ -1,0 +1,91 @@
+-- The structure whose journal got full in a run: the script can fill it.
+use Rattle.std.proofs.Common.{◌≡◌, ℕ, ◌+◌, ◌≤◌, ◌<◌, Bool, true, List, Option, Some, None, option_map, length, slice_get, get_or, refl, sym, ap, subst, ◌∙◌, arith}
+use Rattle.std.specs.Prelude.{find}
+use Rattle.std.specs.List.{enumerate_from, position_or_len}
+use Rattle.std.proofs.lemmas.Bool.Decides.{nat_tests}
+use Rattle.std.proofs.lemmas.List.Folds.{Any-from_list_any, find_at}
+use Rattle.std.proofs.lemmas.List.FromFn.{get_or-enumerate_from, length-enumerate_from}
+use Rattle.std.proofs.lemmas.List.Sums.{passes_at_first}
+use Rattle.std.proofs.lemmas.Option.{get_or_from_slice_get, slice_get-get_or, slice_get_read, slice_get_within}
+use Rattle.cf_types.specs.declared.forms.StrForm.{StrForm}
+use Rattle.cf_types.specs.declared.numbers.ConnId.{ConnId}
+use Rattle.cf_types.specs.declared.numbers.StrNo.{StrNo}
+use Rattle.plex_script.specs.declared.asks.AnyHistory.{AnyHistory}
+use Rattle.plex_script.specs.declared.scripts.Script.{Script}
+use Rattle.plex_script.specs.declared.transcripts.AgentEnd.{AgentEnd}
+use Rattle.plex_script.specs.declared.transcripts.AgentEnd.TheVariants as ended
+use Rattle.plex_script.specs.declared.transcripts.Shown.{Shown}
+use Rattle.plex_script.specs.declared.transcripts.Transcript.{Transcript}
+use Rattle.plex_script.specs.Heard.{length_on}
+use Rattle.serial_model.specs.Headline.{EndsRight, ShowsHistories}
+use Rattle.plex_bounds.specs.Bounds.{IsWithinScript, most_calls}
+use Rattle.plex_reading.specs.Readings.{Reading}
+use Rattle.plex_run.specs.Full.{ends_full_at, is_full_at}
+use Rattle.plex_run.specs.Outcome.{CanFill, ShowsRun, full_of, journal_limit}
+
+-- whatever a run shows, no history is longer than the script can make it
+abbrev pub AreWithin : Type 0
+AreWithin =
+    (limit : ℕ) (script : Script) (histories : List AnyHistory) (transcripts : List Transcript)
+    → ShowsHistories limit script histories transcripts → IsWithinScript script histories
+
+-- what is found among elements that stand with their places passes, and is the element at its place
+found_place : {X : Type 0} (p : ℕ → Bool) (xs : List X) (place : ℕ × X)
+    → find (λ (it : ℕ × X). p it.0) (enumerate_from 0 xs) ≡ Some place
+    → (slice_get xs place.0 ≡ Some place.1) × (p place.0 ≡ true)
+found_place {X} p xs place found =
+    let test : ℕ × X → Bool = λ (it : ℕ × X). p it.0 in
+    let places : List (ℕ × X) = enumerate_from 0 xs in
+    let k : ℕ = position_or_len test places in
+    let there : slice_get places k ≡ Some place = sym (find_at test places) ∙ found in
+    let within : k < length places = slice_get_within places k place there in
+    let short : k < length xs = omega (arith, within, length-enumerate_from 0 xs) in
+    let at : get_or places k place ≡ place = get_or_from_slice_get places k place place there in
+    let same : (0 + k, get_or xs k place.1) ≡ place = sym (get_or-enumerate_from 0 xs k place short) ∙ at in
+    let number : k ≡ place.0 = omega (arith, ap (λ (it : ℕ × X). it.0) same) in (
+      subst (λ (n : ℕ). slice_get xs n ≡ Some place.1) number
+          (slice_get-get_or xs k place.1 short ∙ ap (λ (it : ℕ × X). Some it.1) same),
+      ap test (sym at) ∙ passes_at_first test places place within,
+    )
+
+-- ---- the structure that is told
+
+-- a journal at which a caller's work ended is full
+full_there : (limit : ℕ) (script : Script) (histories : List AnyHistory) (transcripts : List Transcript)
+    → ShowsHistories limit script histories transcripts → (place : ℕ) → is_full_at transcripts place ≡ true
+    → limit ≤ length_on histories (record { 0 = place })
+full_there limit script histories transcripts shows place full =
+    let it = Any-from_list_any (λ (t : Transcript). ends_full_at place t.end) transcripts full in
+    let there : slice_get transcripts it.0 ≡ Some it.1 =
+    slice_get_read transcripts (length transcripts) it.0 it.1 refl it.2 (sym it.3) in
+    by_end (record { 0 = it.0 }) it.1.items it.1.end it.4 (shows.ends it.0 it.1 there)
+  where
+    by_end : (conn : ConnId) (items : List Shown) (end : AgentEnd) → ends_full_at place end ≡ true
+        → EndsRight limit script histories conn items end
+        → limit ≤ length_on histories (record { 0 = place })
+    by_end conn items ended.Done there right = absurd cc
+    by_end conn items ended.NoMemory there right = absurd cc
+    by_end conn items (ended.JournalFull on) there right =
+        let same : on.0 ≡ place = grind (arith, nat_tests) in
+        subst (λ (n : ℕ). limit ≤ length_on histories (record { 0 = n })) same right.full
+
+-- the script can fill the journal that is told
+pub can_fill : (script : Script) (reading : Reading) → AreWithin → ShowsRun script reading
+    → CanFill script (full_of script reading)
+can_fill script reading within shows =
+    by_place (find (λ (place : ℕ × StrForm). is_full_at reading.transcripts place.0)
+    (enumerate_from 0 script.structures)) refl
+  where
+    by_place : (found : Option (ℕ × StrForm))
+        → find (λ (place : ℕ × StrForm). is_full_at reading.transcripts place.0)
+        (enumerate_from 0 script.structures) ≡ found
+        → CanFill script (option_map (λ (place : ℕ × StrForm). place.1.name) found)
+    by_place None none = tt
+    by_place (Some place) found =
+        let it = found_place (is_full_at reading.transcripts) script.structures place found in
+        let on : StrNo = record { 0 = place.0 } in
+        let full : journal_limit ≤ length_on reading.histories on =
+        full_there journal_limit script reading.histories reading.transcripts shows place.0 it.1 in
+        let few : length_on reading.histories on ≤ most_calls script on =
+        within journal_limit script reading.histories reading.transcripts shows on in
+        (on, place.1, it.0, refl, omega (arith, full, few))

@@ -1,0 +1,56 @@
+//! Runs of the program in memory.
+ghost use Rattle.std.specs.Prelude.{◌≡◌, IfOk};
+ghost use Rattle.std.specs.Vec.{vec_len};
+
+use cf_io::{MemSink, MemSource};
+use cf_link::Steady;
+use plex_agent::Gate;
+use plex_run::run;
+use std::alloc::{AllocError, Global};
+use std::sync::Wait;
+use std::test::Fail;
+use std::thread::Threads;
+
+/// How many bytes a report can have here.
+const ROOM: usize = 1 << 18;
+
+/// How many bytes one write takes at most.
+const PIECE: usize = 4096;
+
+fn source_of(alloc: Global, script: &str) -> Result<MemSource, AllocError> {
+    Ok(MemSource {
+        bytes: Vec::from_slice(alloc, script.as_bytes())?,
+        taken: 0,
+        calls: 0,
+        fails: Vec::new(alloc),
+        faults: 0,
+    })
+}
+
+fn words_of(alloc: Global, word: &str) -> Result<Vec<String>, AllocError> {
+    let mut words = Vec::new(alloc);
+    words.push(String::from_str(alloc, word)?)?;
+    Ok(words)
+}
+
+// Links to facilities that are never lost.
+fn steady(alloc: Global) -> Result<Vec<Steady>, AllocError>
+    ensures { IfOk result (λ links. vec_len links ≡ 64) }
+{
+    vec![in alloc; Steady; 64]
+}
+
+/// The status of the script's run on threads, and what it wrote.
+pub(super) fn ran<R: Threads + Wait + Sync, G: Gate>(
+    rt: &R,
+    alloc: Global,
+    script: &str,
+    gate: &G,
+) -> Result<(u8, String), Fail> {
+    let mut source = source_of(alloc, script)?;
+    let mut sink = MemSink::new(alloc, ROOM, PIECE, Vec::new(alloc))?;
+    let words = words_of(alloc, "threads")?;
+    let mut links = steady(alloc)?;
+    let status = run(rt, alloc, &words, &mut source, &mut sink, &mut links, gate);
+    Ok((status, String::from_utf8(sink.bytes)?))
+}

@@ -1,0 +1,62 @@
+-- The members at work: the structure that they share, a member's desk, and what is left of their work.
+use Rattle.std.specs.Prelude.{◌≡◌, ℕ, ◌<◌, List, [], ◌∷◌, ◌++◌, slice_get, Some}
+use Rattle.cf_types.specs.declared.forms.StrForm.{StrForm}
+use Rattle.cf_types.specs.declared.numbers.ConnId.{ConnId}
+use Rattle.cf_types.specs.declared.numbers.StrNo.{StrNo}
+use Rattle.cf_types.specs.Forms.{IsConnector}
+use Rattle.plex_script.specs.declared.asks.AnyHistory.{AnyHistory}
+use Rattle.plex_script.specs.declared.scripts.Script.{Script}
+use Rattle.vec_words.specs.declared.logged.Sight.{Sight}
+use Rattle.vec_words.specs.declared.logged.Tested.{Tested}
+use Rattle.any_model.specs.Types.{OfCache}
+use Rattle.any_model.specs.Kinds.{IsAnyLegal}
+use Rattle.any_cell.specs.Cells.{CellShown, IsAnyTold}
+use Rattle.desk_model.specs.Desks.{DeskShown, pass_at}
+use Rattle.desk_model.specs.Boards.{BoardShown, IsDeskOf, cell_on}
+
+-- the first structure of the policy
+abbrev pub gbp : StrNo
+gbp = record { 0 = 0 }
+
+-- it is there, a cache with a bit in each vector
+pub record HasPool {L : Type 0} (board : BoardShown L) : Type 0 where
+  pub cell : CellShown L
+  pub there : cell_on board gbp ≡ Some cell
+  pub cache : cell.str_type ≡ OfCache
+  pub vector : 0 < cell.words.len
+
+-- a connector's desk
+pub record IsMember {L : Type 0} (board : BoardShown L) (desk : DeskShown) : Type 0 where
+  pub pool : HasPool board
+  pub of_board : IsDeskOf board desk
+  pub connector : IsConnector desk.owner
+
+-- the desk is still the same connector's
+pub record Stays {L : Type 0} (board : BoardShown L) (before after : DeskShown) : Type 0 where
+  pub of_board : IsDeskOf board after
+  pub owner : after.owner ≡ before.owner
+
+-- a test of the bit that tells of the copy, by one who had seen so much complete
+abbrev pub sight_of : Tested → ℕ → Sight
+sight_of tested sure = record { index = 0; bit = tested.bit; at = tested.at; sure = sure }
+
+-- the last test at the desk was answered so
+pub record HasTested (desk : DeskShown) (tested : Tested) : Type 0 where
+  pub sure : ℕ
+  pub before : List Sight
+  pub tests : (pass_at desk gbp).tests ≡ before ++ sight_of tested sure ∷ []
+
+-- the reader, the second connector
+abbrev pub reader : ConnId
+reader = record { 0 = 2 }
+
+-- The history of the first structure is one that a single thread could have made, and the reader's test told the bit
+-- as it stood at that number of it, which isn't before what the reader had seen complete.
+pub record IsOutcome (script : Script) (histories : List AnyHistory) (tested : Tested) : Type 0 where
+  pub form : StrForm
+  pub entries : AnyHistory
+  pub sure : ℕ
+  pub form_is : slice_get script.structures 0 ≡ Some form
+  pub history_is : slice_get histories 0 ≡ Some entries
+  pub legal : IsAnyLegal form entries
+  pub told : IsAnyTold form entries reader (sight_of tested sure)

@@ -1,0 +1,115 @@
+//! Two members of a group share a page through a cache structure, each on a thread of its own: the
+//! coupling facility as a library, with no script of what they do.
+#![tactic(auto)]
+
+mod fault;
+mod roles;
+
+ghost use Rattle.std.specs.Prelude.{◌≡◌, IsTrue, IfOk, false};
+ghost use Rattle.desk_model.specs.Boards.{IsPolicy};
+ghost use Rattle.two_members.specs.Members.{HasPool, IsMember, Stays, HasTested, IsOutcome};
+
+use cf_link::Steady;
+use cf_types::Kind;
+use fault::Fault;
+use plex_board::{Board, Desk};
+use plex_report::render;
+use plex_script::{AnyHistory, Script, read};
+use roles::{COPY, GBP, reader, writer};
+use std::alloc::Global;
+use std::io::Write;
+use std::sync::Wait;
+use std::thread::{Threads, join_mut};
+use vec_words::Tested;
+
+/// The policy: a facility, a cache structure in it, and its two connectors.
+const POLICY: &str = "FACILITY CF1 100\n\
+    STRUCTURE GBP CACHE 8 8 4 64 DELETE\n\
+    PREF GBP CF1 40\n\
+    CONNECTOR A\n\
+    CONNECTOR B\n";
+
+/// How many links there are to the facilities: four for each of 16 structures.
+const LINKS: usize = 64;
+
+/// How many calls a history can have.
+const CALLS: u32 = 100;
+
+fn main(rt: HostRuntime) -> Result<(), Fault> {
+    let alloc = rt.alloc();
+    let script = read(alloc, POLICY.as_bytes())?;
+    let (histories, last) = members(&rt, alloc, &script)?;
+    let report = render(alloc, &script, histories.as_slice(), &[])?;
+    rt.stdout().write_all(report.as_slice())?;
+    print_test(&rt, last)
+}
+
+// Prints the reader's last test: its bit, and the number of the call at which it stood so.
+fn print_test(rt: &impl Print, Tested { bit, at }: Tested) -> Result<(), Fault> {
+    let word = if bit { "VALID" } else { "INVALID" };
+    println!(rt; "B GBP TEST {COPY} {word} {at}")?;
+    Ok(())
+}
+
+// Starts the structures of the policy, has both members work at the first, and ends them. What is
+// left is their histories, and the reader's last test.
+fn members<R: Threads + Wait + Sync>(
+    rt: &R,
+    alloc: Global,
+    script: &Script,
+) -> Result<(Vec<AnyHistory>, Tested), Fault>
+    requires { IsPolicy script.now }
+    // The copy isn't valid any more.
+    ensures invalid { IfOk result (λ left. left.1.bit ≡ false) }
+
+    // The history is one that a single thread could have made, and the test told what stood at that
+    // number of it.
+    ensures outcome { IfOk result (λ left. IsOutcome script.now left.0.items left.1) }
+{
+    let Ok(links) = vec![in alloc; Steady; LINKS] else {
+        return Err(Fault::NoMemory);
+    };
+    let Ok((board, mut desks)) = Board::start(rt, alloc, script, CALLS, links) else {
+        return Err(Fault::NoMemory);
+    };
+    if desks.len() != 3 || !has_pool(&board) {
+        return Err(Fault::Policy);
+    }
+    // The first desk is the operator's, which does nothing.
+    let (Some(mut b), Some(mut a)) = (desks.pop(), desks.pop()) else {
+        return Err(Fault::Policy);
+    };
+    let (written, last) = work(rt, alloc, &board, &mut a, &mut b);
+    desks.push_reserved(a);
+    desks.push_reserved(b);
+    let (histories, _) = board.close(rt, desks);
+    written?;
+    Ok((histories, last?))
+}
+
+// Both members work, each on a thread of its own.
+fn work<R: Threads + Wait + Sync>(
+    rt: &R,
+    alloc: Global,
+    board: &Board<Steady>,
+    a: &mut Desk,
+    b: &mut Desk,
+) -> (Result<(), Fault>, Result<Tested, Fault>)
+    requires members { IsMember board.now a.old × IsMember board.now b.old }
+    ensures stay { Stays board.now a.old a.new × Stays board.now b.old b.new }
+    ensures invalid { IfOk result.1 (λ tested. tested.bit ≡ false) }
+    ensures tested { IfOk result.1 (λ tested. HasTested b.new tested) }
+{
+    join_mut(
+        rt,
+        &mut || writer(rt, alloc, board, a),
+        &mut || reader(rt, alloc, board, b),
+    )
+}
+
+// Whether the first structure is a cache, where each vector has the bit that is tested.
+fn has_pool(board: &Board<Steady>) -> bool
+    ensures { IsTrue result → HasPool board.now }
+{
+    board.structures() > 0 && board.kind(GBP) == Kind::Cache && board.vector(GBP) > COPY
+}

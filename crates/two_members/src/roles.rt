@@ -1,0 +1,145 @@
+//! What each member does at its desk.
+ghost use Rattle.std.specs.Prelude.{◌≡◌, IfOk, false};
+ghost use Rattle.any_model.specs.Kinds.{MayAskAny};
+ghost use Rattle.plex_script.specs.declared.scripts.AnyAsk.TheVariants as any;
+ghost use Rattle.two_members.specs.Members.{IsMember, Stays, HasTested};
+
+use crate::fault::Fault;
+use cf_link::Steady;
+use cf_types::{CacheCmd, Name16, ShellCmd, StrNo, parse_body};
+use engine_api::Ask;
+use plex_board::{Board, Desk};
+use plex_script::AnyAsk;
+use std::alloc::Global;
+use std::sync::Wait;
+use std::thread::yield_now;
+use vec_words::Tested;
+
+/// The structure that the members share, the first of the policy.
+pub const GBP: StrNo = StrNo(0);
+
+/// The index, in each member's vector, of the bit that says whether its copy of the page is valid.
+pub const COPY: u32 = 0;
+
+// The page, by its name with blanks behind it.
+const P1: Name16 = Name16(*b"P1              ");
+
+// How often a member looks for what the other does before it gives up.
+const LOOKS: u32 = 10_000_000;
+
+/// Member A: connects, and writes the page once the reader has its copy of it.
+pub fn writer(
+    rt: &impl Wait,
+    alloc: Global,
+    board: &Board<Steady>,
+    desk: &mut Desk,
+) -> Result<(), Fault>
+    requires { IsMember board.now desk.old }
+    ensures { Stays board.now desk.old desk.new }
+{
+    let connected = connect(rt, alloc, board, desk)?;
+    board.post(rt, desk, GBP);
+    wait_past(rt, board, desk, connected)?;
+    let page = parse_body(alloc, b"balance-17").map_err(|_| Fault::NoMemory)?;
+    // IXLCACHE WRITE_DATA: each copy of the page but the writer's own is no longer valid.
+    let write = CacheCmd::Write {
+        name: P1,
+        index: COPY,
+        body: page,
+        class: Some(1),
+        adj: None,
+        old: None,
+        stg: 1,
+        when_reg: false,
+    };
+    call(rt, alloc, board, desk, Ask::Content(write))?;
+    Ok(())
+}
+
+/// Member B: connects, reads the page, and tests its copy till it isn't valid any more.
+pub fn reader(
+    rt: &impl Wait,
+    alloc: Global,
+    board: &Board<Steady>,
+    desk: &mut Desk,
+) -> Result<Tested, Fault>
+    requires { IsMember board.now desk.old }
+    ensures stays { Stays board.now desk.old desk.new }
+    ensures invalid { IfOk result (λ tested. tested.bit ≡ false) }
+    ensures tested { IfOk result (λ tested. HasTested desk.new tested) }
+{
+    wait_past(rt, board, desk, 0)?;
+    connect(rt, alloc, board, desk)?;
+    // IXLCACHE READ_DATA: it registers the reader, and its bit says so.
+    let read = CacheCmd::Read {
+        name: P1,
+        index: COPY,
+        old: None,
+        stg: 1,
+    };
+    call(rt, alloc, board, desk, Ask::Content(read))?;
+    board.post(rt, desk, GBP);
+    test_copy(board, desk)
+}
+
+// Tests the bit of the copy till the copy isn't valid.
+fn test_copy(board: &Board<Steady>, desk: &mut Desk) -> Result<Tested, Fault>
+    requires { IsMember board.now desk.old }
+    ensures stays { Stays board.now desk.old desk.new }
+    ensures invalid { IfOk result (λ tested. tested.bit ≡ false) }
+    ensures tested { IfOk result (λ tested. HasTested desk.new tested) }
+{
+    for _ in 0..LOOKS {
+        // IXLVECTR TESTLOCALCACHE: no lock, no call.
+        let tested = board.test(desk, GBP, COPY);
+        if !tested.bit {
+            return Ok(tested);
+        }
+        yield_now();
+    }
+    Err(Fault::Alone)
+}
+
+// IXLCONN: the member connects. It answers the number of the call.
+fn connect(
+    rt: &impl Wait,
+    alloc: Global,
+    board: &Board<Steady>,
+    desk: &mut Desk,
+) -> Result<u32, Fault>
+    requires { IsMember board.now desk.old }
+    ensures { Stays board.now desk.old desk.new }
+{
+    let connect = Ask::Shell(ShellCmd::Connect { keep: false });
+    call(rt, alloc, board, desk, connect)
+}
+
+// Makes a call of the cache structure. It answers the call's number in the history.
+fn call(
+    rt: &impl Wait,
+    alloc: Global,
+    board: &Board<Steady>,
+    desk: &mut Desk,
+    ask: Ask<CacheCmd>,
+) -> Result<u32, Fault>
+    requires member { IsMember board.now desk.old }
+    requires ask { MayAskAny desk.old.owner (any.Cache ask) }
+    ensures { Stays board.now desk.old desk.new }
+{
+    let told = board.call(rt, alloc, desk, GBP, AnyAsk::Cache(ask))?;
+    Ok(told.no)
+}
+
+// Takes notes till one tells of a call past this one.
+fn wait_past(rt: &impl Wait, board: &Board<Steady>, desk: &mut Desk, call: u32) -> Result<(), Fault>
+    requires { IsMember board.now desk.old }
+    ensures { Stays board.now desk.old desk.new }
+{
+    for _ in 0..LOOKS {
+        if board.take(rt, desk, GBP) > call {
+            return Ok(());
+        }
+        yield_now();
+    }
+    Err(Fault::Alone)
+}
