@@ -4,7 +4,7 @@ use Rattle.bench_cell.proofs.SeatLaws.{pool-within, still-seated}
 use Rattle.bench_cell.proofs.boards.test.Goals as goal
 
 pub test-requires-clause-index : goal.test-requires-clause-index
-test-requires-clause-index c κs within =
+test-requires-clause-index c κs =
     pool-within c.args.board.now c.args.index c.requires.seated.board_is c.requires.index
 
 pub returns : goal.returns
