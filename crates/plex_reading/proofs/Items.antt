@@ -1,5 +1,5 @@
 -- The lines of a transcript that follows its script fix it, over histories that are known.
-use Rattle.std.proofs.Common.{◌≡◌, ℕ, zero, suc, ◌+◌, ◌*◌, ◌/◌, ◌%◌, ◌≤◌, ◌<◌, ◌==◌, ◌^◌, nat_lt, Bool, true, false, not, List, [], ◌∷◌, ◌++◌, map, codes, get_or, Option, Some, None, unwrap_or, slice_get, refl, sym, ap, subst, ◌∙◌, arith, append_assoc}
+use Rattle.std.proofs.Common.{◌≡◌, ℕ, zero, suc, ◌+◌, ◌*◌, ◌/◌, ◌%◌, ◌≤◌, ◌<◌, ◌==◌, ◌^◌, nat_lt, Bool, true, false, not, List, [], ◌∷◌, ◌++◌, map, codes, get_or, Option, Some, None, unwrap_or, refl, sym, ap, subst, ◌∙◌, arith, append_assoc}
 use Rattle.std.specs.Bool.{MatchBool}
 use Rattle.std.specs.Fmt.{decimal}
 use Rattle.std.proofs.Math.Nat.{pow-suc}
@@ -27,7 +27,6 @@ use Rattle.plex_script.specs.Agent.{first_step, step_after, asked_by, common}
 use Rattle.plex_script.specs.Causes.{kind_of}
 use Rattle.plex_script.specs.Heard.{AnyCall, heard, calls_on, length_on}
 use Rattle.plex_script.specs.Follows.{IsHeard, Runs, ShowsTest, ShowsWord, ShowsAct, ShowsLines, ShowsClosing, ShowsClosings, Follows, lines_of, is_linked_by}
-use Rattle.serial_model.specs.Headline.{place_of}
 use Rattle.plex_report.specs.Naming.{structure_word}
 use Rattle.plex_report.specs.Lines.{shown_line, bit_word, binary_digits}
 use Rattle.plex_report.proofs.Digits.{digits_end, digits_next}
@@ -95,30 +94,26 @@ same_digits (suc count) m n small_m small_n e =
 
 -- ---- items
 
--- what an item tells is within the history
-abbrev pub IsBounded : StrForm → ℕ → Shown → Type 0
-IsBounded form count (shown.Call on number) = Unit {0}
-IsBounded form count (shown.Test on index bit at) = at ≤ count
-IsBounded form count (shown.Word on word bits at) = (bits < 2 ^ 32) × (32 * word < form.vector → at ≤ count)
-IsBounded form count (shown.BadIndex on index word len) = Unit {0}
-IsBounded form count (shown.Posted on sure) = sure ≤ count
-IsBounded form count (shown.Took on sure) = sure ≤ count
+-- what an item tells has at most 64 bits
+abbrev pub IsBounded : Shown → Type 0
+IsBounded (shown.Call on number) = Unit {0}
+IsBounded (shown.Test on index bit at) = at < 2 ^ 64
+IsBounded (shown.Word on word bits at) = (bits < 2 ^ 32) × (at < 2 ^ 64)
+IsBounded (shown.BadIndex on index word len) = Unit {0}
+IsBounded (shown.Posted on sure) = sure < 2 ^ 64
+IsBounded (shown.Took on sure) = sure < 2 ^ 64
 
-module _ (script : Script) (histories : List AnyHistory) where
-  -- each item tells what is within the histories
-  abbrev pub AreBounded : List Shown → Type 0
-  AreBounded [] = Unit {0}
-  AreBounded (item ∷ items) =
-      ((form : StrForm) → slice_get script.structures (place_of item).0 ≡ Some form
-      → IsBounded form (length_on histories (place_of item)) item) × AreBounded items
+abbrev pub AreBounded : List Shown → Type 0
+AreBounded [] = Unit {0}
+AreBounded (item ∷ items) = IsBounded item × AreBounded items
 
-  bounded_front : (xs ys : List Shown) → AreBounded (xs ++ ys) → AreBounded xs
-  bounded_front [] ys h = tt
-  bounded_front (x ∷ xs) ys h = (h.0, bounded_front xs ys h.1)
+bounded_front : (xs ys : List Shown) → AreBounded (xs ++ ys) → AreBounded xs
+bounded_front [] ys h = tt
+bounded_front (x ∷ xs) ys h = (h.0, bounded_front xs ys h.1)
 
-  bounded_back : (xs ys : List Shown) → AreBounded (xs ++ ys) → AreBounded ys
-  bounded_back [] ys h = h
-  bounded_back (x ∷ xs) ys h = bounded_back xs ys h.1
+bounded_back : (xs ys : List Shown) → AreBounded (xs ++ ys) → AreBounded ys
+bounded_back [] ys h = h
+bounded_back (x ∷ xs) ys h = bounded_back xs ys h.1
 
 module _ (script : Script) (histories : List AnyHistory) (small : (on : StrNo) → length_on histories on < 2 ^ 64)
     (within : (on : StrNo) (number : ℕ) (call : AnyCall) → heard number (calls_on histories on) ≡ Some call
@@ -237,17 +232,14 @@ module _ (script : Script) (histories : List AnyHistory) (small : (on : StrNo) �
       let parts = fixes texts_same in
       (is ∙ (ap (λ (it : Shown). it ∷ []) parts.0 ∙ sym is'), parts.1)
 
-  one_bounded : (items : List Shown) (item : Shown) (form : StrForm) → items ≡ item ∷ []
-      → AreBounded script histories items
-      → slice_get script.structures (place_of item).0 ≡ Some form
-      → IsBounded form (length_on histories (place_of item)) item
-  one_bounded items item form is bounded known = (subst (AreBounded script histories) is bounded).0 form known
+  one_bounded : (items : List Shown) (item : Shown) → items ≡ item ∷ [] → AreBounded items → IsBounded item
+  one_bounded items item is bounded = (subst AreBounded is bounded).0
 
   test_same : (form : StrForm) (on : StrNo) (index : ℕ) (items items' : List Shown) (xs ys : List (List ℕ))
-      → slice_get script.structures on.0 ≡ Some form → ShowsTest form on index items → ShowsTest form on index items'
-      → AreBounded script histories items → AreBounded script histories items'
+      → ShowsTest form on index items → ShowsTest form on index items'
+      → AreBounded items → AreBounded items'
       → text_of (map line items ++ xs) ≡ text_of (map line items' ++ ys) → Same items items' xs ys
-  test_same form on index items items' xs ys known shows shows' bounded bounded' e =
+  test_same form on index items items' xs ys shows shows' bounded bounded' e =
       by_test (nat_lt index form.vector) shows shows'
     where
       k : Kind
@@ -260,15 +252,13 @@ module _ (script : Script) (histories : List AnyHistory) (small : (on : StrNo) �
           (items' ≡ shown.BadIndex on index false form.vector ∷ [])
           → Same items items' xs ys
       by_test true (bit, (at, is)) (bit', (at', is')) =
-          let low : at ≤ length_on histories on = one_bounded items
-          (shown.Test on index bit at) form is bounded known in
-          let low' : at' ≤ length_on histories on = one_bounded items'
-          (shown.Test on index bit' at') form is' bounded' known in
+          let low : at < 2 ^ 64 = one_bounded items (shown.Test on index bit at) is bounded in
+          let low' : at' < 2 ^ 64 = one_bounded items' (shown.Test on index bit' at') is' bounded' in
           one_item items items' (shown.Test on index bit at) (shown.Test on index bit' at') xs ys is is' e
           (λ same.
           let parts = same_two (front_of on (codes "TEST") index) (bit_word k bit) (bit_word k bit') at at'
           (text_of xs) (text_of ys)
-          (free_bit k bit) (free_bit k bit') (omega (arith, low, small on)) (omega (arith, low', small on))
+          (free_bit k bit) (free_bit k bit') low low'
           (texts _ _ (line (shown.Test on index bit at)) (line (shown.Test on index bit' at')) xs ys
           (two_words (structure_word script on) (codes "TEST") (decimal index) (bit_word k bit) (decimal at))
           (two_words (structure_word script on) (codes "TEST") (decimal index) (bit_word k bit')
@@ -286,30 +276,26 @@ module _ (script : Script) (histories : List AnyHistory) (small : (on : StrNo) �
           ))
 
   word_same : (form : StrForm) (on : StrNo) (word : ℕ) (items items' : List Shown) (xs ys : List (List ℕ))
-      → slice_get script.structures on.0 ≡ Some form → ShowsWord form on word items → ShowsWord form on word items'
-      → AreBounded script histories items → AreBounded script histories items'
+      → ShowsWord form on word items → ShowsWord form on word items'
+      → AreBounded items → AreBounded items'
       → text_of (map line items ++ xs) ≡ text_of (map line items' ++ ys) → Same items items' xs ys
-  word_same form on word items items' xs ys known shows shows' bounded bounded' e =
-      by_test (nat_lt (32 * word) form.vector) refl shows shows'
+  word_same form on word items items' xs ys shows shows' bounded bounded' e =
+      by_test (nat_lt (32 * word) form.vector) shows shows'
     where
-      by_test : (b : Bool) → nat_lt (32 * word) form.vector ≡ b
+      by_test : (b : Bool)
           → MatchBool b ((bits : ℕ) × ((at : ℕ) × (items ≡ shown.Word on word bits at ∷ [])))
           (items ≡ shown.BadIndex on word true form.vector ∷ [])
           → MatchBool b ((bits : ℕ) × ((at : ℕ) × (items' ≡ shown.Word on word bits at ∷ [])))
           (items' ≡ shown.BadIndex on word true form.vector ∷ [])
           → Same items items' xs ys
-      by_test true begins (bits, (at, is)) (bits', (at', is')) =
-          let inside : 32 * word < form.vector = grind (arith, nat_tests) in
-          let low = one_bounded items (shown.Word on word bits at) form is bounded known in
-          let low' = one_bounded items' (shown.Word on word bits' at') form is' bounded' known in
-          let short : at ≤ length_on histories on = low.1 inside in
-          let short' : at' ≤ length_on histories on = low'.1 inside in
+      by_test true (bits, (at, is)) (bits', (at', is')) =
+          let low = one_bounded items (shown.Word on word bits at) is bounded in
+          let low' = one_bounded items' (shown.Word on word bits' at') is' bounded' in
           one_item items items' (shown.Word on word bits at) (shown.Word on word bits' at') xs ys is is' e
           (λ same.
           let parts = same_two (front_of on (codes "TESTWORD") word) (binary_digits 32 bits)
           (binary_digits 32 bits') at at'
-          (text_of xs) (text_of ys) (free_digits 32 bits) (free_digits 32 bits') (omega (arith, short, small on))
-          (omega (arith, short', small on))
+          (text_of xs) (text_of ys) (free_digits 32 bits) (free_digits 32 bits') low.1 low'.1
           (texts _ _ (line (shown.Word on word bits at)) (line (shown.Word on word bits' at')) xs ys
           (two_words (structure_word script on) (codes "TESTWORD") (decimal word) (binary_digits 32 bits)
           (decimal at))
@@ -318,7 +304,7 @@ module _ (script : Script) (histories : List AnyHistory) (small : (on : StrNo) �
           let values : bits ≡ bits' = same_digits 32 bits bits' low.0 low'.0 parts.0 in
           let ats : at ≡ at' = parts.1 in
           (cc, parts.2))
-      by_test false past is is' =
+      by_test false is is' =
           one_item items items' (shown.BadIndex on word true form.vector)
           (shown.BadIndex on word true form.vector) xs ys is is' e
           (λ same. (
@@ -327,38 +313,33 @@ module _ (script : Script) (histories : List AnyHistory) (small : (on : StrNo) �
                 (text_of xs) (text_of ys) same,
           ))
 
-  posted_same : (form : StrForm) (on : StrNo) (sure sure' : ℕ) (items items' : List Shown) (xs ys : List (List ℕ))
-      → slice_get script.structures on.0 ≡ Some form → items ≡ shown.Posted on sure ∷ []
-      → items' ≡ shown.Posted on sure' ∷ []
-      → AreBounded script histories items → AreBounded script histories items'
+  posted_same : (on : StrNo) (sure sure' : ℕ) (items items' : List Shown) (xs ys : List (List ℕ))
+      → items ≡ shown.Posted on sure ∷ [] → items' ≡ shown.Posted on sure' ∷ []
+      → AreBounded items → AreBounded items'
       → text_of (map line items ++ xs) ≡ text_of (map line items' ++ ys) → Same items items' xs ys
-  posted_same form on sure sure' items items' xs ys known is is' bounded bounded' e =
-      let low : sure ≤ length_on histories on = one_bounded items (shown.Posted on sure) form is bounded known in
-      let low' : sure' ≤ length_on histories on = one_bounded items'
-      (shown.Posted on sure') form is' bounded' known in
+  posted_same on sure sure' items items' xs ys is is' bounded bounded' e =
+      let low : sure < 2 ^ 64 = one_bounded items (shown.Posted on sure) is bounded in
+      let low' : sure' < 2 ^ 64 = one_bounded items' (shown.Posted on sure') is' bounded' in
       one_item items items' (shown.Posted on sure) (shown.Posted on sure') xs ys is is' e
       (λ same.
       let parts = same_end (structure_word script on ++ ((32 ∷ codes "POST") ++ 32 ∷ [])) sure sure' (text_of xs)
-      (text_of ys)
-      (omega (arith, low, small on)) (omega (arith, low', small on))
+      (text_of ys) low low'
       (texts _ _ (line (shown.Posted on sure)) (line (shown.Posted on sure')) xs ys
       (one_word (structure_word script on) (codes "POST") (decimal sure))
       (one_word (structure_word script on) (codes "POST") (decimal sure')) same) in
       (ap (shown.Posted on) parts.0, parts.1))
 
-  took_same : (form : StrForm) (on : StrNo) (sure sure' : ℕ) (items items' : List Shown) (xs ys : List (List ℕ))
-      → slice_get script.structures on.0 ≡ Some form → items ≡ shown.Took on sure ∷ []
-      → items' ≡ shown.Took on sure' ∷ []
-      → AreBounded script histories items → AreBounded script histories items'
+  took_same : (on : StrNo) (sure sure' : ℕ) (items items' : List Shown) (xs ys : List (List ℕ))
+      → items ≡ shown.Took on sure ∷ [] → items' ≡ shown.Took on sure' ∷ []
+      → AreBounded items → AreBounded items'
       → text_of (map line items ++ xs) ≡ text_of (map line items' ++ ys) → Same items items' xs ys
-  took_same form on sure sure' items items' xs ys known is is' bounded bounded' e =
-      let low : sure ≤ length_on histories on = one_bounded items (shown.Took on sure) form is bounded known in
-      let low' : sure' ≤ length_on histories on = one_bounded items' (shown.Took on sure') form is' bounded' known in
+  took_same on sure sure' items items' xs ys is is' bounded bounded' e =
+      let low : sure < 2 ^ 64 = one_bounded items (shown.Took on sure) is bounded in
+      let low' : sure' < 2 ^ 64 = one_bounded items' (shown.Took on sure') is' bounded' in
       one_item items items' (shown.Took on sure) (shown.Took on sure') xs ys is is' e
       (λ same.
       let parts = same_end (structure_word script on ++ ((32 ∷ codes "TAKE") ++ 32 ∷ [])) sure sure' (text_of xs)
-      (text_of ys)
-      (omega (arith, low, small on)) (omega (arith, low', small on))
+      (text_of ys) low low'
       (texts _ _ (line (shown.Took on sure)) (line (shown.Took on sure')) xs ys
       (one_word (structure_word script on) (codes "TAKE") (decimal sure))
       (one_word (structure_word script on) (codes "TAKE") (decimal sure')) same) in
@@ -368,23 +349,22 @@ module _ (script : Script) (histories : List AnyHistory) (small : (on : StrNo) �
 
   act_same : (form : StrForm) (by : ConnId) (on : StrNo) (retry : ℕ) (done : Act) (items items' : List Shown)
       (xs ys : List (List ℕ))
-      → slice_get script.structures on.0 ≡ Some form
       → ShowsAct form (calls_on histories on) by on retry done items
       → ShowsAct form (calls_on histories on) by on retry done items'
-      → AreBounded script histories items → AreBounded script histories items'
+      → AreBounded items → AreBounded items'
       → text_of (map line items ++ xs) ≡ text_of (map line items' ++ ys) → Same items items' xs ys
-  act_same form by on retry (act.Call asked) items items' xs ys known shows shows' bounded bounded' e =
+  act_same form by on retry (act.Call asked) items items' xs ys shows shows' bounded bounded' e =
       runs_same form.kind (Some asked) by on (step.Call retry) items items' xs ys shows shows' e
-  act_same form by on retry act.Events items items' xs ys known shows shows' bounded bounded' e =
+  act_same form by on retry act.Events items items' xs ys shows shows' bounded bounded' e =
       runs_same form.kind None by on (first_step act.Events retry) items items' xs ys shows shows' e
-  act_same form by on retry (act.Test index) items items' xs ys known shows shows' bounded bounded' e =
-      test_same form on index items items' xs ys known shows shows' bounded bounded' e
-  act_same form by on retry (act.TestWord word) items items' xs ys known shows shows' bounded bounded' e =
-      word_same form on word items items' xs ys known shows shows' bounded bounded' e
-  act_same form by on retry act.Post items items' xs ys known (sure, is) (sure', is') bounded bounded' e =
-      posted_same form on sure sure' items items' xs ys known is is' bounded bounded' e
-  act_same form by on retry act.Take items items' xs ys known (sure, is) (sure', is') bounded bounded' e =
-      took_same form on sure sure' items items' xs ys known is is' bounded bounded' e
+  act_same form by on retry (act.Test index) items items' xs ys shows shows' bounded bounded' e =
+      test_same form on index items items' xs ys shows shows' bounded bounded' e
+  act_same form by on retry (act.TestWord word) items items' xs ys shows shows' bounded bounded' e =
+      word_same form on word items items' xs ys shows shows' bounded bounded' e
+  act_same form by on retry act.Post items items' xs ys (sure, is) (sure', is') bounded bounded' e =
+      posted_same on sure sure' items items' xs ys is is' bounded bounded' e
+  act_same form by on retry act.Take items items' xs ys (sure, is) (sure', is') bounded bounded' e =
+      took_same on sure sure' items items' xs ys is is' bounded bounded' e
 
   -- the text of items in two parts
   parted : (first others : List Shown) (xs : List (List ℕ))
@@ -409,7 +389,7 @@ module _ (script : Script) (histories : List AnyHistory) (small : (on : StrNo) �
 
   lines_same : (lines : List Line) (items items' : List Shown) (xs ys : List (List ℕ))
       → ShowsLines script.structures histories lines items → ShowsLines script.structures histories lines items'
-      → AreBounded script histories items → AreBounded script histories items'
+      → AreBounded items → AreBounded items'
       → text_of (map line items ++ xs) ≡ text_of (map line items' ++ ys) → Same items items' xs ys
   lines_same [] items items' xs ys shows shows' bounded bounded' e = (
     shows ∙ sym shows',
@@ -423,15 +403,14 @@ module _ (script : Script) (histories : List AnyHistory) (small : (on : StrNo) �
       let here' : ShowsAct form (calls_on histories one.on) one.by one.on one.retry one.act first' =
       subst (λ (f : StrForm). ShowsAct f
       (calls_on histories one.on) one.by one.on one.retry one.act first') same_form shows' in
-      let all : AreBounded script histories (first ++ others) = subst (AreBounded script histories) split bounded in
-      let all' : AreBounded script histories (first' ++ others') = subst
-      (AreBounded script histories) split' bounded' in
+      let all : AreBounded (first ++ others) = subst AreBounded split bounded in
+      let all' : AreBounded (first' ++ others') = subst AreBounded split' bounded' in
       let here = act_same form one.by one.on one.retry one.act first first' (map line others ++ xs)
-      (map line others' ++ ys) known shows here'
-      (bounded_front script histories first others all) (bounded_front script histories first' others' all')
+      (map line others' ++ ys) shows here'
+      (bounded_front first others all) (bounded_front first' others' all')
       (two_parts first first' others others' items items' xs ys split split' e) in
-      let behind = lines_same lines others others' xs ys more more' (bounded_back script histories first others all)
-      (bounded_back script histories first' others' all') here.1 in
+      let behind = lines_same lines others others' xs ys more more' (bounded_back first others all)
+      (bounded_back first' others' all') here.1 in
       (both_parts first first' others others' items items' split split' here.0 behind.0, behind.1)
 
   -- ---- the departures
@@ -480,17 +459,15 @@ module _ (script : Script) (histories : List AnyHistory) (small : (on : StrNo) �
 
   pub follows_same : (conn : ConnId) (items items' : List Shown) (xs ys : List (List ℕ))
       → Follows script histories conn items
-      → Follows script histories conn items' → AreBounded script histories items → AreBounded script histories items'
+      → Follows script histories conn items' → AreBounded items → AreBounded items'
       → text_of (map line items ++ xs) ≡ text_of (map line items' ++ ys) → Same items items' xs ys
   follows_same conn items items' xs ys follows follows' bounded bounded' e =
-      let all : AreBounded script histories (follows.during ++ follows.after) = subst
-      (AreBounded script histories) follows.shows bounded in
-      let all' : AreBounded script histories (follows'.during ++ follows'.after) = subst
-      (AreBounded script histories) follows'.shows bounded' in
+      let all : AreBounded (follows.during ++ follows.after) = subst AreBounded follows.shows bounded in
+      let all' : AreBounded (follows'.during ++ follows'.after) = subst AreBounded follows'.shows bounded' in
       let first = lines_same (lines_of script conn) follows.during follows'.during (map line follows.after ++ xs)
       (map line follows'.after ++ ys)
-      follows.lines follows'.lines (bounded_front script histories follows.during follows.after all)
-      (bounded_front script histories follows'.during follows'.after all')
+      follows.lines follows'.lines (bounded_front follows.during follows.after all)
+      (bounded_front follows'.during follows'.after all')
       (two_parts follows.during follows'.during follows.after follows'.after items items' xs ys follows.shows
       follows'.shows e) in
       let last = departs (conn.0 == 0) follows.closings

@@ -6,4 +6,6 @@ pub mod Played
 pub mod Entries
 pub mod Items
 pub mod Histories
+pub mod Sizes
 pub mod Readings
+pub mod Tests

@@ -1,11 +1,15 @@
 -- Readings of a report: the histories and transcripts that it may be a report of.
-use Rattle.std.specs.Prelude.{◌≡◌, ℕ, ◌<◌, ◌^◌, List, length, slice_get, Some}
+use Rattle.std.specs.Prelude.{◌≡◌, ℕ, ◌+◌, ◌<◌, ◌^◌, List, length, slice_get, Some}
+use Rattle.cf_types.specs.declared.forms.StrForm.{StrForm}
 use Rattle.plex_script.specs.declared.asks.AnyHistory.{AnyHistory}
 use Rattle.plex_script.specs.declared.scripts.Script.{Script}
 use Rattle.plex_script.specs.declared.transcripts.AgentEnd.TheVariants as ended
+use Rattle.plex_script.specs.declared.transcripts.Shown.{Shown}
+use Rattle.plex_script.specs.declared.transcripts.Shown.TheVariants as shown
 use Rattle.plex_script.specs.declared.transcripts.Transcript.{Transcript}
+use Rattle.plex_script.specs.Follows.{Follows}
 use Rattle.plex_script.specs.Scripts.{IsScript}
-use Rattle.serial_model.specs.Headline.{ShowsHistories}
+use Rattle.serial_model.specs.Headline.{IsHistoryOf}
 use Rattle.plex_report.specs.Report.{report}
 
 pub record Reading : Type 0 where
@@ -15,23 +19,36 @@ pub record Reading : Type 0 where
 abbrev pub report_of : Script → Reading → List ℕ
 report_of script reading = report script reading.histories reading.transcripts
 
--- the histories are legal, each transcript follows the script to its end, and each test tells what stood
-pub record IsReading (limit : ℕ) (script : Script) (reading : Reading) : Type 0 where
-  pub shows : ShowsHistories limit script reading.histories reading.transcripts
-  pub done : (c : ℕ) (transcript : Transcript) → slice_get reading.transcripts c ≡ Some transcript
-      → transcript.end ≡ ended.Done
+-- the number that a test shows has at most 64 bits, and a word of a vector has 32
+abbrev pub ShowsNumbers : Shown → Type 0
+ShowsNumbers (shown.Call place number) = Unit {0}
+ShowsNumbers (shown.Test place index bit at) = at < 2 ^ 64
+ShowsNumbers (shown.Word place word bits at) = (bits < 2 ^ 32) × (at < 2 ^ 64)
+ShowsNumbers (shown.BadIndex place index word len) = Unit {0}
+ShowsNumbers (shown.Posted place sure) = Unit {0}
+ShowsNumbers (shown.Took place sure) = Unit {0}
+
+-- each history is legal, each caller's transcript follows the script to its end, and what tests show has the width of
+-- a number or a word
+pub record IsReading (script : Script) (reading : Reading) : Type 0 where
+  pub structures : length reading.histories ≡ length script.structures
+  pub histories_right : (x : ℕ) (form : StrForm) (entries : AnyHistory) → slice_get script.structures x ≡ Some form
+      → slice_get reading.histories x ≡ Some entries → IsHistoryOf script form entries
+  pub callers : length reading.transcripts ≡ length script.connectors + 1
+  pub follows : (c : ℕ) (transcript : Transcript) → slice_get reading.transcripts c ≡ Some transcript
+      → (transcript.end ≡ ended.Done) × Follows script reading.histories (record { 0 = c }) transcript.items
+  pub numbers : (c k : ℕ) (transcript : Transcript) (item : Shown) → slice_get reading.transcripts c ≡ Some transcript
+      → slice_get transcript.items k ≡ Some item → ShowsNumbers item
 
 -- no other reading of the script has this report
-abbrev pub IsTheReading : ℕ → Script → Reading → Type 0
-IsTheReading limit script reading =
-    (other : Reading) → IsReading limit script other → report_of script other ≡ report_of script reading
+abbrev pub IsTheReading : Script → Reading → Type 0
+IsTheReading script reading =
+    (other : Reading) → IsReading script other → report_of script other ≡ report_of script reading
     → other ≡ reading
 
 -- whichever readings of a script have the same report are the same
 abbrev pub IsOnlyReading : Type 0
 IsOnlyReading =
-    (text : List ℕ) (limit : ℕ) (script : Script) (one other : Reading) → IsScript text script
-    → IsReading limit script one
-    → IsReading limit script other → length (report_of script one) < 2 ^ 64 → report_of script one ≡ report_of script
-    other
-    → one ≡ other
+    (text : List ℕ) (script : Script) (one other : Reading) → IsScript text script → IsReading script one
+    → IsReading script other → length (report_of script one) < 2 ^ 64
+    → report_of script one ≡ report_of script other → one ≡ other

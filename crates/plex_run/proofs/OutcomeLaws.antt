@@ -9,7 +9,6 @@ use Rattle.plex_script.specs.Reading.{TellsFault}
 use Rattle.plex_script.specs.declared.scripts.Script.{Script}
 use Rattle.plex_script.specs.Scripts.{IsScript, IsFault}
 use Rattle.plex_script.specs.Laws.{SaysOne, IsExclusive}
-use Rattle.cf_io.specs.Count.{Rises}
 use Rattle.plex_script.specs.declared.asks.AnyHistory.{AnyHistory}
 use Rattle.plex_script.specs.declared.transcripts.Transcript.{Transcript}
 use Rattle.serial_model.specs.Headline.{ShowsHistories}

@@ -16,6 +16,7 @@ use Rattle.plex_script.specs.declared.transcripts.Transcript.{Transcript}
 use Rattle.plex_script.specs.Heard.{length_on}
 use Rattle.serial_model.specs.Headline.{ShowsHistories, EndsRight}
 use Rattle.plex_reading.specs.Readings.{Reading, IsReading, IsTheReading, IsOnlyReading, report_of}
+use Rattle.plex_reading.proofs.Tests.{is_reading}
 use Rattle.plex_run.specs.declared.way.Way.{Way}
 use Rattle.plex_run.specs.Full.{ends_full_at, is_full_at, full_structure}
 use Rattle.plex_run.specs.Outcome.{IsServed, WritesOneReading, WritesRun, ShowsRun, full_of, run_text, run_status, journal_limit}
@@ -91,16 +92,11 @@ pub one_reading : (held held_now : Option (List ℕ)) (text : List ℕ) (script 
     ^ 64
     → Appends held held_now (report_of script reading) → WritesOneReading held held_now text
 one_reading held held_now text script reading served only shows none short appends =
-    let is : IsReading journal_limit script reading =
-    record {
-      shows = shows;
-      done = all_done journal_limit script reading.histories reading.transcripts (omega arith)
-          shows none;
-    } in
-    let the : IsTheReading journal_limit script reading =
-    λ other other_is same. sym (only text journal_limit script reading other served.says is other_is short (sym same))
-    in
-    (script, (reading, served, is, the, appends))
+    let done = all_done journal_limit script reading.histories reading.transcripts (omega arith) shows none in
+    let is : IsReading script reading = is_reading journal_limit script reading shows done short in
+    let the : IsTheReading script reading =
+    λ other other_is same. sym (only text script reading other served.says is other_is short (sym same)) in
+    (script, (reading, served, shows, is, the, appends))
 
 -- the status 0 tells that no journal got full
 pub reading_written : (held held_now : Option (List ℕ)) (text : List ℕ) (by : Way) (script : Script) (status : ℕ)

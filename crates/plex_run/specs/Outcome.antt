@@ -151,12 +151,12 @@ WritesHistories status held held_now text =
     × ShowsFresh script reading.histories reading.transcripts × CanFill script (full_of script reading)
     × (status ≡ run_status script reading) × Appends held held_now (run_text script reading))
 
--- the report was written of histories and transcripts that each caller's work was done in, and of no others could it
--- have been
+-- the report was written of histories and transcripts of a run in which each caller's work was done, and of no others
+-- of the script could it have been, whatever their tests tell
 abbrev pub WritesOneReading : Option (List ℕ) → Option (List ℕ) → List ℕ → Type 0
 WritesOneReading held held_now text =
-    (script : Script) × ((reading : Reading) × IsServed text script × IsReading journal_limit script reading
-    × IsTheReading journal_limit script reading × Appends held held_now (report_of script reading))
+    (script : Script) × ((reading : Reading) × IsServed text script × ShowsRun script reading
+    × IsReading script reading × IsTheReading script reading × Appends held held_now (report_of script reading))
 
 -- a front of what is written of a run that shows histories, as above, was written
 abbrev pub WritesFront : Option (List ℕ) → Option (List ℕ) → List ℕ → Type 0

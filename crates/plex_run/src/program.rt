@@ -373,7 +373,9 @@ pub fn run<R: Threads + Wait + Sync, S: Source, K: Sink, L: Link, G: Gate>(
     // 65,536 calls or more.
     ensures headline { (result ≡ 0) ⊎ (result ≡ 8) → IfSome (S.left source.old)
         (WritesHistories result (K.held sink.old) (K.held sink.new)) }
-    // And no other legal histories, with transcripts that follow the script, have that report.
+    // With 0 every caller's work was done, and no other legal histories, with transcripts that
+    // follow the script to their ends, have that report, whatever the tests in them tell. Only
+    // the width of what a test shows counts: a number of at most 64 bits, or a word of 32.
     ensures reading { result ≡ 0 → IfSome (S.left source.old)
         (WritesOneReading (K.held sink.old) (K.held sink.new)) }
 
