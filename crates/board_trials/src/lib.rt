@@ -10,8 +10,8 @@ mod waits;
 
 pub use halts::Halt;
 pub use past::{Answer, bits_after, counted, is_of, never_falls, tells};
-pub use seats::{post, read, take, test, write};
-pub use trials::{Trial, close, start};
+pub use seats::{connect, post, read, take, test, write};
+pub use trials::{Trial, close, start, start_connected};
 pub use waits::{PATIENCE, raise, wait_for};
 
 #[cfg(test)]

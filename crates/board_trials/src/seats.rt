@@ -38,7 +38,7 @@ fn call(
 }
 
 /// Connects the caller.
-pub(crate) fn connect(
+pub fn connect(
     rt: &impl Wait,
     alloc: Global,
     board: &Board<Steady>,

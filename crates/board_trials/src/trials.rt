@@ -63,8 +63,7 @@ fn check_cache(board: &Board<Steady>) -> Result<(), Halt>
     Ok(())
 }
 
-/// A board at which both connectors are connected, the first by entry 1 of a journal that takes
-/// `limit` entries, the second by entry 2.
+/// A board whose journals take `limit` entries, and at which nothing was done yet.
 pub fn start(rt: &impl Wait, alloc: Global, limit: u32) -> Result<Trial, Halt>
     requires { (1 ≤ limit) × (limit ≤ 4294967000) }
     ensures { IfOk result IsTrial }
@@ -78,9 +77,29 @@ pub fn start(rt: &impl Wait, alloc: Global, limit: u32) -> Result<Trial, Halt>
         return Err(Halt::NoMemory);
     };
     check_cache(&board)?;
-    let mut second = take_desk(&board, &mut desks, ConnId(2))?;
-    let mut first = take_desk(&board, &mut desks, ConnId(1))?;
+    let second = take_desk(&board, &mut desks, ConnId(2))?;
+    let first = take_desk(&board, &mut desks, ConnId(1))?;
     let operator = take_desk(&board, &mut desks, ConnId(0))?;
+    Ok(Trial {
+        board,
+        operator,
+        first,
+        second,
+    })
+}
+
+/// Such a board at which both connectors are connected, the first by entry 1 of its journal, the
+/// second by entry 2.
+pub fn start_connected(rt: &impl Wait, alloc: Global, limit: u32) -> Result<Trial, Halt>
+    requires { (1 ≤ limit) × (limit ≤ 4294967000) }
+    ensures { IfOk result IsTrial }
+{
+    let Trial {
+        board,
+        operator,
+        mut first,
+        mut second,
+    } = start(rt, alloc, limit)?;
     connect(rt, alloc, &board, &mut first)?;
     connect(rt, alloc, &board, &mut second)?;
     Ok(Trial {

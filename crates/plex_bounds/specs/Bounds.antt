@@ -7,7 +7,8 @@ use Rattle.plex_script.specs.declared.scripts.Script.{Script}
 use Rattle.plex_script.specs.Agent.{first_step, most_asks}
 use Rattle.plex_script.specs.Heard.{length_on}
 
--- how many calls a line makes at most: its call, and as often as it is asked again, an event round and the call; or an event round alone
+-- how many calls a line makes at most: its call, and as often as it is asked again, an event round and the call; or an
+-- event round alone
 abbrev pub most_of_line : Line → ℕ
 most_of_line line = most_asks (first_step line.act line.retry)
 

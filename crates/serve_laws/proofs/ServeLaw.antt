@@ -260,8 +260,8 @@ module _ {L : Type 0} (limit : ℕ) (script : Script) (board : BoardShown L) (hi
           subst (λ (t : Transcript). TestsTell script.structures histories (record { 0 = c }) t.items) is
           (work_of c worker there (serve c worker there)).tests
 
--- However a caller's work ended, and whatever the others did: what it was shown are the caller's calls, each once and in
--- their order, as far as its work came, and tests that tell what stood.
+-- However a caller's work ended, and whatever the others did: what it was shown are the caller's calls, each once and
+-- in their order, as far as its work came, and tests that tell what stood.
 pub serve_right : {L : Type 0} (limit : ℕ) (script : Script) (board : BoardShown L) (histories : List AnyHistory)
     (workers : List AtWork) (c : ℕ) (worker : AtWork)
     → map (λ cell. cell.form) board.cells ≡ script.structures

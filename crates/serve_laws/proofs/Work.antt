@@ -120,7 +120,8 @@ module _ {L : Type 0} (limit : ℕ) (board : BoardShown L) (script : Script) (hi
         })
       where
         by_end : (end : AgentEnd) → is_done_as end ≡ false → AgreesWith histories conn played.part
-            → LinesEnd limit board me setting (lines_of script conn) played.part end → WorkEnds limit script histories conn played.part end
+            → LinesEnd limit board me setting (lines_of script conn) played.part end
+            → WorkEnds limit script histories conn played.part end
         by_end ended.Done stopped agrees ends = absurd cc
         by_end (ended.JournalFull on) stopped agrees ends =
             record {
@@ -188,7 +189,8 @@ module _ {L : Type 0} (limit : ℕ) (board : BoardShown L) (script : Script) (hi
 
       by_end : (end : AgentEnd) → ShowsLines script.structures histories (lines_of script conn) played.part
           → ClosingEnd limit board me setting played.part 0 board.cells departed.part end
-          → AgreesWith histories conn (played.part ++ departed.part) → WorkEnds limit script histories conn (played.part ++ departed.part) end
+          → AgreesWith histories conn (played.part ++ departed.part)
+          → WorkEnds limit script histories conn (played.part ++ departed.part) end
       by_end ended.Done lines closing agrees =
           record {
             during = played.part;

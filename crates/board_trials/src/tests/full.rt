@@ -1,11 +1,11 @@
-//! A journal that two callers fill at once.
-ghost use Rattle.board_trials.specs.Seats.{IsSeat};
+//! Journals that get full: by one caller, and by two at once.
+ghost use Rattle.board_trials.specs.Seats.{IsSeat, IsTrial};
 
 use super::{FIRST, SECOND};
 use crate::halts::Halt;
 use crate::past::counted;
-use crate::seats::write;
-use crate::trials::{Trial, close, start};
+use crate::seats::{connect, read, write};
+use crate::trials::{Trial, close, start, start_connected};
 use crate::waits::{raise, wait_for};
 use cf_link::Steady;
 use plex_board::{Board, Desk};
@@ -13,7 +13,7 @@ use std::alloc::Global;
 use std::sync::Wait;
 use std::sync::atomic::AtomicU64;
 use std::test::Fail;
-use std::thread::{Threads, join};
+use std::thread::{Threads, join_mut};
 use struct_cell::CallRefused;
 
 /// How many entries the journal takes.
@@ -55,53 +55,32 @@ fn fill(
 fn fill_in_two<R: Threads + Wait + Sync>(
     rt: &R,
     alloc: Global,
-    board: &Board<Steady>,
-    mut first: Desk,
-    mut second: Desk,
-) -> ((Desk, Result<Filled, Halt>), (Desk, Result<Filled, Halt>))
-    requires { IsSeat board.now first × IsSeat board.now second }
-    ensures { IsSeat board.now result.0.0 × IsSeat board.now result.1.0 }
+    trial: &mut Trial,
+) -> (Result<Filled, Halt>, Result<Filled, Halt>)
+    requires { IsTrial trial.old }
+    ensures { IsTrial trial.new }
 {
     let begun = &AtomicU64::new(0);
-    join(
+    let Trial {
+        board,
+        first,
+        second,
+        ..
+    } = trial;
+    let board = &*board;
+    join_mut(
         rt,
-        move || -> (Desk, Result<Filled, Halt>)
-            requires { IsSeat board.now first }
-            ensures { IsSeat board.entry.now result.0 }
-        {
-            let filled = fill(rt, alloc, board, &mut first, begun);
-            (first, filled)
-        },
-        move || -> (Desk, Result<Filled, Halt>)
-            requires { IsSeat board.now second }
-            ensures { IsSeat board.entry.now result.0 }
-        {
-            let filled = fill(rt, alloc, board, &mut second, begun);
-            (second, filled)
-        },
+        &mut || fill(rt, alloc, board, first, begun),
+        &mut || fill(rt, alloc, board, second, begun),
     )
 }
 
 #[test]
 fn journal_gets_full(rt: HostRuntime) -> Result<(), Fail> {
     let alloc = rt.alloc();
-    let Trial {
-        board,
-        operator,
-        first,
-        second,
-    } = start(&rt, alloc, FULL)?;
-    let ((first, one), (second, two)) = fill_in_two(&rt, alloc, &board, first, second);
-    let history = close(
-        &rt,
-        alloc,
-        Trial {
-            board,
-            operator,
-            first,
-            second,
-        },
-    )?;
+    let mut trial = start_connected(&rt, alloc, FULL)?;
+    let (one, two) = fill_in_two(&rt, alloc, &mut trial);
+    let history = close(&rt, alloc, trial)?;
     let one = one?;
     let two = two?;
     let entries = history.entries();
@@ -114,5 +93,38 @@ fn journal_gets_full(rt: HostRuntime) -> Result<(), Fail> {
         2 + u64::from(one.answered) + u64::from(two.answered),
         u64::from(FULL)
     );
+    Ok(())
+}
+
+// Three calls, and why there is no fourth.
+fn call_four_times(
+    rt: &impl Wait,
+    alloc: Global,
+    board: &Board<Steady>,
+    desk: &mut Desk,
+) -> Result<([u32; 3], Result<u32, Halt>), Halt>
+    requires { IsSeat board.now desk.old }
+    ensures { IsSeat board.now desk.new }
+{
+    let numbers = [
+        connect(rt, alloc, board, desk)?,
+        read(rt, alloc, board, desk)?,
+        write(rt, alloc, board, desk)?,
+    ];
+    let fourth = write(rt, alloc, board, desk);
+    Ok((numbers, fourth))
+}
+
+#[test]
+fn fourth_call_finds_journal_full(rt: HostRuntime) -> Result<(), Fail> {
+    let alloc = rt.alloc();
+    let mut trial = start(&rt, alloc, 3)?;
+    let (numbers, fourth) = call_four_times(&rt, alloc, &trial.board, &mut trial.first)?;
+    let history = close(&rt, alloc, trial)?;
+    assert_eq!(rt; numbers, [1, 2, 3]);
+    let full = Halt::Refused(CallRefused::JournalFull { limit: 3 });
+    assert_eq!(rt; fourth, Err(full));
+    assert_eq!(rt; history.entries().len(), 3);
+    assert_eq!(rt; counted(history.entries(), FIRST), 3);
     Ok(())
 }

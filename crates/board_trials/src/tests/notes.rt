@@ -1,11 +1,11 @@
 //! Notes that one caller posts and the other takes.
-ghost use Rattle.board_trials.specs.Seats.{IsSeat};
+ghost use Rattle.board_trials.specs.Seats.{IsSeat, IsTrial};
 
 use super::{FIRST, PLENTY, READS, Race, SECOND, new_race};
 use crate::halts::Halt;
 use crate::past::{Answer, bits_after, is_of, tells};
 use crate::seats::{post, read, take, test, write};
-use crate::trials::{Trial, close, start};
+use crate::trials::{Trial, close, start_connected};
 use crate::waits::{raise, wait_for};
 use cf_link::Steady;
 use plex_board::{Board, Desk};
@@ -13,7 +13,7 @@ use std::alloc::Global;
 use std::sync::Wait;
 use std::sync::atomic::Ordering::SeqCst;
 use std::test::Fail;
-use std::thread::{Threads, join};
+use std::thread::{Threads, join_mut};
 use vec_words::Tested;
 
 // A number that was posted, and the test after it was taken.
@@ -88,53 +88,32 @@ fn take_again(
 fn post_in_two<R: Threads + Wait + Sync>(
     rt: &R,
     alloc: Global,
-    board: &Board<Steady>,
-    mut first: Desk,
-    mut second: Desk,
-) -> ((Desk, Result<(), Halt>), (Desk, Result<Vec<Heard>, Halt>))
-    requires { IsSeat board.now first × IsSeat board.now second }
-    ensures { IsSeat board.now result.0.0 × IsSeat board.now result.1.0 }
+    trial: &mut Trial,
+) -> (Result<(), Halt>, Result<Vec<Heard>, Halt>)
+    requires { IsTrial trial.old }
+    ensures { IsTrial trial.new }
 {
     let race = &new_race();
-    join(
+    let Trial {
+        board,
+        first,
+        second,
+        ..
+    } = trial;
+    let board = &*board;
+    join_mut(
         rt,
-        move || -> (Desk, Result<(), Halt>)
-            requires { IsSeat board.now first }
-            ensures { IsSeat board.entry.now result.0 }
-        {
-            let wrote = write_and_post(rt, alloc, board, &mut first, race);
-            (first, wrote)
-        },
-        move || -> (Desk, Result<Vec<Heard>, Halt>)
-            requires { IsSeat board.now second }
-            ensures { IsSeat board.entry.now result.0 }
-        {
-            let heard = take_again(rt, alloc, board, &mut second, race);
-            (second, heard)
-        },
+        &mut || write_and_post(rt, alloc, board, first, race),
+        &mut || take_again(rt, alloc, board, second, race),
     )
 }
 
 #[test]
 fn a_note_tells_of_a_write(rt: HostRuntime) -> Result<(), Fail> {
     let alloc = rt.alloc();
-    let Trial {
-        board,
-        operator,
-        first,
-        second,
-    } = start(&rt, alloc, PLENTY)?;
-    let ((first, wrote), (second, heard)) = post_in_two(&rt, alloc, &board, first, second);
-    let history = close(
-        &rt,
-        alloc,
-        Trial {
-            board,
-            operator,
-            first,
-            second,
-        },
-    )?;
+    let mut trial = start_connected(&rt, alloc, PLENTY)?;
+    let (wrote, heard) = post_in_two(&rt, alloc, &mut trial);
+    let history = close(&rt, alloc, trial)?;
     wrote?;
     let heard = heard?;
     let entries = history.entries();

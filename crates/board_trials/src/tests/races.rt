@@ -1,18 +1,18 @@
 //! Tests of a bit that race with the calls that clear it.
-ghost use Rattle.board_trials.specs.Seats.{IsSeat};
+ghost use Rattle.board_trials.specs.Seats.{IsSeat, IsTrial};
 
 use super::{FIRST, PLENTY, READS, Race, SECOND, WRITES, new_race};
 use crate::halts::Halt;
 use crate::past::{Answer, bits_after, counted, never_falls, tells};
 use crate::seats::{read, test, write};
-use crate::trials::{Trial, close, start};
+use crate::trials::{Trial, close, start_connected};
 use crate::waits::{PATIENCE, raise, wait_for};
 use cf_link::Steady;
 use plex_board::{Board, Desk};
 use std::alloc::{AllocFailed, Global};
 use std::sync::Wait;
 use std::test::Fail;
-use std::thread::{Threads, join};
+use std::thread::{Threads, join_mut};
 use vec_words::Tested;
 
 // Writes again and again; each READ lets it go on for some writes.
@@ -87,53 +87,32 @@ fn read_again(
 fn race_in_two<R: Threads + Wait + Sync>(
     rt: &R,
     alloc: Global,
-    board: &Board<Steady>,
-    mut first: Desk,
-    mut second: Desk,
-) -> ((Desk, Result<(), Halt>), (Desk, Result<Vec<Answer>, Halt>))
-    requires { IsSeat board.now first × IsSeat board.now second }
-    ensures { IsSeat board.now result.0.0 × IsSeat board.now result.1.0 }
+    trial: &mut Trial,
+) -> (Result<(), Halt>, Result<Vec<Answer>, Halt>)
+    requires { IsTrial trial.old }
+    ensures { IsTrial trial.new }
 {
     let race = &new_race();
-    join(
+    let Trial {
+        board,
+        first,
+        second,
+        ..
+    } = trial;
+    let board = &*board;
+    join_mut(
         rt,
-        move || -> (Desk, Result<(), Halt>)
-            requires { IsSeat board.now first }
-            ensures { IsSeat board.entry.now result.0 }
-        {
-            let wrote = write_again(rt, alloc, board, &mut first, race);
-            (first, wrote)
-        },
-        move || -> (Desk, Result<Vec<Answer>, Halt>)
-            requires { IsSeat board.now second }
-            ensures { IsSeat board.entry.now result.0 }
-        {
-            let answers = read_again(rt, alloc, board, &mut second, race);
-            (second, answers)
-        },
+        &mut || write_again(rt, alloc, board, first, race),
+        &mut || read_again(rt, alloc, board, second, race),
     )
 }
 
 #[test]
 fn tests_race_with_writes(rt: HostRuntime) -> Result<(), Fail> {
     let alloc = rt.alloc();
-    let Trial {
-        board,
-        operator,
-        first,
-        second,
-    } = start(&rt, alloc, PLENTY)?;
-    let ((first, wrote), (second, answers)) = race_in_two(&rt, alloc, &board, first, second);
-    let history = close(
-        &rt,
-        alloc,
-        Trial {
-            board,
-            operator,
-            first,
-            second,
-        },
-    )?;
+    let mut trial = start_connected(&rt, alloc, PLENTY)?;
+    let (wrote, answers) = race_in_two(&rt, alloc, &mut trial);
+    let history = close(&rt, alloc, trial)?;
     wrote?;
     let answers = answers?;
     let entries = history.entries();
