@@ -1,5 +1,5 @@
 -- A floor's parts: what of them goes with the board, and what becomes of the floor where one caller's parts change.
-use Rattle.std.proofs.Common.{◌≡◌, ◌≢◌, ℕ, ◌+◌, ◌<◌, ◌≤◌, ◌==◌, ◌⊎◌, inl, inr, Bool, true, false, if◌then◌else◌, List, [], ◌∷◌, ◌++◌, append_assoc, drop, replicate, unwrap_or, length, Option, Some, None, Result, Ok, Err, OnOk, IfSome, slice_get, get_or, set, slice_index_or, refl, sym, ◌∙◌, ap, subst, arith}
+use Rattle.std.proofs.Common.{◌≡◌, ℕ, ◌+◌, ◌<◌, ◌≤◌, ◌==◌, inl, inr, Bool, true, false, if◌then◌else◌, List, [], ◌∷◌, ◌++◌, append_assoc, drop, replicate, unwrap_or, length, Option, Some, None, Result, Ok, Err, OnOk, IfSome, slice_get, get_or, set, refl, sym, ◌∙◌, ap, subst, arith}
 use Rattle.std.proofs.Math.ListN.{length-set}
 use Rattle.std.proofs.Math.Seq.{drop-cons, set-append_seam}
 use Rattle.std.proofs.Math.Numerals.{add-one}

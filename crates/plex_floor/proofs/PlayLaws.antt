@@ -1,7 +1,6 @@
 -- What the steps of a line and of a closing come to.
-use Rattle.std.proofs.Common.{◌≡◌, ◌≢◌, ℕ, zero, suc, ◌+◌, ◌-◌, ◌<◌, ◌≤◌, ◌==◌, Bool, true, false, if◌then◌else◌, MatchBool, List, [], ◌∷◌, length, fold, drop, replicate, Option, Some, None, IfSome, All, get_or, set, slice_set, slice_index_or, refl, sym, ◌∙◌, ap, subst, arith}
+use Rattle.std.proofs.Common.{◌≡◌, ◌≢◌, ℕ, zero, suc, ◌+◌, ◌-◌, ◌<◌, ◌==◌, Bool, true, false, if◌then◌else◌, MatchBool, List, [], ◌∷◌, length, fold, drop, replicate, Option, Some, None, IfSome, All, get_or, set, slice_set, slice_index_or, refl, sym, ◌∙◌, ap, subst, arith}
 use Rattle.std.specs.List.{range_with_len}
-use Rattle.std.proofs.Math.ListN.{length-set}
 use Rattle.std.proofs.Math.Seq.{drop-cons}
 use Rattle.std.proofs.Math.Numerals.{add-one}
 use Rattle.std.proofs.lemmas.Bool.{eqb-false}
@@ -14,8 +13,8 @@ use Rattle.plex_script.specs.declared.scripts.Act.TheVariants as act
 use Rattle.plex_script.specs.declared.scripts.Line.{Line}
 use Rattle.plex_script.specs.declared.transcripts.AgentEnd.TheVariants as ended
 use Rattle.any_cell.specs.Cells.{CellShown}
-use Rattle.desk_model.specs.Boards.{BoardShown, cell_on}
-use Rattle.desk_model.specs.Turns.{AtWork, Turns, Posts}
+use Rattle.desk_model.specs.Boards.{BoardShown}
+use Rattle.desk_model.specs.Turns.{AtWork, Turns}
 use Rattle.desk_model.specs.Callers.{DepartsEach}
 use Rattle.desk_model.specs.Floors.{Floor, no_worker, worker_of, with_worker, heard, heard_from, heard_all, told_by, ready, last_after, is_counted, is_working, PlaysAct, PlaysLine, PlaysLines, ClosesOne, ClosesAll}
 use Rattle.plex_floor.specs.Standing.{IsTurn, HasMemory, conns_from}

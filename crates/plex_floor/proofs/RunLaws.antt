@@ -1,5 +1,5 @@
 -- A script that may be run, and the board that was started for it.
-use Rattle.std.proofs.Common.{Vec, Global, ◌≡◌, ◌≢◌, ℕ, zero, suc, ◌+◌, ◌<◌, ◌≤◌, List, [], ◌∷◌, length, map, fold, Option, Some, None, Result, Ok, Err, IfOk, IsOk, OnOk, All, slice_get, get_or, refl, sym, ◌∙◌, ap, subst, arith, add-zero, zero-add}
+use Rattle.std.proofs.Common.{Vec, Global, ◌≡◌, ◌≢◌, ℕ, zero, suc, ◌+◌, ◌<◌, ◌≤◌, List, [], ◌∷◌, length, map, Option, Some, None, Result, Ok, Err, IfOk, IsOk, OnOk, All, slice_get, get_or, refl, sym, ◌∙◌, ap, subst, arith, add-zero, zero-add}
 use Rattle.std.specs.List.{range_with_len}
 use Rattle.std.proofs.lemmas.List.FromFn.{length-map-range_with_len, get_or-map-range_with_len}
 use Rattle.std.specs.Option.{option_map}
@@ -8,7 +8,7 @@ use Rattle.plex_floor.specs.declared.runs.Finished.{Finished}
 use Rattle.std.proofs.lemmas.Bool.{false≢true}
 use Rattle.std.proofs.lemmas.List.{length-map}
 use Rattle.std.proofs.lemmas.Option.{slice_get-map, slice_get_within, get_or_from_slice_get, slice_get-get_or}
-use Rattle.std.proofs.lemmas.List.Elements.{All-get_or, All-from_get_or}
+use Rattle.std.proofs.lemmas.List.Elements.{All-get_or}
 use Rattle.cf_types.specs.declared.forms.Kind.{Kind}
 use Rattle.cf_types.specs.declared.forms.Kind.TheVariants as kind
 use Rattle.cf_types.specs.declared.forms.StrForm.{StrForm}
@@ -28,9 +28,8 @@ use Rattle.any_model.specs.Types.{type_of_kind, type_of_ask}
 use Rattle.any_cell.specs.Passes.{unused_pass}
 use Rattle.any_cell.specs.Cells.{CellShown}
 use Rattle.desk_model.specs.Desks.{DeskShown, fixed_of}
-use Rattle.desk_model.specs.Boards.{BoardShown, IsPolicy, IsStarted, IsDeskOf, AreClosed, new_desk, fixed_at, cell_on}
+use Rattle.desk_model.specs.Boards.{BoardShown, IsPolicy, IsStarted, IsDeskOf, AreClosed, new_desk, fixed_at}
 use Rattle.desk_model.specs.Turns.{AtWork, MayAct}
-use Rattle.desk_model.specs.Callers.{IsLineFor}
 use Rattle.desk_model.specs.Floors.{Floor}
 use Rattle.plex_floor.specs.Standing.{AreDesksOf, IsFloorOf, IsPlayable}
 use Rattle.plex_floor.specs.Played.{IsBoardOf, IsPlayed}

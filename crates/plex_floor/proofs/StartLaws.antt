@@ -1,21 +1,20 @@
 -- The floor of a board where nobody has done anything.
-use Rattle.std.proofs.Common.{◌≡◌, ◌≢◌, ℕ, zero, suc, ◌+◌, ◌<◌, ◌≤◌, List, [], ◌∷◌, length, map, replicate, Option, Some, None, All, slice_get, get_or, refl, sym, ◌∙◌, ap, subst, arith}
+use Rattle.std.proofs.Common.{◌≡◌, ◌≢◌, ℕ, ◌+◌, ◌≤◌, List, [], ◌∷◌, length, map, replicate, Option, Some, None, All, slice_get, get_or, refl, sym, ◌∙◌, ap}
 use Rattle.std.specs.List.{range_with_len}
-use Rattle.std.specs.Option.{option_map}
 use Rattle.std.proofs.lemmas.List.{length-replicate}
 use Rattle.std.proofs.lemmas.List.Elements.{All-map, All-replicate, All-get_or}
-use Rattle.std.proofs.lemmas.Option.{slice_get-map, slice_get_within, get_or_from_slice_get}
+use Rattle.std.proofs.lemmas.Option.{slice_get_within, get_or_from_slice_get}
 use Rattle.cf_types.specs.declared.numbers.ConnId.{ConnId}
 use Rattle.plex_script.specs.declared.transcripts.AgentEnd.{AgentEnd}
 use Rattle.plex_script.specs.declared.transcripts.AgentEnd.TheVariants as ended
 use Rattle.plex_script.specs.declared.transcripts.Transcript.{Transcript}
 use Rattle.any_cell.specs.Passes.{NoteShown}
 use Rattle.desk_model.specs.Desks.{DeskShown}
-use Rattle.desk_model.specs.Boards.{BoardShown, IsTrayOf, IsDeskOf, new_desk, no_notes}
+use Rattle.desk_model.specs.Boards.{BoardShown, IsTrayOf, new_desk, no_notes}
 use Rattle.desk_model.specs.Turns.{AtWork}
 use Rattle.desk_model.specs.Callers.{no_items}
 use Rattle.desk_model.specs.Floors.{Floor, new_floor}
-use Rattle.plex_floor.specs.Standing.{AreDesksOf, IsFloorOf, HasMemory, at_work, floor_of}
+use Rattle.plex_floor.specs.Standing.{IsFloorOf, HasMemory, at_work, floor_of}
 use Rattle.plex_floor.proofs.WorkLaws.{length-at_work, desk-at_work}
 use Rattle.plex_floor.proofs.RunLaws.{new_desks-are}
 

@@ -1,5 +1,5 @@
 -- Desks beside the transcripts of their owners.
-use Rattle.std.proofs.Common.{◌≡◌, ℕ, zero, suc, List, [], ◌∷◌, Some, map, length, slice_get, get_or, set, refl, sym, ◌∙◌, ap}
+use Rattle.std.proofs.Common.{◌≡◌, ℕ, zero, suc, List, [], ◌∷◌, Some, map, length, slice_get, get_or, set, refl, ap}
 use Rattle.plex_script.specs.declared.transcripts.Transcript.{Transcript}
 use Rattle.desk_model.specs.Desks.{DeskShown}
 use Rattle.desk_model.specs.Turns.{AtWork}

@@ -1,5 +1,5 @@
 -- What is left of a script's work on one thread, before its board is closed.
-use Rattle.std.specs.Prelude.{◌≡◌, ℕ, ◌+◌, List, length, map, All}
+use Rattle.std.specs.Prelude.{◌≡◌, ℕ, List, length, map, All}
 use Rattle.plex_script.specs.declared.scripts.Script.{Script}
 use Rattle.plex_script.specs.declared.transcripts.Transcript.{Transcript}
 use Rattle.serial_model.specs.Serial.{connectors}

@@ -425,6 +425,3 @@ pub fn run<R: Threads + Wait + Sync, S: Source, K: Sink, L: Link, G: Gate>(
     };
     served(rt, alloc, way, source, sink, links, gate)
 }
-
-#[cfg(test)]
-mod tests;

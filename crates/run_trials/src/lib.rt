@@ -1,4 +1,5 @@
-//! Trials of the program on threads: its one call, with gates at which callers wait for one another.
+//! Trials of the program's one call: how runs end, and runs on threads, with gates at which callers wait
+//! for one another.
 #![tactic(auto)]
 
 #[cfg(test)]

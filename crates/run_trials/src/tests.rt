@@ -1,6 +1,7 @@
 mod gates;
 mod reports;
 mod runs;
+mod statuses;
 
 use cf_types::ConnId;
 use gates::{Guest, Hold, LineOf, Meeting, Order};

@@ -18,7 +18,7 @@ use Rattle.plex_script.specs.Heard.{AnyCall, any_calls, own_calls, is_linked}
 use Rattle.any_model.specs.Kinds.{any_take}
 use Rattle.any_model.proofs.HistoryLaws.{take_calls}
 use Rattle.serial_model.specs.Serial as serial
-use Rattle.serial_model.specs.Serial.{Run, is_done, departed, after_departure, after_closing, all_steps_made}
+use Rattle.serial_model.specs.Serial.{Run, is_done, after_departure, after_closing, all_steps_made}
 use Rattle.any_cell.specs.Passes.{PassShown}
 use Rattle.any_cell.specs.Cells.{CellShown, IsAnyTold}
 use Rattle.desk_model.specs.Desks.{pass_at, with_pass}

@@ -18,7 +18,7 @@ use Rattle.plex_script.specs.declared.transcripts.Shown.TheVariants as shown
 use Rattle.plex_script.specs.declared.transcripts.Transcript.{Transcript}
 use Rattle.plex_script.specs.Agent.{first_step}
 use Rattle.serial_model.specs.Serial as serial
-use Rattle.serial_model.specs.Serial.{Run, act_made, line_made, after_line, is_done, test_shown, word_shown}
+use Rattle.serial_model.specs.Serial.{Run, act_made, after_line, is_done, test_shown, word_shown}
 use Rattle.any_cell.specs.Cells.{CellShown}
 use Rattle.desk_model.specs.Boards.{BoardShown, cell_on}
 use Rattle.desk_model.specs.Turns.{AtWork, Acts, Tests, TestsWord, ShowsOnly, RunsOut, IfDone, is_done_as}

@@ -1,5 +1,5 @@
 -- The desks were cut in two between the caller's and the other's, and one of each part changed.
-use Rattle.std.proofs.Common.{◌≡◌, ◌<◌, length, ◌+◌, sym, subst, arith, List}
+use Rattle.std.proofs.Common.{sym, subst, arith, List}
 use Rattle.desk_model.specs.Desks.{DeskShown}
 use Rattle.plex_floor.specs.Standing.{AreDesksOf}
 use Rattle.plex_floor.proofs.DeskLaws.{told_before, told_behind, told_desks-are}

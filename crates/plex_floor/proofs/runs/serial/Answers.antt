@@ -1,9 +1,6 @@
 -- The board that was started, played to its end and closed.
-use Rattle.std.proofs.Common.{◌≡◌, IfOk, Result, Ok, Err, OnOk, IsOk}
-use Rattle.plex_script.specs.declared.asks.AnyHistory.{AnyHistory}
-use Rattle.serial_model.specs.Serial.{serial_run}
-use Rattle.plex_floor.specs.Played.{IsBoardOf}
-use Rattle.plex_floor.proofs.RunLaws.{policy_of, lines_playable, desks-owners, desks-fit, finished_histories, finished_transcripts}
+use Rattle.std.proofs.Common.{Ok}
+use Rattle.plex_floor.proofs.RunLaws.{lines_playable, desks-owners, desks-fit, finished_histories, finished_transcripts}
 use Rattle.plex_floor.proofs.runs.serial.Goals as goal
 
 pub play-shown-requires-clause-lines : goal.play-shown-requires-clause-lines

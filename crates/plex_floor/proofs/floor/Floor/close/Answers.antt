@@ -1,4 +1,4 @@
-use Rattle.std.proofs.Common.{◌≡◌, ◌<◌, ◌≤◌, ◌+◌, length, true, sym, ◌∙◌, subst, arith}
+use Rattle.std.proofs.Common.{◌<◌, length, sym, ◌∙◌, subst, arith}
 use Rattle.desk_model.specs.Floors.{Floor}
 use Rattle.plex_floor.specs.Standing.{IsFloorOf}
 use Rattle.plex_floor.proofs.FloorLaws.{everywhere_fits}

@@ -1,4 +1,4 @@
-use Rattle.std.proofs.Common.{◌≡◌, ◌+◌, ◌-◌}
+use Rattle.std.proofs.Common.{◌+◌, ◌-◌}
 use Rattle.desk_model.specs.Floors.{Floor, ClosesAll}
 use Rattle.plex_floor.specs.Standing.{IsFloorOf, HasMemory, conns_from}
 use Rattle.plex_floor.proofs.floor.Floor.closings.Given as goal

@@ -1,13 +1,11 @@
-use Rattle.std.proofs.Common.{◌≡◌, ◌≢◌, ◌+◌, ◌<◌, ◌≤◌, List, length, slice_set, Some, sym, ◌∙◌, ap, subst, arith}
+use Rattle.std.proofs.Common.{◌≢◌, ◌≤◌, sym, ◌∙◌, ap, subst, arith}
 use Rattle.cf_types.specs.declared.numbers.ConnId.{ConnId}
 use Rattle.plex_script.specs.declared.transcripts.AgentEnd.TheVariants as ended
-use Rattle.desk_model.specs.Desks.{DeskShown}
 use Rattle.desk_model.specs.Boards.{IsTrayOf}
-use Rattle.desk_model.specs.Turns.{AtWork, Turns, Posts}
+use Rattle.desk_model.specs.Turns.{AtWork}
 use Rattle.desk_model.specs.Callers.{DepartsEach}
 use Rattle.desk_model.specs.Floors.{Floor, worker_of, with_worker}
-use Rattle.plex_floor.proofs.DeskLaws.{own_desk}
-use Rattle.plex_floor.proofs.FloorLaws.{desk_inside, shown_inside, desk_fits, desk_own, worker_is, changed, changed_only, changed_worker, changed_fits, floor_desks, floor_fits, heard_floor, actor_is, worker_parts, on_ok}
+use Rattle.plex_floor.proofs.FloorLaws.{desk_inside, shown_inside, desk_fits, desk_own, worker_is, changed, changed_only, changed_worker, changed_fits, on_ok}
 use Rattle.plex_floor.proofs.floor.Floor.depart.Goals as goal
 
 pub index_mut-requires : goal.index_mut-requires

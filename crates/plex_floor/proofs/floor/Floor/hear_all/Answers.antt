@@ -1,4 +1,4 @@
-use Rattle.std.proofs.Common.{◌<◌, ◌≤◌, ◌+◌, length, arith}
+use Rattle.std.proofs.Common.{◌<◌, length, arith}
 use Rattle.desk_model.specs.Floors.{heard_all}
 use Rattle.plex_floor.proofs.PlayLaws.{hears_more}
 use Rattle.plex_floor.proofs.floor.Floor.hear_all.Goals as goal

@@ -1,4 +1,4 @@
-use Rattle.std.proofs.Common.{◌≡◌, map, sym, ◌∙◌, ap}
+use Rattle.std.proofs.Common.{map, sym, ◌∙◌, ap}
 use Rattle.desk_model.specs.Turns.{AtWork}
 use Rattle.desk_model.specs.Floors.{Floor}
 use Rattle.plex_floor.proofs.WorkLaws.{map-desk-at_work, map-shown-at_work}

@@ -1,7 +1,6 @@
 -- Whoever has a desk has a transcript.
-use Rattle.std.proofs.Common.{◌≡◌, ◌<◌, List, length, get_or, sym, ◌∙◌, ap, arith, ℕ}
+use Rattle.std.proofs.Common.{◌<◌, length, get_or, sym, ◌∙◌, ap, arith, ℕ}
 use Rattle.std.proofs.lemmas.List.{get_or_read}
-use Rattle.plex_script.specs.declared.transcripts.AgentEnd.{AgentEnd}
 use Rattle.plex_script.specs.declared.transcripts.Transcript.{Transcript}
 use Rattle.desk_model.specs.Turns.{AtWork, is_done_as}
 use Rattle.desk_model.specs.Callers.{no_items}

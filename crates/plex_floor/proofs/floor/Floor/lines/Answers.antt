@@ -1,4 +1,4 @@
-use Rattle.std.proofs.Common.{◌≡◌, sym, subst}
+use Rattle.std.proofs.Common.{sym, subst}
 use Rattle.plex_script.specs.declared.scripts.Line.{Line}
 use Rattle.desk_model.specs.Callers.{IsLineFor}
 use Rattle.plex_floor.proofs.PlayLaws.{lines_more}

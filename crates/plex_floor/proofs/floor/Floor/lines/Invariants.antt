@@ -1,4 +1,4 @@
-use Rattle.std.proofs.Common.{◌≡◌, drop}
+use Rattle.std.proofs.Common.{drop}
 use Rattle.desk_model.specs.Floors.{Floor, PlaysLines}
 use Rattle.plex_floor.specs.Standing.{IsFloorOf, HasMemory}
 use Rattle.plex_floor.proofs.floor.Floor.lines.Given as goal

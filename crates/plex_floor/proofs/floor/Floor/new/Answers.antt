@@ -1,5 +1,4 @@
-use Rattle.std.proofs.Common.{◌≡◌, List, Option, length, replicate, None, sym, ◌∙◌, ap, subst}
-use Rattle.desk_model.specs.Callers.{no_items}
+use Rattle.std.proofs.Common.{sym, ◌∙◌, subst}
 use Rattle.desk_model.specs.Floors.{Floor}
 use Rattle.plex_floor.specs.Standing.{HasMemory}
 use Rattle.plex_floor.proofs.StartLaws.{new_floor_is, new_floor_fits, new_floor-memory}

@@ -1,12 +1,10 @@
-use Rattle.std.proofs.Common.{◌≡◌, ◌+◌, ◌<◌, ◌≤◌, List, length, slice_set, Option, Some, set, sym, ◌∙◌, ap, subst, arith}
-use Rattle.cf_types.specs.declared.numbers.ConnId.{ConnId}
+use Rattle.std.proofs.Common.{List, Option, set, sym, ◌∙◌, ap, subst, arith}
 use Rattle.any_cell.specs.Passes.{NoteShown}
-use Rattle.desk_model.specs.Desks.{DeskShown}
-use Rattle.desk_model.specs.Boards.{IsDeskOf, IsTrayOf, note_in}
-use Rattle.desk_model.specs.Turns.{AtWork, Posts}
+use Rattle.desk_model.specs.Boards.{IsTrayOf, note_in}
+use Rattle.desk_model.specs.Turns.{AtWork}
 use Rattle.desk_model.specs.Floors.{Floor, worker_of, with_worker, taken}
 use Rattle.plex_floor.specs.Standing.{floor_of}
-use Rattle.plex_floor.proofs.FloorLaws.{desk_inside, shown_inside, desk_fits, desk_own, worker_is, changed, changed_only, changed_worker, changed_fits, changed_tray, tray_is, on_ok, on_ok_always}
+use Rattle.plex_floor.proofs.FloorLaws.{desk_inside, shown_inside, desk_fits, worker_is, changed, changed_only, changed_fits, tray_is, on_ok}
 use Rattle.plex_floor.proofs.floor.Floor.take.Goals as goal
 
 pub index_mut-requires : goal.index_mut-requires

@@ -1,5 +1,4 @@
-use Rattle.std.proofs.Common.{◌≡◌, ◌<◌, ◌≤◌, ◌+◌, length, sym, subst, arith}
-use Rattle.desk_model.specs.Boards.{cell_on}
+use Rattle.std.proofs.Common.{◌≡◌, ◌<◌, length, sym, subst, arith}
 use Rattle.desk_model.specs.Turns.{Turns}
 use Rattle.desk_model.specs.Floors.{Floor, worker_of, PlaysAct}
 use Rattle.plex_floor.specs.Standing.{IsFloorOf}

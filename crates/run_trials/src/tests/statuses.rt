@@ -1,23 +1,16 @@
+//! How runs end: the statuses, and what is written with each.
 ghost use Rattle.std.specs.Prelude.{◌≡◌, ◌<◌, IfOk};
 ghost use Rattle.std.specs.Vec.{vec_len};
 
-use super::run;
+use super::POLICY;
 use cf_io::{MemSink, MemSource};
 use cf_link::Steady;
 use plex_agent::OpenGate;
+use plex_run::run;
 use std::alloc::{AllocError, Global};
 use std::sync::Wait;
 use std::test::Fail;
 use std::thread::Threads;
-
-/// A policy and two connectors.
-const POLICY: &str = "FACILITY CF1 100\n\
-    FACILITY CF2 100\n\
-    STRUCTURE GBP CACHE 8 8 4 64 DELETE\n\
-    PREF GBP CF1 40\n\
-    PREF GBP CF2 40\n\
-    CONNECTOR A\n\
-    CONNECTOR B\n";
 
 fn source_of(
     alloc: Global,

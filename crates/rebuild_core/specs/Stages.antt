@@ -1,0 +1,104 @@
+-- The stages of a rebuild: what each waits for, and what comes once nobody owes it any more.
+use Rattle.std.specs.Prelude.{◌≡◌, ◌≢◌, ℕ, IsTrue, List, [], ◌∷◌, Option, None, Some}
+use Rattle.cf_types.specs.declared.events.Event.{Event}
+use Rattle.cf_types.specs.declared.events.Event.TheVariants as event
+use Rattle.cf_types.specs.declared.events.Stage.{Stage}
+use Rattle.cf_types.specs.declared.events.Stage.TheVariants.{Quiesce, Connect, Copy, Cleanup, Stopping}
+use Rattle.cf_types.specs.declared.forms.Caps.{Caps}
+use Rattle.cf_types.specs.declared.numbers.CfId.{CfId}
+use Rattle.cf_types.specs.declared.numbers.ConnId.{ConnId}
+use Rattle.cf_types.specs.ConnSets.{is_member, without_member}
+use Rattle.rebuild_core.specs.declared.passed.Passed.{Passed}
+use Rattle.rebuild_core.specs.declared.passed.Passed.TheVariants.{No, Into, Ended}
+use Rattle.rebuild_core.specs.declared.rebuild.Rebuild.{Rebuild}
+
+-- ---- the table of stages
+
+-- the event to which a stage of the rebuild with this number waits for responses
+abbrev pub event_of : ℕ → Stage → Option Event
+event_of number Quiesce = Some (event.Quiesce number)
+event_of number Connect = None
+event_of number Copy = None
+event_of number Cleanup = Some (event.Cleanup number)
+event_of number Stopping = Some (event.Stop number)
+
+-- what comes behind a stage
+abbrev pub behind : Stage → Passed
+behind Quiesce = Into Connect
+behind Connect = Into Copy
+behind Copy = Into Cleanup
+behind Cleanup = Ended
+behind Stopping = Ended
+
+-- the new instance goes with a rebuild in CONNECT and COPY alone: it is in use after them, or given up
+abbrev pub fresh_in : Stage → Option CfId → Option CfId
+fresh_in Quiesce fresh = None
+fresh_in Connect fresh = fresh
+fresh_in Copy fresh = fresh
+fresh_in Cleanup fresh = None
+fresh_in Stopping fresh = None
+
+-- ---- what is done to a rebuild
+
+-- it begins, and all members owe a response to QUIESCE
+abbrev pub begun : ℕ → List ConnId → Caps → Rebuild
+begun number members caps =
+    record { number = number; stage = Quiesce; members = members; owing = members; caps = caps; fresh = None }
+
+abbrev pub awaited_event : Rebuild → Option Event
+awaited_event rebuild = event_of rebuild.number rebuild.stage
+
+-- every member owes what the stage waits for
+abbrev pub all_owing : Rebuild → Rebuild
+all_owing rebuild = record rebuild { owing = rebuild.members }
+
+-- a stage begins, and every member owes what it waits for
+abbrev pub entering : Stage → Rebuild → Rebuild
+entering stage rebuild =
+    record rebuild { stage = stage; owing = rebuild.members; fresh = fresh_in stage rebuild.fresh }
+
+-- a connector owes nothing more
+abbrev pub excused : ConnId → Rebuild → Rebuild
+excused conn rebuild = record rebuild { owing = without_member conn rebuild.owing }
+
+-- who owes after a departure, with these members left: in COPY all of them, since the new instance is copied anew
+abbrev pub owing_after : Stage → ConnId → List ConnId → List ConnId → List ConnId
+owing_after Quiesce conn members owing = without_member conn owing
+owing_after Connect conn members owing = without_member conn owing
+owing_after Copy conn members owing = members
+owing_after Cleanup conn members owing = without_member conn owing
+owing_after Stopping conn members owing = without_member conn owing
+
+-- a connector departed
+abbrev pub parted : ConnId → Rebuild → Rebuild
+parted conn rebuild =
+    let members = without_member conn rebuild.members in
+    record rebuild { members = members; owing = owing_after rebuild.stage conn members rebuild.owing }
+
+-- ---- the passing of stages
+
+-- a rebuild without members has ended; a stage in which somebody owes goes on; another has passed
+abbrev pub outcome : Stage → (members owing : List ConnId) → Passed
+outcome stage [] owing = Ended
+outcome stage (member ∷ members) (conn ∷ owing) = No
+outcome stage (member ∷ members) [] = behind stage
+
+abbrev pub passed : Rebuild → Passed
+passed rebuild = outcome rebuild.stage rebuild.members rebuild.owing
+
+-- the next stage begins where one passed
+abbrev pub entered : Passed → Rebuild → Rebuild
+entered No rebuild = rebuild
+entered (Into stage) rebuild = entering stage rebuild
+entered Ended rebuild = rebuild
+
+abbrev pub settled : Rebuild → Rebuild
+settled rebuild = entered (passed rebuild) rebuild
+
+-- ---- what is true of a rebuild between two calls
+
+-- somebody owes what the stage waits for, only members owe, and a new instance goes with CONNECT and COPY alone
+pub record IsUnderWay (rebuild : Rebuild) : Type 0 where
+  pub awaits : rebuild.owing ≢ []
+  pub members : (conn : ConnId) → IsTrue (is_member conn rebuild.owing) → IsTrue (is_member conn rebuild.members)
+  pub fresh : rebuild.fresh ≡ fresh_in rebuild.stage rebuild.fresh

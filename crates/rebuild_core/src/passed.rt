@@ -1,0 +1,12 @@
+use cf_types::Stage;
+
+/// Whether a stage of a rebuild passed.
+#[derive(Clone, Copy, Debug, PartialEq, Eq)]
+pub enum Passed {
+    /// The stage goes on.
+    No,
+    /// The next stage begins.
+    Into(Stage),
+    /// The rebuild has ended.
+    Ended,
+}
