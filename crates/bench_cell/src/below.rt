@@ -65,15 +65,26 @@ pub fn use_engine(rt: &impl Clock, alloc: Global, reads: u32) -> io::Result<Time
     }
 }
 
-// Tests the bits in turn, and says how often one was set.
+// Whether a bit is set, as a call of its own.
 #[inline(never)]
+fn is_set(vectors: &Vectors<u32>, pass: &mut Pass<u32>, index: u32) -> bool
+    requires form { vectors.now.len ≡ 32 }
+    requires pass { (pass.old.table ≡ vectors.now) × (0 < pass.old.owner) }
+    requires index { index < 32 }
+    ensures table { pass.new.table ≡ pass.old.table }
+    ensures owner { pass.new.owner ≡ pass.old.owner }
+{
+    vectors.test(pass, index).bit
+}
+
+// Tests the bits in turn, and says how often one was set.
 fn test_bits(vectors: &Vectors<u32>, pass: &mut Pass<u32>, tests: u32) -> u32
     requires form { vectors.now.len ≡ 32 }
     requires pass { (pass.old.table ≡ vectors.now) × (0 < pass.old.owner) }
 {
     let mut set = 0u32;
     for k in 0..tests {
-        if vectors.test(pass, k % PAGES).bit {
+        if is_set(vectors, pass, k % PAGES) {
             set = set.wrapping_add(1);
         }
     }

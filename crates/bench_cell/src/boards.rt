@@ -18,7 +18,6 @@ use std::io;
 use std::sync::Wait;
 use std::time::{Clock, Instant};
 use struct_cell::CallRefused;
-use vec_words::Tested;
 
 /// How many calls a journal takes.
 const JOURNAL_LIMIT: u32 = 65_536;
@@ -69,13 +68,14 @@ fn call(
     board.call(rt, alloc, desk, POOL, AnyAsk::Cache(ask))
 }
 
-// A test of a bit of the connector's vector.
-fn test(board: &Board<Steady>, desk: &mut Desk, index: u32) -> Tested
+// Whether a bit of the connector's vector is set, as a call of its own.
+#[inline(never)]
+fn is_set(board: &Board<Steady>, desk: &mut Desk, index: u32) -> bool
     requires seated { IsSeated board.now desk.old }
     requires index { index < 32 }
     ensures { IsSeated board.now desk.new }
 {
-    board.test(desk, POOL, index)
+    board.test(desk, POOL, index).bit
 }
 
 // Connects, and writes all pages.
@@ -155,13 +155,12 @@ fn read_pages(
 }
 
 // Tests the bits in turn, and says how often one was set.
-#[inline(never)]
 fn test_bits(board: &Board<Steady>, desk: &mut Desk, tests: u32) -> u32
     requires { IsSeated board.now desk.old }
 {
     let mut set = 0u32;
     for k in 0..tests {
-        if test(board, desk, k % PAGES).bit {
+        if is_set(board, desk, k % PAGES) {
             set = set.wrapping_add(1);
         }
     }

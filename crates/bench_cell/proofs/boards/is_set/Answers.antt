@@ -1,7 +1,7 @@
 use Rattle.std.proofs.Common.{ap}
 use Rattle.desk_model.specs.Desks.{DeskShown}
 use Rattle.bench_cell.proofs.SeatLaws.{pool-within, still-seated}
-use Rattle.bench_cell.proofs.boards.test.Goals as goal
+use Rattle.bench_cell.proofs.boards.is_set.Goals as goal
 
 pub test-requires-clause-index : goal.test-requires-clause-index
 test-requires-clause-index c κs =
