@@ -1,13 +1,12 @@
 -- The bits that change when registrations come and end.
-use Rattle.std.proofs.Common.{◌≡◌, ℕ, Bool, true, false, not, ◌&&◌, ◌||◌, ◌==◌, nat_lt, cond, List, [], ◌∷◌, ◌++◌, filter, map, refl, sym, ap, ◌∙◌, subst₂, inl, inr, ◌⊎◌, arith}
+use Rattle.std.proofs.Common.{◌≡◌, ℕ, Bool, true, false, not, ◌&&◌, ◌||◌, ◌==◌, List, [], ◌∷◌, ◌++◌, filter, map, refl, sym, ap, ◌∙◌, subst₂, inl, inr, ◌⊎◌, arith}
 use Rattle.std.specs.List.{list_any, list_all}
-use Rattle.std.proofs.lemmas.Bool.{and_parts, or_cases, false≢true, eqb-true, eq-eqb}
+use Rattle.std.proofs.lemmas.Bool.{and_parts, false≢true, eqb-true, eq-eqb}
 use Rattle.std.proofs.lemmas.Bool.Decides.{nat_tests}
 use Rattle.std.proofs.lemmas.Map.Views.{any-filter_same}
 use Rattle.cf_types.specs.declared.names.Name16.{Name16}
 use Rattle.cf_types.specs.declared.numbers.ConnId.{ConnId}
 use Rattle.cf_types.specs.declared.effects.BitChange.{BitChange}
-use Rattle.cf_types.specs.Name.{same_name}
 use Rattle.cf_types.specs.Gains.{Gains, told, difference}
 use Rattle.cf_types.proofs.GainsLaws.{Falls, gains_none, gains_one, gains_then}
 use Rattle.list_laws.specs.Pairwise.{pairwise}

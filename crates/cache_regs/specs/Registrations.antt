@@ -1,6 +1,6 @@
 -- Registrations: which connector has a valid copy of which name, at which index of its vector. They stand in the
 -- order of connectors and, of one connector, of indexes.
-use Rattle.std.specs.Prelude.{ℕ, ◌<◌, ◌^◌, Bool, IsTrue, false, not, ◌&&◌, ◌||◌, ◌==◌, nat_lt, List, Option, None, Some, option_map, filter, find, length}
+use Rattle.std.specs.Prelude.{ℕ, Bool, IsTrue, false, not, ◌&&◌, ◌||◌, ◌==◌, nat_lt, List, Option, None, Some, option_map, filter, find}
 use Rattle.std.specs.List.{list_any}
 use Rattle.cf_types.specs.declared.names.Name16.{Name16}
 use Rattle.cf_types.specs.declared.numbers.ConnId.{ConnId}

@@ -1,5 +1,5 @@
 -- Registrations with room for more.
-use Rattle.std.specs.Prelude.{ℕ, List, min, ◌-◌, ◌<◌, length}
+use Rattle.std.specs.Prelude.{ℕ, List, min, ◌-◌, ◌<◌}
 use Rattle.std.specs.Vec.{vec_len, vec_capacity}
 use Rattle.cache_regs.specs.declared.registrations.Registration.{Registration}
 use Rattle.cache_regs.specs.declared.regs.Regs.TheInside.{Inside}

@@ -79,8 +79,7 @@ abbrev pub with_connect : ConnId → Bool → Connections → Connections
 with_connect conn keep conns = slice_set conns conn.0 (Some (Active keep))
 
 -- an active connector departs: it is leaving until each other active one has answered or departed, and is awaited by
--- nobody; it will be
--- failed where `keep`, and else gone
+-- nobody; it will be failed where `keep`, and else gone
 abbrev pub with_departure : ConnId → Bool → Connections → Connections
 with_departure conn keep conns =
     slice_set (map (excused_state conn) conns) conn.0 (departed_state keep (without_member conn (actives conns)))

@@ -117,8 +117,7 @@ module _ {C R I S : Type 0} (meaning : Meaning C R I S) (form : StrForm) where
   stands_after history conn index = meaning.stands (replay history).content conn index
 
   -- a test of a bit that answers with the number n, by a connector that has seen the calls up to q complete: what
-  -- stood at the call n;
-  -- or, where n is a call that it hasn't seen complete, what stood before that call
+  -- stood at the call n; or, where n is a call that it hasn't seen complete, what stood before that call
   pub record Tells (history : List (Entry C R)) (n q : ℕ) (conn : ConnId) (index : ℕ) (bit : Bool) : Type 0 where
     pub point : IsPoint history n
     pub seen : q ≤ n

@@ -18,8 +18,7 @@ pub record Departure (S : Type 0) : Type 0 where
   pub letters : List Letter
 
 -- commands C, replies R, items I and contents S. A command is two columns: the first refusal that holds, and what the
--- command does where
--- none holds
+-- command does where none holds
 pub record Meaning (C R I S : Type 0) : Type 0 where
   pub empty : Shape → S
   pub cause : Shape → Caps → S → ConnId → C → Option Refusal

@@ -1,6 +1,5 @@
 -- What structures of every kind share: instances, connections and events, and the commands on them. A command is two
--- columns: the first
--- refusal that holds, and what the command does where none holds.
+-- columns: the first refusal that holds, and what the command does where none holds.
 use Rattle.std.specs.Prelude.{ℕ, Bool, true, false, not, ◌&&◌, ◌==◌, nat_le, nat_lt, if◌then◌else◌, List, [], ◌∷◌, Option, None, Some, is_none, is_some, unwrap_or}
 use Rattle.cf_types.specs.declared.forms.StrForm.{StrForm}
 use Rattle.cf_types.specs.declared.forms.Pref.{Pref}

@@ -1,7 +1,7 @@
 -- A list with one more element in its place.
-use Rattle.std.proofs.Common.{◌≡◌, ℕ, ◌+◌, Bool, true, false, ◌&&◌, ◌||◌, cond, List, [], ◌∷◌, ◌++◌, Option, Some, None, length, filter, find, sum_by, map, refl, sym, ap, ◌∙◌, arith, suc}
+use Rattle.std.proofs.Common.{◌≡◌, ℕ, ◌+◌, Bool, true, false, ◌&&◌, ◌||◌, cond, List, [], ◌∷◌, Some, length, filter, find, sum_by, refl, sym, ap, ◌∙◌, arith, suc}
 use Rattle.std.specs.List.{list_any, list_all, prefix_len, insert}
-use Rattle.std.proofs.lemmas.Bool.{false≢true, or_left, or_right}
+use Rattle.std.proofs.lemmas.Bool.{false≢true, or_right}
 use Rattle.std.proofs.lemmas.List.Sums.{sum_by-cons}
 use Rattle.list_laws.specs.Insertions.{insertion}
 

@@ -1,7 +1,7 @@
 -- Lists whose elements have keys of their own.
-use Rattle.std.proofs.Common.{◌≡◌, ℕ, ◌+◌, ◌<◌, Bool, true, false, not, ◌&&◌, ◌||◌, cond, List, [], ◌∷◌, ◌++◌, map, Option, Some, None, length, filter, find, sum_by, position, get_or, nat_lt, refl, sym, ap, ◌∙◌, subst, arith, suc}
+use Rattle.std.proofs.Common.{◌≡◌, ℕ, ◌+◌, Bool, true, false, not, ◌&&◌, ◌||◌, cond, List, [], ◌∷◌, ◌++◌, map, Some, None, length, filter, find, sum_by, position, get_or, nat_lt, refl, sym, ap, ◌∙◌, subst, arith, suc}
 use Rattle.std.specs.List.{list_any, list_all, position_or_len, slice_get, remove}
-use Rattle.std.proofs.lemmas.Bool.{and_parts, and_from, not-true, false≢true, lt-ltb}
+use Rattle.std.proofs.lemmas.Bool.{and_parts, not-true, false≢true, lt-ltb}
 use Rattle.std.proofs.lemmas.Bool.Decides.{nat_tests}
 use Rattle.std.proofs.lemmas.List.Quantifiers.{position-Some}
 use Rattle.std.proofs.lemmas.List.Folds.{find_at}

@@ -18,7 +18,7 @@ use Rattle.lock_queue.specs.declared.waiters.Waiter.{Waiter}
 use Rattle.lock_record.specs.declared.recorded.Record.{Record}
 use Rattle.lock_record.specs.Recorded.{record_of}
 use Rattle.lock_model.specs.Interests as interests
-use Rattle.lock_model.specs.Interests.{Interest, compatible, agree, is_by, may_own, is_managing, manager_of, interest_of, interests_with, interests_without, interests_changed}
+use Rattle.lock_model.specs.Interests.{Interest, compatible, is_by, may_own, is_managing, manager_of, interest_of, interests_with, interests_without, interests_changed}
 use Rattle.lock_model.specs.Contents.{records_of, records_owned, records_waiting}
 use Rattle.lock_model.specs.Grants.{held_by, altered}
 use Rattle.lock_model.specs.Commands.RtRead as rt_read

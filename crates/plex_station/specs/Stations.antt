@@ -1,8 +1,8 @@
 -- What a station has beside its structure's cell.
-use Rattle.std.specs.Prelude.{◌≡◌, ℕ, max, Option, None, Some}
+use Rattle.std.specs.Prelude.{◌≡◌, ℕ}
 use Rattle.cf_types.specs.declared.forms.Kind.{Kind}
 use Rattle.any_model.specs.Types.{type_of_kind}
-use Rattle.any_cell.specs.Passes.{PassShown, NoteShown}
+use Rattle.any_cell.specs.Passes.{NoteShown}
 use Rattle.any_cell.specs.Cells.{CellShown, IsNoteOf}
 
 -- a note of the same structure

@@ -1,5 +1,5 @@
 -- A rebuild stays under way till it ends: somebody owes, and only members do.
-use Rattle.std.proofs.Common.{◌≡◌, ◌≢◌, ℕ, Bool, true, false, IsTrue, List, [], ◌∷◌, Option, ◌⊎◌, inl, inr, refl, sym, ap, ◌∙◌}
+use Rattle.std.proofs.Common.{◌≡◌, ◌≢◌, ℕ, true, false, IsTrue, List, [], ◌∷◌, Option, ◌⊎◌, inl, inr, refl, sym, ap, ◌∙◌}
 use Rattle.std.proofs.lemmas.Bool.{true≢false, eq-eqb, cases_eq}
 use Rattle.cf_types.specs.declared.events.Stage.{Stage}
 use Rattle.cf_types.specs.declared.events.Stage.TheVariants.{Quiesce, Connect, Copy, Cleanup, Stopping}
@@ -8,10 +8,9 @@ use Rattle.cf_types.specs.declared.numbers.CfId.{CfId}
 use Rattle.cf_types.specs.declared.numbers.ConnId.{ConnId}
 use Rattle.cf_types.specs.ConnSets.{is_member, without_member}
 use Rattle.cf_types.proofs.ConnSetLaws.{is_member-without_member_same, is_member-without_member_other, without_member-absent}
-use Rattle.rebuild_core.specs.declared.passed.Passed.{Passed}
-use Rattle.rebuild_core.specs.declared.passed.Passed.TheVariants.{No, Into, Ended}
+use Rattle.rebuild_core.specs.declared.passed.Passed.TheVariants.{Ended}
 use Rattle.rebuild_core.specs.declared.rebuild.Rebuild.{Rebuild}
-use Rattle.rebuild_core.specs.Stages.{fresh_in, behind, begun, all_owing, entering, excused, owing_after, parted, outcome, passed, entered, settled, IsUnderWay}
+use Rattle.rebuild_core.specs.Stages.{fresh_in, begun, all_owing, entering, excused, owing_after, parted, outcome, passed, entered, settled, IsUnderWay}
 
 -- each of these is one of those
 abbrev pub AreAmong : (some all : List ConnId) → Type 0

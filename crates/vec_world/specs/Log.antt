@@ -7,8 +7,7 @@ use Rattle.vec_world.specs.declared.step.Step.{Step}
 use Rattle.vec_world.specs.declared.step.Step.TheVariants.{Store, Commit}
 
 -- the bits of a word at a number after one more step: a store to that word with a stamp of at most that number puts
--- its
--- own there
+-- its own there
 abbrev pub bits_after : ℕ → ℕ → ℕ → Step → ℕ
 bits_after word number bits (Store to new stamp) = if (to == word) && nat_le stamp number then new else bits
 bits_after word number bits _ = bits

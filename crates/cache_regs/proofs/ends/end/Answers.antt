@@ -1,4 +1,4 @@
-use Rattle.std.proofs.Common.{◌≡◌, ◌+◌, not, length, filter, refl, ap, arith, rules}
+use Rattle.std.proofs.Common.{◌≡◌, not, length, refl, ap, arith, rules}
 use Rattle.std.proofs.lemmas.Fn.{filter_same}
 use Rattle.std.proofs.lemmas.List.Filters.{length-filter_both}
 use Rattle.cache_regs.specs.Ends.{is_ended, regs_ended}

@@ -1,7 +1,5 @@
-use Rattle.std.proofs.Common.{◌≡◌, ◌≤◌, ◌&&◌, ◌==◌, not, true, length, filter, ap, sym, ◌∙◌, arith, rules}
-use Rattle.std.specs.List.{prefix_len, insert}
+use Rattle.std.proofs.Common.{◌≡◌, not, filter, arith, rules}
 use Rattle.std.proofs.lemmas.Fn.{filter_same}
-use Rattle.std.proofs.lemmas.Bool.{not-true, not-false}
 use Rattle.std.proofs.lemmas.List.Sums.{prefix_len-le-length}
 use Rattle.list_laws.proofs.InsertionLaws.{insert-prefix_len}
 use Rattle.cache_regs.specs.declared.registrations.Registration.{Registration}

@@ -1,5 +1,4 @@
 -- The board that was started, played to its end and closed.
-use Rattle.std.proofs.Common.{Ok}
 use Rattle.plex_floor.proofs.RunLaws.{lines_playable, desks-owners, desks-fit, finished_histories, finished_transcripts}
 use Rattle.plex_floor.proofs.runs.serial.Goals as goal
 

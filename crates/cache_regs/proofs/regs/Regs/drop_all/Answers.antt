@@ -1,4 +1,4 @@
-use Rattle.std.proofs.Common.{◌≡◌, ◌≤◌, true, false, length, filter, sym, subst, refl, List, arith}
+use Rattle.std.proofs.Common.{◌≤◌, true, length, sym, subst, refl, arith}
 use Rattle.list_laws.proofs.FilterLaws.{length-filter-le, filter_nothing}
 use Rattle.cache_regs.specs.declared.registrations.Registration.{Registration}
 use Rattle.cache_regs.specs.Registry.{Registry}

@@ -1,11 +1,10 @@
-use Rattle.std.proofs.Common.{◌≡◌, ◌≤◌, ◌<◌, ◌+◌, ◌&&◌, ◌==◌, not, length, filter, ap, sym, ◌∙◌, subst, arith, rules}
-use Rattle.std.specs.Vec.{vec_len}
+use Rattle.std.proofs.Common.{◌≡◌, ◌≤◌, ap, sym, subst, arith}
 use Rattle.cache_regs.specs.declared.registrations.Registration.{Registration}
-use Rattle.cache_regs.specs.Registrations.{is_for, is_at, IsRegistry, stands_before, regs_with, stands}
+use Rattle.cache_regs.specs.Registrations.{stands_before, regs_with}
 use Rattle.list_laws.specs.Insertions.{insertion}
 use Rattle.cache_regs.specs.Registry.{Registry}
 use Rattle.cache_regs.proofs.RegLaws.{one_elsewhere, filter-replaced, registry-with}
-use Rattle.cache_regs.proofs.BitLaws.{with_reg, gains_with}
+use Rattle.cache_regs.proofs.BitLaws.{gains_with}
 use Rattle.cache_regs.proofs.regs.Regs.set.Goals as goal
 
 pub end-requires-clause-room : goal.end-requires-clause-room

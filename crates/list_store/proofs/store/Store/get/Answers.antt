@@ -1,4 +1,4 @@
-use Rattle.std.proofs.Common.{◌≡◌, Some, None, option_map, sym, ap, ◌∙◌}
+use Rattle.std.proofs.Common.{sym, ◌∙◌}
 use Rattle.list_laws.proofs.FilterLaws.{find_none}
 use Rattle.list_store.specs.Lists.{all_records, is_id}
 use Rattle.list_store.proofs.RecordLaws.{any_all}

@@ -1,10 +1,9 @@
-use Rattle.std.proofs.Common.{◌≡◌, ◌==◌, true, false, not, is_some, List, sym, ap, ◌∙◌, subst}
+use Rattle.std.proofs.Common.{is_some, List, sym, ap, ◌∙◌}
 use Rattle.std.specs.List.{list_any}
-use Rattle.std.proofs.lemmas.Bool.{false≢true, eqb-true}
-use Rattle.list_laws.proofs.FilterLaws.{found_passes, none_filtered, any_is_found}
-use Rattle.cf_types.specs.declared.numbers.EntryId.{EntryId}
+use Rattle.std.proofs.lemmas.Bool.{false≢true}
+use Rattle.list_laws.proofs.FilterLaws.{found_passes, any_is_found}
 use Rattle.list_store.specs.declared.records.Rec.{Rec}
-use Rattle.list_store.specs.Lists.{all_records, is_id, lists_without}
+use Rattle.list_store.specs.Lists.{all_records, is_id}
 use Rattle.list_store.proofs.PlaceLaws.{gone}
 use Rattle.list_store.proofs.store.Store.shift.Goals as goal
 

@@ -5,7 +5,7 @@ use Rattle.desk_model.specs.Boards.{IsTrayOf}
 use Rattle.desk_model.specs.Turns.{AtWork}
 use Rattle.desk_model.specs.Callers.{DepartsEach}
 use Rattle.desk_model.specs.Floors.{Floor, worker_of, with_worker}
-use Rattle.plex_floor.proofs.FloorLaws.{desk_inside, shown_inside, desk_fits, desk_own, worker_is, changed, changed_only, changed_worker, changed_fits, on_ok}
+use Rattle.plex_floor.proofs.FloorLaws.{desk_inside, shown_inside, desk_fits, desk_own, worker_is, changed_only, changed_worker, changed_fits, on_ok}
 use Rattle.plex_floor.proofs.floor.Floor.depart.Goals as goal
 
 pub index_mut-requires : goal.index_mut-requires

@@ -4,7 +4,7 @@ use Rattle.desk_model.specs.Desks.{DeskShown, pass_at}
 use Rattle.desk_model.specs.Boards.{IsDeskOf, IsTrayOf}
 use Rattle.desk_model.specs.Turns.{AtWork, Posts}
 use Rattle.desk_model.specs.Floors.{Floor, worker_of}
-use Rattle.plex_floor.proofs.FloorLaws.{desk_inside, shown_inside, desk_fits, worker_is, changed, changed_worker, changed_fits, changed_tray, tray_is, on_ok, on_ok_always}
+use Rattle.plex_floor.proofs.FloorLaws.{desk_inside, shown_inside, desk_fits, worker_is, changed_worker, changed_fits, changed_tray, tray_is, on_ok, on_ok_always}
 use Rattle.plex_floor.proofs.floor.Floor.post.Goals as goal
 
 pub index_mut-requires : goal.index_mut-requires

@@ -4,7 +4,7 @@ use Rattle.desk_model.specs.Boards.{IsTrayOf, note_in}
 use Rattle.desk_model.specs.Turns.{AtWork}
 use Rattle.desk_model.specs.Floors.{Floor, worker_of, with_worker, taken}
 use Rattle.plex_floor.specs.Standing.{floor_of}
-use Rattle.plex_floor.proofs.FloorLaws.{desk_inside, shown_inside, desk_fits, worker_is, changed, changed_only, changed_fits, tray_is, on_ok}
+use Rattle.plex_floor.proofs.FloorLaws.{desk_inside, shown_inside, desk_fits, worker_is, changed_only, changed_fits, tray_is, on_ok}
 use Rattle.plex_floor.proofs.floor.Floor.take.Goals as goal
 
 pub index_mut-requires : goal.index_mut-requires
