@@ -12,6 +12,3 @@ mod rows;
 pub use cache_model::{CacheItem, Holder};
 pub use cache_regs::Registration;
 pub use engine::{CacheContent, CacheEngine};
-
-#[cfg(test)]
-mod tests;

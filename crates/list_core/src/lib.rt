@@ -14,6 +14,3 @@ pub use engine::{ListContent, ListEngine};
 pub use list_model::ListItem;
 pub use list_store::Rec;
 pub use list_watch::Monitor;
-
-#[cfg(test)]
-mod tests;

@@ -15,6 +15,3 @@ pub use engine::{LockContent, LockEngine};
 pub use lock_model::LockItem;
 pub use lock_queue::Waiter;
 pub use lock_table::Held;
-
-#[cfg(test)]
-mod tests;

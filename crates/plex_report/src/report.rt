@@ -283,6 +283,3 @@ pub fn render(
     // No memory holds a report of so many lines.
     Err(NoMemory)
 }
-
-#[cfg(test)]
-mod tests;

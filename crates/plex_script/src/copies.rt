@@ -145,36 +145,3 @@ pub fn copy_ask(alloc: Global, ask: &AnyAsk) -> Result<AnyAsk, NoMemory>
         AnyAsk::Lock(Ask::Content(cmd)) => Ok(AnyAsk::Lock(Ask::Content(*cmd))),
     }
 }
-
-#[cfg(test)]
-mod tests {
-    use super::*;
-    use cf_types::parse_body;
-    use std::test::Fail;
-
-    #[test]
-    fn calls_are_copied(rt: HostRuntime) -> Result<(), Fail> {
-        let body = parse_body(rt.alloc(), b"abc").ok();
-        let update = ListCmd::Update {
-            at: cf_types::At::Head(3),
-            body,
-            adj: None,
-            cond: None,
-        };
-        let copy = copy_ask(rt.alloc(), &AnyAsk::List(Ask::Content(update)))?;
-        match copy {
-            AnyAsk::List(
-                Ask::Content(
-                    ListCmd::Update {
-                        body: Some(body),
-                        ..
-                    },
-                ),
-            ) => {
-                assert_eq!(rt; body.bytes(), b"abc".as_slice());
-            }
-            _ => return Err("another call".into()),
-        }
-        Ok(())
-    }
-}

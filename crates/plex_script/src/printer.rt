@@ -185,6 +185,3 @@ pub fn print(alloc: Global, script: &Script) -> Result<Vec<u8>, NoMemory>
     put_lines(&mut text, script, script.lines.items())?;
     Ok(text)
 }
-
-#[cfg(test)]
-mod tests;

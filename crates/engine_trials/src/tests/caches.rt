@@ -1,13 +1,13 @@
 ghost use Rattle.cf_types.specs.Forms.{IsCaller};
 
-use super::*;
+use cache_core::CacheEngine;
 use cf_types::{
     CacheCmd, CacheReply, Caps, ConnId, Effects, Kind, Listing, Name16, NoMemory, Refusal, StrForm,
     parse_body,
 };
 use engine_api::Engine;
 use std::alloc::Global;
-use std::test::*;
+use std::test::Fail;
 
 const NAME: Name16 = Name16([65; 16]);
 

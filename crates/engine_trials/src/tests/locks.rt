@@ -1,13 +1,13 @@
 ghost use Rattle.cf_types.specs.Forms.{IsCaller};
 
-use super::*;
 use cf_types::{
     Caps, ConnId, Effects, Event, Kind, Listing, LockCmd, LockReply, Name16, NoMemory, Refusal,
     Resource, StrForm, parse_adjunct,
 };
 use engine_api::Engine;
+use lock_core::LockEngine;
 use std::alloc::Global;
-use std::test::*;
+use std::test::Fail;
 
 const R: Resource = Resource {
     name: Name16([65; 16]),

@@ -1,5 +1,4 @@
-use super::*;
-use crate::reader::read;
+use plex_script::{print, read};
 use std::test::Fail;
 
 // One line of each form, written loosely.

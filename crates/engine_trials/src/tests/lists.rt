@@ -1,13 +1,13 @@
 ghost use Rattle.cf_types.specs.Forms.{IsCaller};
 
-use super::*;
 use cf_types::{
     At, Caps, ConnId, Effects, EntryId, Kind, ListCmd, ListReply, Listing, Name16, NoMemory, Refs,
     Refusal, StrForm, parse_body,
 };
 use engine_api::Engine;
+use list_core::ListEngine;
 use std::alloc::Global;
-use std::test::*;
+use std::test::Fail;
 
 // An empty list structure of two headers and two connectors.
 fn list_of(alloc: Global) -> Result<ListEngine, NoMemory> {

@@ -1,9 +1,10 @@
-use super::*;
 use cf_types::{
     CacheCmd, CacheReply, Caps, CfId, ConnId, Kind, Listing, Pref, StrForm, StrNo, parse_name,
 };
 use engine_api::{Ask, Entry, History, Reply, What};
-use plex_script::{AgentEnd, AnyHistory, Shown};
+use plex_report::{line, render};
+use plex_script::{AgentEnd, AnyHistory, Script, Shown, Transcript};
+use std::alloc::Global;
 use std::test::Fail;
 
 fn form(alloc: Global) -> Result<StrForm, Fail> {

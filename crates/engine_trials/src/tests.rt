@@ -1,0 +1,3 @@
+mod caches;
+mod lists;
+mod locks;

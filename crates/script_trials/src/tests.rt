@@ -1,0 +1,4 @@
+mod copies;
+mod printing;
+mod reading;
+mod reports;
