@@ -1,6 +1,6 @@
 -- How many calls on a structure the items of a caller show: no more than its lines and its closing make.
-use Rattle.std.proofs.Common.{◌≡◌, ◌≢◌, ◌⊎◌, inl, inr, ℕ, zero, suc, ◌+◌, ◌*◌, ◌≤◌, ◌==◌, Bool, true, false, cond, List, [], ◌∷◌, ◌++◌, length, take, Option, Some, None, refl, sym, ap, subst, ◌∙◌, arith, length-append}
-use Rattle.std.specs.Prelude.{MatchBool, nat_lt}
+use Rattle.std.proofs.Common.{◌≡◌, ◌≢◌, ◌⊎◌, inl, inr, ℕ, zero, suc, ◌+◌, ◌≤◌, ◌==◌, Bool, true, false, cond, List, [], ◌∷◌, ◌++◌, length, take, Option, Some, None, refl, sym, ap, subst, ◌∙◌, arith, length-append}
+use Rattle.std.specs.Prelude.{MatchBool}
 use Rattle.std.proofs.lemmas.Bool.Decides.{nat_tests}
 use Rattle.std.proofs.lemmas.List.Elements.{filter_map-append}
 use Rattle.std.proofs.lemmas.List.Sums.{sum_by-append, sum_by-cons}
@@ -22,8 +22,9 @@ use Rattle.plex_script.specs.declared.transcripts.Shown.{Shown}
 use Rattle.plex_script.specs.declared.transcripts.Shown.TheVariants as shown
 use Rattle.plex_script.specs.Agent.{first_step, step_after, most_asks, asked_by, call_of, common}
 use Rattle.plex_script.specs.Heard.{AnyCall}
-use Rattle.plex_script.specs.Follows.{IsHeard, Runs, RunsUpTo, ShowsAct, ShowsTest, ShowsWord, ShowsLines, ShowsClosing, ShowsClosings, Follows, StopsInLine, StopsInClosing, is_linked_by, lines_of, number_on, numbers_on}
+use Rattle.plex_script.specs.Follows.{IsHeard, Runs, RunsUpTo, ShowsAct, ShowsLines, ShowsClosing, ShowsClosings, Follows, StopsInLine, StopsInClosing, is_linked_by, lines_of, number_on, numbers_on}
 use Rattle.plex_script.proofs.StepLaws.{fewer_asks}
+use Rattle.plex_script.proofs.TestLaws.{test_numbers, word_numbers}
 use Rattle.plex_bounds.specs.Bounds.{most_of_line, most_of_lines}
 
 -- how many calls on a structure items show
@@ -80,27 +81,6 @@ module _ (kind : Kind) (line : Option AnyAsk) (calls : List AnyCall) (by : ConnI
       (runs_up_to_few (step_after now runs.0) items runs.3)
   runs_up_to_few now (_ ∷ items) runs = absurd runs
 
--- tests show no calls
-test_none : (form : StrForm) (on at : StrNo) (index : ℕ) (items : List Shown) → ShowsTest form at index items
-    → numbers_on on items ≡ []
-test_none form on at index items shows = by_test (nat_lt index form.vector) shows
-  where
-    by_test : (b : Bool)
-        → MatchBool b ((bit : Bool) × ((seen : ℕ) × (items ≡ shown.Test at index bit seen ∷ [])))
-        (items ≡ shown.BadIndex at index false form.vector ∷ []) → numbers_on on items ≡ []
-    by_test true k = ap (numbers_on on) k.1.1
-    by_test false k = ap (numbers_on on) k
-
-word_none : (form : StrForm) (on at : StrNo) (word : ℕ) (items : List Shown) → ShowsWord form at word items
-    → numbers_on on items ≡ []
-word_none form on at word items shows = by_test (nat_lt (32 * word) form.vector) shows
-  where
-    by_test : (b : Bool)
-        → MatchBool b ((bits : ℕ) × ((seen : ℕ) × (items ≡ shown.Word at word bits seen ∷ [])))
-        (items ≡ shown.BadIndex at word true form.vector ∷ []) → numbers_on on items ≡ []
-    by_test true k = ap (numbers_on on) k.1.1
-    by_test false k = ap (numbers_on on) k
-
 -- an act makes as many calls as its first step has left at most
 act_few : (form : StrForm) (calls : List AnyCall) (by : ConnId) (on at : StrNo) (retry : ℕ) (done : Act)
     (items : List Shown) → ShowsAct form calls by at retry done items
@@ -110,9 +90,9 @@ act_few form calls by on at retry (act.Call asked) items shows =
 act_few form calls by on at retry act.Events items shows =
     runs_few form.kind None calls by on at (at.0 == on.0) refl (first_step act.Events retry) items shows
 act_few form calls by on at retry (act.Test index) items shows =
-    shown_none on items _ (test_none form on at index items shows)
+    shown_none on items _ (test_numbers form at index items on shows)
 act_few form calls by on at retry (act.TestWord word) items shows =
-    shown_none on items _ (word_none form on at word items shows)
+    shown_none on items _ (word_numbers form at word items on shows)
 act_few form calls by on at retry act.Post items shows = shown_none on items _ (ap (numbers_on on) shows.1)
 act_few form calls by on at retry act.Take items shows = shown_none on items _ (ap (numbers_on on) shows.1)
 

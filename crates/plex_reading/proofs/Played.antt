@@ -1,5 +1,5 @@
 -- A transcript that follows a script tells, for each structure, that the caller's calls there are its works.
-use Rattle.std.proofs.Common.{◌≡◌, ℕ, ◌+◌, ◌*◌, ◌<◌, ◌==◌, Bool, true, false, List, [], ◌∷◌, ◌++◌, map, filter, cond, Option, Some, None, inl, inr, ◌⊎◌, suc, slice_get, refl, sym, ap, subst, ◌∙◌, arith, append_assoc, append-nil, nat_lt}
+use Rattle.std.proofs.Common.{◌≡◌, ℕ, ◌+◌, ◌<◌, ◌==◌, Bool, true, false, List, [], ◌∷◌, ◌++◌, map, filter, cond, Option, Some, None, inl, inr, ◌⊎◌, suc, slice_get, refl, sym, ap, subst, ◌∙◌, arith, append_assoc, append-nil}
 use Rattle.std.specs.Bool.{MatchBool}
 use Rattle.std.proofs.lemmas.Bool.Decides.{nat_tests}
 use Rattle.std.proofs.lemmas.List.Elements.{filter_map-append}
@@ -21,7 +21,8 @@ use Rattle.plex_script.specs.declared.transcripts.Shown.{Shown}
 use Rattle.plex_script.specs.declared.transcripts.Shown.TheVariants as shown
 use Rattle.plex_script.specs.Agent.{first_step, step_after, asked_by, common, call_of}
 use Rattle.plex_script.specs.Heard.{AnyCall, heard, calls_on}
-use Rattle.plex_script.specs.Follows.{IsHeard, Runs, ShowsTest, ShowsWord, ShowsAct, ShowsLines, ShowsClosing, ShowsClosings, Follows, lines_of, number_on, numbers_on, is_linked_by}
+use Rattle.plex_script.specs.Follows.{IsHeard, Runs, ShowsAct, ShowsLines, ShowsClosing, ShowsClosings, Follows, lines_of, number_on, numbers_on, is_linked_by}
+use Rattle.plex_script.proofs.TestLaws.{test_numbers, word_numbers}
 use Rattle.serial_model.proofs.Closings.{runs_elsewhere}
 use Rattle.plex_reading.proofs.Heard.{AreHeard, heard_front, heard_back}
 use Rattle.plex_reading.proofs.Works.{Work, work_of, closing, works, Consumes, Plays}
@@ -82,27 +83,6 @@ runs_consume kind line calls by on now
     (shown.BadIndex place index word len ∷ items) mine runs numbers each = absurd runs
 runs_consume kind line calls by on now (shown.Posted place sure ∷ items) mine runs numbers each = absurd runs
 runs_consume kind line calls by on now (shown.Took place sure ∷ items) mine runs numbers each = absurd runs
-
--- a line that isn't a call shows no call
-test_numbers : (form : StrForm) (place : StrNo) (index : ℕ) (items : List Shown) (on : StrNo)
-    → ShowsTest form place index items → numbers_on on items ≡ []
-test_numbers form place index items on h = by_test (nat_lt index form.vector) h
-  where
-    by_test : (b : Bool)
-        → MatchBool b ((bit : Bool) × ((at : ℕ) × (items ≡ shown.Test place index bit at ∷ [])))
-        (items ≡ shown.BadIndex place index false form.vector ∷ []) → numbers_on on items ≡ []
-    by_test true k = ap (numbers_on on) k.1.1
-    by_test false k = ap (numbers_on on) k
-
-word_numbers : (form : StrForm) (place : StrNo) (word : ℕ) (items : List Shown) (on : StrNo)
-    → ShowsWord form place word items → numbers_on on items ≡ []
-word_numbers form place word items on h = by_test (nat_lt (32 * word) form.vector) h
-  where
-    by_test : (b : Bool)
-        → MatchBool b ((bits : ℕ) × ((at : ℕ) × (items ≡ shown.Word place word bits at ∷ [])))
-        (items ≡ shown.BadIndex place word true form.vector ∷ []) → numbers_on on items ≡ []
-    by_test true k = ap (numbers_on on) k.1.1
-    by_test false k = ap (numbers_on on) k
 
 none_mine : (mine : List AnyCall) (numbers : List ℕ) → numbers ≡ [] → numbers ≡ map (λ call. call.no) mine → mine ≡ []
 none_mine [] numbers none same = refl

@@ -18,3 +18,4 @@ pub mod Spaced
 pub mod TokensTold
 pub mod KeptLimits
 pub mod StepLaws
+pub mod TestLaws
