@@ -190,6 +190,13 @@ pub trait Engine: Sized + Send + Drop {
         → is_content shape caps state → made meaning shape (meaning.items shape state) ≡
         meaning.forget state };
 
+    /// A content whose items fit another capacity is a content there too, without its
+    /// registrations.
+    ghost content_moved: { (shape : Shape) (caps other : Caps) (state : Self.State)
+        → IsTrue (is_kind shape.kind) → is_content shape caps state
+        → Fits shape.kind (meaning.need (meaning.items shape state)) other
+        → is_content shape other (meaning.forget state) };
+
     /// An item that is placed is the last, and goes with `unplace`.
     ghost items_place: { (shape : Shape) (caps : Caps) (state : Self.State) (item : Self.Item)
         → IsNextItem meaning (is_content shape caps) shape state item
