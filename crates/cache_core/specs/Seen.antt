@@ -1,10 +1,8 @@
 -- The engine as contracts see it.
-use Rattle.std.specs.Prelude.{◌≡◌, ℕ, ◌+◌, ◌≤◌, Bool, true, false, IsTrue, length, Option, Some}
+use Rattle.std.specs.Prelude.{◌≡◌, ℕ, ◌+◌, ◌≤◌, IsTrue, length, Option, Some}
 use Rattle.cf_types.specs.declared.effects.Effects.{Effects}
-use Rattle.cf_types.specs.declared.forms.Kind.{Kind}
-use Rattle.cf_types.specs.declared.forms.Kind.TheVariants as kind
 use Rattle.cf_types.specs.declared.cache_commands.CacheCmd.{CacheCmd}
-use Rattle.cf_types.specs.Forms.{IsCapacity}
+use Rattle.cf_types.specs.Forms.{IsCapacity, is_cache}
 use Rattle.engine_api.specs.Meaning.{Held, Wish}
 use Rattle.engine_api.specs.Meaning.Wish.{ForCmd, ForLeave, ForForget}
 use Rattle.cache_core.specs.declared.plans.Plan.{Plan}
@@ -30,11 +28,6 @@ seen e =
       row_room = e.rows.room;
       reg_room = e.regs.room;
     }
-
-abbrev pub is_cache : Kind → Bool
-is_cache kind.Cache = true
-is_cache (kind.List headers locks refs) = false
-is_cache kind.Lock = false
 
 pub record IsKept (e : Inside) : Type 0 where
   pub cache : IsTrue (is_cache e.shape.kind)

@@ -42,10 +42,11 @@ impl Model for CacheEngine {
 
 impl Engine for CacheEngine {
     ghost use Rattle.std.specs.Prelude.{refl};
-    ghost use Rattle.cache_core.specs.Seen.{IsReady, is_cache};
+    ghost use Rattle.cf_types.specs.Forms.{is_cache};
+    ghost use Rattle.cache_core.specs.Seen.{IsReady};
     ghost use Rattle.cache_model.specs.Contents.{IsContent};
     ghost use Rattle.cache_model.specs.Meaning.{cache_meaning};
-    ghost use Rattle.cache_model.proofs.EngineLaws.{content-nothing, step-content, leave-content, content-forgotten, made-items, unplace-place, need-front, need-leave, need-same};
+    ghost use Rattle.cache_model.proofs.EngineLaws.{content-nothing, step-content, leave-content, content-moved, content-forgotten, made-items, unplace-place, need-front, need-leave, need-same};
 
     type Cmd = CacheCmd;
 
@@ -205,6 +206,8 @@ impl Engine for CacheEngine {
     ghost content_forget = { λ shape caps content. content-forgotten caps content };
 
     ghost made_again = { λ shape caps content is. made-items content.rows };
+
+    ghost content_moved = { content-moved };
 
     ghost items_place = { λ shape caps content item next. refl };
 

@@ -1,5 +1,5 @@
 -- The laws of the engine's meaning.
-use Rattle.std.proofs.Common.{◌≡◌, ◌-◌, ◌≤◌, true, false, List, [], ◌∷◌, ◌++◌, append-nil, append_assoc, length, length-append, take, drop, fold, refl, sym, ap, ◌∙◌, arith}
+use Rattle.std.proofs.Common.{◌≡◌, ◌-◌, ◌≤◌, IsTrue, true, false, List, [], ◌∷◌, ◌++◌, append-nil, append_assoc, length, length-append, take, drop, fold, refl, sym, ap, ◌∙◌, arith}
 use Rattle.std.specs.List.{list_all}
 use Rattle.std.proofs.lemmas.Bool.{and_parts, or_from, or_left, not-true}
 use Rattle.cf_types.specs.Name.{same_name}
@@ -7,6 +7,7 @@ use Rattle.list_laws.proofs.FilterLaws.{list_all_weaker}
 use Rattle.std.proofs.lemmas.List.{length-map, take_at, take-append-drop}
 use Rattle.std.proofs.lemmas.List.Folds.{list_all-append, list_any-append}
 use Rattle.std.proofs.lemmas.List.Sums.{sum_by-append}
+use Rattle.cf_types.specs.Forms.{is_cache}
 use Rattle.cf_types.specs.declared.forms.Caps.{Caps}
 use Rattle.cf_types.specs.declared.forms.Kind.{Kind}
 use Rattle.cf_types.specs.declared.forms.Kind.TheVariants as kind
@@ -14,7 +15,7 @@ use Rattle.cf_types.specs.declared.numbers.ConnId.{ConnId}
 use Rattle.cf_types.specs.declared.cache_commands.CacheCmd.{CacheCmd}
 use Rattle.engine_api.specs.declared.shapes.Shape.{Shape}
 use Rattle.engine_api.specs.Meaning.{stepped}
-use Rattle.engine_api.specs.Items.{IsNoMore, IsNoMoreOf}
+use Rattle.engine_api.specs.Items.{Fits, IsNoMore, IsNoMoreOf}
 use Rattle.list_laws.specs.Pairwise.{pairwise}
 use Rattle.list_laws.proofs.PairwiseLaws.{pairwise_front}
 use Rattle.cache_model.specs.declared.items.CacheItem.{CacheItem}
@@ -89,6 +90,20 @@ need-leave kind content conn =
 
 pub need-same : (kind : Kind) (rows : List CacheItem) → IsNoMoreOf kind (need_of rows) (need_of rows)
 need-same kind rows = no_more_of kind (need_of rows) (need_of rows) (omega arith, omega arith)
+
+-- a content whose rows fit another capacity is one there, without its registrations
+fits_both : (kind : Kind) (need caps : Caps) → IsTrue (is_cache kind) → Fits kind need caps
+    → (need.entries ≤ caps.entries) × (need.elements ≤ caps.elements)
+fits_both kind.Cache need caps is fits = fits
+fits_both (kind.List headers locks refs) need caps is fits = absurd cc
+fits_both kind.Lock need caps is fits = absurd cc
+
+pub content-moved : (shape : Shape) (caps other : Caps) (content : Content) → IsTrue (is_cache shape.kind)
+    → IsContent caps content → Fits shape.kind (need_of content.rows) other
+    → IsContent other (content_forgotten content)
+content-moved shape caps other content kind is fits =
+    let both = fits_both shape.kind (need_of content.rows) other kind fits in
+    record (laws.content-forgotten caps content is) { entries = both.0; elements = both.1 }
 
 -- ---- a front of the rows
 

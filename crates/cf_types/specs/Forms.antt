@@ -1,5 +1,5 @@
 -- The forms of structures that a policy may state.
-use Rattle.std.specs.Prelude.{◌≡◌, ◌≢◌, ℕ, ◌≤◌, All, AllPairs}
+use Rattle.std.specs.Prelude.{◌≡◌, ◌≢◌, ℕ, ◌≤◌, Bool, true, false, All, AllPairs}
 use Rattle.cf_types.specs.declared.numbers.ConnId.{ConnId}
 use Rattle.cf_types.specs.declared.numbers.CfId.{CfId}
 use Rattle.cf_types.specs.declared.forms.Caps.{Caps}
@@ -25,6 +25,22 @@ pub record IsCapacity (caps : Caps) : Type 0 where
   pub most_entries : caps.entries ≤ 4096
   pub some_elements : 1 ≤ caps.elements
   pub most_elements : caps.elements ≤ 4096
+
+-- the three kinds of structure
+abbrev pub is_cache : Kind → Bool
+is_cache kind.Cache = true
+is_cache (kind.List headers locks refs) = false
+is_cache kind.Lock = false
+
+abbrev pub is_list : Kind → Bool
+is_list kind.Cache = false
+is_list (kind.List headers locks refs) = true
+is_list kind.Lock = false
+
+abbrev pub is_lock : Kind → Bool
+is_lock kind.Cache = false
+is_lock (kind.List headers locks refs) = false
+is_lock kind.Lock = true
 
 -- 1 to 1,024 bits; a lock structure has no vectors
 abbrev pub IsVectorOf : Kind → ℕ → Type 0

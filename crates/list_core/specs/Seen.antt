@@ -1,10 +1,8 @@
 -- The engine as contracts see it.
-use Rattle.std.specs.Prelude.{◌≡◌, ◌≤◌, Bool, true, false, IsTrue, [], length, Option, Some}
+use Rattle.std.specs.Prelude.{◌≡◌, ◌≤◌, IsTrue, [], length, Option, Some}
 use Rattle.cf_types.specs.declared.effects.Effects.{Effects}
-use Rattle.cf_types.specs.declared.forms.Kind.{Kind}
-use Rattle.cf_types.specs.declared.forms.Kind.TheVariants as kind
 use Rattle.cf_types.specs.declared.list_commands.ListCmd.{ListCmd}
-use Rattle.cf_types.specs.Forms.{IsCapacity}
+use Rattle.cf_types.specs.Forms.{IsCapacity, is_list}
 use Rattle.engine_api.specs.Meaning.{Held, Wish}
 use Rattle.engine_api.specs.Meaning.Wish.{ForCmd, ForLeave, ForForget}
 use Rattle.list_core.specs.declared.plans.Plan.{Plan}
@@ -26,11 +24,6 @@ seen e =
       plan = e.plan;
       kept = e.kept;
     }
-
-abbrev pub is_list : Kind → Bool
-is_list kind.Cache = false
-is_list (kind.List headers locks refs) = true
-is_list kind.Lock = false
 
 pub record IsKept (e : Inside) : Type 0 where
   pub list : IsTrue (is_list e.shape.kind)

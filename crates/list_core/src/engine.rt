@@ -43,10 +43,11 @@ impl Model for ListEngine {
 
 impl Engine for ListEngine {
     ghost use Rattle.std.specs.Prelude.{refl};
-    ghost use Rattle.list_core.specs.Seen.{IsReady, is_list};
+    ghost use Rattle.cf_types.specs.Forms.{is_list};
+    ghost use Rattle.list_core.specs.Seen.{IsReady};
     ghost use Rattle.list_model.specs.Contents.{IsContent};
     ghost use Rattle.list_model.specs.Meaning.{list_meaning};
-    ghost use Rattle.list_model.proofs.EngineLaws.{content-nothing, items-nothing, step-content, leave-content, made-items, items-place, unplace-place, need-front, need-leave, need-same};
+    ghost use Rattle.list_model.proofs.EngineLaws.{content-nothing, items-nothing, step-content, leave-content, content-moved, made-items, items-place, unplace-place, need-front, need-leave, need-same};
 
     type Cmd = ListCmd;
 
@@ -179,6 +180,8 @@ impl Engine for ListEngine {
     ghost content_forget = { λ shape caps content is. is };
 
     ghost made_again = { made-items };
+
+    ghost content_moved = { content-moved };
 
     ghost items_place = { items-place };
 

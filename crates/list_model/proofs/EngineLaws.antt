@@ -6,6 +6,7 @@ use Rattle.std.proofs.lemmas.Bool.Decides.{nat_tests}
 use Rattle.std.proofs.lemmas.List.{length-replicate}
 use Rattle.std.proofs.lemmas.List.Sums.{sum_by-cons, sum_by-append}
 use Rattle.std.proofs.lemmas.Option.{slice_get_within}
+use Rattle.cf_types.specs.Forms.{is_list}
 use Rattle.cf_types.specs.declared.forms.Caps.{Caps}
 use Rattle.cf_types.specs.declared.forms.Kind.{Kind}
 use Rattle.cf_types.specs.declared.forms.Kind.TheVariants as kind
@@ -16,7 +17,7 @@ use Rattle.cf_types.specs.declared.names.Name16.{Name16}
 use Rattle.cf_types.specs.declared.numbers.EntryId.{EntryId}
 use Rattle.engine_api.specs.declared.shapes.Shape.{Shape}
 use Rattle.engine_api.specs.Meaning.{stepped}
-use Rattle.engine_api.specs.Items.{IsNoMore, IsNoMoreOf, IsNextItem, made}
+use Rattle.engine_api.specs.Items.{Fits, IsNoMore, IsNoMoreOf, IsNextItem, made}
 use Rattle.list_laws.specs.Pairwise.{pairwise}
 use Rattle.list_laws.proofs.PairwiseLaws.{pairwise_front}
 use Rattle.list_laws.proofs.FilterLaws.{none_from_all, list_all_weaker}
@@ -290,6 +291,24 @@ pub need-same : (shape : Shape) (content : Content)
     → IsNoMoreOf shape.kind (need_of (items_of shape content)) (need_of (items_of shape content))
 need-same shape content =
     same_need shape.kind (need_of (items_of shape content)) (need_of (items_of shape content)) refl
+
+-- a content whose items fit another capacity is one there
+fits_both : (kind : Kind) (need caps : Caps) → IsTrue (is_list kind) → Fits kind need caps
+    → (need.entries ≤ caps.entries) × (need.elements ≤ caps.elements)
+fits_both kind.Cache need caps is fits = absurd cc
+fits_both (kind.List headers locks refs) need caps is fits = fits
+fits_both kind.Lock need caps is fits = absurd cc
+
+pub content-moved : (shape : Shape) (caps other : Caps) (content : Content) → IsTrue (is_list shape.kind)
+    → IsContent shape caps content → Fits shape.kind (need_of (items_of shape content)) other
+    → IsContent shape other content
+content-moved shape caps other content kind is fits =
+    let both = fits_both shape.kind (need_of (items_of shape content)) other kind fits in
+    let same = need-items shape content in
+    record is {
+      entries = omega (arith, both.0, ap (λ (c : Caps). c.entries) same);
+      elements = omega (arith, both.1, ap (λ (c : Caps). c.elements) same);
+    }
 
 -- ---- a front of the records
 

@@ -1,11 +1,9 @@
 -- The engine as contracts see it.
-use Rattle.std.specs.Prelude.{◌≡◌, ◌+◌, ◌≤◌, ◌<◌, Bool, true, false, IsTrue, List, length, Option, Some}
+use Rattle.std.specs.Prelude.{◌≡◌, ◌+◌, ◌≤◌, ◌<◌, IsTrue, List, length, Option, Some}
 use Rattle.cf_types.specs.declared.effects.Effects.{Effects}
-use Rattle.cf_types.specs.declared.forms.Kind.{Kind}
-use Rattle.cf_types.specs.declared.forms.Kind.TheVariants as kind
 use Rattle.cf_types.specs.declared.resources.Resource.{Resource}
 use Rattle.cf_types.specs.declared.lock_commands.LockCmd.{LockCmd}
-use Rattle.cf_types.specs.Forms.{IsCapacity}
+use Rattle.cf_types.specs.Forms.{IsCapacity, is_lock}
 use Rattle.engine_api.specs.Meaning.{Held, Wish}
 use Rattle.engine_api.specs.Meaning.Wish.{ForCmd, ForLeave, ForForget}
 use Rattle.lock_model.specs.Contents.{Content, IsContent}
@@ -30,11 +28,6 @@ seen e =
       leaving = e.leaving;
       stock = e.locks;
     }
-
-abbrev pub is_lock : Kind → Bool
-is_lock kind.Cache = false
-is_lock (kind.List headers locks refs) = false
-is_lock kind.Lock = true
 
 -- so many items that their number is one of 32 bits
 abbrev pub IsCounted : Content → Type 0

@@ -45,10 +45,11 @@ impl Model for LockEngine {
 
 impl Engine for LockEngine {
     ghost use Rattle.std.specs.Prelude.{refl};
-    ghost use Rattle.lock_core.specs.Seen.{IsReady, is_lock};
+    ghost use Rattle.cf_types.specs.Forms.{is_lock};
+    ghost use Rattle.lock_core.specs.Seen.{IsReady};
     ghost use Rattle.lock_model.specs.Contents.{IsContent};
     ghost use Rattle.lock_model.specs.Meaning.{lock_meaning};
-    ghost use Rattle.lock_model.proofs.EngineLaws.{content-nothing, step-content, leave-content, back-content, made-items, items-place, unplace-place, need-front, need-leave, need-same};
+    ghost use Rattle.lock_model.proofs.EngineLaws.{content-nothing, step-content, leave-content, content-moved, back-content, made-items, items-place, unplace-place, need-front, need-leave, need-same};
 
     type Cmd = LockCmd;
 
@@ -191,6 +192,9 @@ impl Engine for LockEngine {
     ghost content_forget = { λ shape caps content is. is };
 
     ghost made_again = { λ shape caps content is. made-items content };
+
+    ghost content_moved = { λ shape caps other content kind is fits. content-moved shape caps other
+        content is fits };
 
     ghost items_place = { λ shape caps content item next. items-place shape caps content item next };
 

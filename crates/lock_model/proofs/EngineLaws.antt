@@ -1,5 +1,5 @@
 -- The laws of the engine's meaning.
-use Rattle.std.proofs.Common.{◌≡◌, ◌-◌, Bool, true, false, List, [], ◌∷◌, ◌++◌, append-nil, append_assoc, length, length-append, fold, map, sum_by, refl, sym, ap, ◌∙◌, arith}
+use Rattle.std.proofs.Common.{◌≡◌, ◌-◌, ◌≤◌, Bool, true, false, List, [], ◌∷◌, ◌++◌, append-nil, append_assoc, length, length-append, fold, map, sum_by, refl, sym, ap, ◌∙◌, arith}
 use Rattle.std.specs.List.{list_any}
 use Rattle.std.proofs.lemmas.Bool.{or_right, false≢true}
 use Rattle.std.proofs.lemmas.List.{length-map, map-append, take_at}
@@ -12,7 +12,7 @@ use Rattle.cf_types.specs.declared.numbers.ConnId.{ConnId}
 use Rattle.cf_types.specs.declared.lock_commands.LockCmd.{LockCmd}
 use Rattle.engine_api.specs.declared.shapes.Shape.{Shape}
 use Rattle.engine_api.specs.Meaning.{stepped}
-use Rattle.engine_api.specs.Items.{IsNoMore, IsNoMoreOf, IsNextItem}
+use Rattle.engine_api.specs.Items.{Fits, IsNoMore, IsNoMoreOf, IsNextItem}
 use Rattle.lock_queue.specs.declared.waiters.Waiter.{Waiter}
 use Rattle.lock_model.specs.declared.items.LockItem.{LockItem}
 use Rattle.lock_model.specs.declared.items.LockItem.TheVariants.{Owner, Waits}
@@ -245,3 +245,15 @@ pub need-same : (kind : Kind) (content : Content)
     → IsNoMoreOf kind (need_of (items content)) (need_of (items content))
 need-same kind content = no_more_of kind (need_of (items content)) (need_of (items content))
     (omega arith, omega arith)
+
+-- a content whose items fit another capacity is one there
+fits_records : (kind : Kind) (need caps : Caps) → Fits kind need caps → need.elements ≤ caps.elements
+fits_records kind.Cache need caps fits = fits.1
+fits_records (kind.List headers locks refs) need caps fits = fits.1
+fits_records kind.Lock need caps fits = fits
+
+pub content-moved : (shape : Shape) (caps other : Caps) (content : Content) → IsContent caps content
+    → Fits shape.kind (need_of (items content)) other → IsContent other content
+content-moved shape caps other content is fits =
+    let few = fits_records shape.kind (need_of (items content)) other fits in
+    record is { records = omega (arith, few, elements-items content) }
