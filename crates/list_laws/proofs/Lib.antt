@@ -5,3 +5,4 @@ pub mod PrefixLaws
 pub mod KeyLaws
 pub mod MapLaws
 pub mod TableLaws
+pub mod TakeLaws

@@ -20,6 +20,7 @@ use Rattle.engine_api.specs.Meaning.{stepped}
 use Rattle.engine_api.specs.Items.{Fits, IsNoMore, IsNoMoreOf, IsNextItem, made}
 use Rattle.list_laws.specs.Pairwise.{pairwise}
 use Rattle.list_laws.proofs.PairwiseLaws.{pairwise_front}
+use Rattle.list_laws.proofs.TakeLaws.{take_next}
 use Rattle.list_laws.proofs.FilterLaws.{none_from_all, list_all_weaker}
 use Rattle.list_store.specs.declared.records.Rec.{Rec}
 use Rattle.list_store.specs.Lists.{Lists, all_records, count_of, ids_apart, records_of, with_records, is_id}
@@ -32,7 +33,7 @@ use Rattle.list_model.specs.Items.{has_controls, controls_of, row_of, rows_from,
 use Rattle.list_model.specs.Meaning.{list_meaning}
 use Rattle.list_model.proofs.RecordLaws.{ids_apart-sym}
 use Rattle.list_model.proofs.ListLaws.{IsWith, with-push, with-records, with-pairwise}
-use Rattle.list_model.proofs.ItemLaws.{next-row, record_in, header_in, content_front, controls_in, items-front, made-again, place-next, take_append, take_next, controls-placed, first-none, first-first, first-all, count-first, length-rows, ComesFirst, ComesNext, item-comes}
+use Rattle.list_model.proofs.ItemLaws.{next-row, record_in, header_in, content_front, controls_in, items-front, made-again, place-next, take_append, controls-placed, first-none, first-first, first-all, count-first, length-rows, ComesFirst, ComesNext, item-comes}
 use Rattle.list_model.proofs.ContentLaws as laws
 use Rattle.list_model.proofs.ContentLaws.{size}
 

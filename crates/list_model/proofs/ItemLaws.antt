@@ -9,6 +9,7 @@ use Rattle.std.proofs.lemmas.Option.{slice_get-map}
 use Rattle.cf_types.specs.declared.forms.Caps.{Caps}
 use Rattle.cf_types.specs.declared.numbers.ConnId.{ConnId}
 use Rattle.engine_api.specs.declared.shapes.Shape.{Shape}
+use Rattle.list_laws.proofs.TakeLaws.{take_next}
 use Rattle.list_store.specs.declared.records.Rec.{Rec}
 use Rattle.list_store.specs.Lists.{Lists, records_of, with_records, all_records, count_of}
 use Rattle.list_watch.specs.declared.monitors.Monitor.{Monitor}
@@ -51,14 +52,6 @@ slice_right [] ys n h = rw (less_none n) refl
 slice_right (x ∷ xs) ys zero h = absurd (omega arith)
 slice_right (x ∷ xs) ys (suc n) h =
     slice_right xs ys n (omega arith) ∙ ap (λ (k : ℕ). slice_get ys k) (sym (suc_less n (length xs)))
-
-pub take_next : {X : Type 0} (xs : List X) (n : ℕ) (x : X) → slice_get xs n ≡ Some x
-    → take (n + 1) xs ≡ take n xs ++ x ∷ []
-take_next [] n x h = absurd (cc)
-take_next (y ∷ ys) zero x h = let same : y ≡ x = cc in ap (λ z. z ∷ []) same
-take_next (y ∷ ys) (suc n) x h =
-    let e : suc n + 1 ≡ suc (n + 1) = omega arith in
-    rw e (ap (λ l. y ∷ l) (take_next ys n x h))
 
 slice_seam : {X : Type 0} (xs : List X) (x : X) (ys : List X) → slice_get (xs ++ x ∷ ys) (length xs) ≡ Some x
 slice_seam [] x ys = refl
