@@ -1,0 +1,224 @@
+-- Engines that are filled by items, one after another.
+use Rattle.std.proofs.Common.{◌≡◌, ℕ, ◌+◌, ◌-◌, ◌<◌, IsTrue, List, [], ◌∷◌, ◌++◌, Some, Result, Ok, Err, OnOk, OnErr, length, take, drop, slice_get, ⊎_elim, sym, ap, ◌∙◌, subst, arith, append-nil, append_assoc}
+use Rattle.std.proofs.lemmas.List.{drop_all}
+use Rattle.std.specs.Prelude.{Bool}
+use Rattle.std.proofs.lemmas.List.Sums.{fold-append}
+use Rattle.std.proofs.lemmas.Option.{slice_get_cases}
+use Rattle.cf_types.specs.declared.forms.Caps.{Caps}
+use Rattle.cf_types.specs.declared.forms.Kind.{Kind}
+use Rattle.cf_types.specs.declared.forms.Kind.TheVariants as kind
+use Rattle.engine_api.specs.declared.shapes.Shape.{Shape}
+use Rattle.engine_api.specs.Meaning.{Meaning, Held, items_of, with_item, without_last_item}
+use Rattle.engine_api.specs.Items.{Fits, IsNoMore, IsNextItem, made}
+use Rattle.list_laws.proofs.TakeLaws.{take_next, split_next}
+use Rattle.rebuild_copy.specs.Copies.{Copy, copy_in, IsFilled, IsCopyOf, with_next}
+
+-- what needs no more fits as well
+fits_less : (kind : Kind) (need other caps : Caps) → IsNoMore need other → Fits kind other caps → Fits kind need caps
+fits_less kind.Cache need other caps less fits = (omega (arith, less.0, fits.0), omega (arith, less.1, fits.1))
+fits_less (kind.List headers locks refs) need other caps less fits =
+    (omega (arith, less.0, fits.0), omega (arith, less.1, fits.1))
+fits_less kind.Lock need other caps less fits = omega (arith, less.1, fits)
+
+-- a list that isn't empty ends with an element
+ends_so : {X : Type 0} (xs : List X) (k : ℕ) → length xs ≡ k + 1 → (x : X) → slice_get xs k ≡ Some x
+    → xs ≡ take k xs ++ x ∷ []
+ends_so xs k long x at =
+    split_next xs k x at ∙ ap (λ l. take k xs ++ x ∷ l) (drop_all (k + 1) xs (omega (arith, long)))
+
+ends_with : {X : Type 0} (xs : List X) → 0 < length xs → (x : X) × (xs ≡ take (length xs - 1) xs ++ x ∷ [])
+ends_with xs some =
+    ⊎_elim (λ found. (found.0, ends_so xs (length xs - 1) (omega (arith, some)) found.0 found.2))
+    (λ past. absurd (omega (arith, some, past.0))) (slice_get_cases xs (length xs - 1)).1
+
+module _ {C R I S : Type 0} (meaning : Meaning C R I S) (is_kind : Kind → Bool)
+    (IsContent : Shape → Caps → S → Type 0) where
+  -- what every engine promises of items
+  pub record ItemLaws : Type 0 where
+    pub content_empty : (shape : Shape) (caps : Caps) → IsContent shape caps (meaning.empty shape)
+    pub items_empty : (shape : Shape) → meaning.items shape (meaning.empty shape) ≡ []
+    pub made_again : (shape : Shape) (caps : Caps) (state : S) → IsContent shape caps state
+        → made meaning shape (meaning.items shape state) ≡ meaning.forget state
+    pub content_moved : (shape : Shape) (caps other : Caps) (state : S) → IsTrue (is_kind shape.kind)
+        → IsContent shape caps state → Fits shape.kind (meaning.need (meaning.items shape state)) other
+        → IsContent shape other (meaning.forget state)
+    pub items_place : (shape : Shape) (caps : Caps) (state : S) (item : I)
+        → IsNextItem meaning (IsContent shape caps) shape state item
+        → meaning.items shape (meaning.place shape state item) ≡ meaning.items shape state ++ item ∷ []
+    pub unplace_place : (shape : Shape) (caps : Caps) (state : S) (item : I)
+        → IsNextItem meaning (IsContent shape caps) shape state item
+        → meaning.unplace shape (meaning.place shape state item) ≡ state
+    pub need_first : (items others : List I) → IsNoMore (meaning.need items) (meaning.need (items ++ others))
+
+  module _ (laws : ItemLaws) where
+    -- ---- the content that items make
+
+    made_push : (shape : Shape) (front : List I) (item : I)
+        → made meaning shape (front ++ item ∷ []) ≡ meaning.place shape (made meaning shape front) item
+    made_push shape front item = fold-append (meaning.place shape) (meaning.empty shape) front (item ∷ [])
+
+    -- an item is the next one of what the items before it make
+    next_of : (shape : Shape) (caps : Caps) (whole : S) (front : List I) (item : I) (others : List I)
+        → IsContent shape caps whole → meaning.items shape whole ≡ front ++ item ∷ others
+        → meaning.items shape (made meaning shape front) ≡ front
+        → IsNextItem meaning (IsContent shape caps) shape (made meaning shape front) item
+    next_of shape caps whole front item others content split same =
+        record {
+          whole = whole;
+          others = others;
+          content = content;
+          first = split ∙ ap (λ (l : List I). l ++ item ∷ others) (sym same);
+          made_so = ap (made meaning shape) same;
+        }
+
+    module _ (shape : Shape) (caps : Caps) (whole : S) (content : IsContent shape caps whole) where
+      items_front : (front rest others : List I) → meaning.items shape whole ≡ front ++ (rest ++ others)
+          → meaning.items shape (made meaning shape front) ≡ front
+          → meaning.items shape (made meaning shape (front ++ rest)) ≡ front ++ rest
+      items_front front [] others split same =
+          ap (λ (l : List I). meaning.items shape (made meaning shape l)) (append-nil front) ∙ same
+          ∙ sym (append-nil front)
+      items_front front (item ∷ rest) others split same =
+          let next = next_of shape caps whole front item (rest ++ others) content split same in
+          let more : meaning.items shape (made meaning shape (front ++ item ∷ [])) ≡ front ++ item ∷ [] =
+          ap (meaning.items shape) (made_push shape front item)
+          ∙ laws.items_place shape caps (made meaning shape front) item next
+          ∙ ap (λ (l : List I). l ++ item ∷ []) same in
+          subst (λ (l : List I). meaning.items shape (made meaning shape l) ≡ l) (append_assoc front (item ∷ []) rest)
+          (items_front (front ++ item ∷ []) rest others
+          (split ∙ sym (append_assoc front (item ∷ []) (rest ++ others))) more)
+
+      -- the first items of a content make something that has just them
+      items_made : (front others : List I) → meaning.items shape whole ≡ front ++ others
+          → meaning.items shape (made meaning shape front) ≡ front
+      items_made front others split = items_front [] front others split (laws.items_empty shape)
+
+      items_forgotten : meaning.items shape (meaning.forget whole) ≡ meaning.items shape whole
+      items_forgotten =
+          ap (meaning.items shape) (sym (laws.made_again shape caps whole content))
+          ∙ items_made (meaning.items shape whole) [] (sym (append-nil (meaning.items shape whole)))
+
+    -- ---- an engine that is filled
+
+    -- an old engine's content as one of the copy's shape
+    reshaped : (copy : Copy I) (old : Held S) → IsCopyOf meaning is_kind IsContent copy old
+        → IsCopyOf meaning is_kind IsContent copy (record old { shape = copy.shape })
+    reshaped copy old is =
+        subst (λ (s : Shape). IsCopyOf meaning is_kind IsContent copy (record old { shape = s })) (sym is.shape) is
+
+    module _ (new old : Held S) (full : IsFilled meaning IsContent new) (copy : Copy I)
+        (seen : copy_in meaning new ≡ copy) (copies : IsCopyOf meaning is_kind IsContent copy old) (item : I)
+        (at : slice_get (items_of meaning old) (length (items_of meaning new)) ≡ Some item) where
+      is : IsCopyOf meaning is_kind IsContent (copy_in meaning new) old
+      is = subst (λ (c : Copy I). IsCopyOf meaning is_kind IsContent c old) (sym seen) copies
+
+      here : IsCopyOf meaning is_kind IsContent (copy_in meaning new) (record old { shape = new.shape })
+      here = reshaped (copy_in meaning new) old is
+
+      abbrev all : List I
+      all = meaning.items new.shape old.state
+
+      abbrev rest : List I
+      rest = drop (length (items_of meaning new) + 1) all
+
+      split : all ≡ items_of meaning new ++ item ∷ rest
+      split =
+          split_next all (length (items_of meaning new)) item
+          (subst (λ (s : Shape). slice_get (meaning.items s old.state) (length (items_of meaning new)) ≡ Some item)
+          (sym is.shape) at)
+          ∙ ap (λ (l : List I). l ++ item ∷ rest) (sym here.first)
+
+      -- the next item can be placed
+      pub place-next : IsNextItem meaning (IsContent new.shape new.caps) new.shape new.state item
+      place-next =
+          record {
+            whole = meaning.forget old.state;
+            others = rest;
+            content = laws.content_moved new.shape old.caps new.caps old.state here.kind here.content here.fits;
+            first = items_forgotten new.shape old.caps old.state here.content ∙ split;
+            made_so = full.alone;
+          }
+
+      pub place-fits : Fits new.shape.kind (meaning.need (items_of meaning new ++ item ∷ [])) new.caps
+      place-fits =
+          fits_less new.shape.kind (meaning.need (items_of meaning new ++ item ∷ [])) (meaning.need all) new.caps
+          (subst (λ (l : List I). IsNoMore (meaning.need (items_of meaning new ++ item ∷ [])) (meaning.need l))
+          (append_assoc (items_of meaning new) (item ∷ []) rest ∙ sym split)
+          (laws.need_first (items_of meaning new ++ item ∷ []) rest)) here.fits
+
+      pub placed-items : items_of meaning (with_item meaning new item) ≡ items_of meaning new ++ item ∷ []
+      placed-items = laws.items_place new.shape new.caps new.state item place-next
+
+      pub placed-filled : IsFilled meaning IsContent (with_item meaning new item)
+      unfolding place-next
+      placed-filled =
+          record {
+            whole = meaning.forget old.state;
+            others = rest;
+            content = place-next.content;
+            first = place-next.first ∙ sym (append_assoc (items_of meaning new) (item ∷ []) rest)
+                ∙ ap (λ (l : List I). l ++ rest) (sym placed-items);
+            alone = ap (made meaning new.shape) placed-items ∙ made_push new.shape (items_of meaning new) item
+                ∙ ap (λ (s : S). meaning.place new.shape s item) full.alone;
+          }
+
+      pub placed-copy : copy_in meaning (with_item meaning new item)
+          ≡ with_next meaning 1 old (copy_in meaning new)
+      placed-copy =
+          ap (λ (l : List I). record { shape = new.shape; caps = new.caps; items = l })
+          (placed-items ∙ ap (λ (l : List I). l ++ item ∷ []) is.first
+          ∙ sym (take_next (items_of meaning old) (length (items_of meaning new)) item at))
+
+      -- whether or not the item could be placed
+      pub after-place : {X : Type 0} (result : Result X I) (after : Held S)
+          → OnOk result (after ≡ with_item meaning new item) → OnErr result (after ≡ new)
+          → IsFilled meaning IsContent after
+      after-place (Ok x) after ok err = subst (IsFilled meaning IsContent) (sym ok) placed-filled
+      after-place (Err x) after ok err = subst (IsFilled meaning IsContent) (sym err) full
+
+      pub copied-one : (after : Held S) → after ≡ with_item meaning new item
+          → copy_in meaning after ≡ with_next meaning 1 old copy
+      copied-one after ok = ap (copy_in meaning) ok ∙ placed-copy ∙ ap (with_next meaning 1 old) seen
+
+    module _ (held : Held S) (full : IsFilled meaning IsContent held) (some : 0 < length (items_of meaning held)) where
+      abbrev front : List I
+      front = take (length (items_of meaning held) - 1) (items_of meaning held)
+
+      last : (item : I) × (items_of meaning held ≡ front ++ item ∷ [])
+      last = ends_with (items_of meaning held) some
+
+      whole_split : meaning.items held.shape full.whole ≡ front ++ last.0 ∷ full.others
+      whole_split =
+          full.first ∙ ap (λ (l : List I). l ++ full.others) last.1
+          ∙ append_assoc front (last.0 ∷ []) full.others
+
+      front_made : meaning.items held.shape (made meaning held.shape front) ≡ front
+      front_made = items_made held.shape held.caps full.whole full.content front (last.0 ∷ full.others) whole_split
+
+      state_left : meaning.unplace held.shape held.state ≡ made meaning held.shape front
+      state_left =
+          ap (meaning.unplace held.shape)
+          (sym full.alone ∙ ap (made meaning held.shape) last.1 ∙ made_push held.shape front last.0)
+          ∙ laws.unplace_place held.shape held.caps (made meaning held.shape front) last.0
+          (next_of held.shape held.caps full.whole front last.0 full.others full.content whole_split front_made)
+
+      pub dropped-items : items_of meaning (without_last_item meaning held) ≡ front
+      dropped-items = ap (meaning.items held.shape) state_left ∙ front_made
+
+      pub dropped-filled : IsFilled meaning IsContent (without_last_item meaning held)
+      dropped-filled =
+          record {
+            whole = full.whole;
+            others = last.0 ∷ full.others;
+            content = full.content;
+            first = whole_split ∙ ap (λ (l : List I). l ++ last.0 ∷ full.others) (sym dropped-items);
+            alone = ap (made meaning held.shape) dropped-items ∙ sym state_left;
+          }
+
+      pub dropped-one : (after : Held S) (copy : Copy I) → copy_in meaning held ≡ copy
+          → after ≡ without_last_item meaning held
+          → copy_in meaning after ≡ record copy { items = take (length copy.items - 1) copy.items }
+      dropped-one after copy seen same =
+          ap (copy_in meaning) same
+          ∙ ap (λ (l : List I). record { shape = held.shape; caps = held.caps; items = l }) dropped-items
+          ∙ ap (λ (c : Copy I). record c { items = take (length c.items - 1) c.items }) seen

@@ -1,0 +1,6 @@
+use Rattle.std.proofs.Common.{◌≡◌}
+use Rattle.rebuild_copy.specs.Copies.{with_next}
+use Rattle.rebuild_copy.proofs.copying.Copying.copy_next.Given as goal
+
+abbrev pub invariant-loop-k : goal.invariant-loop-k
+invariant-loop-k g l = l.self ≡ with_next g.E.Engine.meaning l.k (g.E.Engine.held l.old) l.fn.self
