@@ -1,3 +1,4 @@
 mod caches;
+mod copies;
 mod lists;
 mod locks;
