@@ -1,5 +1,5 @@
-pub mod MapLaws
-pub mod JoinLaws
+-- for crates above
+pub use Rattle.lock_interests.proofs.MapLaws
 pub mod ReadLaws
 pub mod GrantLaws
 pub mod EngineLaws

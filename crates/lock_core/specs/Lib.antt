@@ -1,4 +1,3 @@
-pub mod Owned
 pub mod Stock
 pub mod Plans
 pub mod Seen

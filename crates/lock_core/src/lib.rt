@@ -6,7 +6,6 @@ mod commands;
 mod departures;
 mod engine;
 mod grants;
-mod interests;
 mod locks;
 mod plans;
 mod refusals;

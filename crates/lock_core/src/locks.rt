@@ -6,8 +6,8 @@ ghost use Rattle.lock_model.specs.Grants.{held_by, interests_granted, content_gr
 ghost use Rattle.lock_model.specs.Requests as requests;
 ghost use Rattle.lock_core.specs.Stock.{HasRoom, next_of};
 
-use crate::interests::{Interests, held_by, records_of};
 use cf_types::{Adjunct, Caps, ConnId, Effects, Event, Letter, LockReply, NoMemory, Resource};
+use lock_interests::{Interests, held_by, records_of};
 use lock_model::LockItem;
 use lock_queue::{Queue, Waiter};
 use lock_table::Held;

@@ -5,11 +5,11 @@ ghost use Rattle.lock_core.specs.Plans.{read_by, plan_for};
 ghost use Rattle.lock_core.specs.Stock.{HasRoom};
 
 use crate::commands::{alter, decide, obtain, release, rt_delete, rt_read};
-use crate::interests::Interests;
 use crate::locks::Locks;
 use cf_types::{
     Adjunct, Caps, ConnId, Effects, Listing, LockCmd, LockReply, NoMemory, Refusal, Resource,
 };
+use lock_interests::Interests;
 use std::alloc::Global;
 
 /// What is got ready for a command: whether it is refused, and the record data that it reads.

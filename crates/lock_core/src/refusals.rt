@@ -10,9 +10,9 @@ ghost use Rattle.lock_model.specs.Contents.{records_in};
 ghost use Rattle.lock_model.specs.Refusals.{pending_refusal, interested_refusal, interest_refusal, records_refusal, is_manager, manager_refusal, waiter_refusal};
 ghost use Rattle.lock_model.specs.Requests as requests;
 
-use crate::interests::Interests;
 use crate::locks::Locks;
 use cf_types::{Caps, ConnId, Refusal, Resource};
+use lock_interests::Interests;
 use lock_queue::{Queue, Waiter};
 use lock_table::Held;
 

@@ -5,10 +5,10 @@ ghost use Rattle.lock_model.specs.Commands.Alter as alter;
 ghost use Rattle.lock_core.specs.Stock.{HasRoom};
 
 use crate::grants::grant;
-use crate::interests::held_by;
 use crate::locks::Locks;
 use crate::refusals::{first_refusal, interest_refusal, pending_refusal, records_refusal};
 use cf_types::{Adjunct, Caps, ConnId, Effects, LockReply, Refusal, Resource};
+use lock_interests::held_by;
 use lock_queue::Waiter;
 
 /// What the caller asks for.

@@ -4,10 +4,10 @@ ghost use Rattle.engine_api.specs.Meaning.{first_refusal};
 ghost use Rattle.lock_model.specs.Commands.Obtain as obtain;
 ghost use Rattle.lock_core.specs.Stock.{HasRoom};
 
-use crate::interests::held_by;
 use crate::locks::Locks;
 use crate::refusals::{first_refusal, interested_refusal, pending_refusal, records_refusal};
 use cf_types::{Adjunct, Caps, ConnId, Effects, LockReply, Refusal, Resource};
+use lock_interests::held_by;
 use lock_queue::Waiter;
 
 /// What the caller asks for.

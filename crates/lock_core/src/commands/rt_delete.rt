@@ -5,10 +5,10 @@ ghost use Rattle.lock_model.specs.Commands.RtDelete as rt_delete;
 ghost use Rattle.lock_core.specs.Stock.{HasRoom};
 
 use crate::grants::grant;
-use crate::interests::Interests;
 use crate::locks::Locks;
 use crate::refusals::{first_refusal, record_refusal};
 use cf_types::{ConnId, Effects, Refusal, Resource};
+use lock_interests::Interests;
 
 /// Why the command is refused.
 pub(crate) fn refusal(interests: &Interests, r: &Resource, conn: ConnId) -> Option<Refusal>

@@ -3,9 +3,9 @@ ghost use Rattle.std.specs.Prelude.{◌≡◌};
 ghost use Rattle.engine_api.specs.Meaning.{first_refusal};
 ghost use Rattle.lock_model.specs.Commands.RtRead as rt_read;
 
-use crate::interests::Interests;
 use crate::refusals::{first_refusal, record_refusal};
 use cf_types::{ConnId, Refusal};
+use lock_interests::Interests;
 
 /// Why the command is refused.
 pub(crate) fn refusal(interests: &Interests, conn: ConnId) -> Option<Refusal>

@@ -2,7 +2,8 @@ use Rattle.std.proofs.Common.{not, ◌&&◌, is_some, arith}
 use Rattle.list_laws.proofs.FilterLaws.{length-filter-le}
 use Rattle.lock_queue.specs.declared.waiters.Waiter.{Waiter}
 use Rattle.lock_queue.specs.Waiters.{is_waiter}
-use Rattle.lock_core.proofs.ReadLaws.{waiting-with, records_of_within}
+use Rattle.lock_interests.proofs.ReadLaws.{records_of_within}
+use Rattle.lock_core.proofs.ReadLaws.{waiting-with}
 use Rattle.lock_core.proofs.locks.count_waiting_with.Goals as goal
 
 pub overflow_add-result : goal.overflow_add-result

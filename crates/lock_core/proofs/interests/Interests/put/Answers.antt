@@ -1,7 +1,0 @@
-use Rattle.lock_core.proofs.JoinLaws.{joined-with}
-use Rattle.lock_core.proofs.interests.Interests.put.Goals as goal
-
-pub returns-clause-interests : goal.returns-clause-interests
-returns-clause-interests c =
-    rw (← c.self.view_is, c.add.ensures.owners, c.put_record.ensures.records)
-    (joined-with c.args.held c.args.rec c.self.inside.owners.owners c.self.inside.records.records)

@@ -1,0 +1,238 @@
+-- What is read of interests is read of their owners and their record data.
+use Rattle.std.proofs.Common.{◌≡◌, ℕ, ◌+◌, ◌≤◌, ◌<◌, ◌-◌, get_or, Bool, true, false, not, ◌&&◌, ◌||◌, ◌==◌, cond, List, [], ◌∷◌, Option, Some, None, is_some, option_map, length, filter, find, map, refl, sym, ap, ◌∙◌, arith}
+use Rattle.std.specs.List.{list_any, list_all, filter_map, cons_option, slice_get}
+use Rattle.std.specs.Option.{option_or}
+use Rattle.std.proofs.lemmas.Bool.{false≢true}
+use Rattle.std.proofs.lemmas.List.Sums.{sum_by-cons}
+use Rattle.std.proofs.lemmas.List.{length-map}
+use Rattle.std.proofs.lemmas.Option.{slice_get-map, slice_get-get_or}
+use Rattle.cf_types.specs.declared.numbers.ConnId.{ConnId}
+use Rattle.cf_types.specs.declared.resources.Resource.{Resource}
+use Rattle.cf_types.specs.Resources.{same_resource, resource_up_to}
+use Rattle.cf_types.proofs.ResourceLaws.{same_resource_comm}
+use Rattle.list_laws.proofs.FilterLaws.{list_any-map}
+use Rattle.list_laws.proofs.InsertionLaws.{sum_by-insertion}
+use Rattle.lock_table.specs.declared.holdings.Held.{Held}
+use Rattle.lock_table.specs.Holdings.{is_on, is_interest, owners_of}
+use Rattle.lock_queue.specs.declared.waiters.Waiter.{Waiter}
+use Rattle.lock_record.specs.declared.recorded.Record.{Record}
+use Rattle.lock_record.specs.Recorded.{record_of}
+use Rattle.lock_model.specs.Interests as interests
+use Rattle.lock_model.specs.Interests.{Interest, compatible, is_by, may_own, is_managing, manager_of, interest_of, interests_with, interests_without, interests_changed}
+use Rattle.lock_model.specs.Contents.{records_of, records_owned}
+use Rattle.lock_model.specs.Grants.{held_by, altered}
+use Rattle.lock_model.specs.Commands.RtRead as rt_read
+use Rattle.lock_model.specs.Commands.RtDelete as rt_delete
+use Rattle.lock_model.specs.Commands.Decide as decide
+use Rattle.cf_types.specs.declared.events.Event.TheVariants as events
+use Rattle.cf_types.specs.declared.events.Letter.{Letter}
+use Rattle.lock_interests.specs.Owned.{with_record, joined, letters_told, record_read, records_read}
+
+all_step : (p : Held → Bool) (b : Bool) (x : Held) (xs : List Held) (c : Bool) → list_all p xs ≡ c
+    → list_all p (cond b (x ∷ xs) xs) ≡ (not b || p x) && c
+all_step p true x xs c e = ap (λ d. p x && d) e
+all_step p false x xs c e = e
+
+-- compatible with all other owners of the resource
+pub may_own-joined : (held : Held) (owners : List Held) (records : List Record)
+    → list_all (compatible held) (owners_of held.r owners) ≡ may_own held (joined owners records)
+may_own-joined held [] records = refl
+may_own-joined held (x ∷ xs) records =
+    all_step (compatible held) (same_resource x.r held.r) x (owners_of held.r xs) (may_own held (joined xs records))
+    (may_own-joined held xs records)
+    ∙ ap (λ b. (not b || compatible held x) && may_own held (joined xs records)) (same_resource_comm x.r held.r)
+
+manager_step : (a b : Bool) (x : Held) (xs : List Held) (o : Option ConnId) (i : Interest) (is : Option Interest)
+    → x.retained ≡ b
+    → i.held.conn ≡ x.conn
+    → option_map (λ (h : Held). h.conn) (find (λ (h : Held). not h.retained) xs) ≡ option_map
+    (λ (j : Interest). j.held.conn) is
+    → option_map (λ (h : Held). h.conn) (find (λ (h : Held). not h.retained) (cond a (x ∷ xs) xs))
+    ≡ option_map (λ (j : Interest). j.held.conn) (cond (a && not b) (Some i) is)
+manager_step true true x xs o i is h c e = rw h e
+manager_step true false x xs o i is h c e = rw h (ap (λ (k : ConnId). Some k) (sym c))
+manager_step false b x xs o i is h c e = e
+
+-- the first owner that isn't retained
+pub manager-joined : (r : Resource) (owners : List Held) (records : List Record)
+    → option_map (λ (held : Held). held.conn) (find (λ (held : Held). not held.retained) (owners_of r owners)) ≡
+    manager_of r (joined owners records)
+manager-joined r [] records = refl
+manager-joined r (x ∷ xs) records =
+    manager_step (is_on r x) x.retained x (owners_of r xs) None (with_record records x)
+    (find (is_managing r) (joined xs records)) refl refl
+    (manager-joined r xs records)
+
+found_step : (b : Bool) (x : Held) (rec : Option (List ℕ)) (o : Option Held) (i : Option Interest)
+    → o ≡ option_map (λ (j : Interest). j.held) i
+    → cond b (Some x) o ≡ option_map (λ (j : Interest). j.held) (cond b (Some (record { held = x; rec = rec })) i)
+found_step true x rec o i e = refl
+found_step false x rec o i e = e
+
+pub part-joined : (r : Resource) (conn : ConnId) (owners : List Held) (records : List Record)
+    → find (is_interest r conn) owners ≡ option_map (λ (i : Interest). i.held)
+    (interest_of r conn (joined owners records))
+part-joined r conn [] records = refl
+part-joined r conn (x ∷ xs) records =
+    found_step (is_interest r conn x) x (record_of x.r x.conn records) (find (is_interest r conn) xs)
+    (interest_of r conn (joined xs records))
+    (part-joined r conn xs records)
+
+pub any_recorded-joined : (conn : ConnId) (owners : List Held) (records : List Record)
+    → list_any (λ held. (held.conn.0 == conn.0) && is_some (record_of held.r held.conn records)) owners
+    ≡ list_any (rt_read.is_recorded conn) (joined owners records)
+any_recorded-joined conn owners records = sym (list_any-map (rt_read.is_recorded conn) (with_record records) owners)
+
+pub recorded-joined : (r : Resource) (conn : ConnId) (owners : List Held) (records : List Record)
+    → list_any (λ held. is_interest r conn held && is_some (record_of held.r held.conn records)) owners
+    ≡ list_any (rt_delete.is_recorded r conn) (joined owners records)
+recorded-joined r conn owners records = sym (list_any-map (rt_delete.is_recorded r conn) (with_record records) owners)
+
+pub retained-joined : (r : Resource) (conn : ConnId) (owners : List Held) (records : List Record)
+    → list_any (λ held. is_interest r conn held && held.retained) owners ≡ rt_delete.is_retained r conn
+    (joined owners records)
+retained-joined r conn owners records =
+    sym (list_any-map (λ (i : Interest). interests.is_of r conn i && i.held.retained) (with_record records) owners)
+
+-- ---- how many have record data
+
+pub one_step : {X : Type 0} (b : Bool) (o : Option (List ℕ)) (x : X) (xs : List X) (n : ℕ) → b ≡ is_some o → length xs ≡ n
+    → length (cond b (x ∷ xs) xs) ≡ records_of o + n
+one_step true None x xs n h e = absurd (false≢true (sym h))
+one_step true (Some rec) x xs n h e = omega (arith, e)
+one_step false None x xs n h e = omega (arith, e)
+one_step false (Some rec) x xs n h e = absurd (false≢true h)
+
+-- as many as interests of which this is the record data
+counted : (f : Held → Option (List ℕ)) (g : Held → Interest) → ((x : Held) → (g x).rec ≡ f x) → (owners : List Held)
+    → length (filter (λ x. is_some (f x)) owners) ≡ records_owned (map g owners)
+counted f g h [] = refl
+counted f g h (x ∷ xs) =
+    let same : records_of (g x).rec ≡ records_of (f x) = ap records_of (h x) in
+    omega (
+      arith,
+      one_step (is_some (f x)) (f x) x (filter (λ y. is_some (f y)) xs) (records_owned (map g xs)) refl
+          (counted f g h xs),
+      sum_by-cons (λ (i : Interest). records_of i.rec) (g x) (map g xs),
+      same,
+    )
+
+pub records-joined : (owners : List Held) (records : List Record)
+    → length (filter (λ held. is_some (record_of held.r held.conn records)) owners) ≡ records_owned
+    (joined owners records)
+records-joined owners records =
+    counted (λ held. record_of held.r held.conn records) (with_record records) (λ x. refl) owners
+
+other_step : (a b : Bool) (x : Held) (xs : List Held) (i : Interest) (is : List Interest) → b ≡ is_some i.rec
+    → length xs ≡ records_owned is
+    → length (cond (not a && b) (x ∷ xs) xs) ≡ records_owned (cond (not a) (i ∷ is) is)
+other_step true b x xs i is h e = e
+other_step false b x xs i is h e =
+    one_step b i.rec x xs (records_owned is) h e ∙ sym (sum_by-cons (λ (j : Interest). records_of j.rec) i is)
+
+pub others-joined : (r : Resource) (conn : ConnId) (owners : List Held) (records : List Record)
+    → length (filter (λ held. not (is_interest r conn held) && is_some (record_of held.r held.conn records)) owners)
+    ≡ records_owned (interests_without r conn (joined owners records))
+others-joined r conn [] records = refl
+others-joined r conn (x ∷ xs) records =
+    other_step (is_interest r conn x) (is_some (record_of x.r x.conn records)) x
+    (filter (λ held. not (is_interest r conn held) && is_some (record_of held.r held.conn records)) xs)
+    (with_record records x)
+    (interests_without r conn (joined xs records)) refl (others-joined r conn xs records)
+
+changed_rec : (a : Bool) (w : Waiter) (o : Option (List ℕ)) (x : Held)
+    → a && is_some w.rec || is_some o ≡ is_some (cond a (altered w (record { held = x; rec = o }))
+    (record { held = x; rec = o })).rec
+changed_rec false w o x = refl
+changed_rec true w o x = either w.rec o
+  where
+    either : (p q : Option (List ℕ)) → is_some p || is_some q ≡ is_some (option_or p q)
+    either None q = refl
+    either (Some rec) q = refl
+
+changed_step : (a : Bool) (w : Waiter) (o : Option (List ℕ)) (x : Held) (xs : List Held) (is : List Interest)
+    → length xs ≡ records_owned is
+    → length (cond (a && is_some w.rec || is_some o) (x ∷ xs) xs)
+    ≡ records_owned (cond a (altered w (record { held = x; rec = o })) (record { held = x; rec = o }) ∷ is)
+changed_step a w o x xs is e =
+    let i : Interest = cond a (altered w (record { held = x; rec = o })) (record { held = x; rec = o }) in
+    one_step (a && is_some w.rec || is_some o) i.rec x xs (records_owned is) (changed_rec a w o x) e
+    ∙ sym (sum_by-cons (λ (j : Interest). records_of j.rec) i is)
+
+pub altered-joined : (w : Waiter) (owners : List Held) (records : List Record)
+    → length (filter (λ held. is_interest w.r w.conn held && is_some w.rec
+    || is_some (record_of held.r held.conn records)) owners)
+    ≡ records_owned (interests_changed w.r w.conn (altered w) (joined owners records))
+altered-joined w [] records = refl
+altered-joined w (x ∷ xs) records =
+    changed_step (is_interest w.r w.conn x) w (record_of x.r x.conn records) x
+    (filter (λ held. is_interest w.r w.conn held && is_some w.rec || is_some (record_of held.r held.conn records)) xs)
+    (interests_changed w.r w.conn (altered w) (joined xs records)) (altered-joined w xs records)
+
+-- one that is granted, and what others have
+pub put-joined : (w : Waiter) (owners : List Held) (records : List Record)
+    → length (filter (λ held. not (is_interest w.r w.conn held) && is_some (record_of held.r held.conn records))
+    owners) + records_of w.rec
+    ≡ records_owned (interests_with (record { held = held_by w; rec = w.rec }) (joined owners records))
+put-joined w owners records =
+    let others = interests_without w.r w.conn (joined owners records) in
+    let i : Interest = record { held = held_by w; rec = w.rec } in
+    omega (
+      arith,
+      others-joined w.r w.conn owners records,
+      sum_by-insertion (λ (j : Interest). records_of j.rec)
+          (λ other. resource_up_to other.held.r w.r) i others,
+    )
+
+pub records_of_within : (rec : Option (List ℕ)) → records_of rec ≤ 1
+records_of_within None = omega arith
+records_of_within (Some rec) = omega arith
+
+-- ---- what owners are told, and what is read of them
+
+abbrev told : Resource → ConnId → Held → Letter
+told r conn held = record { to = held.conn; event = events.Notify r conn }
+
+told_step : (r : Resource) (conn : ConnId) (b : Bool) (x : Held) (rec : Option (List ℕ)) (xs : List Held)
+    (is : List Interest)
+    → map (told r conn) xs ≡ map (decide.notify_letter r conn) is
+    → map (told r conn) (cond b (x ∷ xs) xs) ≡ map (decide.notify_letter r conn)
+    (cond b (record { held = x; rec = rec } ∷ is) is)
+told_step r conn true x rec xs is e = ap (λ l. told r conn x ∷ l) e
+told_step r conn false x rec xs is e = e
+
+pub told-joined : (r : Resource) (conn : ConnId) (owners : List Held) (records : List Record)
+    → letters_told r conn owners ≡ decide.notify_letters r conn (joined owners records)
+told-joined r conn [] records = refl
+told-joined r conn (x ∷ xs) records =
+    told_step r conn ((is_on r x && not x.retained) && not (x.conn.0 == conn.0)) x (record_of x.r x.conn records)
+    (filter (λ held. (is_on r held && not held.retained) && not (held.conn.0 == conn.0)) xs)
+    (filter (decide.is_told r conn) (joined xs records))
+    (told-joined r conn xs records)
+
+read_step : (records : List Record) (b : Bool) (x : Held) (xs : List Held) (is : List Interest)
+    → filter_map (λ held. record_read held (record_of held.r held.conn records)) xs ≡ filter_map rt_read.record_in is
+    → filter_map (λ held. record_read held (record_of held.r held.conn records)) (cond b (x ∷ xs) xs)
+    ≡ filter_map rt_read.record_in (cond b (with_record records x ∷ is) is)
+read_step records true x xs is e = ap (λ l. cons_option (record_read x (record_of x.r x.conn records)) l) e
+read_step records false x xs is e = e
+
+pub read-joined : (conn : ConnId) (records : List Record) (owners : List Held)
+    → records_read conn records owners ≡ filter_map rt_read.record_in (filter (is_by conn) (joined owners records))
+read-joined conn records [] = refl
+read-joined conn records (x ∷ xs) =
+    read_step records (x.conn.0 == conn.0) x (filter (λ held. held.conn.0 == conn.0) xs)
+    (filter (is_by conn) (joined xs records))
+    (read-joined conn records xs)
+
+-- the last interest is that of the last owner
+pub last-joined : (owners : List Held) (records : List Record) (d : Held) → 0 < length (joined owners records)
+    → slice_get (joined owners records) (length (joined owners records) - 1) ≡ Some
+    (with_record records (get_or owners (length owners - 1) d))
+last-joined owners records d some =
+    let same : length (joined owners records) ≡ length owners = length-map owners (with_record records) in
+    let within : length owners - 1 < length owners = omega (arith, some, same) in
+    ap (λ (n : ℕ). slice_get (joined owners records) (n - 1)) same
+    ∙ slice_get-map (with_record records) owners (length owners - 1)
+    ∙ ap (λ (o : Option Held). option_map (with_record records) o) (slice_get-get_or owners (length owners - 1) d
+    within)

@@ -1,0 +1,7 @@
+use Rattle.lock_interests.proofs.JoinLaws.{joined-with}
+use Rattle.lock_interests.proofs.interests.Interests.put.Goals as goal
+
+pub returns-clause-interests : goal.returns-clause-interests
+returns-clause-interests c =
+    rw (← c.self.view_is, c.add.ensures.owners, c.put_record.ensures.records)
+    (joined-with c.args.held c.args.rec c.self.inside.owners.owners c.self.inside.records.records)

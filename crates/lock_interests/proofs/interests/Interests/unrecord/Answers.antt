@@ -1,0 +1,7 @@
+use Rattle.lock_interests.proofs.JoinLaws.{joined-unrecorded}
+use Rattle.lock_interests.proofs.interests.Interests.unrecord.Goals as goal
+
+pub returns-clause-interests : goal.returns-clause-interests
+returns-clause-interests c =
+    rw (← c.self.view_is, c.remove.ensures.records) (joined-unrecorded c.args.r.now c.args.conn
+    c.self.inside.owners.owners c.self.inside.records.records)

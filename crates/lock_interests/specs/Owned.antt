@@ -1,0 +1,65 @@
+-- Interests with their record data, from the list of owners and the list of record data.
+use Rattle.std.specs.Prelude.{ℕ, Bool, not, ◌&&◌, ◌==◌, List, Option, Some, None, option_map, filter, map}
+use Rattle.std.specs.List.{filter_map}
+use Rattle.cf_types.specs.declared.events.Event.TheVariants as events
+use Rattle.cf_types.specs.declared.events.Letter.{Letter}
+use Rattle.cf_types.specs.declared.numbers.ConnId.{ConnId}
+use Rattle.cf_types.specs.declared.resources.Resource.{Resource}
+use Rattle.lock_table.specs.declared.holdings.Held.{Held}
+use Rattle.lock_table.specs.Holdings.{is_on}
+use Rattle.lock_record.specs.declared.recorded.Record.{Record}
+use Rattle.lock_record.specs.Recorded.{record_of, records_with, records_without}
+use Rattle.lock_model.specs.Interests.{Interest}
+use Rattle.lock_interests.specs.declared.interests.Interests.TheInside.{Inside}
+
+-- the interests; for how many more interests and record data there is room; and how many record
+-- data there may be
+pub record Owned : Type 0 where
+  pub interests : List Interest
+  pub owner_room : ℕ
+  pub record_room : ℕ
+  pub limit : ℕ
+
+abbrev pub with_record : List Record → Held → Interest
+with_record records held = record { held = held; rec = record_of held.r held.conn records }
+
+abbrev pub joined : List Held → List Record → List Interest
+joined owners records = map (with_record records) owners
+
+abbrev pub owned : Inside → Owned
+owned i =
+    record {
+      interests = joined i.owners.owners i.records.records;
+      owner_room = i.owners.room;
+      record_room = i.records.room;
+      limit = i.records.limit;
+    }
+
+-- record data of a part are put where they are given, and go where they aren't; or stay where they
+-- aren't
+abbrev pub records_put : Resource → ConnId → Option (List ℕ) → List Record → List Record
+records_put r conn None records = records_without r conn records
+records_put r conn (Some rec) records =
+    records_with (record { r = r; conn = conn; rec = rec }) records
+
+abbrev pub records_given : Resource → ConnId → Option (List ℕ) → List Record → List Record
+records_given r conn None records = records
+records_given r conn (Some rec) records =
+    records_with (record { r = r; conn = conn; rec = rec }) records
+
+-- ---- what is read of owners and their record data
+
+-- the letters to the owners that aren't retained, of a waiter, but not to itself
+abbrev pub letters_told : Resource → ConnId → List Held → List Letter
+letters_told r conn owners =
+    map (λ held. record { to = held.conn; event = events.Notify r conn })
+    (filter (λ held. (is_on r held && not held.retained) && not (held.conn.0 == conn.0)) owners)
+
+abbrev pub record_read : Held → Option (List ℕ) → Option (Resource × Bool × List ℕ)
+record_read held rec = option_map (λ bytes. (held.r, held.excl, bytes)) rec
+
+-- a connector's record data, with the resource and the state
+abbrev pub records_read : ConnId → List Record → List Held → List (Resource × Bool × List ℕ)
+records_read conn records owners =
+    filter_map (λ held. record_read held (record_of held.r held.conn records))
+    (filter (λ held. held.conn.0 == conn.0) owners)

@@ -1,0 +1,554 @@
+//! Interests with their record data.
+ghost use Rattle.std.specs.Prelude.{◌≡◌, ◌+◌, ◌≤◌, ◌&&◌, ◌||◌, [], IfOk, OnOk, length, filter, ◌==◌, find, map, not, is_some, option_map};
+ghost use Rattle.std.specs.List.{list_any, list_all};
+ghost use Rattle.std.specs.Slice.Iter.{iter_rest};
+ghost use Rattle.lock_table.specs.declared.holdings.Held.{Held};
+ghost use Rattle.cf_types.specs.declared.resources.Resource.{Resource};
+ghost use Rattle.lock_record.specs.declared.recorded.Record.{Record};
+ghost use Rattle.lock_record.specs.Recorded.{record_of};
+ghost use Rattle.lock_table.specs.Holdings.{is_interest};
+ghost use Rattle.lock_model.specs.Interests.{Interest, compatible, may_own, manager_of, interest_of, interests_with, interests_without, interests_changed};
+ghost use Rattle.lock_model.specs.Contents.{records_of, records_owned};
+ghost use Rattle.lock_model.specs.Commands.RtRead as rt_read;
+ghost use Rattle.lock_model.specs.Commands.RtDelete as rt_delete;
+ghost use Rattle.lock_model.specs.Grants.{held_by, interests_granted};
+ghost use Rattle.lock_interests.specs.Owned.{records_put, records_given};
+
+use cf_types::{Adjunct, ConnId, Effects, Event, Letter, Listing, NoMemory, Resource};
+use lock_model::LockItem;
+use lock_queue::Waiter;
+use lock_record::Records;
+use lock_table::{Held, Owners, Table};
+use std::alloc::Global;
+use std::marker::Model;
+
+/// The interests of a lock structure with their record data: the owners in a table, and the record
+/// data in a list of their own. Contracts see the list of interests, by resource and then in
+/// standing order; for how many more interests, and for how many more record data, there is room;
+/// and how many record data the structure may have.
+#[derive(Debug, Drop)]
+pub struct Interests {
+    owners: Table,
+    records: Records,
+}
+
+impl Model for Interests {
+    ghost use Rattle.lock_interests.specs.Owned.{Owned, owned};
+
+    ghost Value = { Owned };
+
+    ghost view = { owned };
+}
+
+// Puts a connector's record data for a resource, or takes them away where none are given.
+fn put_record(records: &mut Records, r: &Resource, conn: ConnId, rec: Option<Adjunct>)
+    requires { records_of rec ≤ records.old.room }
+    ensures records { records.new.records ≡ records_put r.now conn rec records.old.records }
+    ensures limit { records.new.limit ≡ records.old.limit }
+    ensures room { records.old.room ≤ records.new.room + records_of rec }
+{
+    match rec {
+        Some(rec) => records.put(*r, conn, rec),
+        None => {
+            let _ = records.remove(r, conn);
+        }
+    }
+}
+
+// Puts a connector's record data for a resource, where they are given.
+fn give_record(records: &mut Records, r: &Resource, conn: ConnId, rec: Option<Adjunct>)
+    requires { records_of rec ≤ records.old.room }
+    ensures records { records.new.records ≡ records_given r.now conn rec records.old.records }
+    ensures limit { records.new.limit ≡ records.old.limit }
+    ensures room { records.old.room ≤ records.new.room + records_of rec }
+{
+    if let Some(rec) = rec {
+        records.put(*r, conn, rec);
+    }
+}
+
+impl Interests {
+    /// No interests, for a structure of so many table entries, whose number changes no answer, and
+    /// of `limit` record data. It takes no memory yet.
+    pub fn new(alloc: Global, entries: u32, limit: u32) -> Result<Interests, NoMemory>
+        ensures interests { IfOk result (λ made. made.interests ≡ []) }
+        ensures limit { IfOk result (λ made. made.limit ≡ limit) }
+    {
+        let owners = Table::new(alloc, entries)?;
+        let records = Records::new(alloc, limit)?;
+        Ok(Interests { owners, records })
+    }
+
+    /// The same interests and record data once more, with the same limit.
+    pub fn copy(&self, alloc: Global) -> Result<Interests, NoMemory>
+        ensures interests { IfOk result (λ copy. copy.interests ≡ self.now.interests) }
+        ensures limit { IfOk result (λ copy. copy.limit ≡ self.now.limit) }
+    {
+        let owners = self.owners.copy(alloc)?;
+        let records = self.records.copy(alloc)?;
+        Ok(Interests { owners, records })
+    }
+
+    /// The owners without their record data, by resource and then in standing order.
+    pub fn owners(&self) -> &[Held]
+        ensures { (records : List Record) × (joined result.now records ≡ self.now.interests) }
+    {
+        self.owners.items()
+    }
+
+    /// Whether a connector may own a resource in a state beside all its owners: each of those is
+    /// the connector itself, or both share the resource.
+    pub fn may_own(&self, held: &Held) -> bool
+        ensures { result ≡ may_own held.now self.now.interests }
+    {
+        are_all_compatible(self.owners.owners(&held.r), held)
+    }
+
+    /// The manager of a resource: its first owner that isn't retained. None where there is no such
+    /// owner.
+    pub fn manager_of(&self, r: &Resource) -> Option<ConnId>
+        ensures { result ≡ manager_of r.now self.now.interests }
+    {
+        conn_of(first_active(self.owners.owners(r)))
+    }
+
+    /// A connector's interest in a resource, without its record data. None where the connector has
+    /// no interest in it.
+    pub fn held_of(&self, r: &Resource, conn: ConnId) -> Option<&Held>
+        ensures { option_map (λ held. held.now) result
+            ≡ option_map (λ interest. interest.held) (interest_of r.now conn self.now.interests) }
+    {
+        part_of(self.owners.items(), r, conn)
+    }
+
+    /// Whether a connector has an interest with record data, in whatever resource.
+    pub fn has_records(&self, conn: ConnId) -> bool
+        ensures { result ≡ list_any (rt_read.is_recorded conn) self.now.interests }
+    {
+        is_any_recorded(self.owners.items(), &self.records, conn)
+    }
+
+    /// Whether a connector has an interest in a resource, with record data.
+    pub fn has_record(&self, r: &Resource, conn: ConnId) -> bool
+        ensures { result ≡ list_any (rt_delete.is_recorded r.now conn) self.now.interests }
+    {
+        is_part_recorded(self.owners.items(), &self.records, r, conn)
+    }
+
+    /// Whether a connector has a retained interest in a resource.
+    pub fn is_retained(&self, r: &Resource, conn: ConnId) -> bool
+        ensures { result ≡ rt_delete.is_retained r.now conn self.now.interests }
+    {
+        is_part_retained(self.owners.items(), r, conn)
+    }
+
+    /// Tells each owner of a resource that isn't retained that the connector `conn` waits for it,
+    /// by a letter; `conn` itself gets none. `out` must have room for as many letters as there are
+    /// interests.
+    pub fn notify(&self, r: &Resource, conn: ConnId, out: &mut Effects)
+        requires { length self.now.interests ≤ out.old.mail.room }
+        ensures mail { out.new.mail.items ≡ out.old.mail.items ++ decide.notify_letters r.now conn
+            self.now.interests }
+        ensures letters { out.new.mail.room + length
+            (decide.notify_letters r.now conn self.now.interests) ≡ out.old.mail.room }
+        ensures bits { out.new.bits ≡ out.old.bits }
+    {
+        notify(self.owners.items(), r, conn, out);
+    }
+
+    /// A connector's interests with record data, by resource: each resource, whether the connector
+    /// owns it exclusively, and the record data.
+    pub fn read(
+        &self,
+        alloc: Global,
+        conn: ConnId,
+    ) -> Result<Listing<(Resource, bool, Adjunct)>, NoMemory>
+        ensures { IfOk result (λ list. list ≡ filter_map rt_read.record_in
+            (filter (is_by conn) self.now.interests)) }
+    {
+        let list = read(alloc, self.owners.items(), &self.records, conn)?;
+        Ok(Listing::from_vec(list))
+    }
+
+    /// The interest at a place, from 0, with its record data, by resource and then in standing
+    /// order. None past the end.
+    pub fn at(&self, k: u32) -> Option<LockItem>
+        ensures { result ≡ option_map owner (slice_get self.now.interests k) }
+    {
+        match self.owners.at(k) {
+            Some(held) => Some(LockItem::Owner {
+                held: *held,
+                rec: self.records.get(&held.r, held.conn).copied(),
+            }),
+            None => None,
+        }
+    }
+
+    /// How many interests have record data.
+    pub fn count_records(&self) -> usize
+        ensures count { result ≡ records_owned self.now.interests }
+        ensures few { result < 4294967296 }
+    {
+        count_recorded(self.owners.items(), &self.records)
+    }
+
+    /// How many interests would have record data once a waiter is granted.
+    pub fn count_records_granted(&self, w: &Waiter) -> usize
+        ensures count { result ≡ records_owned (interests_granted w.now self.now.interests) }
+        ensures few { result ≤ 4294967296 }
+    {
+        if w.alter {
+            count_recorded_altered(self.owners.items(), &self.records, w)
+        } else {
+            count_recorded_others(self.owners.items(), &self.records, w) + records_of(&w.rec)
+        }
+    }
+
+    /// How many interests there are.
+    pub fn len(&self) -> u32
+        ensures { result ≡ length self.now.interests }
+    {
+        self.owners.len()
+    }
+
+    /// Takes room for so many interests more, and for as many record data as the structure may
+    /// have and one more. Want of memory changes no interest.
+    pub fn reserve(&mut self, adds: u32) -> Result<(), NoMemory>
+        ensures interests { self.new.interests ≡ self.old.interests }
+        ensures limit { self.new.limit ≡ self.old.limit }
+        ensures owner_room { OnOk result (adds ≤ self.new.owner_room) }
+        ensures record_room { OnOk result (self.new.limit + 1 ≤ self.new.record_room) }
+    {
+        self.owners.room(adds)?;
+        self.records.room()
+    }
+
+    /// One interest more, as the last of its resource, with record data where they are given. It
+    /// takes the place of the connector's own interest in that resource, if there is one, and of
+    /// its record data. There must be room for one interest more, and for record data where they
+    /// are given.
+    pub fn put(&mut self, held: Held, rec: Option<Adjunct>)
+        requires owner_room { 1 ≤ self.old.owner_room }
+        requires record_room { records_of rec ≤ self.old.record_room }
+        ensures interests { self.new.interests ≡ interests_with (record { held = held; rec = rec })
+            self.old.interests }
+        ensures limit { self.new.limit ≡ self.old.limit }
+        ensures owner_room { self.old.owner_room ≤ self.new.owner_room + 1 }
+        ensures record_room { self.old.record_room ≤ self.new.record_room + records_of rec }
+    {
+        self.owners.add(held);
+        put_record(&mut self.records, &held.r, held.conn, rec);
+    }
+
+    /// A connector's interest in a resource takes a state, and record data where they are given.
+    fn change(&mut self, w: &Waiter)
+        requires { records_of w.now.rec ≤ self.old.record_room }
+        ensures interests { self.new.interests ≡ interests_changed w.now.r w.now.conn
+            (altered w.now) self.old.interests }
+        ensures limit { self.new.limit ≡ self.old.limit }
+        ensures owner_room { self.old.owner_room ≤ self.new.owner_room }
+        ensures record_room { self.old.record_room ≤ self.new.record_room + records_of w.now.rec }
+    {
+        self.owners.set(&w.r, w.conn, w.excl);
+        give_record(&mut self.records, &w.r, w.conn, w.rec);
+    }
+
+    /// A waiter is granted. One that alters has its interest in the resource altered: the interest
+    /// takes the state that is waited for, and record data where they are given. Another one
+    /// becomes the last owner of the resource. There must be room for one interest more, and for
+    /// record data where they are given.
+    pub fn grant(&mut self, w: &Waiter)
+        requires owner_room { 1 ≤ self.old.owner_room }
+        requires record_room { records_of w.now.rec ≤ self.old.record_room }
+        ensures interests { self.new.interests ≡ interests_granted w.now self.old.interests }
+        ensures limit { self.new.limit ≡ self.old.limit }
+        ensures owner_room { self.old.owner_room ≤ self.new.owner_room + 1 }
+        ensures record_room { self.old.record_room ≤ self.new.record_room + records_of w.now.rec }
+    {
+        if w.alter {
+            self.change(w);
+        } else {
+            self.put(held_by(w), w.rec);
+        }
+    }
+
+    /// A connector's interest in a resource goes, with its record data. Where there is none,
+    /// nothing changes.
+    pub fn remove(&mut self, r: &Resource, conn: ConnId)
+        ensures interests { self.new.interests ≡ interests_without r.now conn self.old.interests }
+        ensures limit { self.new.limit ≡ self.old.limit }
+        ensures owner_room { self.old.owner_room ≤ self.new.owner_room }
+        ensures record_room { self.old.record_room ≤ self.new.record_room }
+    {
+        let _ = self.owners.remove(r, conn);
+        let _ = self.records.remove(r, conn);
+    }
+
+    /// The last interest goes, with its record data. There must be one.
+    pub fn drop_last(&mut self)
+        requires interests { AreInterests self.old.interests }
+        requires some { 0 < length self.old.interests }
+        ensures interests { self.new.interests ≡ without_last self.old.interests }
+        ensures limit { self.new.limit ≡ self.old.limit }
+    {
+        let owners = self.owners.items();
+        let last = owners[owners.len() - 1];
+        self.remove(&last.r, last.conn);
+    }
+
+    /// The record data of a connector's interest in a resource go, and the interest stays. Where
+    /// there are none, nothing changes.
+    pub fn unrecord(&mut self, r: &Resource, conn: ConnId)
+        ensures interests { self.new.interests ≡ interests_changed r.now conn without_record
+            self.old.interests }
+        ensures limit { self.new.limit ≡ self.old.limit }
+        ensures owner_room { self.old.owner_room ≤ self.new.owner_room }
+        ensures record_room { self.old.record_room ≤ self.new.record_room }
+    {
+        let _ = self.records.remove(r, conn);
+    }
+
+    /// A connector's interests are retained no more, in whatever resource.
+    pub fn back(&mut self, conn: ConnId)
+        ensures interests { self.new.interests ≡ map (with_retained conn false) self.old.interests }
+        ensures limit { self.new.limit ≡ self.old.limit }
+    {
+        self.owners.set_retained_of(conn, false);
+    }
+
+    /// A connector departs. Its interests go with their record data, but with `keep` those that
+    /// have record data stay, and are retained.
+    pub fn leave(&mut self, conn: ConnId, keep: bool)
+        ensures interests { self.new.interests ≡ interests_left conn keep self.old.interests }
+        ensures limit { self.new.limit ≡ self.old.limit }
+        ensures owner_room { self.old.owner_room ≤ self.new.owner_room }
+        ensures record_room { self.old.record_room ≤ self.new.record_room }
+    {
+        let records = &self.records;
+        self.owners.retain(|held| stays(records, conn, keep, held));
+        self.owners.set_retained_of(conn, true);
+        if !keep {
+            self.records.drop_conn(conn);
+        }
+    }
+}
+
+ghost use Rattle.std.specs.Prelude.{false};
+ghost use Rattle.lock_model.specs.Grants.{altered};
+ghost use Rattle.lock_model.specs.Departures.{stays, with_retained, interests_left};
+ghost use Rattle.lock_model.specs.Commands.RtDelete.{without_record};
+ghost use Rattle.lock_interests.specs.Owned.{with_record, joined, letters_told, record_read, records_read};
+ghost use Rattle.std.specs.Prelude.{◌<◌, ◌++◌, List, option_to_list, slice_get};
+ghost use Rattle.std.specs.List.{filter_map};
+ghost use Rattle.lock_table.specs.Holdings.{is_on};
+ghost use Rattle.lock_model.specs.Interests.{is_by, AreInterests};
+ghost use Rattle.lock_model.specs.Contents.{owner, without_last};
+ghost use Rattle.lock_model.specs.Commands.Decide as decide;
+
+// Whether an interest is this connector's in this resource.
+fn is_part(held: &Held, r: &Resource, conn: ConnId) -> bool
+    ensures { result ≡ is_interest r.now conn held.now }
+{
+    held.r == *r && held.conn == conn
+}
+
+// Whether two may own a resource together.
+fn are_compatible(held: &Held, other: &Held) -> bool
+    ensures { result ≡ compatible held.now other.now }
+{
+    !held.excl && !other.excl || held.conn == other.conn
+}
+
+// Whether an interest has record data.
+fn is_recorded(records: &Records, held: &Held) -> bool
+    ensures { result ≡ is_some (record_of held.now.r held.now.conn records.now.records) }
+{
+    records.get(&held.r, held.conn).is_some()
+}
+
+/// How many record data these are: 1 where they are given, else 0.
+pub fn records_of(rec: &Option<Adjunct>) -> usize
+    ensures { result ≡ records_of rec.now }
+{
+    match rec {
+        Some(_) => 1,
+        None => 0,
+    }
+}
+
+// Whether one may own a resource beside each of these.
+fn are_all_compatible(owners: Owners<'_>, held: &Held) -> bool
+    ensures { result ≡ list_all (compatible held.now) (iter_rest owners.entry) }
+{
+    let mut others = owners;
+    others.all(|other| are_compatible(held, other))
+}
+
+// The first of these that isn't retained.
+fn first_active<'a>(owners: Owners<'a>) -> Option<&'a Held>
+    ensures { option_map (λ held. held.now) result ≡ find (λ held. not held.retained)
+        (iter_rest owners.entry) }
+{
+    let mut others = owners;
+    others.find(|held| !held.retained)
+}
+
+// Whose interest it is.
+fn conn_of(held: Option<&Held>) -> Option<ConnId>
+    ensures { result ≡ option_map (λ (held : Held). held.conn)
+        (option_map (λ held. held.now) held.entry) }
+{
+    match held {
+        Some(held) => Some(held.conn),
+        None => None,
+    }
+}
+
+// A connector's interest in a resource.
+fn part_of<'a>(owners: &'a [Held], r: &Resource, conn: ConnId) -> Option<&'a Held>
+    ensures { option_map (λ held. held.now) result ≡ find (is_interest r.now conn) owners.now }
+{
+    owners.iter().find(|held| is_part(held, r, conn))
+}
+
+// Whether an interest of a connector has record data.
+fn is_any_recorded(owners: &[Held], records: &Records, conn: ConnId) -> bool
+    ensures { result ≡ list_any (λ held. (held.conn.0 == conn.0)
+        && is_some (record_of held.r held.conn records.now.records)) owners.now }
+{
+    owners
+        .iter()
+        .any(|held| held.conn == conn && is_recorded(records, held))
+}
+
+// Whether a connector's interest in a resource has record data.
+fn is_part_recorded(owners: &[Held], records: &Records, r: &Resource, conn: ConnId) -> bool
+    ensures { result ≡ list_any (λ held. is_interest r.now conn held
+        && is_some (record_of held.r held.conn records.now.records)) owners.now }
+{
+    owners.iter().any(|held| is_part(held, r, conn) && is_recorded(records, held))
+}
+
+// Whether a connector's interest in a resource is retained.
+fn is_part_retained(owners: &[Held], r: &Resource, conn: ConnId) -> bool
+    ensures { result ≡ list_any (λ held. is_interest r.now conn held && held.retained) owners.now }
+{
+    owners
+        .iter()
+        .any(|held| is_part(held, r, conn) && held.retained)
+}
+
+// How many owners have record data.
+fn count_recorded(owners: &[Held], records: &Records) -> usize
+    ensures { result ≡ length (filter (λ held. is_some
+        (record_of held.r held.conn records.now.records)) owners.now) }
+{
+    owners
+        .iter()
+        .filter(|held| is_recorded(records, held))
+        .count()
+}
+
+// How many owners have record data, but for this waiter's interest.
+fn count_recorded_others(owners: &[Held], records: &Records, w: &Waiter) -> usize
+    ensures { result ≡ length (filter (λ held. not (is_interest w.now.r w.now.conn held)
+        && is_some (record_of held.r held.conn records.now.records)) owners.now) }
+{
+    owners
+        .iter()
+        .filter(|held| !is_part(held, &w.r, w.conn) && is_recorded(records, held))
+        .count()
+}
+
+// How many owners have record data once this waiter's interest is altered.
+fn count_recorded_altered(owners: &[Held], records: &Records, w: &Waiter) -> usize
+    ensures { result ≡ length (filter (λ held. is_interest w.now.r w.now.conn held
+        && is_some w.now.rec
+        || is_some (record_of held.r held.conn records.now.records)) owners.now) }
+{
+    owners
+        .iter()
+        .filter(|held| {
+            is_part(held, &w.r, w.conn) && w.rec.is_some() || is_recorded(records, held)
+        })
+        .count()
+}
+
+// Whether an owner is told of a waiter.
+fn is_told(held: &Held, r: &Resource, conn: ConnId) -> bool
+    ensures { result ≡ (is_on r.now held.now && not held.now.retained)
+        && not (held.now.conn.0 == conn.0) }
+{
+    held.r == *r && !held.retained && held.conn != conn
+}
+
+// Tells the owners that aren't retained of a waiter, but not itself.
+fn notify(owners: &[Held], r: &Resource, conn: ConnId, out: &mut Effects)
+    requires { length owners.now ≤ out.old.mail.room }
+    ensures mail { out.new.mail.items ≡ out.old.mail.items ++ letters_told r.now conn owners.now }
+    ensures letters { out.new.mail.room + length (letters_told r.now conn owners.now) ≡
+        out.old.mail.room }
+    ensures bits { out.new.bits ≡ out.old.bits }
+{
+    for held in owners {
+        if is_told(held, r, conn) {
+            out.mail.push(Letter {
+                to: held.conn,
+                event: Event::Notify { r: *r, conn },
+            });
+        }
+    }
+}
+
+// One interest with record data more.
+fn push_record(
+    list: &mut Vec<(Resource, bool, Adjunct)>,
+    held: &Held,
+    rec: Option<&Adjunct>,
+) -> Result<(), NoMemory>
+    ensures { OnOk result (list.new.items
+        ≡ list.old.items ++ option_to_list (record_read held.now
+        (option_map (λ rec. rec.now) rec.entry))) }
+{
+    if let Some(rec) = rec {
+        list.push((held.r, held.excl, *rec))?;
+    }
+    Ok(())
+}
+
+// The interests of a connector with record data.
+fn read(
+    alloc: Global,
+    owners: &[Held],
+    records: &Records,
+    conn: ConnId,
+) -> Result<Vec<(Resource, bool, Adjunct)>, NoMemory>
+    ensures { IfOk result (λ list. list.items ≡ records_read conn records.now.records owners.now) }
+{
+    let mut list = Vec::new(alloc);
+    for held in owners {
+        if held.conn == conn {
+            push_record(&mut list, held, records.get(&held.r, held.conn))?;
+        }
+    }
+    Ok(list)
+}
+
+// Whether an interest stays where a connector departs.
+fn stays(records: &Records, conn: ConnId, keep: bool, held: &Held) -> bool
+    ensures { result ≡ stays conn keep (with_record records.now.records held.now) }
+{
+    held.conn != conn || keep && records.get(&held.r, held.conn).is_some()
+}
+
+/// The interest that a waiter waits for, not retained.
+pub fn held_by(w: &Waiter) -> Held
+    ensures { result ≡ held_by w.now }
+{
+    Held {
+        r: w.r,
+        conn: w.conn,
+        excl: w.excl,
+        retained: false,
+    }
+}
