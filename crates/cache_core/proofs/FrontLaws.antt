@@ -7,7 +7,7 @@ use Rattle.std.proofs.lemmas.List.Sums.{sum_by-cons, sum_by-append}
 use Rattle.std.proofs.lemmas.List.Filters.{length-filter_both, sum_by-filter_both}
 use Rattle.std.proofs.lemmas.List.Folds.{fold-map}
 use Rattle.list_laws.specs.Prefixes.{shortest_prefix}
-use Rattle.list_laws.proofs.FilterLaws.{filter-filter, filter_swap, sum_by-filter-le}
+use Rattle.list_laws.proofs.FilterLaws.{filter-filter, filter_swap, sum_by-filter-le, length-filter-le}
 use Rattle.list_laws.proofs.PrefixLaws.{shortest_prefix-nil, shortest_prefix_agree, shortest_prefix-map}
 use Rattle.cf_types.specs.declared.forms.Caps.{Caps}
 use Rattle.cf_types.specs.declared.names.Name16.{Name16}
@@ -20,10 +20,9 @@ use Rattle.cache_model.specs.Room as room
 use Rattle.cache_model.specs.Room.{is_reclaimable, reclaim_order, victims}
 use Rattle.cf_types.specs.declared.refusals.Refusal.TheVariants.{DirectoryFull}
 use Rattle.std.specs.Prelude.{Some}
+use Rattle.cache_rows.specs.Indexes.{is_unchanged, reclaimed_for}
 use Rattle.cache_core.specs.Measure as measure
-use Rattle.cache_core.specs.Indexes.{is_unchanged, reclaimed_for}
 use Rattle.cache_core.specs.Measure.{room_for, is_enough, is_enough_of, reclaimable_of, reclaimable_from}
-use Rattle.cache_core.proofs.LookupLaws.{length-reclaimed}
 use Rattle.cache_model.proofs.RowLaws.{size}
 
 abbrev pub weight : Reclaimable → ℕ
@@ -74,6 +73,17 @@ front_enough room count given rows e =
     at n m f g = rw (f, g) e
 
 -- ---- how many rows and elements the order has
+
+pub length-reclaimed : (stg : ℕ) (rows : List CacheItem) → length (reclaimed_for stg rows) ≤ length rows
+length-reclaimed stg rows =
+    let unchanged = filter is_unchanged rows in
+    omega (
+      arith,
+      length-append (filter (has_storage stg) unchanged)
+          (filter (λ (row : CacheItem). not (has_storage stg row)) unchanged),
+      length-filter_both (has_storage stg) (λ (row : CacheItem). not (has_storage stg row)) (λ _. refl) unchanged,
+      length-filter-le is_unchanged rows,
+    )
 
 pub length-order : (request : Request) (rows : List CacheItem)
     → length (reclaim_order request rows) ≡ length (filter (is_reclaimable request.name) rows)

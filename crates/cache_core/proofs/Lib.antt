@@ -1,6 +1,4 @@
-pub mod IndexLaws
-pub mod LookupLaws
-pub mod KeptLaws
+pub mod NextLaws
 pub mod EndLaws
 pub mod FrontLaws
 pub mod PlanLaws

@@ -6,7 +6,7 @@ use Rattle.cache_model.specs.declared.items.CacheItem.{CacheItem}
 use Rattle.cache_model.specs.declared.requests.Request.{Request}
 use Rattle.cf_types.specs.declared.names.Name16.{Name16}
 use Rattle.cache_core.specs.declared.room.Room.{Room}
-use Rattle.cache_core.specs.Indexes.{reclaimed_for}
+use Rattle.cache_rows.specs.Indexes.{reclaimed_for}
 use Rattle.cache_core.specs.declared.room.Reclaimable.{Reclaimable}
 use Rattle.cache_model.specs.Rows.{is_row_of, elements_of, elements_in, has_row, rows_without}
 

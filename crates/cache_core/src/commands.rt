@@ -17,9 +17,9 @@ pub(crate) mod stg_stats;
 pub(crate) mod unlock;
 pub(crate) mod write;
 
-use crate::rows::Rows;
 use cache_model::CacheItem;
 use cache_regs::Regs;
+use cache_rows::Rows;
 use cf_types::{ConnId, Effects, Name16};
 
 // Takes out the row of a name, or makes one: unchanged, without data, of this storage class.

@@ -1,7 +1,7 @@
 use crate::plans::{Plan, act, make_plan};
-use crate::rows::{Rows, copy_row, elements_in};
 use cache_model::CacheItem;
 use cache_regs::Regs;
+use cache_rows::{Rows, copy_row, elements_in};
 use cf_types::{CacheCmd, CacheReply, Caps, ConnId, Effects, NoMemory, Refusal, StrForm};
 use engine_api::{Engine, Shape};
 use std::alloc::Global;

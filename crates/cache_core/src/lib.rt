@@ -7,7 +7,6 @@ mod engine;
 mod plans;
 mod refusals;
 mod room;
-mod rows;
 
 pub use cache_model::{CacheItem, Holder};
 pub use cache_regs::Registration;

@@ -10,9 +10,9 @@ use crate::commands::{
     write,
 };
 use crate::room::victims;
-use crate::rows::Rows;
 use cache_model::CacheItem;
 use cache_regs::Regs;
+use cache_rows::Rows;
 use cf_types::{
     Body, CacheCmd, CacheReply, Caps, ConnId, Effects, Listing, Name16, NoMemory, Refusal,
     copy_body,

@@ -4,9 +4,9 @@ ghost use Rattle.engine_api.specs.Meaning.{first_refusal};
 ghost use Rattle.cache_model.specs.Rows.{is_held_by, row_of};
 ghost use Rattle.cache_model.specs.Refusals.{gives_up, use_refusal, index_refusal, storage_refusal, class_refusal, castout_refusal, registration_refusal, change_refusal, entry_refusal, holder_refusal, held_refusal, held_by_other_refusal, not_held_refusal, unchanged_refusal};
 
-use crate::rows::row_of;
 use cache_model::{CacheItem, Holder};
 use cache_regs::Regs;
+use cache_rows::row_of;
 use cf_types::limits::{CASTOUT_CLASSES, STORAGE_CLASSES};
 use cf_types::{ConnId, Name16, Refusal};
 

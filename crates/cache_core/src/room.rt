@@ -4,8 +4,8 @@ ghost use Rattle.cache_model.specs.Rows.{elements_of, elements_in, rows_without}
 ghost use Rattle.cache_model.specs.Room.{is_reclaimable, victims, room_refusal};
 ghost use Rattle.cache_core.specs.Measure.{room_for, has_place, free_elements, is_enough, reclaimable_of, other_than, victim_at, reclaimable_from, front_names};
 
-use crate::rows::{Rows, elements_of, has_row};
 use cache_model::{CacheItem, Request};
+use cache_rows::{Rows, elements_of, has_row};
 use cf_types::{Caps, Name16, NoMemory, Refusal};
 use std::alloc::Global;
 

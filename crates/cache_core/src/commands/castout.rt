@@ -6,8 +6,8 @@ ghost use Rattle.cache_model.specs.Commands.Castout as castout;
 
 use super::take_or_new;
 use crate::refusals::{entry_refusal, first_refusal, held_refusal, unchanged_refusal};
-use crate::rows::{Rows, row_of};
 use cache_model::{CacheItem, Holder};
+use cache_rows::{Rows, row_of};
 use cf_types::{CacheReply, ConnId, Name16, NoMemory, Refusal, copy_body};
 use std::alloc::Global;
 

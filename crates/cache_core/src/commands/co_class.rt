@@ -4,7 +4,7 @@ ghost use Rattle.engine_api.specs.Meaning.{first_refusal};
 ghost use Rattle.cache_model.specs.Commands.CoClass as co_class;
 
 use crate::refusals::{class_refusal, first_refusal};
-use crate::rows::Rows;
+use cache_rows::Rows;
 use cf_types::{CacheReply, Listing, NoMemory, Refusal};
 use std::alloc::Global;
 

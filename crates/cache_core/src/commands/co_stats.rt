@@ -4,7 +4,7 @@ ghost use Rattle.std.specs.List.{range_with_len};
 ghost use Rattle.cf_types.specs.declared.limits.TheConstants.{CASTOUT_CLASSES};
 ghost use Rattle.cache_model.specs.Commands.CoStats as co_stats;
 
-use crate::rows::Rows;
+use cache_rows::Rows;
 use cf_types::limits::CASTOUT_CLASSES;
 use cf_types::{CacheReply, Listing, NoMemory};
 use std::alloc::Global;

@@ -6,9 +6,9 @@ ghost use Rattle.cache_regs.specs.Registrations.{stands};
 ghost use Rattle.cache_model.specs.Commands.Delete as delete;
 
 use crate::refusals::{entry_refusal, first_refusal, held_by_other_refusal};
-use crate::rows::Rows;
 use cache_model::CacheItem;
 use cache_regs::Regs;
+use cache_rows::Rows;
 use cf_types::{ConnId, Effects, Name16, Refusal};
 
 /// Why the command is refused.

@@ -5,9 +5,9 @@ ghost use Rattle.cache_model.specs.Rows.{row_of};
 ghost use Rattle.cache_model.specs.Commands.DirInfo as dir_info;
 
 use crate::refusals::{entry_refusal, first_refusal};
-use crate::rows::row_of;
 use cache_model::CacheItem;
 use cache_regs::Regs;
+use cache_rows::row_of;
 use cf_types::{CacheReply, Name16, Refusal};
 
 /// Why the command is refused.

@@ -10,9 +10,9 @@ ghost use Rattle.cache_model.specs.Commands.Read as read;
 use super::{end_regs, take_or_new};
 use crate::refusals::{first_refusal, index_refusal, storage_refusal};
 use crate::room::room_refusal;
-use crate::rows::{Rows, row_of};
 use cache_model::{CacheItem, Request};
 use cache_regs::Regs;
+use cache_rows::{Rows, row_of};
 use cf_types::{CacheReply, Caps, ConnId, Effects, Name16, NoMemory, Refusal, copy_body};
 use std::alloc::Global;
 

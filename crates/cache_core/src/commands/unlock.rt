@@ -6,8 +6,8 @@ ghost use Rattle.cache_model.specs.Commands.Unlock as unlock;
 
 use super::take_or_new;
 use crate::refusals::{entry_refusal, first_refusal, not_held_refusal};
-use crate::rows::{Rows, row_of};
 use cache_model::{CacheItem, Holder};
+use cache_rows::{Rows, row_of};
 use cf_types::{CacheReply, ConnId, Name16, Refusal};
 
 /// Why the command is refused.

@@ -14,9 +14,9 @@ use crate::refusals::{
     storage_refusal,
 };
 use crate::room::room_refusal;
-use crate::rows::{Rows, elements_of_body};
 use cache_model::{CacheItem, Holder, Request};
 use cache_regs::Regs;
+use cache_rows::{Rows, elements_of_body};
 use cf_types::{Adjunct, Body, Caps, ConnId, Effects, Name16, Refusal};
 
 /// What the command asks room for.

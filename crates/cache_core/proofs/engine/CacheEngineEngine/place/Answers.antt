@@ -5,7 +5,7 @@ use Rattle.cache_model.specs.Rows.{may_precede, names_apart}
 use Rattle.cache_model.specs.Contents.{IsContent}
 use Rattle.cache_model.proofs.EngineLaws.{alone-next, content-next}
 use Rattle.cache_core.specs.Seen.{Seen, content_of}
-use Rattle.cache_core.proofs.IndexLaws.{before_next}
+use Rattle.cache_core.proofs.NextLaws.{before_next}
 use Rattle.cache_core.proofs.PlanLaws.{either_way}
 use Rattle.cache_core.proofs.engine.CacheEngineEngine.place.Goals as goal
 

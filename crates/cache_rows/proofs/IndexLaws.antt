@@ -1,0 +1,342 @@
+-- The indexes stay those of the rows.
+use Rattle.std.proofs.Common.{◌≡◌, ℕ, ◌+◌, ◌-◌, ◌≤◌, ◌<◌, Bool, true, false, not, ◌&&◌, ◌||◌, cond, List, [], ◌∷◌, ◌++◌, append-nil, min, Option, Some, None, is_some, unwrap_or, length, filter, map, drop, get_or, refl, sym, ap, ◌∙◌, arith}
+use Rattle.std.specs.List.{list_all}
+use Rattle.std.proofs.lemmas.Bool.{and_parts, and_from, or_left, or_right, false≢true}
+use Rattle.std.proofs.lemmas.List.{map-append, length-map, drop_more, drop_all}
+use Rattle.std.proofs.lemmas.List.Elements.{filter_agree, filter-append}
+use Rattle.std.proofs.lemmas.List.Folds.{list_all-map}
+use Rattle.cf_types.specs.declared.names.Name16.{Name16}
+use Rattle.cf_types.specs.declared.numbers.ConnId.{ConnId}
+use Rattle.cf_types.specs.Name.{same_name, name_before}
+use Rattle.list_laws.specs.Pairwise.{pairwise}
+use Rattle.list_laws.specs.Insertions.{insertion}
+use Rattle.list_laws.proofs.FilterLaws.{filter-filter, filter_swap, filter_none, filter_all, none_from_all, list_all_weaker, list_all_always, length-filter-le}
+use Rattle.list_laws.proofs.InsertionLaws.{filter-insertion_out}
+use Rattle.list_laws.proofs.PairwiseLaws.{FindsPlace, pairwise-insertion, pairwise_push}
+use Rattle.cache_classes.specs.declared.changed.Changed.{Changed}
+use Rattle.cache_classes.specs.Castout as castout
+use Rattle.cache_classes.specs.Castout.{names_without, names_with, names_set, room_taken}
+use Rattle.cache_reclaim.specs.declared.used.Used.{Used}
+use Rattle.cache_reclaim.specs.LastUse as last_use
+use Rattle.cache_reclaim.specs.LastUse.{order_without, order_touched}
+use Rattle.cache_regs.proofs.NameLaws.{same_name-refl, same_name-sym}
+use Rattle.cache_model.specs.declared.items.CacheItem.{CacheItem}
+use Rattle.cache_model.specs.Rows.{is_row_of, is_changed, has_row, rows_without, stands_before, rows_with, may_precede, names_apart}
+use Rattle.cache_model.specs.Contents.{without_hold, is_among, rows_spared}
+use Rattle.cache_model.proofs.RowLaws.{without-absent}
+use Rattle.cache_model.proofs.EngineLaws.{alone-next}
+use Rattle.cache_rows.specs.Indexes.{is_unchanged, changed_of, classes_of, used_of, order_of, order_with, changed_first}
+
+-- ---- filters of maps
+
+map_step : {X Y : Type 0} (f : X → Y) (b : Bool) (x : X) (xs : List X) (ys : List Y) → ys ≡ map f xs
+    → cond b (f x ∷ ys) ys ≡ map f (cond b (x ∷ xs) xs)
+map_step f true x xs ys e = ap (λ l. f x ∷ l) e
+map_step f false x xs ys e = e
+
+pub filter-map : {X Y : Type 0} (p : Y → Bool) (f : X → Y) (xs : List X)
+    → filter p (map f xs) ≡ map f (filter (λ x. p (f x)) xs)
+filter-map p f [] = refl
+filter-map p f (x ∷ xs) = map_step f (p (f x)) x (filter (λ y. p (f y)) xs) (filter p (map f xs)) (filter-map p f xs)
+
+-- ---- a row is taken out
+
+pub classes-without : (name : Name16) (rows : List CacheItem)
+    → names_without name (classes_of rows) ≡ classes_of (rows_without name rows)
+classes-without name rows =
+    filter-map (λ (changed : Changed). not (castout.is_named name changed)) changed_of (filter is_changed rows)
+    ∙ ap (λ (l : List CacheItem). map changed_of l)
+    (filter_swap (λ (row : CacheItem). not (is_row_of name row)) is_changed rows)
+
+pub order-without : (name : Name16) (rows : List CacheItem)
+    → order_without name (order_of rows) ≡ order_of (rows_without name rows)
+order-without name rows =
+    filter-map (λ (used : Used). not (last_use.is_named name used)) used_of (filter is_unchanged rows)
+    ∙ ap (λ (l : List CacheItem). map used_of l)
+    (filter_swap (λ (row : CacheItem). not (is_row_of name row)) is_unchanged rows)
+
+classes-absent : (name : Name16) (rows : List CacheItem) → has_row name rows ≡ false
+    → names_without name (classes_of rows) ≡ classes_of rows
+classes-absent name rows h =
+    classes-without name rows ∙ ap (λ (l : List CacheItem). classes_of l) (without-absent name rows h)
+
+order-absent : (name : Name16) (rows : List CacheItem) → has_row name rows ≡ false
+    → order_without name (order_of rows) ≡ order_of rows
+order-absent name rows h =
+    order-without name rows ∙ ap (λ (l : List CacheItem). order_of l) (without-absent name rows h)
+
+-- ---- a row is put in its place
+
+-- where one is unchanged, so are those behind it
+unchanged_behind : (y : CacheItem) (ys : List CacheItem) → is_changed y ≡ false → list_all (changed_first y) ys ≡ true
+    → filter is_changed ys ≡ []
+unchanged_behind y ys e h =
+    filter_none is_changed ys
+    (none_from_all is_changed ys (list_all_weaker (changed_first y) (λ z. not (is_changed z))
+    (λ z k. right (is_changed y) (is_changed z) e k) ys h))
+  where
+    right : (a b : Bool) → a ≡ false → a || not b ≡ true → not b ≡ true
+    right true b e k = absurd (false≢true (sym e))
+    right false b e k = k
+
+placed : (a n : Bool) (row y : CacheItem) (ys zs : List CacheItem) → is_changed row ≡ true → is_changed y ≡ a
+    → (a ≡ false → filter is_changed ys ≡ [])
+    → classes_of zs ≡ names_with (changed_of row) (classes_of ys)
+    → n ≡ name_before y.name row.name
+    → classes_of (cond (a && n) (y ∷ zs) (row ∷ y ∷ ys)) ≡ names_with (changed_of row) (classes_of (y ∷ ys))
+placed true true row y ys zs e f none ih same = rw (f, ← same) (ap (λ (l : List Changed). changed_of y ∷ l) ih)
+placed true false row y ys zs e f none ih same = rw (e, f, ← same) refl
+placed false n row y ys zs e f none ih same = rw (e, f, none refl) refl
+
+classes-insertion : (row : CacheItem) (rows : List CacheItem) → is_changed row ≡ true
+    → pairwise changed_first rows ≡ true
+    → classes_of (insertion (stands_before row) row rows) ≡ names_with (changed_of row) (classes_of rows)
+classes-insertion row [] e h = rw e refl
+classes-insertion row (y ∷ ys) e h =
+    let parts = and_parts (list_all (changed_first y) ys) (pairwise changed_first ys) h in
+    placed (is_changed y) (name_before y.name row.name) row y ys (insertion (stands_before row) row ys) e refl
+    (λ f. unchanged_behind y ys f parts.0) (classes-insertion row ys e parts.1) refl
+
+classes-last : (b : Bool) (row : CacheItem) (rows : List CacheItem) → is_changed row ≡ b
+    → classes_of (rows ++ row ∷ []) ≡ classes_of rows ++ cond b (changed_of row ∷ []) []
+classes-last b row rows e =
+    ap (λ (l : List CacheItem). map changed_of l) (filter-append is_changed rows (row ∷ []))
+    ∙ map-append changed_of (filter is_changed rows) (filter is_changed (row ∷ []))
+    ∙ ap (λ (l : List Changed). classes_of rows ++ l) (one b e)
+  where
+    one : (b : Bool) → is_changed row ≡ b
+        → map changed_of (filter is_changed (row ∷ [])) ≡ cond b (changed_of row ∷ []) []
+    one true e = rw e refl
+    one false e = rw e refl
+
+order-last : (b : Bool) (row : CacheItem) (rows : List CacheItem) → is_changed row ≡ b
+    → order_of (rows ++ row ∷ []) ≡ order_of rows ++ cond b [] (used_of row ∷ [])
+order-last b row rows e =
+    ap (λ (l : List CacheItem). map used_of l) (filter-append is_unchanged rows (row ∷ []))
+    ∙ map-append used_of (filter is_unchanged rows) (filter is_unchanged (row ∷ []))
+    ∙ ap (λ (l : List Used). order_of rows ++ l) (one b e)
+  where
+    one : (b : Bool) → is_changed row ≡ b → map used_of (filter is_unchanged (row ∷ [])) ≡ cond b []
+        (used_of row ∷ [])
+    one true e = rw e refl
+    one false e = rw e refl
+
+-- the name's class, where it had none
+set-absent : (name : Name16) (class : Option ℕ) (names : List Changed) → names_without name names ≡ names
+    → names_set name class names
+    ≡ cond (is_some class) (names_with (record { name = name; class = unwrap_or class 0 }) names) names
+set-absent name None names h = h
+set-absent name (Some class) names h = ap (λ (l : List Changed). names_with (record { name = name; class = class }) l)
+    h
+
+pub classes-put : (row : CacheItem) (rows : List CacheItem) → has_row row.name rows ≡ false
+    → pairwise changed_first rows ≡ true
+    → names_set row.name row.class (classes_of rows) ≡ classes_of (rows_with row rows)
+classes-put row rows absent h =
+    set-absent row.name row.class (classes_of rows) (classes-absent row.name rows absent) ∙ go (is_changed row) refl
+  where
+    go : (b : Bool) → is_changed row ≡ b
+        → cond b (names_with (changed_of row) (classes_of rows)) (classes_of rows)
+        ≡ classes_of (cond b (insertion (stands_before row) row rows) (rows ++ row ∷ []))
+    go true e = sym (classes-insertion row rows e h)
+    go false e = sym (classes-last false row rows e ∙ append-nil (classes_of rows))
+
+touched : (b : Bool) (row : CacheItem) (rows : List CacheItem) → has_row row.name rows ≡ false → is_changed row ≡ b
+    → cond b (order_of rows) (order_touched row.name row.stg (order_of rows))
+    ≡ order_of rows ++ cond b [] (used_of row ∷ [])
+touched true row rows absent e = sym (append-nil (order_of rows))
+touched false row rows absent e = ap (λ (l : List Used). l ++ used_of row ∷ []) (order-absent row.name rows absent)
+
+pub order-put : (row : CacheItem) (rows : List CacheItem) → has_row row.name rows ≡ false
+    → order_with row (order_of rows) ≡ order_of (rows_with row rows)
+order-put row rows absent = go (is_changed row) refl
+  where
+    go : (b : Bool) → is_changed row ≡ b
+        → cond b (order_of rows) (order_touched row.name row.stg (order_of rows))
+        ≡ order_of (cond b (insertion (stands_before row) row rows) (rows ++ row ∷ []))
+    go true e = sym (ap (λ (l : List CacheItem). map used_of l)
+        (filter-insertion_out is_unchanged (stands_before row) row rows (ap not e)))
+    go false e = touched false row rows absent e ∙ sym (order-last false row rows e)
+
+finds_front : (row : CacheItem) → is_changed row ≡ true
+    → FindsPlace changed_first (stands_before row) (λ other. true) row
+finds_front row e =
+    record {
+      front = λ y h. or_left (is_changed y) (not (is_changed row))
+          (and_parts (is_changed y) (name_before y.name row.name) h).0;
+      stop = λ y h k. or_left (is_changed row) (not (is_changed y)) e;
+      follows = λ y z h k. or_left (is_changed row) (not (is_changed z)) e;
+    }
+
+pub front-put : (row : CacheItem) (rows : List CacheItem) → pairwise changed_first rows ≡ true
+    → pairwise changed_first (rows_with row rows) ≡ true
+front-put row rows h = go (is_changed row) refl
+  where
+    go : (b : Bool) → is_changed row ≡ b → pairwise changed_first
+        (cond b (insertion (stands_before row) row rows) (rows ++ row ∷ [])) ≡ true
+    go true e =
+        pairwise-insertion changed_first (stands_before row) (λ other. true) row rows (finds_front row e)
+        (list_all_always (λ (other : CacheItem). true) (λ other. refl) rows) h
+    go false e =
+        pairwise_push changed_first rows row h
+        (list_all_always (λ y. changed_first y row)
+        (λ y. or_right (is_changed y) (not (is_changed row)) (ap not e)) rows)
+
+-- ---- a row is put behind the others, where it has its place
+
+precedes : (a b n : Bool) → cond a (cond b n true) (not b) ≡ true → a || not b ≡ true
+precedes true b n h = refl
+precedes false b n h = h
+
+pub front-push : (row : CacheItem) (rows : List CacheItem) → pairwise changed_first rows ≡ true
+    → list_all (λ other. may_precede other row) rows ≡ true
+    → pairwise changed_first (rows ++ row ∷ []) ≡ true
+front-push row rows h last =
+    pairwise_push changed_first rows row h
+    (list_all_weaker (λ other. may_precede other row) (λ other. changed_first other row)
+    (λ other k. precedes (is_changed other) (is_changed row) (name_before other.name row.name) k) rows last)
+
+-- an insertion behind all that stand before it
+insertion_last : {X : Type 0} (before : X → Bool) (x : X) (xs : List X) → list_all before xs ≡ true
+    → insertion before x xs ≡ xs ++ x ∷ []
+insertion_last before x [] h = refl
+insertion_last before x (y ∷ ys) h =
+    let parts = and_parts (before y) (list_all before ys) h in
+    rw parts.0 (ap (λ l. y ∷ l) (insertion_last before x ys parts.1))
+
+named_before : (a b n : Bool) → b ≡ true → cond a (cond b n true) (not b) ≡ true → a ≡ true → n ≡ true
+named_before true true n e h f = h
+named_before true false n e h f = absurd (false≢true e)
+named_before false b n e h f = absurd (false≢true f)
+
+kept_step : (p q : CacheItem → Bool) (b : Bool) (y : CacheItem) (ys : List CacheItem) → (b ≡ true → q y ≡ true)
+    → list_all q ys ≡ true
+    → list_all q (cond b (y ∷ ys) ys) ≡ true
+kept_step p q true y ys e h = and_from (q y) (list_all q ys) (e refl) h
+kept_step p q false y ys e h = h
+
+changed_before : (row : CacheItem) (rows : List CacheItem) → is_changed row ≡ true
+    → list_all (λ other. may_precede other row) rows ≡ true
+    → list_all (λ other. name_before other.name row.name) (filter is_changed rows) ≡ true
+changed_before row [] e h = refl
+changed_before row (y ∷ ys) e h =
+    let parts = and_parts (may_precede y row) (list_all (λ other. may_precede other row) ys) h in
+    kept_step is_changed (λ other. name_before other.name row.name) (is_changed y) y (filter is_changed ys)
+    (named_before (is_changed y) (is_changed row) (name_before y.name row.name) e parts.0)
+    (changed_before row ys e parts.1)
+
+pub classes-push : (row : CacheItem) (rows : List CacheItem) → has_row row.name rows ≡ false
+    → list_all (λ other. may_precede other row) rows ≡ true
+    → names_set row.name row.class (classes_of rows) ≡ classes_of (rows ++ row ∷ [])
+classes-push row rows absent last =
+    set-absent row.name row.class (classes_of rows) (classes-absent row.name rows absent) ∙ go (is_changed row) refl
+    ∙ sym (classes-last (is_changed row) row rows refl)
+  where
+    go : (b : Bool) → is_changed row ≡ b
+        → cond b (names_with (changed_of row) (classes_of rows)) (classes_of rows)
+        ≡ classes_of rows ++ cond b (changed_of row ∷ []) []
+    go true e =
+        insertion_last (λ (changed : Changed). castout.stands_before changed (changed_of row)) (changed_of row)
+        (classes_of rows)
+        (list_all-map (λ (changed : Changed). castout.stands_before changed (changed_of row)) changed_of
+        (filter is_changed rows) ∙ changed_before row rows e last)
+    go false e = sym (append-nil (classes_of rows))
+
+pub order-push : (row : CacheItem) (rows : List CacheItem) → has_row row.name rows ≡ false
+    → order_with row (order_of rows) ≡ order_of (rows ++ row ∷ [])
+order-push row rows absent =
+    touched (is_changed row) row rows absent refl ∙ sym (order-last (is_changed row) row rows refl)
+
+-- ---- castout locks are released
+
+pub map_same : {X Y Z : Type 0} (f : Y → Z) (g : X → Y) (h : X → Z) → ((x : X) → f (g x) ≡ h x) → (xs : List X)
+    → map f (map g xs) ≡ map h xs
+map_same f g h e [] = refl
+map_same f g h e (x ∷ xs) = rw (e x) (ap (λ l. h x ∷ l) (map_same f g h e xs))
+
+pub classes-released : (conn : ConnId) (rows : List CacheItem)
+    → classes_of (map (without_hold conn) rows) ≡ classes_of rows
+classes-released conn rows =
+    ap (λ (l : List CacheItem). map changed_of l) (filter-map is_changed (without_hold conn) rows)
+    ∙ map_same changed_of (without_hold conn) changed_of (λ row. refl) (filter is_changed rows)
+
+pub order-released : (conn : ConnId) (rows : List CacheItem) → order_of (map (without_hold conn) rows) ≡ order_of rows
+order-released conn rows =
+    ap (λ (l : List CacheItem). map used_of l) (filter-map is_unchanged (without_hold conn) rows)
+    ∙ map_same used_of (without_hold conn) used_of (λ row. refl) (filter is_unchanged rows)
+
+-- ---- the last row goes
+
+pub without-last : (row : CacheItem) (rows : List CacheItem) → pairwise names_apart (rows ++ row ∷ []) ≡ true
+    → rows_without row.name (rows ++ row ∷ []) ≡ rows
+without-last row rows h =
+    filter-append (λ (r : CacheItem). not (is_row_of row.name r)) rows (row ∷ [])
+    ∙ ap (λ (l : List CacheItem). rows_without row.name rows ++ l)
+    (own (same_name row.name row.name) (same_name-refl row.name))
+    ∙ append-nil (rows_without row.name rows)
+    ∙ without-absent row.name rows (alone-next rows [] row h)
+  where
+    own : (b : Bool) → b ≡ true → cond (not b) (row ∷ []) [] ≡ []
+    own true e = refl
+    own false e = absurd (false≢true e)
+
+-- ---- the rows of several names go
+
+test_step : (a b c : Bool) → a ≡ b → not a && not c ≡ not (b || c)
+test_step true b c e = rw (← e) refl
+test_step false b c e = rw (← e) refl
+
+spared-cons : (name : Name16) (names : List Name16) (rows : List CacheItem)
+    → rows_spared names (rows_without name rows) ≡ rows_spared (name ∷ names) rows
+spared-cons name names rows =
+    filter-filter (λ (row : CacheItem). not (is_among names row.name))
+    (λ (row : CacheItem). not (is_row_of name row)) rows
+    ∙ filter_agree (λ (row : CacheItem). not (is_row_of name row) && not (is_among names row.name))
+    (λ (row : CacheItem). not (is_among (name ∷ names) row.name))
+    (λ row. test_step (same_name row.name name) (same_name name row.name) (is_among names row.name)
+    (same_name-sym row.name name)) rows
+
+pub spared-more : (names : List Name16) (rows all : List CacheItem) (i : ℕ) (d : Name16) → i + 1 ≤ length names
+    → rows_spared (drop i names) rows ≡ all
+    → rows_spared (drop (i + 1) names) (rows_without (get_or names i d) rows) ≡ all
+spared-more names rows all i d lt h =
+    spared-cons (get_or names i d) (drop (i + 1) names) rows
+    ∙ ap (λ (l : List Name16). rows_spared l rows) (sym (drop_more names i d (omega arith))) ∙ h
+
+pub spared-all : (names : List Name16) (rows all : List CacheItem) (i : ℕ) → length names ≤ i
+    → rows_spared (drop i names) rows ≡ all → rows ≡ all
+spared-all names rows all i le h =
+    sym (filter_all (λ (row : CacheItem). not (is_among [] row.name)) rows
+    (list_all_always (λ (row : CacheItem). not (is_among [] row.name)) (λ row. refl) rows))
+    ∙ ap (λ (l : List Name16). rows_spared l rows) (sym (drop_all i names le)) ∙ h
+
+-- ---- how many
+
+pub length-order_of : (rows : List CacheItem) → length (order_of rows) ≤ length rows
+length-order_of rows = omega (
+  arith,
+  length-map (filter is_unchanged rows) used_of,
+  length-filter-le is_unchanged
+      rows,
+)
+
+pub room_taken-le : (class : Option ℕ) → room_taken class ≤ 1
+room_taken-le None = omega arith
+room_taken-le (Some class) = omega arith
+
+-- what room for a row is: in the list, below the number that there may be, and in both indexes
+pub record HasRoom (len cap entries class_room order_room : ℕ) : Type 0 where
+  pub list : len < cap
+  pub below : len < entries
+  pub classes : 1 ≤ class_room
+  pub order : 1 ≤ order_room
+
+pub has_room : (len cap entries classes order : ℕ) → 1 ≤ min (min (cap - len) (entries - len)) (min classes order)
+    → HasRoom len cap entries classes order
+has_room len cap entries classes order h =
+    record { list = omega (arith, h); below = omega (arith, h); classes = omega (arith, h); order = omega (arith, h) }
+
+pub order_below : (order : List Used) (rows : List CacheItem) (len entries limit : ℕ) → order ≡ order_of rows
+    → limit ≡ entries → len ≡ length rows
+    → len < entries → length order < limit
+order_below order rows len entries limit e f g h = rw e (omega (arith, f, g, h, length-order_of rows))

@@ -1,0 +1,128 @@
+-- What the indexes tell of the rows.
+use Rattle.std.proofs.Common.{◌≡◌, ℕ, ◌==◌, Bool, true, false, not, ◌&&◌, List, [], ◌∷◌, ◌++◌, Option, Some, None, option_map, slice_get, is_some, unwrap_or, length, filter, map, suc, zero, refl, sym, ap, ◌∙◌, subst}
+use Rattle.std.proofs.lemmas.List.{map-append, length-map}
+use Rattle.std.proofs.lemmas.List.Elements.{filter_agree}
+use Rattle.std.proofs.lemmas.Option.{slice_get-map}
+use Rattle.cf_types.specs.declared.names.Name16.{Name16}
+use Rattle.cf_types.specs.Name.{same_name}
+use Rattle.list_laws.specs.Pairwise.{pairwise}
+use Rattle.list_laws.proofs.FilterLaws.{filter-filter}
+use Rattle.list_laws.proofs.KeyLaws.{AllFound, found_filter, found_append}
+use Rattle.cache_classes.specs.declared.changed.Changed.{Changed}
+use Rattle.cache_classes.specs.Castout as castout
+use Rattle.cache_reclaim.specs.declared.used.Used.{Used}
+use Rattle.cache_reclaim.specs.LastUse as last_use
+use Rattle.cache_regs.proofs.NameLaws.{same_name-eq, same_name-refl}
+use Rattle.cache_model.specs.declared.items.CacheItem.{CacheItem}
+use Rattle.cache_model.specs.Rows.{is_changed, row_of, has_class, has_storage, names_apart}
+use Rattle.cache_model.specs.Commands.CoStats.{rows_of_class}
+use Rattle.cache_model.proofs.RowLaws.{name_of}
+use Rattle.cache_rows.specs.Indexes.{is_unchanged, changed_of, classes_of, used_of, order_of, reclaimed_for}
+use Rattle.cache_rows.proofs.IndexLaws.{filter-map, map_same}
+
+-- ---- the names of a castout class
+
+classed : (class : ℕ) (rows : List CacheItem)
+    → filter (λ row. castout.is_of_class class (changed_of row)) (filter is_changed rows)
+    ≡ filter (has_class class) rows
+classed class rows =
+    filter-filter (λ (row : CacheItem). castout.is_of_class class (changed_of row)) is_changed rows
+    ∙ filter_agree (λ (row : CacheItem). is_changed row && castout.is_of_class class (changed_of row))
+    (has_class class)
+    (λ row. agree row row.class) rows
+  where
+    agree : (row : CacheItem) (o : Option ℕ)
+        → is_some o && (unwrap_or o 0 == class) ≡ has_class class (record row { class = o })
+    agree row None = refl
+    agree row (Some other) = refl
+
+pub names-classes_of : (class : ℕ) (rows : List CacheItem)
+    → castout.names_of class (classes_of rows) ≡ map (λ (row : CacheItem). row.name) (filter (has_class class) rows)
+names-classes_of class rows =
+    ap (λ (l : List Changed). map (λ (changed : Changed). changed.name) l)
+    (filter-map (castout.is_of_class class) changed_of (filter is_changed rows))
+    ∙ map_same (λ (changed : Changed). changed.name) changed_of (λ (row : CacheItem). row.name) (λ row. refl)
+    (filter (λ (row : CacheItem). castout.is_of_class class (changed_of row)) (filter is_changed rows))
+    ∙ ap (λ (l : List CacheItem). map (λ (row : CacheItem). row.name) l) (classed class rows)
+
+pub count-classes_of : (class : ℕ) (rows : List CacheItem)
+    → castout.count_of class (classes_of rows) ≡ rows_of_class rows class
+count-classes_of class rows =
+    ap (λ (l : List Changed). length l) (filter-map (castout.is_of_class class) changed_of (filter is_changed rows))
+    ∙ length-map (filter (λ (row : CacheItem). castout.is_of_class class (changed_of row))
+    (filter is_changed rows)) changed_of
+    ∙ ap (λ (l : List CacheItem). length l) (classed class rows)
+
+-- ---- the rows in the order of reclaiming
+
+order-reclaimed : (stg : ℕ) (rows : List CacheItem)
+    → last_use.reclaimed_for stg (order_of rows) ≡ map used_of (reclaimed_for stg rows)
+order-reclaimed stg rows =
+    let unchanged = filter is_unchanged rows in
+    ap (λ (l : List Used). l ++ filter (last_use.is_in_part stg false) (order_of rows))
+    (filter-map (last_use.is_in_part stg true) used_of unchanged)
+    ∙ ap (λ (l : List Used). map used_of (filter (has_storage stg) unchanged) ++ l)
+    (filter-map (last_use.is_in_part stg false) used_of unchanged)
+    ∙ sym (map-append used_of (filter (has_storage stg) unchanged)
+    (filter (λ (row : CacheItem). not (has_storage stg row)) unchanged))
+
+victim-row : (stg k : ℕ) (rows : List CacheItem)
+    → last_use.victim stg k (order_of rows)
+    ≡ option_map (λ (row : CacheItem). row.name) (slice_get (reclaimed_for stg rows) k)
+victim-row stg k rows =
+    ap (λ (l : List Used). option_map (λ (used : Used). used.name) (slice_get l k)) (order-reclaimed stg rows)
+    ∙ ap (λ (o : Option Used). option_map (λ (used : Used). used.name) o)
+    (slice_get-map used_of (reclaimed_for stg rows) k)
+    ∙ twice (slice_get (reclaimed_for stg rows) k)
+  where
+    twice : (o : Option CacheItem) → option_map (λ (used : Used). used.name) (option_map used_of o)
+        ≡ option_map (λ (row : CacheItem). row.name) o
+    twice None = refl
+    twice (Some row) = refl
+
+abbrev pub AreFound : List CacheItem → List CacheItem → Type 0
+AreFound some rows = AllFound name_of same_name same_name-eq same_name-refl some rows
+
+found_part : (p : CacheItem → Bool) (rows : List CacheItem) → pairwise names_apart rows ≡ true
+    → AreFound (filter p (filter is_unchanged rows)) rows
+found_part p rows h =
+    subst (λ (l : List CacheItem). AreFound l rows) (sym (filter-filter p is_unchanged rows))
+    (found_filter name_of same_name same_name-eq same_name-refl (λ (row : CacheItem). is_unchanged row && p row) rows
+    h)
+
+found_reclaimed : (stg : ℕ) (rows : List CacheItem) → pairwise names_apart rows ≡ true
+    → AreFound (reclaimed_for stg rows) rows
+found_reclaimed stg rows h =
+    let unchanged = filter is_unchanged rows in
+    found_append name_of same_name same_name-eq same_name-refl (filter (has_storage stg) unchanged)
+    (filter (λ (row : CacheItem). not (has_storage stg row)) unchanged) rows
+    (found_part (has_storage stg) rows h) (found_part (λ (row : CacheItem). not (has_storage stg row)) rows h)
+
+found_at : (some rows : List CacheItem) (k : ℕ) (row : CacheItem) → AreFound some rows → slice_get some k ≡ Some row
+    → row_of row.name rows ≡ Some row
+found_at [] rows k row h e = absurd (cc)
+found_at (x ∷ some) rows zero row h e =
+    let same : x ≡ row = cc in subst (λ (r : CacheItem). row_of r.name rows ≡ Some r) same h.0
+found_at (x ∷ some) rows (suc k) row h e = found_at some rows k row h.1 e
+
+-- the row of the victim's name is the one that is reclaimed
+pub reclaimed-row : (stg k : ℕ) (rows : List CacheItem) (name : Name16) → pairwise names_apart rows ≡ true
+    → Some name ≡ last_use.victim stg k (order_of rows)
+    → row_of name rows ≡ slice_get (reclaimed_for stg rows) k
+reclaimed-row stg k rows name h e = go (slice_get (reclaimed_for stg rows) k) refl (e ∙ victim-row stg k rows)
+  where
+    go : (o : Option CacheItem) → slice_get (reclaimed_for stg rows) k ≡ o
+        → Some name ≡ option_map (λ (row : CacheItem). row.name) o → row_of name rows ≡ o
+    go None is f = absurd (cc)
+    go (Some row) is f =
+        let same : name ≡ row.name = cc in
+        subst (λ (n : Name16). row_of n rows ≡ Some row) (sym same)
+        (found_at (reclaimed_for stg rows) rows k row (found_reclaimed stg rows h) is)
+
+pub reclaimed-none : (stg k : ℕ) (rows : List CacheItem) → None ≡ last_use.victim stg k (order_of rows)
+    → None ≡ slice_get (reclaimed_for stg rows) k
+reclaimed-none stg k rows e = go (slice_get (reclaimed_for stg rows) k) (e ∙ victim-row stg k rows)
+  where
+    go : (o : Option CacheItem) → None ≡ option_map (λ (row : CacheItem). row.name) o → None ≡ o
+    go None f = refl
+    go (Some row) f = absurd (cc)
