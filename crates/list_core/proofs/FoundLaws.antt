@@ -9,7 +9,7 @@ use Rattle.list_store.specs.declared.records.Rec.{Rec}
 use Rattle.list_store.specs.Lists.{Lists, all_records, is_id, record_of, lists_without}
 use Rattle.list_model.specs.Lists.{record_at, the_record, no_record, with_record}
 use Rattle.list_model.specs.Commands.Move.{moved}
-use Rattle.list_core.specs.Keeping.{put_back}
+use Rattle.list_kept.specs.Keeping.{put_back}
 use Rattle.list_core.specs.Found.{IsFound}
 
 pub found-any : (lists : Lists) (at : At) → IsFound lists at → list_any (is_id (the_record lists at).id)

@@ -9,7 +9,7 @@ use Rattle.list_watch.specs.Rows.{monitors_of}
 use Rattle.list_watch.specs.Ends.{differs}
 use Rattle.list_model.specs.Contents.{has_records}
 use Rattle.list_model.specs.Items.{Triple, triple_of, monitor_of}
-use Rattle.list_core.specs.Told.{is_told}
+use Rattle.list_kept.specs.Told.{is_told}
 use Rattle.list_core.specs.Rows.{told_row}
 
 pub map-triples : (rows : List Watched) → map (λ (row : Watched). triple_of row.monitor) rows ≡ map triple_of

@@ -1,5 +1,3 @@
-pub mod Told
-pub mod Keeping
 pub mod Found
 pub mod Plans
 pub mod Seen

@@ -8,7 +8,7 @@ use Rattle.engine_api.specs.Meaning.Wish.{ForCmd, ForLeave, ForForget}
 use Rattle.list_core.specs.declared.plans.Plan.{Plan}
 use Rattle.list_core.specs.declared.engine.ListEngine.TheInside.{Inside}
 use Rattle.list_model.specs.Contents.{Content, IsContent}
-use Rattle.list_core.specs.Keeping.{Keeping, IsRoomy}
+use Rattle.list_kept.specs.Keeping.{Keeping, IsRoomy}
 use Rattle.list_core.specs.Plans.{plan_for}
 
 -- what it holds, what it is ready for, and its content as it is kept, with room for more

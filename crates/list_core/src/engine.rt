@@ -1,9 +1,8 @@
 use crate::items::{copy_item, count_items, place_item};
-use crate::keeping::Kept;
 use crate::plans::{Plan, act, make_plan};
-use crate::reading::{count, elements_of_others};
 use cf_types::{Caps, ConnId, Effects, EntryId, ListCmd, ListReply, NoMemory, Refusal, StrForm};
 use engine_api::{Engine, Shape};
+use list_kept::{Kept, count, elements_of_others};
 use list_model::ListItem;
 use std::alloc::Global;
 use std::marker::Model;

@@ -6,10 +6,10 @@ ghost use Rattle.list_watch.specs.declared.monitors.Watched.{Watched};
 ghost use Rattle.list_model.specs.Items.{has_controls, controls_of, row_of, rows_from, items_of, triple_of, content_with};
 ghost use Rattle.list_core.specs.Rows.{told_row, IsPlaceable};
 
-use crate::keeping::Kept;
-use crate::reading::{copy_data, count};
+use crate::data::copy_data;
 use cf_types::{ConnId, Listing, NoMemory};
 use engine_api::Shape;
+use list_kept::{Kept, count};
 use list_model::ListItem;
 use list_store::Rec;
 use list_watch::{Monitor, Watched};

@@ -3,11 +3,10 @@
 #![tactic(auto)]
 
 mod commands;
+mod data;
 mod engine;
 mod items;
-mod keeping;
 mod plans;
-mod reading;
 mod refusals;
 
 pub use engine::{ListContent, ListEngine};

@@ -7,17 +7,17 @@ ghost use Rattle.list_model.specs.Records.{elements_in};
 ghost use Rattle.list_model.specs.Contents.{stands};
 ghost use Rattle.list_model.specs.Commands.Write as write;
 ghost use Rattle.list_model.specs.Step.{cause, reply, after};
-ghost use Rattle.list_core.specs.Keeping.{IsRoomy};
+ghost use Rattle.list_kept.specs.Keeping.{IsRoomy};
 ghost use Rattle.list_core.specs.Plans.{body_of, plan_unless, plan_for, IsPossible};
 
 use crate::commands::{
     delete, l_controls, lock_reset, lock_set, lock_test, monitor, move_record, read, read_list,
     set_limit, unmonitor, update, write,
 };
-use crate::keeping::Kept;
-use crate::reading::copy_data;
+use crate::data::copy_data;
 use cf_types::{Body, Caps, ConnId, Effects, ListCmd, ListReply, NoMemory, Refusal};
 use engine_api::Shape;
+use list_kept::Kept;
 use std::alloc::Global;
 
 /// What is got ready for a command: its reply, and a copy of the data that a record will have.

@@ -3,12 +3,11 @@ ghost use Rattle.std.specs.Prelude.{◌≡◌};
 ghost use Rattle.cf_types.specs.Gains.{Gains};
 ghost use Rattle.list_model.specs.Contents.{stands};
 ghost use Rattle.list_model.specs.Commands.Delete as delete;
+ghost use Rattle.list_kept.specs.Keeping.{IsRoomy};
 ghost use Rattle.list_core.specs.Found.{IsFound};
-ghost use Rattle.list_core.specs.Keeping.{IsRoomy};
 
-use crate::keeping::Kept;
-use crate::reading::id_at;
 use cf_types::{At, Effects, ListReply};
+use list_kept::{Kept, id_at};
 
 /// The reply where the command isn't refused.
 pub(crate) fn reply(kept: &Kept, at: At) -> ListReply

@@ -2,8 +2,8 @@
 ghost use Rattle.std.specs.Prelude.{◌≡◌};
 ghost use Rattle.list_model.specs.Commands.LControls as l_controls;
 
-use crate::keeping::Kept;
 use cf_types::ListReply;
+use list_kept::Kept;
 
 /// The reply where the command isn't refused.
 pub(crate) fn reply(kept: &Kept, header: u32) -> ListReply

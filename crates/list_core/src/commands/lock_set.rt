@@ -3,10 +3,10 @@ ghost use Rattle.std.specs.Prelude.{◌≡◌, ◌<◌, length};
 ghost use Rattle.engine_api.specs.Meaning.{first_refusal};
 ghost use Rattle.list_model.specs.Commands.LockSet as lock_set;
 
-use crate::keeping::{Kept, locks_of};
 use crate::refusals::{first_refusal, held_refusal, lock_refusal};
 use cf_types::{ConnId, Refusal};
 use engine_api::Shape;
+use list_kept::{Kept, locks_of};
 
 /// Why the command is refused.
 pub(crate) fn refusal(shape: Shape, kept: &Kept, lock: u32) -> Option<Refusal>

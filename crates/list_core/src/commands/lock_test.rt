@@ -3,10 +3,10 @@ ghost use Rattle.std.specs.Prelude.{◌≡◌};
 ghost use Rattle.engine_api.specs.Meaning.{first_refusal};
 ghost use Rattle.list_model.specs.Commands.LockTest as lock_test;
 
-use crate::keeping::{Kept, locks_of};
 use crate::refusals::{first_refusal, lock_refusal};
 use cf_types::{ListReply, Refusal};
 use engine_api::Shape;
+use list_kept::{Kept, locks_of};
 
 /// Why the command is refused.
 pub(crate) fn refusal(shape: Shape, lock: u32) -> Option<Refusal>

@@ -4,12 +4,12 @@ ghost use Rattle.cf_types.specs.Gains.{Gains};
 ghost use Rattle.engine_api.specs.Meaning.{first_refusal};
 ghost use Rattle.list_model.specs.Contents.{stands};
 ghost use Rattle.list_model.specs.Commands.Monitor as monitor;
-ghost use Rattle.list_core.specs.Keeping.{IsRoomy};
+ghost use Rattle.list_kept.specs.Keeping.{IsRoomy};
 
-use crate::keeping::{Kept, headers_of};
 use crate::refusals::{first_refusal, header_refusal, in_use_refusal, index_refusal};
 use cf_types::{ConnId, Effects, ListReply, Refusal};
 use engine_api::Shape;
+use list_kept::{Kept, headers_of};
 
 /// Why the command is refused.
 pub(crate) fn refusal(

@@ -5,17 +5,16 @@ ghost use Rattle.cf_types.specs.Gains.{Gains};
 ghost use Rattle.engine_api.specs.Meaning.{first_refusal};
 ghost use Rattle.list_model.specs.Contents.{stands};
 ghost use Rattle.list_model.specs.Commands.Move as moving;
+ghost use Rattle.list_kept.specs.Keeping.{IsRoomy};
 ghost use Rattle.list_core.specs.Found.{IsFound};
-ghost use Rattle.list_core.specs.Keeping.{IsRoomy};
 
-use crate::keeping::{Kept, headers_of, locks_of};
-use crate::reading::id_at;
 use crate::refusals::{
     cond_lock_refusal, cond_refusal, first_refusal, full_refusal, header_refusal, new_key_refusal,
     record_refusal, ref_form_refusal, ref_header_refusal, refs_of,
 };
 use cf_types::{At, Cond, ConnId, Effects, Key16, Refusal};
 use engine_api::Shape;
+use list_kept::{Kept, headers_of, id_at, locks_of};
 
 // The header has no place for a record of another header.
 fn place_refusal(kept: &Kept, at: At, header: u32) -> Option<Refusal>

@@ -4,10 +4,10 @@ ghost use Rattle.engine_api.specs.Meaning.{first_refusal};
 ghost use Rattle.list_store.specs.declared.records.Rec.{Rec};
 ghost use Rattle.list_model.specs.Commands.ReadList as read_list;
 
-use crate::keeping::{Kept, headers_of};
 use crate::refusals::{first_refusal, header_refusal};
 use cf_types::{EntryId, ListReply, Listing, NoMemory, Refusal};
 use engine_api::Shape;
+use list_kept::{Kept, headers_of};
 use list_store::Rec;
 use std::alloc::Global;
 

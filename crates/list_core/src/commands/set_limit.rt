@@ -2,7 +2,7 @@
 ghost use Rattle.std.specs.Prelude.{◌≡◌, ◌<◌, length};
 ghost use Rattle.list_model.specs.Commands.SetLimit as set_limit;
 
-use crate::keeping::Kept;
+use list_kept::Kept;
 
 /// Does the command.
 pub(crate) fn act(kept: &mut Kept, header: u32, n: u32)

@@ -4,8 +4,8 @@ ghost use Rattle.cf_types.specs.Gains.{Gains};
 ghost use Rattle.list_model.specs.Contents.{stands};
 ghost use Rattle.list_model.specs.Commands.Unmonitor as unmonitor;
 
-use crate::keeping::Kept;
 use cf_types::{ConnId, Effects, ListReply};
+use list_kept::Kept;
 
 /// The reply where the command isn't refused.
 pub(crate) fn reply(kept: &Kept, by: ConnId, header: u32) -> ListReply

@@ -7,10 +7,8 @@ ghost use Rattle.list_store.specs.Lists.{all_records, count_of, is_id};
 ghost use Rattle.list_model.specs.Records.{elements_in};
 ghost use Rattle.list_model.specs.Contents.{stands};
 ghost use Rattle.list_model.specs.Commands.Write as write;
-ghost use Rattle.list_core.specs.Keeping.{IsRoomy};
+ghost use Rattle.list_kept.specs.Keeping.{IsRoomy};
 
-use crate::keeping::{Kept, headers_of, locks_of};
-use crate::reading::elements_of;
 use crate::refusals::{
     cond_lock_refusal, cond_refusal, elements_refusal, entries_refusal, first_refusal,
     full_refusal, header_refusal, name_refusal, reference_refusal, refs_of,
@@ -19,6 +17,7 @@ use cf_types::{
     Adjunct, Body, Caps, Cond, ConnId, Effects, EntryId, Key16, ListReply, Name16, Refusal,
 };
 use engine_api::Shape;
+use list_kept::{Kept, elements_of, headers_of, locks_of};
 use list_store::Rec;
 
 // The data need more elements than all records leave free. No record has the next id.

@@ -6,7 +6,7 @@ use Rattle.list_store.specs.Lists.{Lists, records_of}
 use Rattle.list_model.specs.declared.items.ListItem.{ListItem}
 use Rattle.list_model.specs.Items.{row_of, rows_from}
 use Rattle.list_model.proofs.ItemLaws.{row-here, row-later}
-use Rattle.list_core.proofs.ReadLaws.{drop_lists, count_more}
+use Rattle.list_kept.proofs.ReadLaws.{drop_lists, count_more}
 use Rattle.list_core.proofs.items.copy_row.Goals as goal
 
 pub returns-then-left-len : goal.returns-then-left-len

@@ -7,7 +7,7 @@ use Rattle.list_watch.specs.Monitors.{AreMonitors}
 use Rattle.list_watch.specs.Rows.{monitors_of}
 use Rattle.list_model.specs.Contents.{Content}
 use Rattle.list_model.specs.Items.{Triple, monitor_of}
-use Rattle.list_core.specs.Told.{is_told}
+use Rattle.list_kept.specs.Told.{is_told}
 use Rattle.list_core.specs.Rows.{told_row}
 use Rattle.list_core.proofs.RowLaws.{monitors-told_rows, told-told_rows}
 use Rattle.list_core.proofs.items.place_item.Goals as goal

@@ -4,8 +4,9 @@ use Rattle.list_store.specs.Lists.{lists_replaced}
 use Rattle.list_model.specs.Lists.{the_record}
 use Rattle.list_model.specs.Contents.{Content, stands, has_records}
 use Rattle.list_model.proofs.StoreLaws.{full-replaced}
+use Rattle.list_kept.proofs.ToldLaws.{content_at}
 use Rattle.list_core.specs.Found.{updated_with}
-use Rattle.list_core.proofs.ToldLaws.{content_at, stands-agree}
+use Rattle.list_core.proofs.StandLaws.{stands-agree}
 use Rattle.list_core.proofs.plans.act.Goals as goal
 
 pub returns-in-Update-clause-content : goal.returns-in-Update-clause-content

@@ -1,9 +1,9 @@
 use Rattle.std.proofs.Common.{ap, ◌∙◌}
 use Rattle.cf_types.specs.declared.numbers.EntryId.{EntryId}
 use Rattle.list_store.specs.Lists.{Lists, record_of, lists_without}
-use Rattle.list_core.specs.Keeping.{put_back}
+use Rattle.list_kept.specs.Keeping.{put_back}
+use Rattle.list_kept.proofs.ToldLaws.{content_at}
 use Rattle.list_core.proofs.FoundLaws.{found-any, found-put_back}
-use Rattle.list_core.proofs.ToldLaws.{content_at}
 use Rattle.list_core.proofs.commands.move_record.act.Goals as goal
 
 pub shift-requires-clause-there : goal.shift-requires-clause-there

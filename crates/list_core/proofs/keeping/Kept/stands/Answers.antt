@@ -1,9 +1,0 @@
-use Rattle.std.proofs.Common.{sym, ◌∙◌}
-use Rattle.list_core.proofs.ToldLaws.{told-stands}
-use Rattle.list_core.proofs.keeping.Kept.stands.Goals as goal
-
-pub returns : goal.returns
-returns c =
-    rw (← c.self.view_is)
-    (c.stands.ensures ∙ sym (told-stands c.self.inside.store.lists c.self.inside.watch.rows c.self.invariant
-    c.args.conn c.args.index))

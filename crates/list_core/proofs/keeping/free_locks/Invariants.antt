@@ -1,7 +1,0 @@
-use Rattle.std.proofs.Common.{◌≡◌, None, replicate, take, drop}
-use Rattle.list_core.proofs.keeping.free_locks.Given as goal
-
-abbrev pub invariant-loop-holder : goal.invariant-loop-holder
-invariant-loop-holder l =
-    (take l.holder-index l.holder-items ≡ replicate l.holder-index None)
-    × (drop l.holder-index l.holder-items ≡ drop l.holder-index l.initial.holder-items)

@@ -1,0 +1,3 @@
+pub mod ToldLaws
+pub mod ReadLaws
+pub mod LastLaws

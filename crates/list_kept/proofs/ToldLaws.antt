@@ -1,0 +1,212 @@
+-- The bits that connectors were told stay those that stand.
+use Rattle.std.proofs.Common.{◌≡◌, ℕ, Bool, true, false, not, ◌&&◌, ◌||◌, ◌==◌, if◌then◌else◌, Option, Some, None, List, [], ◌∷◌, filter, refl, sym, ap, ◌∙◌, arith}
+use Rattle.std.specs.List.{list_all}
+use Rattle.std.proofs.lemmas.Bool.{and_parts, and_from, false≢true, eqb-true}
+use Rattle.std.proofs.lemmas.Bool.Decides.{nat_tests}
+use Rattle.std.proofs.lemmas.List.Folds.{list_all-append}
+use Rattle.cf_types.specs.declared.numbers.ConnId.{ConnId}
+use Rattle.cf_types.specs.declared.effects.BitChange.{BitChange}
+use Rattle.cf_types.specs.Gains.{Bits, Gains, difference}
+use Rattle.list_laws.proofs.FilterLaws.{list_all-filter}
+use Rattle.list_store.specs.Lists.{Lists}
+use Rattle.list_watch.specs.declared.monitors.Monitor.{Monitor}
+use Rattle.list_watch.specs.declared.monitors.Watched.{Watched}
+use Rattle.list_watch.specs.Monitors.{is_at, is_replaced}
+use Rattle.list_watch.specs.Monitors as watch
+use Rattle.list_watch.specs.Rows.{monitors_of, is_lit, lit, turned, rows_turned, rows_with}
+use Rattle.list_watch.specs.Ends.{differs}
+use Rattle.list_model.specs.Contents.{Content, has_records}
+use Rattle.cf_types.specs.declared.names.Key16.{Key16}
+use Rattle.cf_types.specs.declared.numbers.EntryId.{EntryId}
+use Rattle.list_laws.specs.Pairwise.{pairwise}
+use Rattle.list_store.specs.declared.records.Rec.{Rec}
+use Rattle.list_store.specs.declared.records.Spot.{Spot}
+use Rattle.list_store.specs.Lists.{all_records, ids_apart, record_of, spot_of, lists_without}
+use Rattle.list_model.specs.Commands.Move.{moved}
+use Rattle.list_model.proofs.StoreLaws.{full-elsewhere, full-others}
+use Rattle.list_kept.specs.Keeping.{put_back}
+use Rattle.list_kept.specs.Told.{is_told}
+
+-- ---- the bits that stand
+
+equal : (a b : Bool) → not (differs a b) ≡ true → b ≡ a
+equal true true e = refl
+equal true false e = absurd (false≢true e)
+equal false true e = absurd (false≢true e)
+equal false false e = refl
+
+same : (a : Bool) → not (differs a a) ≡ true
+same true = refl
+same false = refl
+
+pub told-stands : (lists : Lists) (rows : List Watched) → list_all (is_told lists) rows ≡ true
+    → (conn : ConnId) (index : ℕ)
+    → watch.stands (monitors_of rows) (has_records lists) conn index ≡ lit rows conn index
+told-stands lists [] h conn index = refl
+told-stands lists (row ∷ rows) h conn index =
+    let parts = and_parts (is_told lists row) (list_all (is_told lists) rows) h in
+    ap (λ b. (is_at conn index row.monitor && b) || watch.stands (monitors_of rows) (has_records lists) conn index)
+    (equal row.full (has_records lists row.monitor.header) parts.0)
+    ∙ ap (λ b. is_lit conn index row || b) (told-stands lists rows parts.1 conn index)
+
+-- the same bits by other words
+pub gains_agree : (before after old new : Bits) (bits more : List BitChange)
+    → ((conn : ConnId) (index : ℕ) → before conn index ≡ old conn index) → ((conn : ConnId) (index : ℕ)
+    → after conn index ≡ new conn index)
+    → Gains old new bits more → Gains before after bits more
+gains_agree before after old new bits more e f gains =
+    record {
+      added = gains.added;
+      behind = gains.behind;
+      exactly = λ conn index. gains.exactly conn index ∙ sym (ap (λ b. difference b (after conn index)) (e conn index)
+          ∙ ap (λ b. difference (old conn index) b) (f conn index));
+    }
+
+pub gains-told : (lists later : Lists) (rows next : List Watched) (bits more : List BitChange)
+    → list_all (is_told lists) rows ≡ true → list_all (is_told later) next ≡ true
+    → Gains (lit rows) (lit next) bits more
+    → Gains (watch.stands (monitors_of rows) (has_records lists)) (watch.stands (monitors_of next)
+    (has_records later)) bits more
+gains-told lists later rows next bits more h k gains =
+    gains_agree (watch.stands (monitors_of rows) (has_records lists)) (watch.stands (monitors_of next)
+    (has_records later))
+    (lit rows) (lit next) bits more (told-stands lists rows h) (told-stands later next k) gains
+
+-- ---- told of all headers but some
+
+abbrev pub is_told_but : (ℕ → Bool) → Lists → Watched → Bool
+is_told_but spared lists row = spared row.monitor.header || is_told lists row
+
+but_step : (spared : ℕ → Bool) (lists later : Lists) (row : Watched) (b : Bool) → spared row.monitor.header ≡ b
+    → (b ≡ false → has_records later row.monitor.header ≡ has_records lists row.monitor.header)
+    → is_told lists row ≡ true → b || is_told later row ≡ true
+but_step spared lists later row true e h k = refl
+but_step spared lists later row false e h k = ap (λ t. not (differs row.full t)) (h refl) ∙ k
+
+pub told-but : (spared : ℕ → Bool) (lists later : Lists) (rows : List Watched)
+    → ((header : ℕ) → spared header ≡ false → has_records later header ≡ has_records lists header)
+    → list_all (is_told lists) rows ≡ true → list_all (is_told_but spared later) rows ≡ true
+told-but spared lists later [] same h = refl
+told-but spared lists later (row ∷ rows) same h =
+    let parts = and_parts (is_told lists row) (list_all (is_told lists) rows) h in
+    and_from (is_told_but spared later row) (list_all (is_told_but spared later) rows)
+    (but_step spared lists later row (spared row.monitor.header) refl (same row.monitor.header) parts.0)
+    (told-but spared lists later rows same parts.1)
+
+turn_step : (header : ℕ) (spared : ℕ → Bool) (lists : Lists) (row : Watched) (b : Bool)
+    → (row.monitor.header == header) ≡ b
+    → (b || spared row.monitor.header) || is_told lists row ≡ true
+    → is_told_but spared lists (if b then record row { full = has_records lists header } else row) ≡ true
+turn_step header spared lists row true e h =
+    let there : has_records lists row.monitor.header ≡ has_records lists header = ap (has_records lists)
+    (eqb-true row.monitor.header header e) in
+    either (spared row.monitor.header) (not (differs (has_records lists header)
+    (has_records lists row.monitor.header)))
+    (ap (λ t. not (differs (has_records lists header) t)) there ∙ same (has_records lists header))
+  where
+    either : (a b : Bool) → b ≡ true → a || b ≡ true
+    either true b e = refl
+    either false b e = e
+turn_step header spared lists row false e h = h
+
+-- where a header is told, it is spared no more
+pub told-turned : (header : ℕ) (spared : ℕ → Bool) (lists : Lists) (rows : List Watched)
+    → list_all (is_told_but (λ h. (h == header) || spared h) lists) rows ≡ true
+    → list_all (is_told_but spared lists) (rows_turned header (has_records lists header) rows) ≡ true
+told-turned header spared lists [] h = refl
+told-turned header spared lists (row ∷ rows) h =
+    let parts = and_parts (is_told_but (λ k. (k == header) || spared k) lists row)
+    (list_all (is_told_but (λ k. (k == header) || spared k) lists) rows) h in
+    and_from (is_told_but spared lists (turned header (has_records lists header) row))
+    (list_all (is_told_but spared lists) (rows_turned header (has_records lists header) rows))
+    (turn_step header spared lists row (row.monitor.header == header) refl parts.0)
+    (told-turned header spared lists rows parts.1)
+
+-- one header alone changed
+pub told-one : (header : ℕ) (lists later : Lists) (rows : List Watched)
+    → ((other : ℕ) → (other == header) ≡ false → has_records later other ≡ has_records lists other)
+    → list_all (is_told lists) rows ≡ true
+    → list_all (is_told later) (rows_turned header (has_records later header) rows) ≡ true
+told-one header lists later rows same h =
+    told-turned header (λ k. false) later rows
+    (told-but (λ k. (k == header) || false) lists later rows (λ k e. same k (left (k == header) e)) h)
+  where
+    left : (a : Bool) → a || false ≡ false → a ≡ false
+    left true e = e
+    left false e = refl
+
+-- two headers changed
+pub told-two : (from to : ℕ) (lists later : Lists) (rows : List Watched)
+    → ((other : ℕ) → (other == from) ≡ false → (other == to) ≡ false → has_records later other ≡ has_records lists
+    other)
+    → list_all (is_told lists) rows ≡ true
+    → list_all (is_told later) (rows_turned to (has_records later to) (rows_turned from (has_records later from)
+    rows)) ≡ true
+told-two from to lists later rows same h =
+    told-turned to (λ k. false) later (rows_turned from (has_records later from) rows)
+    (told-turned from (λ k. (k == to) || false) later rows
+    (told-but (λ k. (k == from) || ((k == to) || false)) lists later rows
+    (λ k e. same k (first (k == from) (k == to) e) (second (k == from) (k == to) e)) h))
+  where
+    first : (a b : Bool) → a || (b || false) ≡ false → a ≡ false
+    first true b e = e
+    first false b e = refl
+
+    second : (a b : Bool) → a || (b || false) ≡ false → b ≡ false
+    second true b e = absurd (false≢true (sym e))
+    second false true e = e
+    second false false e = refl
+
+-- no header changed
+pub told-same : (lists later : Lists) (rows : List Watched)
+    → ((header : ℕ) → has_records later header ≡ has_records lists header)
+    → list_all (is_told lists) rows ≡ true → list_all (is_told later) rows ≡ true
+told-same lists later rows same h = told-but (λ k. false) lists later rows (λ k e. same k) h
+
+-- ---- monitors come and go
+
+pub told-filter : (p : Watched → Bool) (lists : Lists) (rows : List Watched) → list_all (is_told lists) rows ≡ true
+    → list_all (is_told lists) (filter p rows) ≡ true
+told-filter p lists rows h = list_all-filter (is_told lists) p rows h
+
+pub told-with : (conn : ConnId) (index header : ℕ) (lists : Lists) (rows : List Watched)
+    → list_all (is_told lists) rows ≡ true
+    → list_all (is_told lists) (rows_with conn index header (has_records lists header) rows) ≡ true
+told-with conn index header lists rows h =
+    let new : Watched = record {
+      monitor = record { conn = conn; index = index; header = header };
+      full = has_records
+          lists header;
+    } in
+    let others = filter (λ row. not (is_replaced conn index header row.monitor)) rows in
+    list_all-append (is_told lists) others (new ∷ [])
+    ∙ and_from (list_all (is_told lists) others) (is_told lists new && true)
+    (told-filter (λ row. not (is_replaced conn index header row.monitor)) lists rows h)
+    (and_from (is_told lists new) true (same (has_records lists header)) refl)
+
+-- ---- contents by their parts
+
+abbrev pub content_at : Lists → List ℕ → List (Option ConnId) → List Monitor → ℕ → Content
+content_at lists limits locks monitors next =
+    record { lists = lists; limits = limits; locks = locks; monitors = monitors; next = next }
+
+pub sym_test : (a b : ℕ) → (a == b) ≡ false → (b == a) ≡ false
+sym_test a b e = grind (arith, nat_tests)
+
+-- where a record is taken out of one header and comes to another
+pub full-put_back : (head : Bool) (id : EntryId) (header : ℕ) (key : Option Key16) (lists : Lists) (spot : Spot)
+    (other : ℕ)
+    → pairwise ids_apart (all_records lists) ≡ true → spot_of id lists ≡ Some spot
+    → (other == spot.header) ≡ false → (other == header) ≡ false
+    → has_records (put_back head header key (record_of id lists) (lists_without id lists)) other ≡ has_records lists
+    other
+full-put_back head id header key lists spot other apart there e f = go (record_of id lists)
+  where
+    out : has_records (lists_without id lists) other ≡ has_records lists other
+    out = full-others id lists spot other apart there (sym_test other spot.header e)
+
+    go : (o : Option Rec) → has_records (put_back head header key o (lists_without id lists)) other ≡ has_records
+        lists other
+    go None = out
+    go (Some rec) = full-elsewhere head header other (moved key rec) (lists_without id lists)
+        (sym_test other header f) ∙ out

@@ -1,0 +1,40 @@
+use Rattle.std.proofs.Common.{◌≡◌, true, not, if◌then◌else◌, List, Option, map, ap, ◌∙◌}
+use Rattle.std.specs.List.{list_all}
+use Rattle.cf_types.specs.declared.numbers.ConnId.{ConnId}
+use Rattle.list_watch.specs.declared.monitors.Monitor.{Monitor}
+use Rattle.list_watch.specs.declared.monitors.Watched.{Watched}
+use Rattle.list_watch.specs.Monitors.{is_of}
+use Rattle.list_watch.specs.Rows.{monitors_of}
+use Rattle.list_watch.proofs.MonitorLaws.{monitors_of-others}
+use Rattle.list_model.specs.Contents.{released}
+use Rattle.list_kept.specs.Told.{is_told}
+use Rattle.list_kept.proofs.ToldLaws.{told-filter, gains-told, content_at}
+use Rattle.list_kept.proofs.keeping.Kept.leave.Goals as goal
+
+still_told : (c : goal.After-drop_conn) → list_all (is_told c.self.inside.store.lists) c.drop_conn.new.self.rows ≡
+    true
+still_told c =
+    ap (λ (l : List Watched). list_all (is_told c.self.inside.store.lists) l) c.drop_conn.ensures.rows
+    ∙ told-filter (λ row. not (is_of c.args.conn row.monitor)) c.self.inside.store.lists c.self.inside.watch.rows
+    c.self.invariant
+
+pub invariant_of-self : goal.invariant_of-self
+invariant_of-self c = still_told c
+
+pub returns-clause-content : goal.returns-clause-content
+returns-clause-content c =
+    let k = c.self.inside in
+    let locks = if c.args.keep then k.locks.items else map (released c.args.conn) k.locks.items in
+    rw (← c.self.view_is)
+    (ap (λ (l : List (Option ConnId)). content_at k.store.lists k.limits.items l
+    (monitors_of c.drop_conn.new.self.rows) k.next) c.release_unless.ensures
+    ∙ ap (λ (m : List Monitor). content_at k.store.lists k.limits.items locks m k.next)
+    (ap (λ (l : List Watched). monitors_of l) c.drop_conn.ensures.rows ∙ monitors_of-others c.args.conn k.watch.rows))
+
+pub returns-clause-bits : goal.returns-clause-bits
+returns-clause-bits c =
+    let k = c.self.inside in
+    rw (← c.self.view_is)
+    (gains-told k.store.lists k.store.lists k.watch.rows c.drop_conn.new.self.rows c.args.out.now.bits.items
+    c.drop_conn.new.out.bits.items
+    c.self.invariant (still_told c) c.drop_conn.ensures.bits)

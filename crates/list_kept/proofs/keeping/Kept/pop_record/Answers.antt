@@ -1,0 +1,58 @@
+use Rattle.std.proofs.Common.{◌≡◌, ◌-◌, ◌==◌, not, List, length, take, sym, ap, ◌∙◌, arith}
+use Rattle.std.specs.List.{list_all}
+use Rattle.list_store.specs.declared.records.Rec.{Rec}
+use Rattle.list_store.specs.Lists.{Lists, records_of, with_records, count_of}
+use Rattle.list_watch.specs.declared.monitors.Monitor.{Monitor}
+use Rattle.list_watch.specs.declared.monitors.Watched.{Watched}
+use Rattle.list_watch.specs.Rows.{monitors_of, rows_turned}
+use Rattle.list_watch.proofs.BitLaws.{monitors-turned}
+use Rattle.list_model.specs.Contents.{has_records}
+use Rattle.list_model.proofs.StoreLaws.{records-elsewhere}
+use Rattle.list_model.proofs.ItemLaws.{first-all}
+use Rattle.list_kept.specs.Told.{is_told}
+use Rattle.list_kept.proofs.ToldLaws.{told-one, sym_test, content_at}
+use Rattle.list_kept.proofs.LastLaws.{last-count, last-gone, some_test}
+use Rattle.list_kept.proofs.keeping.Kept.pop_record.Goals as goal
+
+popped : (c : goal.After-settle) → c.pop.new.self.lists
+    ≡ with_records c.self.inside.store.lists c.in-Some.header
+    (take (length (records_of c.self.inside.store.lists c.in-Some.header) - 1) (records_of c.self.inside.store.lists
+    c.in-Some.header))
+popped c = c.in-Some.ensures.lists
+
+pub invariant_of-self : goal.invariant_of-self
+invariant_of-self c =
+    let lists = c.self.inside.store.lists in
+    let rows = c.self.inside.watch.rows in
+    let later = c.pop.new.self.lists in
+    let header = c.in-Some.header in
+    let recs = take (length (records_of lists header) - 1) (records_of lists header) in
+    ap (λ (l : List Watched). list_all (is_told later) l) c.settle.ensures
+    ∙ ap (λ b. list_all (is_told later) (rows_turned header b rows)) c.has_records-full.ensures
+    ∙ told-one header lists later rows
+    (λ other e. ap (λ (l : Lists). has_records l other) (popped c)
+    ∙ ap (λ (l : List Rec). not (length l == 0)) (records-elsewhere lists header other recs
+    (sym_test other header e))) c.self.invariant
+
+pub returns-in-Some-clause-there : goal.returns-in-Some-clause-there
+returns-in-Some-clause-there c =
+    rw (← c.self.view_is) (sym (some_test (count_of c.self.inside.store.lists) (last-count c.self.inside.store.lists
+    c.in-Some.header c.in-Some.ensures.header)))
+
+pub returns-in-Some-clause-content : goal.returns-in-Some-clause-content
+returns-in-Some-clause-content c =
+    let k = c.self.inside in
+    rw (← c.self.view_is)
+    (ap (λ (m : List Monitor). content_at c.pop.new.self.lists k.limits.items k.locks.items m k.next)
+    (ap (λ (l : List Watched). monitors_of l) c.settle.ensures ∙ monitors-turned c.in-Some.header
+    c.has_records-full.result k.watch.rows)
+    ∙ ap (λ (l : Lists). content_at l k.limits.items k.locks.items (monitors_of k.watch.rows) k.next)
+    (popped c ∙ last-gone k.store.lists c.in-Some.header c.in-Some.ensures.header))
+
+pub returns-in-None-clause-content : goal.returns-in-None-clause-content
+returns-in-None-clause-content c =
+    let k = c.self.inside in
+    let count = ap (λ (l : List Rec). length l) c.in-None.ensures.none in
+    rw (← c.self.view_is)
+    (ap (λ (l : Lists). content_at l k.limits.items k.locks.items (monitors_of k.watch.rows) k.next)
+    (c.in-None.ensures.same ∙ sym (first-all (count_of k.store.lists - 1) k.store.lists (omega (arith, count)))))

@@ -1,0 +1,35 @@
+use Rattle.std.proofs.Common.{◌≡◌, true, not, List, ap, ◌∙◌}
+use Rattle.std.specs.List.{list_all}
+use Rattle.list_watch.specs.declared.monitors.Monitor.{Monitor}
+use Rattle.list_watch.specs.declared.monitors.Watched.{Watched}
+use Rattle.list_watch.specs.Monitors.{is_for}
+use Rattle.list_watch.specs.Rows.{monitors_of}
+use Rattle.list_watch.proofs.MonitorLaws.{monitors_of-without}
+use Rattle.list_kept.specs.Told.{is_told}
+use Rattle.list_kept.proofs.ToldLaws.{told-filter, gains-told, content_at}
+use Rattle.list_kept.proofs.keeping.Kept.unmonitor.Goals as goal
+
+still_told : (c : goal.After-clear) → list_all (is_told c.self.inside.store.lists) c.clear.new.self.rows ≡ true
+still_told c =
+    ap (λ (l : List Watched). list_all (is_told c.self.inside.store.lists) l) c.clear.ensures.rows
+    ∙ told-filter (λ row. not (is_for c.args.conn c.args.header row.monitor)) c.self.inside.store.lists
+    c.self.inside.watch.rows c.self.invariant
+
+pub invariant_of-self : goal.invariant_of-self
+invariant_of-self c = still_told c
+
+pub returns-clause-content : goal.returns-clause-content
+returns-clause-content c =
+    let k = c.self.inside in
+    rw (← c.self.view_is)
+    (ap (λ (m : List Monitor). content_at k.store.lists k.limits.items k.locks.items m k.next)
+    (ap (λ (l : List Watched). monitors_of l) c.clear.ensures.rows ∙ monitors_of-without c.args.conn c.args.header
+    k.watch.rows))
+
+pub returns-clause-bits : goal.returns-clause-bits
+returns-clause-bits c =
+    let k = c.self.inside in
+    rw (← c.self.view_is)
+    (gains-told k.store.lists k.store.lists k.watch.rows c.clear.new.self.rows c.args.out.now.bits.items
+    c.clear.new.out.bits.items
+    c.self.invariant (still_told c) c.clear.ensures.bits)

@@ -1,0 +1,53 @@
+-- A content as the engine keeps it.
+use Rattle.std.specs.Prelude.{ℕ, ◌+◌, ◌<◌, ◌≤◌, Bool, not, if◌then◌else◌, Option, None, Some, length}
+use Rattle.cf_types.specs.declared.names.Key16.{Key16}
+use Rattle.list_store.specs.declared.records.Rec.{Rec}
+use Rattle.list_model.specs.Keys.{key_up_to}
+use Rattle.list_watch.specs.Rows.{monitors_of}
+use Rattle.list_store.specs.Lists.{Lists}
+use Rattle.list_model.specs.Lists.{with_record}
+use Rattle.list_model.specs.Commands.Move.{moved}
+use Rattle.list_model.specs.Contents.{Content}
+use Rattle.list_kept.specs.declared.keeping.Kept.TheInside.{Inside}
+use Rattle.list_kept.specs.Told.{AreTold}
+
+-- the content, and for how many more records and monitors there is room
+pub record Keeping : Type 0 where
+  pub content : Content
+  pub record_room : ℕ
+  pub monitor_room : ℕ
+
+abbrev pub content_of : Inside → Content
+content_of k =
+    record {
+      lists = k.store.lists;
+      limits = k.limits.items;
+      locks = k.locks.items;
+      monitors = monitors_of k.watch.rows;
+      next = k.next;
+    }
+
+abbrev pub keeping : Inside → Keeping
+keeping k =
+    record { content = content_of k; record_room = k.store.room; monitor_room = k.watch.room }
+
+-- each connector was told of the header that it monitors
+abbrev pub IsKept : Inside → Type 0
+IsKept k = AreTold k.store.lists k.watch.rows
+
+-- there is room for a record, a monitor and the bits that change, and an id
+pub record IsRoomy (k : Keeping) (bit_room : ℕ) : Type 0 where
+  pub records : 1 ≤ k.record_room
+  pub monitors : 1 ≤ k.monitor_room
+  pub bits : length k.content.monitors + length k.content.monitors + 2 ≤ bit_room
+  pub ids : k.content.next < 18446744073709551615
+
+-- which records stand before one with this key, or none, that comes to the head or the tail
+abbrev pub comes_behind : Bool → Option Key16 → Rec → Bool
+comes_behind head key other =
+    if head then not (key_up_to key other.key) else key_up_to other.key key
+
+-- a record that was taken out comes to its place in a header, with a new key if one is given
+abbrev pub put_back : Bool → ℕ → Option Key16 → Option Rec → Lists → Lists
+put_back head header key None lists = lists
+put_back head header key (Some rec) lists = with_record head header (moved key rec) lists

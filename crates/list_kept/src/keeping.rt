@@ -1,0 +1,642 @@
+//! The content as it is kept: records, limits, list locks, monitors and the next id.
+ghost use Rattle.std.specs.Prelude.{◌≡◌, ◌+◌, ◌<◌, ◌≤◌, ◌∷◌, ◌++◌, [], false, true, IfOk, OnOk, OnErr, IfErr, None, if◌then◌else◌, length, map, filter, option_map, replicate, get_or, slice_set};
+ghost use Rattle.std.specs.List.{list_any};
+ghost use Rattle.cf_types.specs.Gains.{Gains};
+ghost use Rattle.list_store.specs.Lists.{all_records, records_of, is_id, record_of, lists_without, lists_replaced, with_records};
+ghost use Rattle.list_watch.specs.Monitors.{is_for, monitored_at, monitors_with, monitors_without};
+ghost use Rattle.list_model.specs.Contents.{nothing, headers_of, locks_of, holder_of, released, stands, has_records, content_without};
+ghost use Rattle.list_model.specs.Lists.{header_of, stands_before, with_record};
+
+use cf_types::{ConnId, Effects, EntryId, Key16, Kind, NoMemory};
+use engine_api::Shape;
+use list_store::{Rec, Store};
+use list_watch::{Watch, Watched};
+use std::alloc::Global;
+use std::marker::Model;
+
+/// The content of a list structure: the records of each header, the headers' limits, the list
+/// locks, the monitors, and the id that the next record gets. Contracts see the content, and for
+/// how many more records and monitors there is room. Each connector was told whether the headers
+/// that the connector monitors have records.
+#[derive(Drop)]
+pub struct Kept {
+    store: Store,
+    limits: Vec<u32>,
+    locks: Vec<Option<ConnId>>,
+    watch: Watch,
+    next: u64,
+}
+
+impl Model for Kept {
+    ghost use Rattle.list_kept.specs.Keeping.{Keeping, keeping, IsKept};
+
+    ghost Value = { Keeping };
+
+    ghost view = { keeping };
+
+    ghost invariant = { IsKept };
+}
+
+/// How many headers a structure of a kind has; 0 where the kind isn't a list structure.
+pub fn headers_of(kind: Kind) -> u32
+    ensures { result ≡ headers_of kind }
+{
+    match kind {
+        Kind::List { headers, .. } => headers,
+        Kind::Cache => 0,
+        Kind::Lock => 0,
+    }
+}
+
+/// How many list locks a structure of a kind has; 0 where the kind isn't a list structure.
+pub fn locks_of(kind: Kind) -> u32
+    ensures { result ≡ locks_of kind }
+{
+    match kind {
+        Kind::List { locks, .. } => locks,
+        Kind::Cache => 0,
+        Kind::Lock => 0,
+    }
+}
+
+// A connector lets go of a list lock.
+fn release(holder: &mut Option<ConnId>, conn: ConnId)
+    ensures { holder.new ≡ released conn holder.old }
+{
+    if let Some(by) = *holder
+        && by == conn
+    {
+        *holder = None;
+    }
+}
+
+// A connector lets go of all list locks.
+fn release_all(locks: &mut Vec<Option<ConnId>>, conn: ConnId)
+    ensures { locks.new.items ≡ map (released conn) locks.old.items }
+{
+    for holder in locks.iter_mut() {
+        release(holder, conn);
+    }
+}
+
+// Whether a record stands before one that comes.
+fn stands_before(head: bool, key: Option<Key16>, other: &Rec) -> bool
+    ensures { result ≡ comes_behind head key other.now }
+{
+    if head {
+        !up_to(key, other.key)
+    } else {
+        up_to(other.key, key)
+    }
+}
+
+ghost use Rattle.list_kept.specs.Keeping.{comes_behind};
+ghost use Rattle.list_model.specs.Keys.{key_up_to};
+
+// Whether a key isn't behind another.
+fn up_to(key: Option<Key16>, other: Option<Key16>) -> bool
+    ensures { result ≡ key_up_to key other }
+{
+    match key {
+        None => true,
+        Some(key) => match other {
+            None => false,
+            Some(other) => !other.cmp(&key).is_lt(),
+        },
+    }
+}
+
+// Where a record comes to stand.
+fn place_of(recs: &[Rec], head: bool, key: Option<Key16>) -> u32
+    requires { length recs.now < 4294967296 }
+    ensures place { result ≡ prefix_len (comes_behind head key) recs.now }
+    ensures bound { result ≤ length recs.now }
+{
+    recs.iter()
+        .take_while(|other| stands_before(head, key, other))
+        .count() as u32
+}
+
+ghost use Rattle.std.specs.List.{prefix_len};
+
+// How many monitors of a header a connector has.
+fn count_rows(rows: &[Watched], conn: ConnId, header: u32) -> u32
+    requires { length rows.now < 4294967296 }
+    ensures { result ≡ length (filter (λ row. is_for conn header row.monitor) rows.now) }
+{
+    rows.iter()
+        .filter(|row| row.monitor.conn == conn && row.monitor.header == header)
+        .count() as u32
+}
+
+// Sets all limits.
+fn fill_limits(limits: &mut Vec<u32>, entries: u32)
+    ensures { limits.new.items ≡ replicate (length limits.old.items) entries }
+{
+    for limit in limits.iter_mut() {
+        *limit = entries;
+    }
+}
+
+// Nobody holds a list lock.
+fn free_locks(locks: &mut Vec<Option<ConnId>>)
+    ensures { locks.new.items ≡ replicate (length locks.old.items) None }
+{
+    for holder in locks.iter_mut() {
+        *holder = None;
+    }
+}
+
+// Whether a header has records.
+fn has_records(store: &Store, header: u32) -> bool
+    ensures { result ≡ has_records store.now.lists header }
+{
+    header < store.headers() && store.len(header) > 0
+}
+
+// Takes away the record with an id.
+fn drop_record(store: &mut Store, id: EntryId)
+    ensures { store.new.lists ≡ lists_without id store.old.lists }
+{
+    let _ = store.take(id);
+}
+
+// Puts in a record, at its place in a header.
+fn put(store: &mut Store, header: u32, head: bool, rec: Rec)
+    requires room { 1 ≤ store.old.room }
+    requires header { header < length store.old.lists }
+    requires alone { list_any (is_id rec.id) (all_records store.old.lists) ≡ false }
+    ensures { store.new.lists ≡ with_record head header rec store.old.lists }
+{
+    let place = place_of(store.records(header), head, rec.key);
+    store.add(header, place, rec);
+}
+
+// Takes out the record with an id, and puts it in a header, with a new key if one is given.
+fn put_again(store: &mut Store, id: EntryId, header: u32, head: bool, key: Option<Key16>)
+    requires room { 1 ≤ store.old.room }
+    requires header { header < length store.old.lists }
+    requires there { list_any (is_id id) (all_records store.old.lists) ≡ true }
+    ensures { store.new.lists
+        ≡ put_back head header key (record_of id store.old.lists)
+            (lists_without id store.old.lists) }
+{
+    match store.take(id) {
+        Some(rec) => {
+            let Rec {
+                id,
+                name,
+                key: old,
+                body,
+                adj,
+            } = rec;
+            let key = key.or(old);
+            let rec = Rec {
+                id,
+                name,
+                key,
+                body,
+                adj,
+            };
+            put(store, header, head, rec);
+        }
+        None => unreachable!(),
+    }
+}
+
+// A connector that departs lets go of its list locks, unless they are kept for it.
+fn release_unless(locks: &mut Vec<Option<ConnId>>, keep: bool, conn: ConnId)
+    ensures { locks.new.items ≡ (if keep then locks.old.items else map (released conn)
+        locks.old.items) }
+{
+    if !keep {
+        release_all(locks, conn);
+    }
+}
+
+impl Kept {
+    /// The content of a new structure of a shape: no records, no monitors, no list lock held, each
+    /// limit the entries of the shape, and 1 as the next id. The error is want of memory.
+    pub fn new(alloc: Global, shape: Shape) -> Result<Kept, NoMemory>
+        ensures { IfOk result (λ kept. kept.content ≡ nothing shape) }
+    {
+        let headers = headers_of(shape.kind);
+        let locks = locks_of(shape.kind);
+        let store = Store::new(alloc, shape.caps.entries, shape.caps.elements, headers)?;
+        let limits = vec![in alloc; shape.caps.entries; headers as usize]?;
+        let holders = vec![in alloc; None; locks as usize]?;
+        let watch = Watch::new(alloc, shape.conns, shape.vector)?;
+        Ok(Kept {
+            store,
+            limits,
+            locks: holders,
+            watch,
+            next: 1,
+        })
+    }
+
+    /// The same content once more. The error is want of memory.
+    pub fn copy(&self, alloc: Global) -> Result<Kept, NoMemory>
+        ensures { IfOk result (λ copy. copy.content ≡ self.now.content) }
+    {
+        let store = self.store.copy(alloc)?;
+        let limits = Vec::from_slice(alloc, self.limits.as_slice())?;
+        let locks = Vec::from_slice(alloc, self.locks.as_slice())?;
+        let watch = self.watch.copy(alloc)?;
+        Ok(Kept {
+            store,
+            limits,
+            locks,
+            watch,
+            next: self.next,
+        })
+    }
+
+    /// Takes room for one record and one monitor more, and room in the effects for the bits that
+    /// one command tells. The error is want of memory, or of ids: the next one is the last of 64
+    /// bits. The content stays as it was either way.
+    pub fn reserve(&mut self, out: &mut Effects) -> Result<(), NoMemory>
+        ensures content { self.new.content ≡ self.old.content }
+        ensures room { OnOk result (IsRoomy self.new out.new.bits.room) }
+        ensures bits { out.new.bits.items ≡ out.old.bits.items }
+        ensures mail { out.new.mail ≡ out.old.mail }
+    {
+        if self.next == u64::MAX {
+            return Err(NoMemory);
+        }
+        self.store.room()?;
+        self.watch.room(out)
+    }
+
+    /// How many headers there are.
+    pub fn headers(&self) -> u32
+        ensures { result ≡ length self.now.content.lists }
+    {
+        self.store.headers()
+    }
+
+    /// The records of a header, in order. The header is there.
+    pub fn records(&self, header: u32) -> &[Rec]
+        requires { header < length self.now.content.lists }
+        ensures records { result.now ≡ records_of self.now.content.lists header }
+        ensures few { length result.now < 4294967296 }
+    {
+        self.store.records(header)
+    }
+
+    /// How many records a header has; 0 where there is no such header.
+    pub fn len(&self, header: u32) -> u32
+        ensures { result ≡ length (records_of self.now.content.lists header) }
+    {
+        if header < self.store.headers() {
+            self.store.len(header)
+        } else {
+            0
+        }
+    }
+
+    /// The record with an id, in whichever header; none where there is no such record.
+    pub fn get(&self, id: EntryId) -> Option<&Rec>
+        ensures { option_map (λ rec. rec.now) result ≡ record_of id self.now.content.lists }
+    {
+        self.store.get(id)
+    }
+
+    /// The header that the record with an id is in, from 0; 0 also where there is no such record.
+    pub fn header_of(&self, id: EntryId) -> u32
+        ensures { result ≡ header_of id self.now.content.lists }
+    {
+        match self.store.whereabouts(id) {
+            Some(spot) => spot.header,
+            None => 0,
+        }
+    }
+
+    /// The limit of a header, in records; 0 where there is no such header.
+    pub fn limit(&self, header: u32) -> u32
+        ensures { result ≡ get_or self.now.content.limits header 0 }
+    {
+        match self.limits.as_slice().get(header as usize) {
+            Some(limit) => *limit,
+            None => 0,
+        }
+    }
+
+    /// The connector that holds a list lock; none where nobody does, or there is no such lock.
+    pub fn holder(&self, lock: u32) -> Option<ConnId>
+        ensures { result ≡ holder_of lock self.now.content.locks }
+    {
+        match self.locks.as_slice().get(lock as usize) {
+            Some(holder) => *holder,
+            None => None,
+        }
+    }
+
+    /// The limits of the headers, in records, by header.
+    pub fn limits(&self) -> &[u32]
+        ensures { result.now ≡ self.now.content.limits }
+    {
+        self.limits.as_slice()
+    }
+
+    /// The connectors that hold the list locks, by lock.
+    pub fn locks(&self) -> &[Option<ConnId>]
+        ensures { result.now ≡ self.now.content.locks }
+    {
+        self.locks.as_slice()
+    }
+
+    /// How many monitors there are.
+    pub fn monitors(&self) -> usize
+        ensures { result ≡ length self.now.content.monitors }
+    {
+        self.watch.items().len()
+    }
+
+    /// The monitors, in the order in which they were made, with the bits that connectors were told.
+    pub fn watched(&self) -> &[Watched]
+        ensures { monitors_of result.now ≡ self.now.content.monitors }
+    {
+        self.watch.items()
+    }
+
+    /// How many monitors of a header a connector has: 0 or 1.
+    pub fn count_for(&self, conn: ConnId, header: u32) -> u32
+        ensures { result ≡ length (filter (is_for conn header) self.now.content.monitors) }
+    {
+        count_rows(self.watch.items(), conn, header)
+    }
+
+    /// The header that a connector monitors at an index of its vector; none where it monitors none
+    /// there.
+    pub fn monitored(&self, conn: ConnId, index: u32) -> Option<u32>
+        ensures { result ≡ monitored_at self.now.content.monitors conn index }
+    {
+        self.watch.at(conn, index)
+    }
+
+    /// Whether the bit of a connector's vector at an index stands: a header that the connector
+    /// monitors there has records.
+    pub fn stands(&self, conn: ConnId, index: u32) -> bool
+        ensures { result ≡ stands self.now.content conn index }
+    {
+        self.watch.stands(conn, index)
+    }
+
+    /// The id that the next record gets; 1 in a new structure.
+    pub fn next(&self) -> u64
+        ensures { result ≡ self.now.content.next }
+    {
+        self.next
+    }
+
+    /// Puts a record at its place in a header: at the head or the tail of the records that its key
+    /// leaves it among. The header is there, no record has its id, and there is room. The next id
+    /// goes up by 1, and `out` is told the bits that change.
+    pub fn write(&mut self, header: u32, head: bool, rec: Rec, out: &mut Effects)
+        requires room { IsRoomy self.old out.old.bits.room }
+        requires header { header < length self.old.content.lists }
+        requires alone { list_any (is_id rec.id) (all_records self.old.content.lists) ≡ false }
+        ensures content { self.new.content ≡ record self.old.content {
+          lists = with_record head header rec self.old.content.lists;
+          next = self.old.content.next + 1;
+        } }
+        ensures bits { Gains (stands self.old.content) (stands self.new.content) out.old.bits.items
+            out.new.bits.items }
+        ensures mail { out.new.mail ≡ out.old.mail }
+    {
+        put(&mut self.store, header, head, rec);
+        self.next += 1;
+        let full = has_records(&self.store, header);
+        self.watch.turned(header, full, out);
+    }
+
+    /// Puts a record in place of the one with the same id, which is there.
+    pub fn replace(&mut self, rec: Rec)
+        requires { list_any (is_id rec.id) (all_records self.old.content.lists) ≡ true }
+        ensures { self.new.content
+            ≡ record self.old.content { lists = lists_replaced rec self.old.content.lists } }
+    {
+        let _ = self.store.set(rec.id, rec);
+    }
+
+    /// Takes away the record with an id, which is there. `out` is told the bits that change.
+    pub fn remove(&mut self, id: EntryId, out: &mut Effects)
+        requires room { IsRoomy self.old out.old.bits.room }
+        requires there { list_any (is_id id) (all_records self.old.content.lists) ≡ true }
+        ensures content { self.new.content
+            ≡ record self.old.content { lists = lists_without id self.old.content.lists } }
+        ensures bits { Gains (stands self.old.content) (stands self.new.content) out.old.bits.items
+            out.new.bits.items }
+        ensures mail { out.new.mail ≡ out.old.mail }
+    {
+        match self.store.whereabouts(id) {
+            Some(spot) => {
+                drop_record(&mut self.store, id);
+                let full = has_records(&self.store, spot.header);
+                self.watch.turned(spot.header, full, out);
+            }
+            None => unreachable!(),
+        }
+    }
+
+    /// Takes the record with an id, which is there, to its place in a header, with a new key if one
+    /// is given: at the head or the tail of the records that the key leaves it among. The header is
+    /// there, and there is room. `out` is told the bits that change.
+    pub fn shift(
+        &mut self,
+        id: EntryId,
+        header: u32,
+        head: bool,
+        key: Option<Key16>,
+        out: &mut Effects,
+    )
+        requires room { IsRoomy self.old out.old.bits.room }
+        requires header { header < length self.old.content.lists }
+        requires there { list_any (is_id id) (all_records self.old.content.lists) ≡ true }
+        ensures content { self.new.content ≡ record self.old.content {
+          lists = put_back head header key (record_of id self.old.content.lists)
+              (lists_without id self.old.content.lists);
+        } }
+        ensures bits { Gains (stands self.old.content) (stands self.new.content) out.old.bits.items
+            out.new.bits.items }
+        ensures mail { out.new.mail ≡ out.old.mail }
+    {
+        match self.store.whereabouts(id) {
+            Some(spot) => {
+                put_again(&mut self.store, id, header, head, key);
+                let full = has_records(&self.store, spot.header);
+                self.watch.turned(spot.header, full, out);
+                let full = has_records(&self.store, header);
+                self.watch.turned(header, full, out);
+            }
+            None => unreachable!(),
+        }
+    }
+
+    /// Sets the limit of a header, in records. The header is there.
+    pub fn set_limit(&mut self, header: u32, n: u32)
+        requires { header < length self.old.content.limits }
+        ensures { self.new.content
+            ≡ record self.old.content { limits = slice_set self.old.content.limits header n } }
+    {
+        self.limits[header as usize] = n;
+    }
+
+    /// Sets which connector holds a list lock, or that nobody does. The lock is there.
+    pub fn set_lock(&mut self, lock: u32, holder: Option<ConnId>)
+        requires { lock < length self.old.content.locks }
+        ensures { self.new.content
+            ≡ record self.old.content { locks = slice_set self.old.content.locks lock holder } }
+    {
+        self.locks[lock as usize] = holder;
+    }
+
+    /// A connector monitors a header at an index of its vector: its monitor at that index, and its
+    /// monitor of that header at another index, end. There is room. `out` is told the bits that
+    /// change.
+    pub fn monitor(&mut self, conn: ConnId, index: u32, header: u32, out: &mut Effects)
+        requires room { IsRoomy self.old out.old.bits.room }
+        ensures content { self.new.content ≡ record self.old.content {
+          monitors = monitors_with conn index header self.old.content.monitors;
+        } }
+        ensures bits { Gains (stands self.old.content) (stands self.new.content) out.old.bits.items
+            out.new.bits.items }
+        ensures mail { out.new.mail ≡ out.old.mail }
+    {
+        let full = has_records(&self.store, header);
+        self.watch.set(conn, index, header, full, out);
+    }
+
+    /// A connector monitors a header no more, if it did. `out`, which has room for a bit of each
+    /// monitor, is told the bit that changes.
+    pub fn unmonitor(&mut self, conn: ConnId, header: u32, out: &mut Effects)
+        requires { length self.old.content.monitors ≤ out.old.bits.room }
+        ensures content { self.new.content ≡ record self.old.content {
+          monitors = monitors_without conn header self.old.content.monitors;
+        } }
+        ensures bits { Gains (stands self.old.content) (stands self.new.content) out.old.bits.items
+            out.new.bits.items }
+        ensures mail { out.new.mail ≡ out.old.mail }
+    {
+        let _ = self.watch.clear(conn, header, out);
+    }
+
+    /// Puts a record behind the others of a header, where there is memory; else hands the record
+    /// back, and changes nothing. The header is there, and no record has its id.
+    pub fn push(&mut self, header: u32, rec: Rec) -> Result<(), Rec>
+        requires header { header < length self.old.content.lists }
+        requires alone { list_any (is_id rec.id) (all_records self.old.content.lists) ≡ false }
+        ensures ok { OnOk result (self.new.content ≡ record self.old.content {
+          lists = with_records self.old.content.lists header
+              (records_of self.old.content.lists header ++ rec ∷ []);
+        }) }
+        ensures err { OnErr result (self.new.content ≡ self.old.content) }
+        ensures handed_back { IfErr result (λ back. back ≡ rec) }
+    {
+        match self.store.push(header, rec) {
+            Ok(()) => {
+                let full = has_records(&self.store, header);
+                self.watch.settle(header, full);
+                Ok(())
+            }
+            Err(rec) => Err(rec),
+        }
+    }
+
+    /// Takes limits, list locks, monitors and a next id in place of those that are there. The
+    /// monitors are apart, fewer than 2^32, and their connectors were told of the records that are
+    /// there.
+    pub fn take_over(
+        &mut self,
+        next: u64,
+        limits: Vec<u32>,
+        locks: Vec<Option<ConnId>>,
+        rows: Vec<Watched>,
+    )
+        requires monitors { AreMonitors (monitors_of rows.items) }
+        requires few { vec_len rows < 4294967296 }
+        requires told { AreTold self.old.content.lists rows.items }
+        ensures { self.new.content ≡ record {
+          lists = self.old.content.lists;
+          limits = limits.items;
+          locks = locks.items;
+          monitors = monitors_of rows.items;
+          next = next;
+        } }
+    {
+        self.next = next;
+        self.limits = limits;
+        self.locks = locks;
+        self.watch.restore(rows);
+    }
+
+    // No limits but the entries, no list lock held, no monitors, and the first id.
+    fn reset(&mut self, entries: u32)
+        ensures { self.new.content ≡ record {
+          lists = self.old.content.lists;
+          limits = replicate (length self.old.content.limits) entries;
+          locks = replicate (length self.old.content.locks) None;
+          monitors = [];
+          next = 1;
+        } }
+    {
+        fill_limits(&mut self.limits, entries);
+        free_locks(&mut self.locks);
+        self.watch.forget();
+        self.next = 1;
+    }
+
+    // Takes the last record away, and tells whether there was one.
+    fn pop_record(&mut self) -> bool
+        ensures there { result ≡ not (count_of self.old.content.lists == 0) }
+        ensures content { self.new.content ≡ record self.old.content {
+          lists = first_records (count_of self.old.content.lists - 1) self.old.content.lists;
+        } }
+    {
+        match self.store.pop() {
+            Some(header) => {
+                let full = has_records(&self.store, header);
+                self.watch.settle(header, full);
+                true
+            }
+            None => false,
+        }
+    }
+
+    /// Takes the last record away, of the last header that has records. Where there are no records,
+    /// limits, list locks, monitors and the next id become those of a new structure of the shape.
+    pub fn pop(&mut self, shape: Shape)
+        requires limits { length self.old.content.limits ≡ headers_of shape.kind }
+        requires locks { length self.old.content.locks ≡ locks_of shape.kind }
+        ensures { self.new.content ≡ content_without_last shape self.old.content }
+    {
+        if !self.pop_record() {
+            self.reset(shape.caps.entries);
+        }
+    }
+
+    /// A connector departs: its monitors end, and its list locks are free, unless `keep` says that
+    /// they are kept for it. `out`, which has room for a bit of each monitor, is told the bits that
+    /// change.
+    pub fn leave(&mut self, conn: ConnId, keep: bool, out: &mut Effects)
+        requires { length self.old.content.monitors ≤ out.old.bits.room }
+        ensures content { self.new.content ≡ content_without self.old.content conn keep }
+        ensures bits { Gains (stands self.old.content) (stands self.new.content) out.old.bits.items
+            out.new.bits.items }
+        ensures mail { out.new.mail ≡ out.old.mail }
+    {
+        release_unless(&mut self.locks, keep, conn);
+        self.watch.drop_conn(conn, out);
+    }
+}
+
+ghost use Rattle.std.specs.Prelude.{◌-◌, ◌==◌, not};
+ghost use Rattle.std.specs.Vec.{vec_len};
+ghost use Rattle.list_store.specs.Lists.{count_of};
+ghost use Rattle.list_watch.specs.Monitors.{AreMonitors};
+ghost use Rattle.list_watch.specs.Rows.{monitors_of};
+ghost use Rattle.list_model.specs.Lists.{first_records};
+ghost use Rattle.list_model.specs.Items.{content_without_last};
+ghost use Rattle.list_kept.specs.Told.{AreTold};
+ghost use Rattle.list_kept.specs.Keeping.{IsRoomy, put_back};

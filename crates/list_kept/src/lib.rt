@@ -1,0 +1,9 @@
+//! The content of a list structure as it is kept: records, limits, list locks, monitors and the
+//! next id; which record a command names, and how many records and elements there are.
+#![tactic(auto)]
+
+mod keeping;
+mod reading;
+
+pub use keeping::{Kept, headers_of, locks_of};
+pub use reading::{count, elements_of, elements_of_others, id_at, named, record_at};
