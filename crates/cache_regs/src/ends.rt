@@ -68,7 +68,8 @@ pub(crate) fn count_ended(regs: &[Registration], ends: Ends) -> u32
 fn tell(regs: &[Registration], ends: Ends, out: &mut Effects)
     requires { length (filter (is_ended ends) regs.now) ≤ out.old.bits.room }
     ensures bits { out.new.bits.items ≡ out.old.bits.items ++ changes_of ends regs.now }
-    ensures room { out.new.bits.room + length (filter (is_ended ends) regs.now) ≡ out.old.bits.room }
+    ensures room { out.new.bits.room + length (filter (is_ended ends) regs.now)
+        ≡ out.old.bits.room }
     ensures mail { out.new.mail ≡ out.old.mail }
 {
     for reg in regs {

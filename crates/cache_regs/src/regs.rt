@@ -211,7 +211,8 @@ impl Regs {
     /// Ends the registrations for a name, but those of the connector that is spared; answers how
     /// many ended. The bit of each is cleared.
     pub fn drop_name(&mut self, name: &Name16, spare: Option<ConnId>, out: &mut Effects) -> u32
-        requires { length (filter (ends_with_name name.now spare) self.old.regs) ≤ out.old.bits.room }
+        requires { length (filter (ends_with_name name.now spare) self.old.regs)
+            ≤ out.old.bits.room }
         ensures count { result ≡ length (filter (ends_with_name name.now spare) self.old.regs) }
         ensures regs { self.new.regs ≡ regs_without_name name.now spare self.old.regs }
         ensures bits { Gains (stands self.old.regs) (stands self.new.regs) out.old.bits.items

@@ -181,7 +181,8 @@ fn rows_of(
 fn place_row(kept: &mut Kept, header: u32, rec: Rec) -> Result<(), ListItem>
     requires header { header < length kept.old.content.lists }
     requires alone { list_any (is_id rec.id) (all_records kept.old.content.lists) ≡ false }
-    ensures ok { OnOk result (kept.new.content ≡ content_with kept.old.content (row_of header rec)) }
+    ensures ok { OnOk result (kept.new.content
+        ≡ content_with kept.old.content (row_of header rec)) }
     ensures err { OnErr result (kept.new.content ≡ kept.old.content) }
     ensures handed_back { IfErr result (λ back. back ≡ row_of header rec) }
 {

@@ -179,7 +179,7 @@ fn put_again(store: &mut Store, id: EntryId, header: u32, head: bool, key: Optio
     requires there { list_any (is_id id) (all_records store.old.lists) ≡ true }
     ensures { store.new.lists
         ≡ put_back head header key (record_of id store.old.lists)
-            (lists_without id store.old.lists) }
+        (lists_without id store.old.lists) }
 {
     match store.take(id) {
         Some(rec) => {

@@ -119,7 +119,8 @@ pub(crate) fn take_at(lists: &mut Vec<Vec<Rec>>, header: usize, place: usize) ->
 pub(crate) fn pop_at(lists: &mut Vec<Vec<Rec>>, header: usize)
     requires { header < vec_len lists.old }
     ensures lists { lists_in lists.new.items ≡ slice_set (lists_in lists.old.items) header
-        (take (length (records_of (lists_in lists.old.items) header) - 1) (records_of (lists_in lists.old.items) header)) }
+        (take (length (records_of (lists_in lists.old.items) header) - 1)
+        (records_of (lists_in lists.old.items) header)) }
     ensures len { vec_len lists.new ≡ vec_len lists.old }
 {
     let _ = lists[header].pop();

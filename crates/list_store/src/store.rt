@@ -198,7 +198,8 @@ impl Store {
     pub fn pop(&mut self) -> Option<u32>
         ensures header { IfSome result (λ header. IsLastFull header self.old.lists) }
         ensures lists { IfSome result (λ header. self.new.lists ≡ with_records self.old.lists header
-            (take (length (records_of self.old.lists header) - 1) (records_of self.old.lists header))) }
+            (take (length (records_of self.old.lists header) - 1)
+            (records_of self.old.lists header))) }
         ensures none { IfNone result (all_records self.old.lists ≡ []) }
         ensures same { IfNone result (self.new.lists ≡ self.old.lists) }
     {

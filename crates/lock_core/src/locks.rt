@@ -364,7 +364,8 @@ impl Locks {
     // An owner more, as the last of its resource.
     fn place_owner(&mut self, held: &Held, rec: &Option<Adjunct>) -> Result<(), NoMemory>
         ensures ok { OnOk result (self.new.content ≡ record self.old.content {
-          interests = interests_with (record { held = held.now; rec = rec.now }) self.old.content.interests;
+          interests = interests_with (record { held = held.now; rec = rec.now })
+              self.old.content.interests;
         }) }
         ensures err { OnErr result (self.new.content ≡ self.old.content) }
         ensures few { OnOk result (length self.old.content.interests + length

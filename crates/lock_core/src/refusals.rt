@@ -127,7 +127,8 @@ pub(crate) fn records_refusal(
     w: &Waiter,
     at_once: bool,
 ) -> Option<Refusal>
-    ensures { result ≡ records_refusal caps (requests.content_asked at_once w.now locks.now.content) }
+    ensures { result
+        ≡ records_refusal caps (requests.content_asked at_once w.now locks.now.content) }
 {
     if locks.records_after(w, at_once) <= caps.elements as usize {
         None

@@ -47,8 +47,8 @@ fn declaration_by(
 // Why a line declares nothing; `excess` is whether the line, or what it declares, is too much.
 fn undeclared(alloc: Global, draft: &Draft, excess: bool, line: &[u8]) -> LineFault
     ensures { let declared = declared_in (script_of draft.now) in
-        IsFaultOf result (unread_why (is_some (declaration_at Form declared (words_of line.now))) excess
-        (is_some (declaration_at Limits declared (words_of line.now)))) }
+        IsFaultOf result (unread_why (is_some (declaration_at Form declared (words_of line.now)))
+        excess (is_some (declaration_at Limits declared (words_of line.now)))) }
 {
     match declaration_by(alloc, draft, Rigour::Form, line) {
         Err(Miss::NoMemory) => return LineFault::NoMemory,
@@ -75,7 +75,8 @@ pub(crate) fn judged_declaration(
 ) -> Result<Declaration, LineFault>
     ensures { let declared = declared_in (script_of draft.now) in
         Judged result excess (declaration_at Form declared (words_of line.now))
-        (declaration_at Limits declared (words_of line.now)) (declaration_at Names declared (words_of line.now)) }
+        (declaration_at Limits declared (words_of line.now))
+        (declaration_at Names declared (words_of line.now)) }
 {
     if excess {
         return Err(undeclared(alloc, draft, excess, line));

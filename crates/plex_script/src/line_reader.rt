@@ -85,7 +85,8 @@ fn declare(
 ) -> Result<(), LineFault>
     requires { (rest : List (List ℕ)) × (words_of line.now ≡ first.now ∷ rest) }
     ensures ok { OnOk result (IsTrue (not long)
-        × AddsDeclaration (script_of draft.old) first.now (words_of line.now) (script_of draft.new)) }
+        × AddsDeclaration (script_of draft.old) first.now (words_of line.now)
+        (script_of draft.new)) }
     ensures wrong { IfErr result (IsFaultBy (PolicyCause (script_of draft.old) long first.now
         (words_of line.now))) }
 {

@@ -9,8 +9,8 @@ use engine_api::Engine;
 use std::alloc::Global;
 use std::marker::Model;
 
-/// A new instance into which the content of an old one is copied (IXLREBLD), item by item. Contracts
-/// see the new instance's shape, its capacity, and the items so far.
+/// A new instance into which the content of an old one is copied (IXLREBLD), item by item.
+/// Contracts see the new instance's shape, its capacity, and the items so far.
 #[derive(Drop)]
 pub struct Copying<E: Engine> {
     fresh: E,

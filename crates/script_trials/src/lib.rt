@@ -1,5 +1,5 @@
-//! Trials of scripts and reports: texts are read, faults named, and scripts and reports printed, with
-//! memory enough.
+//! Trials of scripts and reports: texts are read, faults named, and scripts and reports printed,
+//! with memory enough.
 #![tactic(auto)]
 
 #[cfg(test)]

@@ -91,7 +91,8 @@ fn register(
     requires place { 1 ≤ regs.old.room }
     requires room { length regs.old.regs + 3 ≤ out.old.bits.room }
     requires spared { is_among gone.now name.now ≡ false }
-    ensures regs { regs.new.regs ≡ regs_spared gone.now (regs_with by index name.now regs.old.regs) }
+    ensures regs { regs.new.regs
+        ≡ regs_spared gone.now (regs_with by index name.now regs.old.regs) }
     ensures bits { Gains (stands regs.old.regs) (stands regs.new.regs) out.old.bits.items
         out.new.bits.items }
     ensures mail { out.new.mail ≡ out.old.mail }

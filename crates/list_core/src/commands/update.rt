@@ -30,7 +30,8 @@ pub(crate) fn refusal(
     cond: Option<Cond>,
 ) -> Option<Refusal>
     requires { elements_in (all_records kept.now.content.lists) < 2 ^ 32 }
-    ensures { result ≡ first_refusal (update.causes shape caps kept.now.content by at body.now cond) }
+    ensures { result
+        ≡ first_refusal (update.causes shape caps kept.now.content by at body.now cond) }
 {
     let lock_cause = cond_lock_refusal(locks_of(shape.kind), cond);
     let cond_cause = cond_refusal(kept, by, cond);
@@ -107,7 +108,8 @@ ghost use Rattle.list_core.specs.Found.{updated_with};
 pub(crate) fn act(kept: &mut Kept, at: At, body: Option<Body>, adj: Option<Adjunct>)
     requires { IsFound kept.old.content.lists at }
     ensures { kept.new.content ≡ record kept.old.content {
-      lists = lists_replaced (updated_with body adj (the_record kept.old.content.lists at)) kept.old.content.lists;
+      lists = lists_replaced (updated_with body adj (the_record kept.old.content.lists at))
+          kept.old.content.lists;
     } }
 {
     let rec = updated(kept, at, body, adj);

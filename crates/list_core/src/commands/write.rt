@@ -95,7 +95,8 @@ pub(crate) fn act(
     requires header { header < length kept.old.content.lists }
     requires alone { list_any (is_id (write.new_id kept.old.content))
         (all_records kept.old.content.lists) ≡ false }
-    ensures content { kept.new.content ≡ write.after kept.old.content header head name key body adj }
+    ensures content { kept.new.content
+        ≡ write.after kept.old.content header head name key body adj }
     ensures bits { Gains (stands kept.old.content) (stands kept.new.content) out.old.bits.items
         out.new.bits.items }
     ensures mail { out.new.mail ≡ out.old.mail }
