@@ -103,7 +103,14 @@ pub content-moved : (shape : Shape) (caps other : Caps) (content : Content) → 
     → IsContent other (content_forgotten content)
 content-moved shape caps other content kind is fits =
     let both = fits_both shape.kind (need_of content.rows) other kind fits in
-    record (laws.content-forgotten caps content is) { entries = both.0; elements = both.1 }
+    let forgotten = laws.content-forgotten caps content is in
+    record {
+      directory = forgotten.directory;
+      entries = both.0;
+      elements = both.1;
+      registry = forgotten.registry;
+      row_each = forgotten.row_each;
+    }
 
 -- ---- a front of the rows
 

@@ -4,7 +4,7 @@ ghost use Rattle.std.specs.List.{list_any};
 ghost use Rattle.cf_types.specs.Gains.{Gains};
 ghost use Rattle.list_store.specs.Lists.{all_records, records_of, is_id, record_of, lists_without, lists_replaced, with_records};
 ghost use Rattle.list_watch.specs.Monitors.{is_for, monitored_at, monitors_with, monitors_without};
-ghost use Rattle.list_model.specs.Contents.{nothing, headers_of, locks_of, holder_of, released, stands, has_records, content_without};
+ghost use Rattle.list_model.specs.Contents.{nothing, headers_of, locks_of, holder_of, holder_without, stands, has_records, content_without};
 ghost use Rattle.list_model.specs.Lists.{header_of, stands_before, with_record};
 
 use cf_types::{ConnId, Effects, EntryId, Key16, Kind, NoMemory};
@@ -61,7 +61,7 @@ pub fn locks_of(kind: Kind) -> u32
 
 // A connector lets go of a list lock.
 fn release(holder: &mut Option<ConnId>, conn: ConnId)
-    ensures { holder.new ≡ released conn holder.old }
+    ensures { holder.new ≡ holder_without conn holder.old }
 {
     if let Some(by) = *holder
         && by == conn
@@ -72,7 +72,7 @@ fn release(holder: &mut Option<ConnId>, conn: ConnId)
 
 // A connector lets go of all list locks.
 fn release_all(locks: &mut Vec<Option<ConnId>>, conn: ConnId)
-    ensures { locks.new.items ≡ map (released conn) locks.old.items }
+    ensures { locks.new.items ≡ map (holder_without conn) locks.old.items }
 {
     for holder in locks.iter_mut() {
         release(holder, conn);
@@ -206,7 +206,7 @@ fn put_again(store: &mut Store, id: EntryId, header: u32, head: bool, key: Optio
 
 // A connector that departs lets go of its list locks, unless they are kept for it.
 fn release_unless(locks: &mut Vec<Option<ConnId>>, keep: bool, conn: ConnId)
-    ensures { locks.new.items ≡ (if keep then locks.old.items else map (released conn)
+    ensures { locks.new.items ≡ (if keep then locks.old.items else map (holder_without conn)
         locks.old.items) }
 {
     if !keep {

@@ -34,7 +34,7 @@ use Rattle.list_watch.specs.declared.monitors.Monitor as watched
 use Rattle.list_watch.specs.Monitors.{is_of, is_for, monitors_with, AreMonitors}
 use Rattle.list_model.specs.Records.{has_name, elements_of, is_reference, is_known, names_apart, may_precede}
 use Rattle.list_model.specs.Lists.{record_at, the_record, no_record, stands_before, with_record}
-use Rattle.list_model.specs.Contents.{Content, IsContent, is_given, headers_of, locks_of, refs_of, is_within, content_without, released}
+use Rattle.list_model.specs.Contents.{Content, IsContent, is_given, headers_of, locks_of, refs_of, is_within, content_without, holder_without}
 use Rattle.list_model.specs.Refusals.{header_refusal, new_key_refusal, record_refusal, taken_refusal, name_refusal, entries_refusal, elements_refusal, index_refusal}
 use Rattle.list_model.specs.Commands.Write as write
 use Rattle.list_model.specs.Commands.Update as update
@@ -548,16 +548,16 @@ content-unmonitor shape caps content by header is =
     content_fewer shape caps content (λ m. not (is_for by header m)) content.locks is refl
 
 as_many : (conn : ConnId) (keep : Bool) (locks : List (Option ConnId))
-    → length (cond keep locks (map (released conn) locks)) ≡ length locks
+    → length (cond keep locks (map (holder_without conn) locks)) ≡ length locks
 as_many conn true locks = refl
-as_many conn false locks = length-map locks (released conn)
+as_many conn false locks = length-map locks (holder_without conn)
 
 pub content-leave : (shape : Shape) (caps : Caps) (content : Content) (conn : ConnId) (keep : Bool)
     → IsContent shape caps content
     → IsContent shape caps (content_without content conn keep)
 content-leave shape caps content conn keep is =
     content_fewer shape caps content (λ m. not (is_of conn m))
-    (cond keep content.locks (map (released conn) content.locks)) is
+    (cond keep content.locks (map (holder_without conn) content.locks)) is
     (as_many conn keep content.locks)
 
 -- ---- every command

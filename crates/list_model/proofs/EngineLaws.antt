@@ -306,9 +306,19 @@ pub content-moved : (shape : Shape) (caps other : Caps) (content : Content) → 
 content-moved shape caps other content kind is fits =
     let both = fits_both shape.kind (need_of (items_of shape content)) other kind fits in
     let same = need-items shape content in
-    record is {
+    record {
+      headers = is.headers;
+      limits = is.limits;
+      locks = is.locks;
+      one_for_id = is.one_for_id;
+      given_ids = is.given_ids;
+      one_for_name = is.one_for_name;
+      known = is.known;
+      ordered = is.ordered;
       entries = omega (arith, both.0, ap (λ (c : Caps). c.entries) same);
       elements = omega (arith, both.1, ap (λ (c : Caps). c.elements) same);
+      watch = is.watch;
+      within = is.within;
     }
 
 -- ---- a front of the records

@@ -95,8 +95,8 @@ abbrev pub stands : Content → ConnId → ℕ → Bool
 stands content conn index = watch.stands content.monitors (has_records content.lists) conn index
 
 -- a connector lets go of a list lock
-abbrev pub released : ConnId → Option ConnId → Option ConnId
-released conn holder = if is_held_by conn holder then None else holder
+abbrev pub holder_without : ConnId → Option ConnId → Option ConnId
+holder_without conn holder = if is_held_by conn holder then None else holder
 
 -- a connector departs: its monitors end, and its list locks are released unless they are kept for
 -- it
@@ -104,5 +104,5 @@ abbrev pub content_without : Content → ConnId → Bool → Content
 content_without content conn keep =
     record content {
       monitors = monitors_of_others conn content.monitors;
-      locks = if keep then content.locks else map (released conn) content.locks;
+      locks = if keep then content.locks else map (holder_without conn) content.locks;
     }

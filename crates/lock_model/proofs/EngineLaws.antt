@@ -256,4 +256,9 @@ pub content-moved : (shape : Shape) (caps other : Caps) (content : Content) → 
     → Fits shape.kind (need_of (items content)) other → IsContent other content
 content-moved shape caps other content is fits =
     let few = fits_records shape.kind (need_of (items content)) other fits in
-    record is { records = omega (arith, few, elements-items content) }
+    record {
+      owners = is.owners;
+      queue = is.queue;
+      due = is.due;
+      records = omega (arith, few, elements-items content);
+    }

@@ -18,8 +18,8 @@ module _ {C R I S : Type 0} (meaning : Meaning C R I S) where
   copy_in held = record { shape = held.shape; caps = held.caps; items = items_of meaning held }
 
   -- what an engine holds that has just these items
-  abbrev pub filled : Copy I → Held S
-  filled copy = record { shape = copy.shape; caps = copy.caps; state = made meaning copy.shape copy.items }
+  abbrev pub held_of : Copy I → Held S
+  held_of copy = record { shape = copy.shape; caps = copy.caps; state = made meaning copy.shape copy.items }
 
   -- an engine has just its items, and they are the first of some content's
   pub record IsFilled (IsContent : Shape → Caps → S → Type 0) (held : Held S) : Type 0 where

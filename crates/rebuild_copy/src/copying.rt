@@ -1,7 +1,7 @@
 //! A copy under way.
 ghost use Rattle.std.specs.Prelude.{◌≡◌, ◌+◌, ◌-◌, ◌<◌, ◌≤◌, [], IfOk, OnOk, OnErr, length, take};
 ghost use Rattle.engine_api.specs.Meaning.{opened, items_of};
-ghost use Rattle.rebuild_copy.specs.Copies.{filled, IsCopyOf, left_of, with_next, moved_by};
+ghost use Rattle.rebuild_copy.specs.Copies.{held_of, IsCopyOf, left_of, with_next, moved_by};
 
 use crate::moved::Moved;
 use cf_types::NoMemory;
@@ -93,7 +93,7 @@ impl<E: Engine> Copying<E> {
 
     /// The new instance as it stands.
     pub fn give_up(self) -> E
-        ensures held { E.held result ≡ filled E.meaning self }
+        ensures held { E.held result ≡ held_of E.meaning self }
         ensures items { items_of E.meaning (E.held result) ≡ self.items }
     {
         self.fresh

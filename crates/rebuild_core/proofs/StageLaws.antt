@@ -10,7 +10,7 @@ use Rattle.cf_types.specs.ConnSets.{is_member, without_member}
 use Rattle.cf_types.proofs.ConnSetLaws.{is_member-without_member_same, is_member-without_member_other, without_member-absent}
 use Rattle.rebuild_core.specs.declared.passed.Passed.TheVariants.{Ended}
 use Rattle.rebuild_core.specs.declared.rebuild.Rebuild.{Rebuild}
-use Rattle.rebuild_core.specs.Stages.{fresh_in, begun, all_owing, entering, excused, owing_after, parted, outcome, passed, entered, settled, IsUnderWay}
+use Rattle.rebuild_core.specs.Stages.{fresh_in, new_rebuild, with_all_owing, rebuild_in, without_owing, owing_after, rebuild_without, outcome, outcome_of, rebuild_past, next_rebuild, IsUnderWay}
 
 -- each of these is one of those
 abbrev pub AreAmong : (some all : List ConnId) → Type 0
@@ -25,14 +25,14 @@ fresh_in_again Stopping fresh = refl
 
 -- ---- a stage begins
 
-pub begun-under_way : (number : ℕ) (members : List ConnId) (caps : Caps) → members ≢ []
-    → IsUnderWay (begun number members caps)
-begun-under_way number members caps some =
+pub new_rebuild-under_way : (number : ℕ) (members : List ConnId) (caps : Caps) → members ≢ []
+    → IsUnderWay (new_rebuild number members caps)
+new_rebuild-under_way number members caps some =
     record { awaits = some; members = λ conn is. is; fresh = refl }
 
-pub entering-under_way : (stage : Stage) (rebuild : Rebuild) → rebuild.members ≢ []
-    → IsUnderWay (entering stage rebuild)
-entering-under_way stage rebuild some =
+pub rebuild_in-under_way : (stage : Stage) (rebuild : Rebuild) → rebuild.members ≢ []
+    → IsUnderWay (rebuild_in stage rebuild)
+rebuild_in-under_way stage rebuild some =
     record { awaits = some; members = λ conn is. is; fresh = fresh_in_again stage rebuild.fresh }
 
 -- a rebuild that is under way has members
@@ -45,8 +45,8 @@ under_way-members rebuild under_way none = under_way.awaits (nobody rebuild.owin
         let first : is_member conn (conn ∷ others) ≡ true = rw (eq-eqb conn.0 conn.0 refl) refl in
         absurd (true≢false (sym (among conn first) ∙ ap (is_member conn) none))
 
-pub all_owing-under_way : (rebuild : Rebuild) → IsUnderWay rebuild → IsUnderWay (all_owing rebuild)
-all_owing-under_way rebuild under_way =
+pub with_all_owing-under_way : (rebuild : Rebuild) → IsUnderWay rebuild → IsUnderWay (with_all_owing rebuild)
+with_all_owing-under_way rebuild under_way =
     record { awaits = under_way-members rebuild under_way; members = λ conn is. is; fresh = under_way.fresh }
 
 -- ---- a stage passes
@@ -54,22 +54,23 @@ all_owing-under_way rebuild under_way =
 some_of : (set others : List ConnId) (conn : ConnId) → set ≡ conn ∷ others → set ≢ []
 some_of set others conn is none = absurd (let wrong : conn ∷ others ≡ [] = sym is ∙ none in cc)
 
-pub settled-under_way : (rebuild : Rebuild) → AreAmong rebuild.owing rebuild.members
-    → rebuild.fresh ≡ fresh_in rebuild.stage rebuild.fresh → passed rebuild ≢ Ended → IsUnderWay (settled rebuild)
-settled-under_way rebuild among fresh =
+pub next_rebuild-under_way : (rebuild : Rebuild) → AreAmong rebuild.owing rebuild.members
+    → rebuild.fresh ≡ fresh_in rebuild.stage rebuild.fresh → outcome_of rebuild ≢ Ended
+    → IsUnderWay (next_rebuild rebuild)
+next_rebuild-under_way rebuild among fresh =
     by_outcome rebuild.stage rebuild.members rebuild.owing refl refl
   where
     by_outcome : (stage : Stage) (members owing : List ConnId) → rebuild.members ≡ members → rebuild.owing ≡ owing
-        → outcome stage members owing ≢ Ended → IsUnderWay (entered (outcome stage members owing) rebuild)
+        → outcome stage members owing ≢ Ended → IsUnderWay (rebuild_past (outcome stage members owing) rebuild)
     by_outcome stage [] owing all some goes = absurd (goes refl)
     by_outcome stage (member ∷ members) (conn ∷ owing) all some goes =
         record { awaits = some_of rebuild.owing owing conn some; members = among; fresh = fresh }
     by_outcome Quiesce (member ∷ members) [] all some goes =
-        entering-under_way Connect rebuild (some_of rebuild.members members member all)
+        rebuild_in-under_way Connect rebuild (some_of rebuild.members members member all)
     by_outcome Connect (member ∷ members) [] all some goes =
-        entering-under_way Copy rebuild (some_of rebuild.members members member all)
+        rebuild_in-under_way Copy rebuild (some_of rebuild.members members member all)
     by_outcome Copy (member ∷ members) [] all some goes =
-        entering-under_way Cleanup rebuild (some_of rebuild.members members member all)
+        rebuild_in-under_way Cleanup rebuild (some_of rebuild.members members member all)
     by_outcome Cleanup (member ∷ members) [] all some goes = absurd (goes refl)
     by_outcome Stopping (member ∷ members) [] all some goes = absurd (goes refl)
 
@@ -105,16 +106,16 @@ without_fewer conn some all among other is = by_number (either conn other)
         ∙ is_member-without_member_same conn some))
     by_number (inr apart) = among other (sym (is_member-without_member_other conn other some apart) ∙ is)
 
-pub excused-under_way : (conn : ConnId) (rebuild : Rebuild) → IsUnderWay rebuild
-    → passed (excused conn rebuild) ≢ Ended → IsUnderWay (settled (excused conn rebuild))
-excused-under_way conn rebuild under_way =
-    settled-under_way (excused conn rebuild)
+pub without_owing-under_way : (conn : ConnId) (rebuild : Rebuild) → IsUnderWay rebuild
+    → outcome_of (without_owing conn rebuild) ≢ Ended → IsUnderWay (next_rebuild (without_owing conn rebuild))
+without_owing-under_way conn rebuild under_way =
+    next_rebuild-under_way (without_owing conn rebuild)
     (without_fewer conn rebuild.owing rebuild.members under_way.members) under_way.fresh
 
-pub parted-under_way : (conn : ConnId) (rebuild : Rebuild) → IsUnderWay rebuild
-    → passed (parted conn rebuild) ≢ Ended → IsUnderWay (settled (parted conn rebuild))
-parted-under_way conn rebuild under_way =
-    settled-under_way (parted conn rebuild) (among rebuild.stage) under_way.fresh
+pub rebuild_without-under_way : (conn : ConnId) (rebuild : Rebuild) → IsUnderWay rebuild
+    → outcome_of (rebuild_without conn rebuild) ≢ Ended → IsUnderWay (next_rebuild (rebuild_without conn rebuild))
+rebuild_without-under_way conn rebuild under_way =
+    next_rebuild-under_way (rebuild_without conn rebuild) (among rebuild.stage) under_way.fresh
   where
     among : (stage : Stage)
         → AreAmong (owing_after stage conn (without_member conn rebuild.members) rebuild.owing)
@@ -126,11 +127,12 @@ parted-under_way conn rebuild under_way =
     among Stopping = without_among conn rebuild.owing rebuild.members under_way.members
 
 -- a connector that departed is no member
-pub parted-no_member : (conn : ConnId) (rebuild : Rebuild) → is_member conn (parted conn rebuild).members ≡ false
-parted-no_member conn rebuild = is_member-without_member_same conn rebuild.members
+pub rebuild_without-no_member : (conn : ConnId) (rebuild : Rebuild)
+    → is_member conn (rebuild_without conn rebuild).members ≡ false
+rebuild_without-no_member conn rebuild = is_member-without_member_same conn rebuild.members
 
 -- who owes nothing can't make a stage pass
-pub excused-nothing : (conn : ConnId) (rebuild : Rebuild) → is_member conn rebuild.owing ≡ false
-    → excused conn rebuild ≡ rebuild
-excused-nothing conn rebuild none =
+pub without_owing-nothing : (conn : ConnId) (rebuild : Rebuild) → is_member conn rebuild.owing ≡ false
+    → without_owing conn rebuild ≡ rebuild
+without_owing-nothing conn rebuild none =
     ap (λ (owing : List ConnId). record rebuild { owing = owing }) (without_member-absent conn rebuild.owing none)

@@ -41,25 +41,25 @@ fresh_in Stopping fresh = None
 -- ---- what is done to a rebuild
 
 -- it begins, and all members owe a response to QUIESCE
-abbrev pub begun : ℕ → List ConnId → Caps → Rebuild
-begun number members caps =
+abbrev pub new_rebuild : ℕ → List ConnId → Caps → Rebuild
+new_rebuild number members caps =
     record { number = number; stage = Quiesce; members = members; owing = members; caps = caps; fresh = None }
 
 abbrev pub awaited_event : Rebuild → Option Event
 awaited_event rebuild = event_of rebuild.number rebuild.stage
 
 -- every member owes what the stage waits for
-abbrev pub all_owing : Rebuild → Rebuild
-all_owing rebuild = record rebuild { owing = rebuild.members }
+abbrev pub with_all_owing : Rebuild → Rebuild
+with_all_owing rebuild = record rebuild { owing = rebuild.members }
 
 -- a stage begins, and every member owes what it waits for
-abbrev pub entering : Stage → Rebuild → Rebuild
-entering stage rebuild =
+abbrev pub rebuild_in : Stage → Rebuild → Rebuild
+rebuild_in stage rebuild =
     record rebuild { stage = stage; owing = rebuild.members; fresh = fresh_in stage rebuild.fresh }
 
 -- a connector owes nothing more
-abbrev pub excused : ConnId → Rebuild → Rebuild
-excused conn rebuild = record rebuild { owing = without_member conn rebuild.owing }
+abbrev pub without_owing : ConnId → Rebuild → Rebuild
+without_owing conn rebuild = record rebuild { owing = without_member conn rebuild.owing }
 
 -- who owes after a departure, with these members left: in COPY all of them, since the new instance is copied anew
 abbrev pub owing_after : Stage → ConnId → List ConnId → List ConnId → List ConnId
@@ -70,8 +70,8 @@ owing_after Cleanup conn members owing = without_member conn owing
 owing_after Stopping conn members owing = without_member conn owing
 
 -- a connector departed
-abbrev pub parted : ConnId → Rebuild → Rebuild
-parted conn rebuild =
+abbrev pub rebuild_without : ConnId → Rebuild → Rebuild
+rebuild_without conn rebuild =
     let members = without_member conn rebuild.members in
     record rebuild { members = members; owing = owing_after rebuild.stage conn members rebuild.owing }
 
@@ -83,17 +83,17 @@ outcome stage [] owing = Ended
 outcome stage (member ∷ members) (conn ∷ owing) = No
 outcome stage (member ∷ members) [] = behind stage
 
-abbrev pub passed : Rebuild → Passed
-passed rebuild = outcome rebuild.stage rebuild.members rebuild.owing
+abbrev pub outcome_of : Rebuild → Passed
+outcome_of rebuild = outcome rebuild.stage rebuild.members rebuild.owing
 
 -- the next stage begins where one passed
-abbrev pub entered : Passed → Rebuild → Rebuild
-entered No rebuild = rebuild
-entered (Into stage) rebuild = entering stage rebuild
-entered Ended rebuild = rebuild
+abbrev pub rebuild_past : Passed → Rebuild → Rebuild
+rebuild_past No rebuild = rebuild
+rebuild_past (Into stage) rebuild = rebuild_in stage rebuild
+rebuild_past Ended rebuild = rebuild
 
-abbrev pub settled : Rebuild → Rebuild
-settled rebuild = entered (passed rebuild) rebuild
+abbrev pub next_rebuild : Rebuild → Rebuild
+next_rebuild rebuild = rebuild_past (outcome_of rebuild) rebuild
 
 -- ---- what is true of a rebuild between two calls
 

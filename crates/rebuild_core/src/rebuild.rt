@@ -3,7 +3,7 @@ ghost use Rattle.std.specs.Prelude.{◌≡◌, ◌≢◌, Some};
 ghost use Rattle.cf_types.specs.Forms.{IsCaller};
 ghost use Rattle.cf_types.specs.declared.events.Stage.TheVariants as stages;
 ghost use Rattle.rebuild_core.specs.declared.passed.Passed.TheVariants as outcomes;
-ghost use Rattle.rebuild_core.specs.Stages.{awaited_event, begun, entering, excused, parted, all_owing, passed, settled};
+ghost use Rattle.rebuild_core.specs.Stages.{awaited_event, new_rebuild, rebuild_in, without_owing, rebuild_without, with_all_owing, outcome_of, next_rebuild};
 
 use crate::passed::Passed;
 use cf_types::{Caps, CfId, ConnId, ConnSet, Event, Stage};
@@ -27,7 +27,7 @@ pub struct Rebuild {
 impl Rebuild {
     /// A rebuild begins (IXLREBLD START): the members owe a response to QUIESCE.
     pub fn start(number: u32, members: ConnSet, caps: Caps) -> Rebuild
-        ensures { result ≡ begun number members caps }
+        ensures { result ≡ new_rebuild number members caps }
     {
         Rebuild {
             number,
@@ -44,9 +44,9 @@ impl Rebuild {
     pub fn answer(&mut self, conn: ConnId, event: &Event) -> Passed
         requires { IsCaller conn }
         ensures passed { awaited_event self.old ≡ Some event.now
-            → result ≡ passed (excused conn self.old) }
+            → result ≡ outcome_of (without_owing conn self.old) }
         ensures state { awaited_event self.old ≡ Some event.now
-            → self.new ≡ settled (excused conn self.old) }
+            → self.new ≡ next_rebuild (without_owing conn self.old) }
         ensures late { awaited_event self.old ≢ Some event.now
             → (result ≡ outcomes.No) × (self.new ≡ self.old) }
     {
@@ -60,9 +60,10 @@ impl Rebuild {
     /// nothing changes.
     pub fn connected(&mut self, conn: ConnId) -> Passed
         requires { IsCaller conn }
-        ensures passed { self.old.stage ≡ stages.Connect → result ≡ passed (excused conn self.old) }
+        ensures passed { self.old.stage ≡ stages.Connect
+            → result ≡ outcome_of (without_owing conn self.old) }
         ensures state { self.old.stage ≡ stages.Connect
-            → self.new ≡ settled (excused conn self.old) }
+            → self.new ≡ next_rebuild (without_owing conn self.old) }
         ensures elsewhere { self.old.stage ≢ stages.Connect
             → (result ≡ outcomes.No) × (self.new ≡ self.old) }
     {
@@ -76,9 +77,10 @@ impl Rebuild {
     /// changes.
     pub fn completed(&mut self, conn: ConnId) -> Passed
         requires { IsCaller conn }
-        ensures passed { self.old.stage ≡ stages.Copy → result ≡ passed (excused conn self.old) }
+        ensures passed { self.old.stage ≡ stages.Copy
+            → result ≡ outcome_of (without_owing conn self.old) }
         ensures state { self.old.stage ≡ stages.Copy
-            → self.new ≡ settled (excused conn self.old) }
+            → self.new ≡ next_rebuild (without_owing conn self.old) }
         ensures elsewhere { self.old.stage ≢ stages.Copy
             → (result ≡ outcomes.No) × (self.new ≡ self.old) }
     {
@@ -93,8 +95,8 @@ impl Rebuild {
     /// ends.
     pub fn depart(&mut self, conn: ConnId) -> Passed
         requires { IsCaller conn }
-        ensures passed { result ≡ passed (parted conn self.old) }
-        ensures state { self.new ≡ settled (parted conn self.old) }
+        ensures passed { result ≡ outcome_of (rebuild_without conn self.old) }
+        ensures state { self.new ≡ next_rebuild (rebuild_without conn self.old) }
     {
         self.members = self.members.without(conn);
         self.owing = match self.stage {
@@ -107,7 +109,7 @@ impl Rebuild {
     /// Every member owes what the stage waits for again, as after an IXLFORCE of a connection in
     /// stage COPY.
     pub fn owe_again(&mut self)
-        ensures { self.new ≡ all_owing self.old }
+        ensures { self.new ≡ with_all_owing self.old }
     {
         self.owing = self.members;
     }
@@ -115,7 +117,7 @@ impl Rebuild {
     /// The rebuild is stopped (IXLREBLD STOP): its new instance is given up, and the members owe a
     /// response to STOP.
     pub fn stop(&mut self)
-        ensures { self.new ≡ entering stages.Stopping self.old }
+        ensures { self.new ≡ rebuild_in stages.Stopping self.old }
     {
         self.enter(Stage::Stopping);
     }
@@ -136,8 +138,8 @@ impl Rebuild {
     // A connector owes nothing more.
     fn excuse(&mut self, conn: ConnId) -> Passed
         requires { IsCaller conn }
-        ensures passed { result ≡ passed (excused conn self.old) }
-        ensures state { self.new ≡ settled (excused conn self.old) }
+        ensures passed { result ≡ outcome_of (without_owing conn self.old) }
+        ensures state { self.new ≡ next_rebuild (without_owing conn self.old) }
     {
         self.owing = self.owing.without(conn);
         self.settle()
@@ -145,8 +147,8 @@ impl Rebuild {
 
     // The stage passes where nobody owes anything, and the rebuild ends where no member is left.
     fn settle(&mut self) -> Passed
-        ensures passed { result ≡ passed self.old }
-        ensures state { self.new ≡ settled self.old }
+        ensures passed { result ≡ outcome_of self.old }
+        ensures state { self.new ≡ next_rebuild self.old }
     {
         let now = self.passed();
         if let Passed::Into(stage) = now {
@@ -157,7 +159,7 @@ impl Rebuild {
 
     // Whether the stage has passed.
     fn passed(&self) -> Passed
-        ensures { result ≡ passed self.now }
+        ensures { result ≡ outcome_of self.now }
     {
         if self.members.len() == 0 {
             return Passed::Ended;
@@ -175,7 +177,7 @@ impl Rebuild {
 
     // A stage begins, in which each member owes.
     fn enter(&mut self, stage: Stage)
-        ensures { self.new ≡ entering stage self.old }
+        ensures { self.new ≡ rebuild_in stage self.old }
     {
         self.stage = stage;
         self.owing = self.members;

@@ -6,7 +6,7 @@ use Rattle.list_watch.specs.declared.monitors.Watched.{Watched}
 use Rattle.list_watch.specs.Monitors.{is_of}
 use Rattle.list_watch.specs.Rows.{monitors_of}
 use Rattle.list_watch.proofs.MonitorLaws.{monitors_of-others}
-use Rattle.list_model.specs.Contents.{released}
+use Rattle.list_model.specs.Contents.{holder_without}
 use Rattle.list_kept.specs.Told.{is_told}
 use Rattle.list_kept.proofs.ToldLaws.{told-filter, gains-told, content_at}
 use Rattle.list_kept.proofs.keeping.Kept.leave.Goals as goal
@@ -24,7 +24,7 @@ invariant_of-self c = still_told c
 pub returns-clause-content : goal.returns-clause-content
 returns-clause-content c =
     let k = c.self.inside in
-    let locks = if c.args.keep then k.locks.items else map (released c.args.conn) k.locks.items in
+    let locks = if c.args.keep then k.locks.items else map (holder_without c.args.conn) k.locks.items in
     rw (← c.self.view_is)
     (ap (λ (l : List (Option ConnId)). content_at k.store.lists k.limits.items l
     (monitors_of c.drop_conn.new.self.rows) k.next) c.release_unless.ensures
