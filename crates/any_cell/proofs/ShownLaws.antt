@@ -11,7 +11,7 @@ use Rattle.engine_api.specs.declared.asks.Ask.{Ask}
 use Rattle.engine_api.specs.declared.histories.Entry.{Entry}
 use Rattle.engine_api.specs.Meaning.{Meaning}
 use Rattle.engine_api.specs.History.{Call, calls, own}
-use Rattle.lock_core.proofs.MapLaws.{map-filtered}
+use Rattle.lock_interests.proofs.MapLaws.{map-filtered}
 use Rattle.plex_script.specs.declared.scripts.AnyAsk.{AnyAsk}
 use Rattle.plex_script.specs.Heard.{AnyCall, any_call, own_calls}
 use Rattle.vec_words.specs.declared.logged.Sight.{Sight}
