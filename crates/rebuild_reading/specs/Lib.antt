@@ -1,2 +1,3 @@
-pub mod Entries
+pub mod Tellings
 pub mod Readings
+pub mod Steps

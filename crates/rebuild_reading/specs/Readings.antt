@@ -1,6 +1,6 @@
 -- The rebuild that a history tells of, read from its entries.
-use Rattle.std.specs.Prelude.{ℕ, ◌+◌, Bool, true, false, not, ◌&&◌, if◌then◌else◌, List, [], ◌∷◌, ◌++◌, length, drop, filter, find, take_while, Option, None, Some, option_map}
-use Rattle.std.specs.List.{list_any, list_all, filter_map}
+use Rattle.std.specs.Prelude.{ℕ, Bool, true, false, not, ◌&&◌, ◌==◌, if◌then◌else◌, List, [], ◌∷◌, ◌++◌, length, drop, filter, Option, None, Some, option_map}
+use Rattle.std.specs.List.{list_any, list_all}
 use Rattle.cf_types.specs.declared.events.Stage.{Stage}
 use Rattle.cf_types.specs.declared.events.Stage.TheVariants.{Quiesce, Connect, Copy, Cleanup, Stopping}
 use Rattle.cf_types.specs.declared.forms.Caps.{Caps}
@@ -10,91 +10,112 @@ use Rattle.engine_api.specs.declared.histories.Entry.{Entry}
 use Rattle.list_laws.specs.Prefixes.{shortest_prefix}
 use Rattle.rebuild_core.specs.declared.rebuild.Rebuild.{Rebuild}
 use Rattle.rebuild_core.specs.Stages.{fresh_in}
-use Rattle.rebuild_reading.specs.Entries.{start_told, place_told, said, departs, stops, empties, gives, since_last}
+use Rattle.rebuild_reading.specs.Tellings.{Telling, Told, told, told_by, is_stop, is_departure, is_emptying, is_awaited}
+use Rattle.rebuild_reading.specs.Tellings.Telling.{Starts, Places}
 
--- the last accepted REBUILD START: its number and capacity, and what stands before and behind it
-pub record Start (C R : Type 0) : Type 0 where
-  pub number : ℕ
-  pub caps : Caps
-  pub before : List (Entry C R)
-  pub since : List (Entry C R)
-
--- a stage, and its entries so far
-pub record During (C R : Type 0) : Type 0 where
-  pub stage : Stage
-  pub entries : List (Entry C R)
+-- the elements behind the last one at which p holds; all of them where it holds of none
+abbrev pub since_last : {X : Type 0} → (X → Bool) → List X → List X
+since_last p [] = []
+since_last p (x ∷ xs) = if list_any p xs then since_last p xs else if p x then xs else x ∷ xs
 
 abbrev pub is_empty : {X : Type 0} → List X → Bool
 is_empty [] = true
 is_empty (x ∷ xs) = false
 
+-- ---- the last start
+
+-- the last accepted REBUILD START: its number and capacity, the entries before it, and what those behind it tell
+pub record Start (C R : Type 0) : Type 0 where
+  pub number : ℕ
+  pub caps : Caps
+  pub before : List (Entry C R)
+  pub since : List Told
+
 module _ {C R : Type 0} where
-  -- ---- the last start
+  abbrev pub start_at : List (Entry C R) → Telling → Option (Start C R)
+  start_at entries (Starts number caps) =
+      Some (record { number = number; caps = caps; before = []; since = told_by entries })
+  start_at entries _ = None
 
-  abbrev pub start_at : List (Entry C R) → Option (ℕ × Caps) → Option (Start C R)
-  start_at since None = None
-  start_at since (Some told) = Some (record { number = told.0; caps = told.1; before = []; since = since })
-
-  abbrev pub behind_entry : Entry C R → Start C R → Start C R
-  behind_entry entry start = record start { before = entry ∷ start.before }
-
-  abbrev pub or_later : Entry C R → List (Entry C R) → Option (Start C R) → Option (Start C R)
-  or_later entry entries None = start_at entries (said None start_told entry)
-  or_later entry entries (Some start) = Some (behind_entry entry start)
+  -- one that stands among the entries behind an entry is later than this one
+  abbrev pub start_or : Entry C R → List (Entry C R) → Option (Start C R) → Option (Start C R)
+  start_or entry entries None = start_at entries (told entry).telling
+  start_or entry entries (Some start) = Some (record start { before = entry ∷ start.before })
 
   abbrev pub last_start : List (Entry C R) → Option (Start C R)
   last_start [] = None
-  last_start (entry ∷ entries) = or_later entry entries (last_start entries)
+  last_start (entry ∷ entries) = start_or entry entries (last_start entries)
 
-  -- ---- members, and what they gave
+-- ---- members, and what they gave
 
-  -- who was active at the start and hasn't departed since
-  abbrev pub members_left : List ConnId → List (Entry C R) → List ConnId
-  members_left begun since = filter (λ conn. not (list_any (departs conn) since)) begun
+abbrev pub departs : ConnId → Told → Bool
+departs conn entry = (conn.0 == entry.by.0) && is_departure entry.telling
 
-  -- the entries of a stage that count: in COPY those behind the last departure or forcing of a connection
-  abbrev pub counted : Stage → List (Entry C R) → List (Entry C R)
-  counted Quiesce entries = entries
-  counted Connect entries = entries
-  counted Copy entries = since_last empties entries
-  counted Cleanup entries = entries
-  counted Stopping entries = entries
+abbrev pub gives : Stage → ℕ → ConnId → Told → Bool
+gives stage number conn entry = (conn.0 == entry.by.0) && is_awaited stage number entry.telling
 
-  abbrev pub has_given : Stage → ℕ → List (Entry C R) → ConnId → Bool
-  has_given stage number entries conn = list_any (gives stage number conn) (counted stage entries)
+abbrev pub has_stop : List Told → Bool
+has_stop entries = list_any (λ entry. is_stop entry.telling) entries
 
-  -- ---- stages
+-- who was active at the start and hasn't departed since
+abbrev pub members_left : List ConnId → List Told → List ConnId
+members_left begun since = filter (λ conn. not (list_any (departs conn) since)) begun
 
-  module _ (begun : List ConnId) (number : ℕ) where
-    -- a stage that began behind these entries of the rebuild has passed with those of its own: a member is left, and
-    -- each has given what the stage waits for
-    abbrev pub is_passed : Stage → (past entries : List (Entry C R)) → Bool
-    is_passed stage past entries =
-        not (is_empty (members_left begun (past ++ entries)))
-        && list_all (has_given stage number entries) (members_left begun (past ++ entries))
+-- the entries of a stage that count: in COPY those behind the last departure or forcing of a connection
+abbrev pub counted : Stage → List Told → List Told
+counted Quiesce entries = entries
+counted Connect entries = entries
+counted Copy entries = since_last (λ entry. is_emptying entry.telling) entries
+counted Cleanup entries = entries
+counted Stopping entries = entries
 
-    -- each stage has the entries up to the first with which it is passed. None where all have passed
-    abbrev pub stage_from : List Stage → (past rest : List (Entry C R)) → Option (During C R)
-    stage_from [] past rest = None
-    stage_from (stage ∷ stages) past rest =
-        let entries = shortest_prefix (is_passed stage past) rest in
-        if is_passed stage past entries then stage_from stages (past ++ entries) (drop (length entries) rest)
-        else Some (record { stage = stage; entries = entries })
+abbrev pub has_given : Stage → ℕ → List Told → ConnId → Bool
+has_given stage number entries conn = list_any (gives stage number conn) (counted stage entries)
 
-    -- a stop makes the stage STOPPING
-    abbrev pub stage_of : List (Entry C R) → Option (During C R)
-    stage_of since =
-        let stopped = take_while (λ entry. not (stops entry)) since in
-        if list_any stops since then stage_from (Stopping ∷ []) stopped (drop (length stopped) since)
-        else stage_from (Quiesce ∷ Connect ∷ Copy ∷ Cleanup ∷ []) [] since
+-- ---- stages
 
-  -- ---- the rebuild
+-- a stage, and its entries so far
+pub record During : Type 0 where
+  pub stage : Stage
+  pub entries : List Told
 
-  -- the facility of the new instance: where the first REBUILD CONNECT put it
-  abbrev pub first_place : List (Entry C R) → Option CfId
-  first_place since = find (λ cf. true) (filter_map (λ entry. said None place_told entry) since)
+module _ (begun : List ConnId) (number : ℕ) where
+  -- a stage with these entries of all since the start has passed: a member is left, and each has given what the stage
+  -- waits for
+  abbrev pub is_passed : Stage → (since entries : List Told) → Bool
+  is_passed stage since entries =
+      let left = members_left begun since in
+      not (is_empty left) && list_all (has_given stage number entries) left
 
-  abbrev pub rebuild_during : List ConnId → Start C R → During C R → Rebuild
+  -- each stage has the entries up to the first with which it has passed; none goes on where all have
+  abbrev pub stage_from : List Stage → (past rest : List Told) → Option During
+  stage_from [] past rest = None
+  stage_from (stage ∷ stages) past rest =
+      let entries = shortest_prefix (λ entries. is_passed stage (past ++ entries) entries) rest in
+      if is_passed stage (past ++ entries) entries
+      then stage_from stages (past ++ entries) (drop (length entries) rest)
+      else Some (record { stage = stage; entries = entries })
+
+  -- behind a stop the stage is STOPPING
+  abbrev pub stage_of : List Told → Option During
+  stage_of since =
+      let until_stop = shortest_prefix has_stop since in
+      if has_stop until_stop then stage_from (Stopping ∷ []) until_stop (drop (length until_stop) since)
+      else stage_from (Quiesce ∷ Connect ∷ Copy ∷ Cleanup ∷ []) [] since
+
+-- ---- the rebuild
+
+-- the facility of the new instance: where the first REBUILD CONNECT put it
+abbrev pub place_or : Telling → Option CfId → Option CfId
+place_or (Places cf) place = Some cf
+place_or _ place = place
+
+abbrev pub first_place : List Told → Option CfId
+first_place [] = None
+first_place (entry ∷ entries) = place_or entry.telling (first_place entries)
+
+module _ {C R : Type 0} where
+  abbrev pub rebuild_during : List ConnId → Start C R → During → Rebuild
   rebuild_during begun start during =
       let left = members_left begun start.since in
       record {

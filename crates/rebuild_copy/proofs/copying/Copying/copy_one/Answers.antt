@@ -15,7 +15,8 @@ place-requires-clause-next g c =
       unplace_place = from.unplace_place;
       need_first = from.need_first;
     } in
-    place-next g.E.Engine.meaning g.E.Engine.is_kind g.E.Engine.is_content laws (g.E.Engine.held c.self.inside.fresh) (g.E.Engine.held c.args.old.now)
+    place-next g.E.Engine.meaning g.E.Engine.is_kind g.E.Engine.is_content laws
+    (g.E.Engine.held c.self.inside.fresh) (g.E.Engine.held c.args.old.now)
     c.self.invariant c.args.self.now c.self.view_is c.requires.copy c.in_ok-item.item (search rules)
 
 pub place-requires-clause-fits : goal.place-requires-clause-fits
@@ -30,7 +31,8 @@ place-requires-clause-fits g c =
       unplace_place = from.unplace_place;
       need_first = from.need_first;
     } in
-    place-fits g.E.Engine.meaning g.E.Engine.is_kind g.E.Engine.is_content laws (g.E.Engine.held c.self.inside.fresh) (g.E.Engine.held c.args.old.now)
+    place-fits g.E.Engine.meaning g.E.Engine.is_kind g.E.Engine.is_content laws
+    (g.E.Engine.held c.self.inside.fresh) (g.E.Engine.held c.args.old.now)
     c.self.invariant c.args.self.now c.self.view_is c.requires.copy c.in_ok-item.item (search rules)
 
 pub invariant_of-self : goal.invariant_of-self
@@ -45,7 +47,8 @@ invariant_of-self g c =
       unplace_place = from.unplace_place;
       need_first = from.need_first;
     } in
-    after-place g.E.Engine.meaning g.E.Engine.is_kind g.E.Engine.is_content laws (g.E.Engine.held c.self.inside.fresh) (g.E.Engine.held c.args.old.now)
+    after-place g.E.Engine.meaning g.E.Engine.is_kind g.E.Engine.is_content laws
+    (g.E.Engine.held c.self.inside.fresh) (g.E.Engine.held c.args.old.now)
     c.self.invariant c.args.self.now c.self.view_is c.requires.copy c.in_ok-item.item (search rules)
     c.place.result (g.E.Engine.held c.place.new.self) c.place.ensures.ok c.place.ensures.err
 
@@ -61,7 +64,8 @@ returns-clause-ok g c =
       unplace_place = from.unplace_place;
       need_first = from.need_first;
     } in
-    let one = copied-one g.E.Engine.meaning g.E.Engine.is_kind g.E.Engine.is_content laws (g.E.Engine.held c.self.inside.fresh) (g.E.Engine.held c.args.old.now)
+    let one = copied-one g.E.Engine.meaning g.E.Engine.is_kind g.E.Engine.is_content laws
+    (g.E.Engine.held c.self.inside.fresh) (g.E.Engine.held c.args.old.now)
     c.self.invariant c.args.self.now c.self.view_is c.requires.copy c.in_ok-item.item (search rules)
     (g.E.Engine.held c.place.new.self) in
     elim c.match-place.branch [ in-Ok w ↦ search rules | in-Err w ↦ search rules ]

@@ -15,7 +15,8 @@ invariant_of-self g c =
       need_first = from.need_first;
     } in
     rw c.unplace.ensures
-    (dropped-filled g.E.Engine.meaning g.E.Engine.is_kind g.E.Engine.is_content laws (g.E.Engine.held c.self.inside.fresh) c.self.invariant
+    (dropped-filled g.E.Engine.meaning g.E.Engine.is_kind g.E.Engine.is_content laws
+    (g.E.Engine.held c.self.inside.fresh) c.self.invariant
     (search rules))
 
 pub returns : goal.returns
@@ -30,5 +31,6 @@ returns g c =
       unplace_place = from.unplace_place;
       need_first = from.need_first;
     } in
-    dropped-one g.E.Engine.meaning g.E.Engine.is_kind g.E.Engine.is_content laws (g.E.Engine.held c.self.inside.fresh) c.self.invariant
+    dropped-one g.E.Engine.meaning g.E.Engine.is_kind g.E.Engine.is_content laws
+    (g.E.Engine.held c.self.inside.fresh) c.self.invariant
     (search rules) (g.E.Engine.held c.unplace.new.self) c.args.self.now c.self.view_is c.unplace.ensures

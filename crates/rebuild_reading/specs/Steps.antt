@@ -1,0 +1,103 @@
+-- What an entry does to a rebuild, as counters keep it.
+use Rattle.std.specs.Prelude.{◌≡◌, Bool, true, false, if◌then◌else◌, List, [], ◌∷◌, ◌++◌, Option, None, Some, unwrap_or, ◌⊎◌}
+use Rattle.cf_types.specs.declared.events.Stage.{Stage}
+use Rattle.cf_types.specs.declared.events.Stage.TheVariants.{Quiesce, Connect, Copy, Cleanup, Stopping}
+use Rattle.cf_types.specs.declared.numbers.CfId.{CfId}
+use Rattle.cf_types.specs.declared.numbers.ConnId.{ConnId}
+use Rattle.engine_api.specs.declared.histories.Entry.{Entry}
+use Rattle.rebuild_core.specs.declared.passed.Passed.{Passed}
+use Rattle.rebuild_core.specs.declared.passed.Passed.TheVariants.{No, Into, Ended}
+use Rattle.rebuild_core.specs.declared.rebuild.Rebuild.{Rebuild}
+use Rattle.rebuild_core.specs.Stages.{new_rebuild, with_all_owing, rebuild_in, without_owing, rebuild_without, outcome_of}
+use Rattle.rebuild_reading.specs.Tellings.{Telling, told, is_awaited}
+use Rattle.rebuild_reading.specs.Tellings.Telling.{Starts, Places, Completes, Responds, Stops, Departs, Forces, Nothing}
+
+-- a stage that has passed makes way for the next one, and the last one for none
+abbrev pub rebuild_left : Passed → Rebuild → Option Rebuild
+rebuild_left No rebuild = Some rebuild
+rebuild_left (Into stage) rebuild = Some (rebuild_in stage rebuild)
+rebuild_left Ended rebuild = None
+
+abbrev pub rebuild_onward : Rebuild → Option Rebuild
+rebuild_onward rebuild = rebuild_left (outcome_of rebuild) rebuild
+
+-- a connector gave what the stage waits for, if it does
+abbrev pub rebuild_given : Bool → ConnId → Rebuild → Option Rebuild
+rebuild_given true by rebuild = rebuild_onward (without_owing by rebuild)
+rebuild_given false by rebuild = Some rebuild
+
+-- the new instance stands where it was put first
+abbrev pub with_place : CfId → Rebuild → Rebuild
+with_place cf rebuild = record rebuild { fresh = Some (unwrap_or rebuild.fresh cf) }
+
+-- in COPY all owe again
+abbrev pub rebuild_emptied : Stage → Rebuild → Rebuild
+rebuild_emptied Quiesce rebuild = rebuild
+rebuild_emptied Connect rebuild = rebuild
+rebuild_emptied Copy rebuild = with_all_owing rebuild
+rebuild_emptied Cleanup rebuild = rebuild
+rebuild_emptied Stopping rebuild = rebuild
+
+-- what is told of a rebuild under way
+abbrev pub rebuild_by : ConnId → Telling → Rebuild → Option Rebuild
+rebuild_by by (Starts number caps) rebuild = Some rebuild
+rebuild_by by (Places cf) rebuild =
+    rebuild_given (is_awaited rebuild.stage rebuild.number (Places cf)) by (with_place cf rebuild)
+rebuild_by by Completes rebuild = rebuild_given (is_awaited rebuild.stage rebuild.number Completes) by rebuild
+rebuild_by by (Responds event) rebuild =
+    rebuild_given (is_awaited rebuild.stage rebuild.number (Responds event)) by rebuild
+rebuild_by by Stops rebuild = Some (rebuild_in Stopping rebuild)
+rebuild_by by Departs rebuild = rebuild_onward (rebuild_without by rebuild)
+rebuild_by by Forces rebuild = Some (rebuild_emptied rebuild.stage rebuild)
+rebuild_by by Nothing rebuild = Some rebuild
+
+abbrev pub rebuild_if : ConnId → Telling → Option Rebuild → Option Rebuild
+rebuild_if by telling None = None
+rebuild_if by telling (Some rebuild) = rebuild_by by telling rebuild
+
+-- a start begins one, whose members are those active then
+abbrev pub rebuild_next : List ConnId → ConnId → Telling → Option Rebuild → Option Rebuild
+rebuild_next actives by (Starts number caps) rebuild = Some (new_rebuild number actives caps)
+rebuild_next actives by (Places cf) rebuild = rebuild_if by (Places cf) rebuild
+rebuild_next actives by Completes rebuild = rebuild_if by Completes rebuild
+rebuild_next actives by (Responds event) rebuild = rebuild_if by (Responds event) rebuild
+rebuild_next actives by Stops rebuild = rebuild_if by Stops rebuild
+rebuild_next actives by Departs rebuild = rebuild_if by Departs rebuild
+rebuild_next actives by Forces rebuild = rebuild_if by Forces rebuild
+rebuild_next actives by Nothing rebuild = rebuild_if by Nothing rebuild
+
+-- what may be told next: a start with somebody active, a place in CONNECT, a stop up to COPY
+abbrev pub IsEarly : Stage → Type 0
+IsEarly stage = (stage ≡ Quiesce) ⊎ ((stage ≡ Connect) ⊎ (stage ≡ Copy))
+
+abbrev pub IsInStage : (Stage → Type 0) → Option Rebuild → Type 0
+IsInStage holds None = ⊥
+IsInStage holds (Some rebuild) = holds rebuild.stage
+
+abbrev pub MayBeTold : List ConnId → Telling → Option Rebuild → Type 0
+MayBeTold actives (Starts number caps) rebuild = (conn : ConnId) × ((others : List ConnId) × (actives ≡ conn ∷ others))
+MayBeTold actives (Places cf) rebuild = IsInStage (λ stage. stage ≡ Connect) rebuild
+MayBeTold actives Completes rebuild = Unit {0}
+MayBeTold actives (Responds event) rebuild = Unit {0}
+MayBeTold actives Stops rebuild = IsInStage IsEarly rebuild
+MayBeTold actives Departs rebuild = Unit {0}
+MayBeTold actives Forces rebuild = Unit {0}
+MayBeTold actives Nothing rebuild = Unit {0}
+
+-- ---- a whole history
+
+module _ {C R : Type 0} (actives_after : List (Entry C R) → List ConnId) where
+  -- the rebuild that counters keep behind these entries, from the one that they kept before
+  abbrev pub rebuild_kept : (before entries : List (Entry C R)) → Option Rebuild → Option Rebuild
+  rebuild_kept before [] rebuild = rebuild
+  rebuild_kept before (entry ∷ entries) rebuild =
+      rebuild_kept (before ++ entry ∷ []) entries
+      (rebuild_next (actives_after before) entry.by (told entry).telling rebuild)
+
+  -- each entry may be told where it stands
+  abbrev pub MayAllBeTold : (before entries : List (Entry C R)) → Option Rebuild → Type 0
+  MayAllBeTold before [] rebuild = Unit {0}
+  MayAllBeTold before (entry ∷ entries) rebuild =
+      MayBeTold (actives_after before) (told entry).telling rebuild
+      × MayAllBeTold (before ++ entry ∷ []) entries
+      (rebuild_next (actives_after before) entry.by (told entry).telling rebuild)
