@@ -1,9 +1,8 @@
 -- What a sink gains by several writes.
-use Rattle.std.proofs.Common.{◌≡◌, ℕ, List, ◌++◌, length, take, drop, Option, Result, Ok, Err, IfErr, sym, ap, ◌∙◌, subst, append_assoc}
+use Rattle.std.proofs.Common.{◌≡◌, ℕ, List, ◌++◌, length, take, drop, Option, sym, ap, ◌∙◌, subst, append_assoc}
 use Rattle.std.proofs.Math.Seq.{take-append_seam}
 use Rattle.std.proofs.lemmas.List.{take-append-drop}
 use Rattle.std.proofs.KnownBytes.{Appends-trans}
-use Rattle.std.specs.Result.{OnErr}
 use Rattle.std.specs.Io.KnownBytes.{Appends}
 use Rattle.plex_run.specs.Written.{GainsPrefix}
 
@@ -35,16 +34,3 @@ GainsPrefix-before old new first second part =
 pub GainsPrefix-cut : (old new : Option (List ℕ)) (n : ℕ) (text : List ℕ) → Appends old new (take n text)
     → GainsPrefix old new text
 GainsPrefix-cut old new n text gains = record { count = n; gained = gains }
-
--- a first text was written, and then a second one, whose writing may have failed
-pub GainsPrefix-second : {T E : Type 0} (r : Result T E) (count : E → ℕ) (old mid new : Option (List ℕ))
-    (first second : List ℕ) → Appends old mid first
-    → IfErr r (λ e. Appends mid new (take (count e) second)) → OnErr r (GainsPrefix old new (first ++ second))
-GainsPrefix-second (Ok x) count old mid new first second whole more = tt
-GainsPrefix-second (Err e) count old mid new first second whole more =
-    GainsPrefix-after old mid new first second whole (GainsPrefix-cut mid new (count e) second more)
-
--- what holds anyway holds at an error
-pub OnErr-always : {T E P : Type 0} (r : Result T E) → P → OnErr r P
-OnErr-always (Ok x) p = tt
-OnErr-always (Err e) p = p

@@ -14,7 +14,7 @@ use crate::full::full_structure;
 use crate::not_yet::not_yet;
 use crate::status_lines::{full_line, script_line, why_text};
 use crate::way::{Way, way_of};
-use cf_io::{ReadEnd, Sink, Source, WriteFault, read_all, write_all};
+use cf_io::{Failed, ReadEnd, Sink, Source, read_all, write_all};
 use cf_link::Link;
 use cf_types::NoMemory;
 use plex_agent::Gate;
@@ -47,7 +47,7 @@ fn say<K: Sink>(sink: &mut K, line: &[u8])
 }
 
 // Writes one text, and then another.
-fn write_both<K: Sink>(sink: &mut K, first: &[u8], second: &[u8]) -> Result<(), WriteFault>
+fn write_both<K: Sink>(sink: &mut K, first: &[u8], second: &[u8]) -> Result<(), Failed>
     ensures whole { OnOk result (Appends (K.held sink.old) (K.held sink.new)
         (first.now ++ second.now)) }
     ensures front { OnErr result (GainsPrefix (K.held sink.old) (K.held sink.new)
@@ -55,8 +55,13 @@ fn write_both<K: Sink>(sink: &mut K, first: &[u8], second: &[u8]) -> Result<(), 
     ensures cause { OnErr result (Rises (K.faults sink.old) (K.faults sink.new)) }
     ensures faults { K.faults sink.old ≤ K.faults sink.new }
 {
-    write_all(sink, first)?;
-    write_all(sink, second)
+    match write_all(sink, first) {
+        Ok(()) => match write_all(sink, second) {
+            Ok(()) => Ok(()),
+            Err(_) => Err(Failed),
+        },
+        Err(_) => Err(Failed),
+    }
 }
 
 // Runs a script in this way over these links, which come back.
