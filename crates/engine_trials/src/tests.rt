@@ -1,4 +1,0 @@
-mod caches;
-mod copies;
-mod lists;
-mod locks;
