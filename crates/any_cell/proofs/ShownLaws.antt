@@ -11,13 +11,13 @@ use Rattle.engine_api.specs.declared.asks.Ask.{Ask}
 use Rattle.engine_api.specs.declared.histories.Entry.{Entry}
 use Rattle.engine_api.specs.Meaning.{Meaning}
 use Rattle.engine_api.specs.History.{Call, calls, own}
-use Rattle.lock_interests.proofs.MapLaws.{map-filtered}
+use Rattle.list_laws.proofs.ImageLaws.{map-filtered}
 use Rattle.plex_script.specs.declared.scripts.AnyAsk.{AnyAsk}
 use Rattle.plex_script.specs.Heard.{AnyCall, any_call, own_calls}
 use Rattle.vec_words.specs.declared.logged.Sight.{Sight}
 use Rattle.vec_words.specs.Tokens.{WordTable, PassSeen, new_pass}
 use Rattle.struct_cell.specs.declared.inside.CellKey.{CellKey}
-use Rattle.struct_cell.specs.Cells.{About, answered}
+use Rattle.struct_cell.specs.Cells.{About, own_call_of}
 use Rattle.struct_cell.specs.Telling.{IsTold}
 use Rattle.any_model.specs.Types.{StrType}
 use Rattle.any_cell.specs.Passes.{PassShown, call_by, heard_by, shown_as, unused_pass}
@@ -39,17 +39,17 @@ module _ {C R : Type 0} (str_type : StrType) (of : Ask C → AnyAsk) where
       rw (type_is, are) (map-map (shown_as str_type of) (new_pass words) owners)
 
   heard_same : (owner : ConnId) (call : Call C R) → call.by.0 == owner.0 ≡ true
-      → any_call of (call_by owner (answered call)) ≡ any_call of call
+      → any_call of (call_by owner (own_call_of call)) ≡ any_call of call
   heard_same owner call is =
       let same : call.by.0 ≡ owner.0 = grind (arith, nat_tests) in
-      ap (λ (n : ℕ). any_call of (call_by (record { 0 = n }) (answered call))) (sym same)
+      ap (λ (n : ℕ). any_call of (call_by (record { 0 = n }) (own_call_of call))) (sym same)
 
   -- a caller's own calls, as it heard of them
   heard_own : (history : List (Entry C R)) (owner : ConnId)
-      → heard_by of owner (map answered (own history owner)) ≡ own_calls (map (any_call of) (calls history)) owner
+      → heard_by of owner (map own_call_of (own history owner)) ≡ own_calls (map (any_call of) (calls history)) owner
   heard_own history owner =
-      map-map (λ (it : ℕ × About C R). any_call of (call_by owner it)) answered (own history owner)
-      ∙ map-filtered (λ (call : Call C R). any_call of (call_by owner (answered call))) (any_call of)
+      map-map (λ (it : ℕ × About C R). any_call of (call_by owner it)) own_call_of (own history owner)
+      ∙ map-filtered (λ (call : Call C R). any_call of (call_by owner (own_call_of call))) (any_call of)
       (λ (call : Call C R). call.by.0 == owner.0) (λ (call : AnyCall). call.by.0 == owner.0)
       (heard_same owner) (λ call. refl) (calls history)
 
@@ -83,13 +83,13 @@ module _ {C R : Type 0} (str_type : StrType) (of : Ask C → AnyAsk) where
         (sym shown_is) (All-map (λ (call : AnyCall). call.by.0 ≤ key.callers) (any_call of) all callers)
 
     pub shown_mine : (history : List (Entry C R))
-        → All (λ (pass : PassSeen (About C R)). pass.mine ≡ map answered (own history (record { 0 = pass.owner })))
+        → All (λ (pass : PassSeen (About C R)). pass.mine ≡ map own_call_of (own history (record { 0 = pass.owner })))
         passes
         → All (λ (pass : PassShown). pass.calls ≡ own_calls (map (any_call of) (calls history)) pass.owner) list
     shown_mine history mine =
         each_shown (λ (pass : PassShown). pass.calls ≡ own_calls (map (any_call of) (calls history)) pass.owner)
         (All-weaker
-        (λ (pass : PassSeen (About C R)). pass.mine ≡ map answered (own history (record { 0 = pass.owner })))
+        (λ (pass : PassSeen (About C R)). pass.mine ≡ map own_call_of (own history (record { 0 = pass.owner })))
         (λ (pass : PassSeen (About C R)). heard_by of (record { 0 = pass.owner }) pass.mine
         ≡ own_calls (map (any_call of) (calls history)) (record { 0 = pass.owner }))
         (λ pass is. ap (heard_by of (record { 0 = pass.owner })) is ∙ heard_own history (record { 0 = pass.owner }))

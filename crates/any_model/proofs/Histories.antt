@@ -17,7 +17,7 @@ use Rattle.plex_script.specs.declared.scripts.AnyAsk.{AnyAsk}
 use Rattle.plex_script.specs.declared.scripts.AnyAsk.TheVariants as ask
 use Rattle.plex_script.specs.declared.asks.AnyHistory.{AnyHistory}
 use Rattle.plex_script.specs.declared.asks.AnyHistory.TheVariants as history
-use Rattle.plex_script.specs.Heard.{AnyCall, any_call, any_calls, any_length, heard}
+use Rattle.plex_script.specs.Heard.{AnyCall, any_call, any_calls, any_length, call_numbered}
 use Rattle.any_model.specs.Kinds.{IsOfKind, IsAnyLegal, no_calls, any_next, numbers_from}
 use Rattle.any_model.proofs.KindLaws.{Takes, call_added, calls-next, kind-next, legal-next, counted-next, IsCounted}
 
@@ -30,7 +30,7 @@ pub record IsHistory (form : StrForm) (entries : AnyHistory) : Type 0 where
 -- no call has a number past the count
 pub unheard : (calls : List AnyCall) (first n number : ℕ) → map (λ call. call.no) calls ≡ numbers_from first n
     → first + n ≤ number
-    → heard number calls ≡ None
+    → call_numbered number calls ≡ None
 unheard [] first n number counted past = refl
 unheard (call ∷ calls) first zero number counted past = absurd cc
 unheard (call ∷ calls) first (suc n) number counted past =
@@ -51,13 +51,13 @@ any_numbers (history.Lock entries) counted =
 -- the call that is added is heard by its number
 pub added_heard : (form : StrForm) (entries : AnyHistory) (by : ConnId) (asked : AnyAsk) → Takes entries asked
     → IsCounted entries
-    → heard (any_length entries + 1) (any_calls (any_next form entries by asked)) ≡ Some
+    → call_numbered (any_length entries + 1) (any_calls (any_next form entries by asked)) ≡ Some
     (call_added form entries by asked)
 added_heard form entries by asked takes counted =
-    let none : heard (any_length entries + 1) (any_calls entries) ≡ None =
+    let none : call_numbered (any_length entries + 1) (any_calls entries) ≡ None =
     unheard (any_calls entries) 1 (any_length entries) (any_length entries + 1) (any_numbers entries counted)
     (omega arith) in
-    ap (heard (any_length entries + 1)) (calls-next form entries by asked takes)
+    ap (call_numbered (any_length entries + 1)) (calls-next form entries by asked takes)
     ∙ find-append (λ (call : AnyCall). call.no == any_length entries + 1) (any_calls entries)
     (call_added form entries by asked ∷ [])
     ∙ rw none (let itself : any_length entries + 1 == any_length entries + 1 ≡ true = grind (arith, nat_tests) in rw

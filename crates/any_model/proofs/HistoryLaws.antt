@@ -16,7 +16,7 @@ use Rattle.engine_api.specs.declared.asks.Reply.TheVariants as reply
 use Rattle.engine_api.specs.declared.histories.Entry.{Entry}
 use Rattle.engine_api.specs.Meaning.{Meaning}
 use Rattle.engine_api.specs.History.{Call, call_told, calls, next, next_reply, IsNext, IsNextAs, IsLegal, Continues}
-use Rattle.engine_api.specs.Told.{told}
+use Rattle.engine_api.specs.Told.{told_of}
 use Rattle.engine_api.proofs.HistoryLaws.{continues_legal}
 use Rattle.cache_model.specs.Meaning.{cache_meaning}
 use Rattle.list_model.specs.Meaning.{list_meaning}
@@ -33,7 +33,7 @@ use Rattle.any_model.specs.Kinds.{IsOfKind, IsAnyLegal, Rising, any_take, any_ne
 length_front : {X : Type 0} (n : ℕ) (xs : List X) → n ≤ length xs → length (take n xs) ≡ n
 length_front n xs within = omega (arith, lists.length-take n xs)
 
-number-told : {C R : Type 0} (number : ℕ) (asked : Ask C) (given : Reply R) → (told number asked given).no ≡ number
+number-told : {C R : Type 0} (number : ℕ) (asked : Ask C) (given : Reply R) → (told_of number asked given).no ≡ number
 number-told number asked (reply.Shell answered) = refl
 number-told number asked (reply.Content answered) = refl
 number-told number asked (reply.Refused refusal) = refl
@@ -50,17 +50,17 @@ module _ {C R I S : Type 0} (meaning : Meaning C R I S) (of : Ask C → AnyAsk) 
     no : call.no ≡ length before + 1
     number : call.told.no ≡ call.no
     next : after ≡ next meaning form before call.by asked
-    told : call.told ≡ told (length before + 1) asked (next_reply meaning form before call.by asked)
+    told_of : call.told ≡ told_of (length before + 1) asked (next_reply meaning form before call.by asked)
 
   -- an entry that continues a history is such a call
   abbrev TellsCall : List (Entry C R) → Entry C R → What C → Type 0
-  TellsCall before entry told =
-      (call : Call C R) × (call_told entry.no entry.by entry.reply told ≡ Some call)
+  TellsCall before entry told_of =
+      (call : Call C R) × (call_told entry.no entry.by entry.reply told_of ≡ Some call)
       × IsCalled before (before ++ entry ∷ []) (any_call of call)
 
-  tells_call : (before : List (Entry C R)) (entry : Entry C R) (told : What C) → IsNextAs meaning form before entry
-      told
-      → TellsCall before entry told
+  tells_call : (before : List (Entry C R)) (entry : Entry C R) (told_of : What C) → IsNextAs meaning form before entry
+      told_of
+      → TellsCall before entry told_of
   tells_call before entry (what.Call asked) e = (
     record { no = entry.no; by = entry.by; ask = asked; reply = entry.reply },
     refl,
@@ -70,7 +70,7 @@ module _ {C R I S : Type 0} (meaning : Meaning C R I S) (of : Ask C → AnyAsk) 
       no = ap (λ (it : Entry C R). it.no) e;
       number = number-told entry.no asked entry.reply;
       next = ap (λ (it : Entry C R). before ++ it ∷ []) e;
-      told = ap (λ (it : Entry C R). told it.no asked it.reply) e;
+      told = ap (λ (it : Entry C R). told_of it.no asked it.reply) e;
     },
   )
   tells_call before entry (what.Lost cf) e = absurd e

@@ -10,7 +10,7 @@ use Rattle.cf_types.specs.declared.numbers.ConnId.{ConnId}
 use Rattle.cf_types.specs.declared.shell_commands.ShellCmd.{ShellCmd}
 use Rattle.engine_api.specs.declared.histories.Entry.{Entry}
 use Rattle.engine_api.specs.History.{Call, calls, numbers, next, next_entry, next_reply, IsPoint, stands_after}
-use Rattle.engine_api.specs.Told.{told}
+use Rattle.engine_api.specs.Told.{told_of}
 use Rattle.engine_api.proofs.HistoryLaws.{calls-append, legal_next, point-append}
 use Rattle.engine_api.specs.declared.asks.Ask.{Ask}
 use Rattle.engine_api.specs.Meaning.{Meaning}
@@ -21,12 +21,12 @@ use Rattle.plex_script.specs.declared.scripts.AnyAsk.{AnyAsk}
 use Rattle.plex_script.specs.declared.scripts.AnyAsk.TheVariants as ask
 use Rattle.plex_script.specs.declared.asks.AnyHistory.{AnyHistory}
 use Rattle.plex_script.specs.declared.asks.AnyHistory.TheVariants as history
-use Rattle.plex_script.specs.Agent.{common}
+use Rattle.plex_script.specs.Agent.{shell_ask}
 use Rattle.plex_script.specs.Heard.{AnyCall, any_call, any_calls, any_length}
 use Rattle.any_model.specs.Kinds.{IsOfKind, IsAskOf, any_next, any_told, any_stands, IsAnyLegal, AnyTells, numbers_from}
 
 -- the common commands are asked of each kind
-pub common_ask_of : (kind : Kind) (command : ShellCmd) → IsAskOf kind (common kind command)
+pub common_ask_of : (kind : Kind) (command : ShellCmd) → IsAskOf kind (shell_ask kind command)
 common_ask_of kind.Cache command = tt
 common_ask_of (kind.List headers locks refs) command = tt
 common_ask_of kind.Lock command = tt
@@ -75,7 +75,7 @@ module _ {C R I S : Type 0} (meaning : Meaning C R I S) (of : Ask C → AnyAsk) 
         no = length entries + 1;
         by = by;
         ask = of asked;
-        told = told (length entries + 1) asked (next_reply meaning form entries by asked);
+        told = told_of (length entries + 1) asked (next_reply meaning form entries by asked);
       } ∷ []
   calls_next =
       ap (map (any_call of)) (calls-append entries (next_entry meaning form entries by asked ∷ []))

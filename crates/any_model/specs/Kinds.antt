@@ -7,7 +7,7 @@ use Rattle.cf_types.specs.declared.numbers.ConnId.{ConnId}
 use Rattle.engine_api.specs.declared.told.Told.{Told}
 use Rattle.engine_api.specs.Asking.{MayAsk, IsBuilt}
 use Rattle.engine_api.specs.History.{next, next_reply, stands_after, IsLegal, Tells}
-use Rattle.engine_api.specs.Told.{told, told_plainly}
+use Rattle.engine_api.specs.Told.{told_of, told_plainly}
 use Rattle.cache_model.specs.Meaning.{cache_meaning}
 use Rattle.list_model.specs.Meaning.{list_meaning}
 use Rattle.lock_model.specs.Meaning.{lock_meaning}
@@ -78,17 +78,17 @@ any_next form (history.Lock entries) by (ask.Lock asked) = history.Lock (next lo
 
 abbrev pub any_told : StrForm → AnyHistory → ConnId → AnyAsk → Told
 any_told form (history.Cache entries) by (ask.Cache asked) =
-    told (length entries + 1) asked (next_reply cache_meaning form entries by asked)
+    told_of (length entries + 1) asked (next_reply cache_meaning form entries by asked)
 any_told form (history.Cache entries) by (ask.List asked) = told_plainly 0 false
 any_told form (history.Cache entries) by (ask.Lock asked) = told_plainly 0 false
 any_told form (history.List entries) by (ask.Cache asked) = told_plainly 0 false
 any_told form (history.List entries) by (ask.List asked) =
-    told (length entries + 1) asked (next_reply list_meaning form entries by asked)
+    told_of (length entries + 1) asked (next_reply list_meaning form entries by asked)
 any_told form (history.List entries) by (ask.Lock asked) = told_plainly 0 false
 any_told form (history.Lock entries) by (ask.Cache asked) = told_plainly 0 false
 any_told form (history.Lock entries) by (ask.List asked) = told_plainly 0 false
 any_told form (history.Lock entries) by (ask.Lock asked) =
-    told (length entries + 1) asked (next_reply lock_meaning form entries by asked)
+    told_of (length entries + 1) asked (next_reply lock_meaning form entries by asked)
 
 -- the bit of a connector's vector
 abbrev pub any_stands : StrForm → AnyHistory → ConnId → ℕ → Bool

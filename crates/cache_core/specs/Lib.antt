@@ -1,3 +1,3 @@
 pub mod Measure
 pub mod Plans
-pub mod Seen
+pub mod EngineView

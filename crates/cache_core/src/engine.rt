@@ -12,11 +12,11 @@ use std::marker::Model;
 pub struct CacheContent {}
 
 impl Model for CacheContent {
-    ghost use Rattle.cache_model.specs.Contents.{Content, nothing};
+    ghost use Rattle.cache_model.specs.Contents.{Content, no_content};
 
     ghost Value = { Content };
 
-    ghost view = { λ _. nothing };
+    ghost view = { λ _. no_content };
 }
 
 /// A cache structure (IXLCACHE): its rows in a list, and its registrations.
@@ -31,11 +31,11 @@ pub struct CacheEngine {
 }
 
 impl Model for CacheEngine {
-    ghost use Rattle.cache_core.specs.Seen.{Seen, seen, IsKept};
+    ghost use Rattle.cache_core.specs.EngineView.{EngineView, view_of, IsKept};
 
-    ghost Value = { Seen };
+    ghost Value = { EngineView };
 
-    ghost view = { seen };
+    ghost view = { view_of };
 
     ghost invariant = { IsKept };
 }
@@ -43,7 +43,7 @@ impl Model for CacheEngine {
 impl Engine for CacheEngine {
     ghost use Rattle.std.specs.Prelude.{refl};
     ghost use Rattle.cf_types.specs.Forms.{is_cache};
-    ghost use Rattle.cache_core.specs.Seen.{IsReady};
+    ghost use Rattle.cache_core.specs.EngineView.{IsReady};
     ghost use Rattle.cache_model.specs.Contents.{IsContent};
     ghost use Rattle.cache_model.specs.Meaning.{cache_meaning};
     ghost use Rattle.cache_model.proofs.EngineLaws.{content-nothing, step-content, leave-content, content-moved, content-forgotten, made-items, unplace-place, need-front, need-leave, need-same};
@@ -211,7 +211,7 @@ impl Engine for CacheEngine {
 
     ghost items_place = { λ shape caps content item next. refl };
 
-    ghost unplace_place = { λ shape caps content item next. unplace-place content item next.made_so };
+    ghost unplace_place = { λ _ _ content item next. unplace-place content item next.made_so };
 
     ghost need_first = { need-front };
 

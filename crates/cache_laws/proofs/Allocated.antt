@@ -21,11 +21,11 @@ use Rattle.engine_api.specs.declared.asks.Ask.TheVariants as ask
 use Rattle.engine_api.specs.declared.asks.What.{What}
 use Rattle.engine_api.specs.declared.asks.What.TheVariants as what
 use Rattle.engine_api.specs.declared.histories.Entry.{Entry}
-use Rattle.engine_api.specs.History.{after, after_what, replay}
+use Rattle.engine_api.specs.History.{machine_after, after_what, replay}
 use Rattle.engine_api.specs.Instances.{Instances, no_instance, place_for, units_of, candidates}
-use Rattle.engine_api.specs.Machine.{Machine, opening, step, unless, command_done, content_done, leaving}
+use Rattle.engine_api.specs.Machine.{Machine, opening, step, unless, command_done, content_done, departure_from}
 use Rattle.engine_api.specs.Meaning.{Meaning}
-use Rattle.engine_api.specs.Shell.{Shell, Acted, when, if_no_place, with_primary, connecting, connect, depart, goes, force_connection, take_event, respond, answering, posting, shell_cause, shell_causes, shell_done, content_cause, leaver, is_kept}
+use Rattle.engine_api.specs.Shell.{Shell, ShellOutcome, refusal_when, if_no_place, with_primary, connected_shell, connect_outcome, departure_outcome, goes, force_connection, take_event, response_outcome, conns_answered, with_posted, shell_cause, shell_causes, shell_done, content_cause, leaver, is_kept}
 use Rattle.cache_model.proofs.ContentLaws.{none_hold}
 use Rattle.cache_laws.proofs.Steps.{either}
 
@@ -35,7 +35,7 @@ IsServed shell = (conn : ConnId) → is_active shell.conns conn ≡ true → is_
 
 -- ---- CONNECT
 
-found_place : (instances : Instances) (place : Option CfId) (why : Refusal) → when (is_none place) why ≡ None
+found_place : (instances : Instances) (place : Option CfId) (why : Refusal) → refusal_when (is_none place) why ≡ None
     → is_some (with_primary place instances).primary ≡ true
 found_place instances None why placed = absurd cc
 found_place instances (Some cf) why placed = refl
@@ -52,13 +52,13 @@ placed instances None units (pref ∷ prefs) none =
 
 served_connect : (form : StrForm) (shell : Shell) (by : ConnId) (keep : Bool)
     → shell_cause form shell by (cmd.Connect keep) ≡ None
-    → IsServed (connect form shell by keep).shell
+    → IsServed (connect_outcome form shell by keep).shell
 served_connect form shell by keep accepted =
     let none = none_hold (shell_causes form shell by (cmd.Connect keep)) accepted in
-    let stands : is_some (connecting form shell by keep).instances.primary ≡ true =
+    let stands : is_some (connected_shell form shell by keep).instances.primary ≡ true =
     placed shell.instances shell.instances.primary (units_of form.caps)
     (candidates form.prefs shell.instances) none.1.1.0 in
-    either (λ (acted : Acted). IsServed acted.shell) _ _ (λ conn active. stands) (λ conn active. stands)
+    either (λ (acted : ShellOutcome). IsServed acted.shell) _ _ (λ conn active. stands) (λ conn active. stands)
     (is_some (state_of shell.conns by))
 
 -- ---- departures
@@ -95,13 +95,13 @@ served_unless_gone form left true is served =
     let none = (and_parts (not form.keep) (defined_count left.conns == 0) is).1 in
     λ conn active. absurd (nobody_active left.conns (eqb-true (defined_count left.conns) 0 none) conn active)
 
-unless_not : (b : Bool) (why : Refusal) → when (not b) why ≡ None → b ≡ true
+unless_not : (b : Bool) (why : Refusal) → refusal_when (not b) why ≡ None → b ≡ true
 unless_not true why none = refl
 unless_not false why none = absurd cc
 
 served_depart : (form : StrForm) (shell : Shell) (by : ConnId) (keep : Bool) → is_active shell.conns by ≡ true
     → IsServed shell
-    → IsServed (depart form shell by keep).shell
+    → IsServed (departure_outcome form shell by keep).shell
 served_depart form shell by keep active served =
     let conns = with_departure by keep shell.conns in
     let left : Shell = record shell {
@@ -118,17 +118,17 @@ served_force form shell other served =
     served_unless_gone form left (goes form left.conns) refl
     (λ conn h. served conn (forced_active other shell.conns conn h))
 
-no_connection : (count : ℕ) (why : Refusal) → when (nat_lt 0 count) why ≡ None → count ≡ 0
+no_connection : (count : ℕ) (why : Refusal) → refusal_when (nat_lt 0 count) why ≡ None → count ≡ 0
 no_connection count why none = go (nat_lt 0 count) refl none
   where
-    go : (b : Bool) → nat_lt 0 count ≡ b → when b why ≡ None → count ≡ 0
+    go : (b : Bool) → nat_lt 0 count ≡ b → refusal_when b why ≡ None → count ≡ 0
     go true is none = absurd cc
     go false is none = grind (arith, nat_tests)
 
 -- ---- events
 
 answered_active : (by : ConnId) (answered : Event) (conns : Connections) (conn : ConnId)
-    → is_active (answering by answered conns) conn ≡ is_active conns conn
+    → is_active (conns_answered by answered conns) conn ≡ is_active conns conn
 answered_active by (event.DiscFail other) conns conn = is_active-with_answer by other conns conn
 answered_active by _ conns conn = refl
 
@@ -138,7 +138,7 @@ served_event shell by None served = served
 served_event shell by (Some taken) served = served
 
 served_response : (shell : Shell) (by : ConnId) (answered : Option Event) → IsServed shell
-    → IsServed (respond shell by answered).shell
+    → IsServed (response_outcome shell by answered).shell
 served_response shell by None served = served
 served_response shell by (Some answered) served =
     λ conn active. served conn (sym (answered_active by answered shell.conns conn) ∙ active)
@@ -149,27 +149,27 @@ caller_active : (form : StrForm) (shell : Shell) (by : ConnId) → content_cause
     → is_active shell.conns by ≡ true
 caller_active form shell by accepted =
     unless_not (is_active shell.conns by) refusal.NotConnected
-    (none_hold (when (not (is_active shell.conns by)) refusal.NotConnected ∷ []) accepted).0
+    (none_hold (refusal_when (not (is_active shell.conns by)) refusal.NotConnected ∷ []) accepted).0
 
 served_command : (form : StrForm) (shell : Shell) (letters : List Letter) (by : ConnId) (command : ShellCmd)
     → shell_cause form shell by command ≡ None → IsServed shell
-    → IsServed (shell_done form (posting letters shell) by command).shell
+    → IsServed (shell_done form (with_posted letters shell) by command).shell
 served_command form shell letters by (cmd.Connect keep) accepted served =
-    served_connect form (posting letters shell) by keep accepted
+    served_connect form (with_posted letters shell) by keep accepted
 served_command form shell letters by cmd.Disconnect accepted served =
-    served_depart form (posting letters shell) by false (caller_active form shell by accepted) served
+    served_depart form (with_posted letters shell) by false (caller_active form shell by accepted) served
 served_command form shell letters by cmd.Fail accepted served =
-    served_depart form (posting letters shell) by (is_kept (state_of shell.conns by))
+    served_depart form (with_posted letters shell) by (is_kept (state_of shell.conns by))
     (caller_active form shell by accepted) served
 served_command form shell letters by cmd.Next accepted served =
-    let posted = posting letters shell in served_event posted by (next_event posted.mail by) served
+    let posted = with_posted letters shell in served_event posted by (next_event posted.mail by) served
 served_command form shell letters by cmd.Respond accepted served =
-    let posted = posting letters shell in served_response posted by (owed_event posted.mail by) served
+    let posted = with_posted letters shell in served_response posted by (owed_event posted.mail by) served
 served_command form shell letters by (cmd.ForceConn other) accepted served =
-    served_force form (posting letters shell) other served
+    served_force form (with_posted letters shell) other served
 served_command form shell letters by cmd.ForceStr accepted served =
     let why = refusal.HasConnections (defined_count shell.conns) in
-    let none = none_hold (when (nat_lt 0 (defined_count shell.conns)) why ∷ []) accepted in
+    let none = none_hold (refusal_when (nat_lt 0 (defined_count shell.conns)) why ∷ []) accepted in
     λ conn active. absurd (nobody_active shell.conns (no_connection (defined_count shell.conns) why none.0) conn
     active)
 served_command form shell letters by _ accepted served = served
@@ -183,7 +183,8 @@ module _ {C R I S : Type 0} (meaning : Meaning C R I S) (form : StrForm) where
           → IsServed (unless meaning form cause machine (command_done meaning form machine by command)).machine.shell
       go (Some refusal) is = served
       go None is =
-          served_command form machine.shell (leaving meaning form (leaver machine.shell by command) machine).letters
+          served_command form machine.shell (departure_from meaning form
+          (leaver machine.shell by command) machine).letters
           by
           command is served
   served_step machine by (ask.Content command) served = go (content_cause machine.shell by)
@@ -199,10 +200,10 @@ module _ {C R I S : Type 0} (meaning : Meaning C R I S) (form : StrForm) where
   served_after machine by (what.Lost cf) served = served
 
   served_fold : (machine : Machine S) (history : List (Entry C R)) → IsServed machine.shell
-      → IsServed (fold (after meaning form) machine history).shell
+      → IsServed (fold (machine_after meaning form) machine history).shell
   served_fold machine [] served = served
   served_fold machine (entry ∷ entries) served =
-      served_fold (after meaning form machine entry) entries (served_after machine entry.by entry.what served)
+      served_fold (machine_after meaning form machine entry) entries (served_after machine entry.by entry.what served)
 
   -- so it is after every history
   pub served-replay : (history : List (Entry C R)) → IsServed (replay meaning form history).shell

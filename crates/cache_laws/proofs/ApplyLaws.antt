@@ -3,26 +3,26 @@ use Rattle.std.proofs.Common.{◌≡◌, List, [], ◌∷◌, ◌++◌, sym, ap,
 use Rattle.cf_types.specs.declared.cache_commands.CacheCmd.{CacheCmd}
 use Rattle.cf_types.specs.declared.numbers.ConnId.{ConnId}
 use Rattle.engine_api.specs.Meaning.{Held}
-use Rattle.cache_model.specs.Contents.{Content, nothing}
+use Rattle.cache_model.specs.Contents.{Content, no_content}
 use Rattle.cache_model.specs.Runs.{Deed, Copies, after_deed, after_run}
 use Rattle.cache_model.specs.Runs.Deed.{Calls}
 use Rattle.cache_model.proofs.CopyLaws.{fresh-copy, content-run}
 use Rattle.cache_model.proofs.EngineLaws.{content-nothing}
 use Rattle.cache_model.proofs.UncastLaws.{uncast-kept}
-use Rattle.cache_laws.specs.Applied.{IsHeldAfter, applied, copies_then, uncast_then, AreFresh, AreKept}
+use Rattle.cache_laws.specs.Applied.{IsHeldAfter, content_applied, copies_then, uncast_then, AreFresh, AreKept}
 use Rattle.cache_laws.specs.Unique.{IsUnique}
 use Rattle.cache_laws.proofs.Traces.{after_run-push}
 use Rattle.cache_laws.proofs.UniqueLaws.{unique-content}
 
 -- the command is one deed more
 applied-run : (held : Held Content) (deeds : List Deed) (by : ConnId) (cmd : CacheCmd) → IsHeldAfter deeds held
-    → applied held by cmd ≡ after_run held.shape.vector held.caps nothing (deeds ++ Calls by cmd ∷ [])
+    → content_applied held by cmd ≡ after_run held.shape.vector held.caps no_content (deeds ++ Calls by cmd ∷ [])
 applied-run held deeds by cmd led =
     ap (λ (content : Content). after_deed held.shape.vector held.caps content (Calls by cmd)) led
-    ∙ sym (after_run-push held.shape.vector held.caps nothing deeds (Calls by cmd))
+    ∙ sym (after_run-push held.shape.vector held.caps no_content deeds (Calls by cmd))
 
 pub applied-fresh : (held : Held Content) (deeds : List Deed) (by : ConnId) (cmd : CacheCmd) (copies : Copies)
-    → IsHeldAfter deeds held → AreFresh (applied held by cmd) (copies_then held copies deeds by cmd)
+    → IsHeldAfter deeds held → AreFresh (content_applied held by cmd) (copies_then held copies deeds by cmd)
 applied-fresh held deeds by cmd copies led =
     subst (λ (content : Content). AreFresh content (copies_then held copies deeds by cmd))
     (sym (applied-run held deeds by cmd led))
@@ -30,15 +30,15 @@ applied-fresh held deeds by cmd copies led =
     name there)
 
 pub applied-kept : (held : Held Content) (deeds : List Deed) (by : ConnId) (cmd : CacheCmd) → IsHeldAfter deeds held
-    → AreKept (applied held by cmd) (uncast_then held deeds by cmd)
+    → AreKept (content_applied held by cmd) (uncast_then held deeds by cmd)
 applied-kept held deeds by cmd led =
     subst (λ (content : Content). AreKept content (uncast_then held deeds by cmd))
     (sym (applied-run held deeds by cmd led))
     (λ name. uncast-kept held.shape.vector held.caps (deeds ++ Calls by cmd ∷ []) name)
 
 pub applied-unique : (held : Held Content) (deeds : List Deed) (by : ConnId) (cmd : CacheCmd) → IsHeldAfter deeds held
-    → IsUnique (applied held by cmd)
+    → IsUnique (content_applied held by cmd)
 applied-unique held deeds by cmd led =
     subst IsUnique (sym (applied-run held deeds by cmd led))
     (unique-content held.caps _
-    (content-run held.shape.vector held.caps nothing (deeds ++ Calls by cmd ∷ []) (content-nothing held.caps)))
+    (content-run held.shape.vector held.caps no_content (deeds ++ Calls by cmd ∷ []) (content-nothing held.caps)))

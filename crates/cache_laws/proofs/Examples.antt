@@ -12,7 +12,7 @@ use Rattle.engine_api.specs.declared.asks.Ask.TheVariants as ask
 use Rattle.engine_api.specs.declared.asks.Reply.{Reply}
 use Rattle.engine_api.specs.declared.asks.Reply.TheVariants as reply
 use Rattle.engine_api.specs.declared.asks.What.TheVariants as what
-use Rattle.cache_laws.specs.Copies.{held}
+use Rattle.cache_laws.specs.Copies.{copy_held}
 use Rattle.cache_laws.specs.Histories.{CacheEntry, CacheHistory}
 use Rattle.cache_laws.specs.Uncast.{is_cast_out, page_written}
 
@@ -40,16 +40,16 @@ history =
     ∷ []
 
 -- 2 holds what it wrote last at 5, and nothing at another index; 1 was refused, and holds no data at 0
-held_by_2 : held history (conn 2) 5 ≡ Some (2 ∷ [], None)
+held_by_2 : copy_held history (conn 2) 5 ≡ Some (2 ∷ [], None)
 held_by_2 = refl
 
-held_before : held (take 5 history) (conn 2) 5 ≡ Some (1 ∷ [], None)
+held_before : copy_held (take 5 history) (conn 2) 5 ≡ Some (1 ∷ [], None)
 held_before = refl
 
-held_elsewhere : held history (conn 2) 0 ≡ None
+held_elsewhere : copy_held history (conn 2) 0 ≡ None
 held_elsewhere = refl
 
-held_by_1 : held history (conn 1) 0 ≡ None
+held_by_1 : copy_held history (conn 1) 0 ≡ None
 held_by_1 = refl
 
 -- the changed WRITEs that were accepted

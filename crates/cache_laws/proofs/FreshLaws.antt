@@ -18,7 +18,7 @@ use Rattle.cache_model.specs.Meaning.{cache_meaning}
 use Rattle.cache_model.specs.Rows.{is_row_of, row_of, has_row}
 use Rattle.cache_model.specs.Runs.{copy_in, reply_copy, row_copy}
 use Rattle.cache_model.proofs.CopyLaws.{fresh-copy as run_fresh}
-use Rattle.cache_laws.specs.Copies.{held, IsAsRead, IsFresh, TellsFresh}
+use Rattle.cache_laws.specs.Copies.{copy_held, IsAsRead, IsFresh, TellsFresh}
 use Rattle.cache_laws.specs.Histories.{CacheHistory, IsLegalCache, content_after}
 use Rattle.cache_laws.proofs.Replies.{answer-content, copy-read}
 use Rattle.cache_laws.proofs.Traces.{HasTrace, trace-none, trace-next}
@@ -36,7 +36,7 @@ trace-continues form history (entry ∷ others) goes trace =
 held-registered : (form : StrForm) (history : CacheHistory) (conn : ConnId) (index : ℕ) (name : Name16)
     → HasTrace form history
     → registered_at (content_after form history).regs conn index ≡ Some name
-    → held history conn index ≡ copy_in (content_after form history).rows name
+    → copy_held history conn index ≡ copy_in (content_after form history).rows name
 held-registered form history conn index name trace there =
     trace.holds conn index
     ∙ run_fresh form.vector form.caps trace.first trace.deeds conn index name

@@ -23,7 +23,7 @@ use Rattle.engine_api.specs.Shell.{content_cause}
 use Rattle.engine_api.proofs.HistoryLaws.{replay-push, continues_legal}
 use Rattle.cache_regs.proofs.NameLaws.{same_name-eq}
 use Rattle.cache_model.specs.declared.items.CacheItem.{CacheItem}
-use Rattle.cache_model.specs.Contents.{Content, nothing}
+use Rattle.cache_model.specs.Contents.{Content, no_content}
 use Rattle.cache_model.specs.Meaning.{cache_meaning}
 use Rattle.cache_model.specs.Rows.{row_of}
 use Rattle.cache_model.specs.Runs.{Deed, after_deed, after_run}
@@ -31,7 +31,7 @@ use Rattle.cache_model.specs.Runs.Deed.{Calls, Leaves}
 use Rattle.cache_model.specs.Step.{cause, done}
 use Rattle.cache_model.specs.Uncast.{Uncast, Uncasts, uncast_cast, uncast_unlocked, uncast_unless, uncast_after, uncast_run, Kept}
 use Rattle.cache_model.proofs.UncastLaws.{uncast-kept as run_kept}
-use Rattle.cache_laws.specs.Histories.{CacheEntry, CacheHistory, Accepted, accepted, accepted_as, is_accepted, is_allocated, IsLegalCache, StaysAllocated, content_after}
+use Rattle.cache_laws.specs.Histories.{CacheEntry, CacheHistory, Accepted, acceptance_of, accepted_as, is_accepted, is_allocated, IsLegalCache, StaysAllocated, content_after}
 use Rattle.cache_laws.specs.Uncast.{Page, page_in, page_written, is_changed_write, deletes, casts_out, unlocks, HasNone, is_cast_out, IsUncast, HasPage, IsAnswered}
 use Rattle.cache_laws.proofs.Allocated.{stands-content}
 use Rattle.cache_laws.proofs.FreshLaws.{trace-legal}
@@ -52,8 +52,8 @@ uncast_page page cast = record { body = page.body; adj = page.adj; class = page.
 -- the deeds since the content was last cleared lead to the content, and leave the page uncast
 record Keeps (form : StrForm) (machine : Machine Content) (name : Name16) (page : Page) (cast : Bool) : Type 0 where
   deeds : List Deed
-  content : machine.content ≡ after_run form.vector form.caps nothing deeds
-  uncast : uncast_run form.vector form.caps nothing nothing_written deeds name ≡ Some (uncast_page page cast)
+  content : machine.content ≡ after_run form.vector form.caps no_content deeds
+  uncast : uncast_run form.vector form.caps no_content nothing_written deeds name ≡ Some (uncast_page page cast)
 
 uncast_run-push : (vector : ℕ) (caps : Caps) (content : Content) (uncast : Uncasts) (deeds : List Deed) (deed : Deed)
     → uncast_run vector caps content uncast (deeds ++ deed ∷ [])
@@ -67,20 +67,21 @@ uncast_run-push vector caps content uncast (first ∷ deeds) deed =
 -- one more deed, after which the page is still uncast
 keeps_deed : (form : StrForm) (before after : Machine Content) (name : Name16) (page : Page) (cast : Bool)
     (deeds : List Deed) (deed : Deed)
-    → before.content ≡ after_run form.vector form.caps nothing deeds
+    → before.content ≡ after_run form.vector form.caps no_content deeds
     → after.content ≡ after_deed form.vector form.caps before.content deed
     → uncast_after form.vector form.caps before.content
-    (uncast_run form.vector form.caps nothing nothing_written deeds) deed name
+    (uncast_run form.vector form.caps no_content nothing_written deeds) deed name
     ≡ Some (uncast_page page cast)
     → Keeps form after name page cast
 keeps_deed form before after name page cast deeds deed content then uncast =
     record {
       deeds = deeds ++ deed ∷ [];
       content = then ∙ ap (λ (c : Content). after_deed form.vector form.caps c deed) content
-          ∙ sym (after_run-push form.vector form.caps nothing deeds deed);
-      uncast = ap (λ (u : Uncasts). u name) (uncast_run-push form.vector form.caps nothing nothing_written deeds deed)
+          ∙ sym (after_run-push form.vector form.caps no_content deeds deed);
+      uncast = ap (λ (u : Uncasts). u name) (uncast_run-push form.vector form.caps no_content nothing_written deeds
+          deed)
           ∙ ap (λ (c : Content). uncast_after form.vector form.caps c
-          (uncast_run form.vector form.caps nothing nothing_written deeds) deed name)
+          (uncast_run form.vector form.caps no_content nothing_written deeds) deed name)
           (sym content)
           ∙ uncast;
     }
@@ -129,7 +130,7 @@ write_told caps content by cmd name page uncast None e = page_told cmd name page
 
 write_step : (form : StrForm) (machine : Machine Content) (by : ConnId) (asked : Ask CacheCmd) (name : Name16)
     (page : Page) (deeds : List Deed)
-    → machine.content ≡ after_run form.vector form.caps nothing deeds
+    → machine.content ≡ after_run form.vector form.caps no_content deeds
     → option_and_then (λ told. page_in name told.command) (told_by asked machine form by) ≡ Some page
     → Keeps form (step cache_meaning form machine by asked).machine name page false
 write_step form machine by (ask.Shell command) name page deeds content wrote = absurd cc
@@ -146,7 +147,7 @@ write_step form machine by (ask.Content cmd) name page deeds content wrote = go 
         keeps_deed form machine (content_done cache_meaning form machine by cmd).machine name page false deeds
         (Calls by cmd) content refl
         (write_told form.caps machine.content by cmd name page
-        (uncast_run form.vector form.caps nothing nothing_written deeds)
+        (uncast_run form.vector form.caps no_content nothing_written deeds)
         (cause form.vector form.caps machine.content by cmd) wrote)
 
 -- ---- what comes after it
@@ -257,7 +258,7 @@ keeps_step form machine by (ask.Content cmd) name page cast spares stood stands 
         keeps_deed form machine (content_done cache_meaning form machine by cmd).machine name page _ keeps.deeds
         (Calls by cmd) keeps.content refl
         (spared_told form.caps machine.content by cmd name page cast
-        (uncast_run form.vector form.caps nothing nothing_written keeps.deeds)
+        (uncast_run form.vector form.caps no_content nothing_written keeps.deeds)
         (cause form.vector form.caps machine.content by cmd) keeps.uncast spares)
 
 -- ---- along a history
@@ -283,16 +284,17 @@ kept_next : (form : StrForm) (history : CacheHistory) (entry : CacheEntry) (told
     (page : Page) (cast : Bool)
     → IsNextAs cache_meaning form history entry told → is_allocated form history ≡ true
     → HasKept form history name page cast
-    → Spares name (accepted entry) cast → is_allocated form (history ++ entry ∷ []) ≡ true
-    → HasKept form (history ++ entry ∷ []) name page (cast_then name (accepted entry) cast)
+    → Spares name (acceptance_of entry) cast → is_allocated form (history ++ entry ∷ []) ≡ true
+    → HasKept form (history ++ entry ∷ []) name page (cast_then name (acceptance_of entry) cast)
 kept_next form history entry (what.Lost cf) name page cast is stood keeps = absurd is
 kept_next form history entry (what.Call asked) name page cast is stood keeps =
     let machine : Machine Content = replay cache_meaning form history in
     let added : CacheEntry = next_entry cache_meaning form history entry.by asked in
     let pushed = replay-push cache_meaning form history added in
-    subst (λ (e : CacheEntry). Spares name (accepted e) cast → is_allocated form (history ++ e ∷ []) ≡ true
-    → HasKept form (history ++ e ∷ []) name page (cast_then name (accepted e) cast)) (sym is)
-    (λ spares stands. subst (λ (m : Machine Content). Keeps form m name page (cast_then name (accepted added) cast))
+    subst (λ (e : CacheEntry). Spares name (acceptance_of e) cast → is_allocated form (history ++ e ∷ []) ≡ true
+    → HasKept form (history ++ e ∷ []) name page (cast_then name (acceptance_of e) cast)) (sym is)
+    (λ spares stands. subst (λ (m : Machine Content). Keeps form m name page
+    (cast_then name (acceptance_of added) cast))
     (sym pushed)
     (keeps_step form machine entry.by asked name page cast spares stood
     (subst (λ (m : Machine Content). stands_in m ≡ true) pushed stands) keeps))
@@ -318,7 +320,7 @@ kept_along form history (entry ∷ since) name page cast goes keeps stood writes
     let delete = or_parts (is_accepted (deletes name) entry) (list_any (is_accepted (deletes name)) since) deletes' in
     let casting = or_parts (is_accepted (casts_out name) entry && list_any (is_accepted (unlocks name)) since)
     (is_cast_out name since) out in
-    let spares : Spares name (accepted entry) cast = record {
+    let spares : Spares name (acceptance_of entry) cast = record {
       write = write.0;
       delete = delete.0;
       unlock = λ e. (or_parts (is_accepted (unlocks name) entry) (list_any (is_accepted (unlocks name)) since)
@@ -326,7 +328,7 @@ kept_along form history (entry ∷ since) name page cast goes keeps stood writes
     } in
     let next = kept_next form history entry entry.what name page cast goes.0 stood keeps spares stays.0 in
     let rest = kept_along form (history ++ entry ∷ []) since name page
-    (cast_then name (accepted entry) cast) goes.1 next stays.0
+    (cast_then name (acceptance_of entry) cast) goes.1 next stays.0
     write.1 delete.1 stays.1 casting.1
     (no_unlock (is_accepted (casts_out name) entry) cast (is_accepted (unlocks name) entry)
     (list_any (is_accepted (unlocks name)) since)
@@ -352,7 +354,7 @@ page_kept : (form : StrForm) (history : CacheHistory) (name : Name16) (page : Pa
 page_kept form history name page cast keeps =
     row_kept form history name page cast (row_of name (content_after form history).rows) refl
     (subst (λ (c : Content). Kept (row_of name c.rows) (Some (uncast_page page cast))) (sym keeps.content)
-    (subst (λ (o : Option Uncast). Kept (row_of name (after_run form.vector form.caps nothing keeps.deeds).rows) o)
+    (subst (λ (o : Option Uncast). Kept (row_of name (after_run form.vector form.caps no_content keeps.deeds).rows) o)
     keeps.uncast
     (run_kept form.vector form.caps keeps.deeds name)))
 
@@ -378,12 +380,12 @@ allocated_step form history by (ask.Content cmd) told =
     go None is told = stands-content cache_meaning form history by is
 
 allocated_next : (form : StrForm) (history : CacheHistory) (entry : CacheEntry) (told : What CacheCmd)
-    → IsNextAs cache_meaning form history entry told → is_some (accepted entry) ≡ true
+    → IsNextAs cache_meaning form history entry told → is_some (acceptance_of entry) ≡ true
     → is_allocated form (history ++ entry ∷ []) ≡ true
 allocated_next form history entry (what.Lost cf) is = absurd is
 allocated_next form history entry (what.Call asked) is =
     let added : CacheEntry = next_entry cache_meaning form history entry.by asked in
-    subst (λ (e : CacheEntry). is_some (accepted e) ≡ true → is_allocated form (history ++ e ∷ []) ≡ true) (sym is)
+    subst (λ (e : CacheEntry). is_some (acceptance_of e) ≡ true → is_allocated form (history ++ e ∷ []) ≡ true) (sym is)
     (λ told. subst (λ (m : Machine Content). stands_in m ≡ true) (sym (replay-push cache_meaning form history added))
     (allocated_step form history entry.by asked told))
 
@@ -413,7 +415,8 @@ kept_since form before since write name page legal wrote last not_deleted alloca
     (continues_legal cache_meaning form (before ++ write ∷ since) legal) in
     let keeps = wrote_next form before write write.what name page goes.0
     (trace-legal form before (write ∷ since) legal) wrote in
-    let stands = allocated_next form before write write.what goes.0 (wrote_accepted name page (accepted write) wrote)
+    let stands = allocated_next form before write write.what goes.0
+    (wrote_accepted name page (acceptance_of write) wrote)
     in
     let all = kept_along form (before ++ write ∷ []) since name page false goes.1 keeps stands last not_deleted
     allocated not_cast_out

@@ -15,10 +15,10 @@ use Rattle.cf_types.specs.Mailboxes.{next_event, owed_event, with_letters, with_
 use Rattle.engine_api.specs.declared.asks.Ask.TheVariants as ask
 use Rattle.engine_api.specs.declared.deeds.Deeds.{Deeds}
 use Rattle.engine_api.specs.Instances.{no_instance}
-use Rattle.engine_api.specs.Machine.{Machine, unless, command_done, leaving, with_deeds, step}
+use Rattle.engine_api.specs.Machine.{Machine, unless, command_done, departure_from, with_deeds, step}
 use Rattle.engine_api.specs.Meaning.{Departure}
-use Rattle.engine_api.specs.Shell.{Shell, Leaver, Acted, shell_cause, shell_done, leaver, posting, goes, depart, connect, made_at, force_connection, take_event, respond, is_kept}
-use Rattle.cache_model.specs.Contents.{Content, nothing, content_without}
+use Rattle.engine_api.specs.Shell.{Shell, Leaver, ShellOutcome, shell_cause, shell_done, leaver, with_posted, goes, departure_outcome, connect_outcome, made_at, force_connection, take_event, response_outcome, is_kept}
+use Rattle.cache_model.specs.Contents.{Content, no_content, content_without}
 use Rattle.cache_model.specs.Meaning.{cache_meaning}
 
 -- an instance stands
@@ -29,7 +29,7 @@ stands_in machine = is_some machine.shell.instances.primary
 pub data Change (before after : Machine Content) : Type 0 where
   Same : after.content ≡ before.content → Change before after
   Without : (conn : ConnId) → after.content ≡ content_without conn before.content → Change before after
-  Cleared : after.content ≡ nothing → stands_in before && stands_in after ≡ false → Change before after
+  Cleared : after.content ≡ no_content → stands_in before && stands_in after ≡ false → Change before after
 
 -- what holds of both holds of either
 pub either : {X : Type 0} (P : X → Type 0) (x y : X) → P x → P y → (b : Bool) → P (cond b x y)
@@ -39,12 +39,12 @@ either P x y first second false = second
 -- ---- what deeds do
 
 -- the content is cleared only where no instance stands afterwards, and made anew only where none stood
-record Cautious (before : Shell) (acted : Acted) : Type 0 where
+record Cautious (before : Shell) (acted : ShellOutcome) : Type 0 where
   drop : acted.deeds.drop_all ≡ true → is_some acted.shell.instances.primary ≡ false
   make : is_some acted.deeds.make ≡ true → is_some before.instances.primary ≡ false
 
 cautious_connect : (form : StrForm) (shell : Shell) (by : ConnId) (keep : Bool)
-    → Cautious shell (connect form shell by keep)
+    → Cautious shell (connect_outcome form shell by keep)
 cautious_connect form shell by keep =
     either (Cautious shell) _ _
     (record { drop = λ e. absurd (false≢true e); make = made shell.instances.primary })
@@ -64,7 +64,7 @@ gone_then form shell true is goes = refl
 gone_then form shell false is goes = absurd (false≢true (sym is ∙ goes))
 
 cautious_depart : (form : StrForm) (shell : Shell) (by : ConnId) (keep : Bool)
-    → Cautious shell (depart form shell by keep)
+    → Cautious shell (departure_outcome form shell by keep)
 cautious_depart form shell by keep =
     let conns = with_departure by keep shell.conns in
     let left : Shell = record shell {
@@ -84,7 +84,8 @@ cautious_force form shell other =
     forced left true e = refl
     forced left false e = absurd (false≢true e)
 
-idle : (shell : Shell) (acted : Acted) → acted.deeds.drop_all ≡ false → acted.deeds.make ≡ None → Cautious shell acted
+idle : (shell : Shell) (acted : ShellOutcome) → acted.deeds.drop_all ≡ false → acted.deeds.make ≡ None
+    → Cautious shell acted
 idle shell acted none unmade =
     record {
       drop = λ e. absurd (false≢true (sym none ∙ e));
@@ -96,7 +97,7 @@ cautious_event shell by None = idle shell _ refl refl
 cautious_event shell by (Some taken) = idle shell _ refl refl
 
 cautious_response : (shell : Shell) (by : ConnId) (answered : Option Event)
-    → Cautious shell (respond shell by answered)
+    → Cautious shell (response_outcome shell by answered)
 cautious_response shell by None = idle shell _ refl refl
 cautious_response shell by (Some answered) = idle shell _ refl refl
 
@@ -128,7 +129,7 @@ data Left (content left : Content) : Type 0 where
   Departed : (conn : ConnId) → left ≡ content_without conn content → Left content left
 
 left_by : (form : StrForm) (machine : Machine Content) (who : Option Leaver)
-    → Left machine.content (leaving cache_meaning form who machine).state
+    → Left machine.content (departure_from cache_meaning form who machine).state
 left_by form machine None = Nobody refl
 left_by form machine (Some who) =
     either (λ (gone : Departure Content). Left machine.content gone.state)
@@ -165,9 +166,9 @@ change_by form before after left false None (Some conn) deeds gone e drops makes
 command_change : (form : StrForm) (machine : Machine Content) (by : ConnId) (command : ShellCmd)
     → Change machine (command_done cache_meaning form machine by command).machine
 command_change form machine by command =
-    let gone : Departure Content = leaving cache_meaning form (leaver machine.shell by command) machine in
-    let acted : Acted = shell_done form (posting gone.letters machine.shell) by command in
-    let careful = cautious form (posting gone.letters machine.shell) by command in
+    let gone : Departure Content = departure_from cache_meaning form (leaver machine.shell by command) machine in
+    let acted : ShellOutcome = shell_done form (with_posted gone.letters machine.shell) by command in
+    let careful = cautious form (with_posted gone.letters machine.shell) by command in
     change_by form machine (command_done cache_meaning form machine by command).machine gone.state
     acted.deeds.drop_all acted.deeds.make acted.deeds.back acted.deeds
     (left_by form machine (leaver machine.shell by command)) refl careful.drop careful.make

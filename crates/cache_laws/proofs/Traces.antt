@@ -19,12 +19,12 @@ use Rattle.engine_api.specs.Machine.{Machine, step, unless, content_done, conten
 use Rattle.engine_api.specs.Meaning.{unless_refused}
 use Rattle.engine_api.specs.Shell.{content_cause}
 use Rattle.engine_api.proofs.HistoryLaws.{replay-push}
-use Rattle.cache_model.specs.Contents.{Content, nothing}
+use Rattle.cache_model.specs.Contents.{Content, no_content}
 use Rattle.cache_model.specs.Meaning.{cache_meaning}
 use Rattle.cache_model.specs.Runs.{Copy, Copies, Deed, after_deed, after_run, copies_done, copies_unless, copies_after, copies_run, reply_copy}
 use Rattle.cache_model.specs.Runs.Deed.{Calls, Leaves}
 use Rattle.cache_model.specs.Step.{cause, done, reply as answer}
-use Rattle.cache_laws.specs.Copies.{copy_at, copy_of, copy_brought, held}
+use Rattle.cache_laws.specs.Copies.{copy_at, copy_of, copy_brought, copy_held}
 use Rattle.cache_laws.specs.Histories.{CacheEntry, CacheHistory, accepted_as}
 use Rattle.cache_laws.proofs.Steps.{Change, shell_change}
 use Rattle.cache_laws.proofs.Steps.Change.{Same, Without, Cleared}
@@ -96,9 +96,9 @@ command_brought caps content by cmd copies others conn index None same =
 pub record Trace (form : StrForm) (machine : Machine Content) (copies : Copies) : Type 0 where
   pub deeds : List Deed
   pub first : Copies
-  pub content : machine.content ≡ after_run form.vector form.caps nothing deeds
+  pub content : machine.content ≡ after_run form.vector form.caps no_content deeds
   pub holds : (conn : ConnId) (index : ℕ) → copies conn index
-      ≡ copies_run form.vector form.caps nothing first deeds conn index
+      ≡ copies_run form.vector form.caps no_content first deeds conn index
 
 -- nobody's copy changes with a common command
 trace_change : (form : StrForm) (before after : Machine Content) (copies others : Copies) → Change before after
@@ -116,10 +116,10 @@ trace_change form before after copies others (Without conn e) same trace =
       deeds = trace.deeds ++ Leaves conn ∷ [];
       first = trace.first;
       content = e ∙ ap (λ (c : Content). after_deed form.vector form.caps c (Leaves conn)) trace.content
-          ∙ sym (after_run-push form.vector form.caps nothing trace.deeds (Leaves conn));
+          ∙ sym (after_run-push form.vector form.caps no_content trace.deeds (Leaves conn));
       holds = λ other index. same other index ∙ trace.holds other index
           ∙ sym (ap (λ (c : Copies). c other index)
-          (copies_run-push form.vector form.caps nothing trace.first trace.deeds (Leaves conn)));
+          (copies_run-push form.vector form.caps no_content trace.first trace.deeds (Leaves conn)));
     }
 trace_change form before after copies others (Cleared e gone) same trace =
     record { deeds = []; first = copies; content = e; holds = same }
@@ -134,16 +134,16 @@ trace_command form machine copies by cmd trace =
       deeds = trace.deeds ++ Calls by cmd ∷ [];
       first = trace.first;
       content = ap (λ (c : Content). told c (Calls by cmd)) trace.content
-          ∙ sym (after_run-push form.vector form.caps nothing trace.deeds (Calls by cmd));
+          ∙ sym (after_run-push form.vector form.caps no_content trace.deeds (Calls by cmd));
       holds = λ conn index.
           command_brought form.caps machine.content by cmd copies
-          (copies_run form.vector form.caps nothing trace.first trace.deeds) conn index
+          (copies_run form.vector form.caps no_content trace.first trace.deeds) conn index
           (cause form.vector form.caps machine.content by cmd) (trace.holds conn index)
           ∙ ap (λ (c : Content). copies_after form.vector form.caps c
-          (copies_run form.vector form.caps nothing trace.first trace.deeds)
+          (copies_run form.vector form.caps no_content trace.first trace.deeds)
           (Calls by cmd) conn index) trace.content
           ∙ sym (ap (λ (c : Copies). c conn index)
-          (copies_run-push form.vector form.caps nothing trace.first trace.deeds (Calls by cmd)));
+          (copies_run-push form.vector form.caps no_content trace.first trace.deeds (Calls by cmd)));
     }
 
 pub trace-step : (form : StrForm) (machine : Machine Content) (copies : Copies) (by : ConnId) (asked : Ask CacheCmd)
@@ -170,10 +170,11 @@ trace-step form machine copies by (ask.Content cmd) trace = go (content_cause ma
 -- ---- along a history
 
 abbrev pub HasTrace : StrForm → CacheHistory → Type 0
-HasTrace form history = Trace form (replay cache_meaning form history) (held history)
+HasTrace form history = Trace form (replay cache_meaning form history) (copy_held history)
 
 held-push : (history : CacheHistory) (entry : CacheEntry) (conn : ConnId) (index : ℕ)
-    → held (history ++ entry ∷ []) conn index ≡ unwrap_or (copy_brought conn index entry) (held history conn index)
+    → copy_held (history ++ entry ∷ []) conn index ≡ unwrap_or (copy_brought conn index entry)
+    (copy_held history conn index)
 held-push history entry conn index =
     fold_push (λ (copy : Copy) (entry : CacheEntry). unwrap_or (copy_brought conn index entry) copy) None history
     entry
@@ -194,7 +195,7 @@ trace_next : (form : StrForm) (history : CacheHistory) (entry : CacheEntry) (tol
 trace_next form history entry (what.Lost cf) is trace = absurd is
 trace_next form history entry (what.Call asked) is trace =
     let added : CacheEntry = next_entry cache_meaning form history entry.by asked in
-    let next = trace-step form (replay cache_meaning form history) (held history) entry.by asked trace in
+    let next = trace-step form (replay cache_meaning form history) (copy_held history) entry.by asked trace in
     subst (λ (e : CacheEntry). HasTrace form (history ++ e ∷ [])) (sym is)
     (same_trace form _ _ _ _ (replay-push cache_meaning form history added) (held-push history added) next)
 

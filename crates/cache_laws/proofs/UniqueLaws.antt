@@ -17,7 +17,7 @@ use Rattle.engine_api.specs.declared.asks.What.TheVariants as what
 use Rattle.engine_api.specs.Machine.{Machine, opening, step, unless, content_done}
 use Rattle.engine_api.specs.Shapes.{shape_of}
 use Rattle.engine_api.specs.Shell.{content_cause}
-use Rattle.engine_api.specs.History.{after, after_what}
+use Rattle.engine_api.specs.History.{machine_after, after_what}
 use Rattle.list_laws.specs.Pairwise.{pairwise}
 use Rattle.list_laws.proofs.FilterLaws.{list_all_weaker, none_from_all, filter_none}
 use Rattle.cache_regs.specs.declared.registrations.Registration.{Registration}
@@ -101,12 +101,12 @@ registered_once conn name reg other here apart =
 abbrev pub IsSound : StrForm → Machine Content → Type 0
 IsSound form machine = IsContent form.caps machine.content
 
-sound_change : (form : StrForm) (before after : Machine Content) → Change before after → IsSound form before
-    → IsSound form after
-sound_change form before after (Same e) is = subst (IsContent form.caps) (sym e) is
-sound_change form before after (Without conn e) is =
+sound_change : (form : StrForm) (before later : Machine Content) → Change before later → IsSound form before
+    → IsSound form later
+sound_change form before later (Same e) is = subst (IsContent form.caps) (sym e) is
+sound_change form before later (Without conn e) is =
     subst (IsContent form.caps) (sym e) (leave-content form.caps before.content conn is)
-sound_change form before after (Cleared e gone) is = subst (IsContent form.caps) (sym e) (content-nothing form.caps)
+sound_change form before later (Cleared e gone) is = subst (IsContent form.caps) (sym e) (content-nothing form.caps)
 
 pub sound-step : (form : StrForm) (machine : Machine Content) (by : ConnId) (asked : Ask CacheCmd)
     → IsSound form machine
@@ -127,10 +127,11 @@ sound-after form machine by (what.Call asked) is = sound-step form machine by as
 sound-after form machine by (what.Lost cf) is = is
 
 sound-fold : (form : StrForm) (machine : Machine Content) (history : CacheHistory) → IsSound form machine
-    → IsSound form (fold (after cache_meaning form) machine history)
+    → IsSound form (fold (machine_after cache_meaning form) machine history)
 sound-fold form machine [] is = is
 sound-fold form machine (entry ∷ entries) is =
-    sound-fold form (after cache_meaning form machine entry) entries (sound-after form machine entry.by entry.what is)
+    sound-fold form (machine_after cache_meaning form machine entry) entries
+    (sound-after form machine entry.by entry.what is)
 
 -- after every history the directory and the registrations are a content
 pub content-after : (form : StrForm) (history : CacheHistory) → IsContent form.caps (content_after form history)

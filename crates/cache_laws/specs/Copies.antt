@@ -14,7 +14,7 @@ use Rattle.cache_model.specs.declared.items.CacheItem.{CacheItem}
 use Rattle.cache_model.specs.Meaning.{cache_meaning}
 use Rattle.cache_model.specs.Rows.{row_of}
 use Rattle.cache_model.specs.Runs.{Copy, row_copy, reply_copy}
-use Rattle.cache_laws.specs.Histories.{CacheEntry, CacheHistory, Accepted, accepted, content_after}
+use Rattle.cache_laws.specs.Histories.{CacheEntry, CacheHistory, Accepted, acceptance_of, content_after}
 
 -- what a READ at the index answered, or a WRITE there wrote: data with their adjunct, or no data
 abbrev pub copy_at : ℕ → CacheCmd → CacheReply → Option Copy
@@ -29,12 +29,12 @@ copy_of at told = option_and_then (λ told. copy_at at told.command told.answer)
 
 -- the copy that an entry brings to a connector's index, if it brings one
 abbrev pub copy_brought : ConnId → ℕ → CacheEntry → Option Copy
-copy_brought conn index entry = if entry.by.0 == conn.0 then copy_of index (accepted entry) else None
+copy_brought conn index entry = if entry.by.0 == conn.0 then copy_of index (acceptance_of entry) else None
 
 -- what a connector holds at an index: the copy that its last accepted READ or WRITE there brought; without one, no
 -- data
-abbrev pub held : CacheHistory → ConnId → ℕ → Copy
-held history conn index = fold (λ copy entry. unwrap_or (copy_brought conn index entry) copy) None history
+abbrev pub copy_held : CacheHistory → ConnId → ℕ → Copy
+copy_held history conn index = fold (λ copy entry. unwrap_or (copy_brought conn index entry) copy) None history
 
 -- the connector's bit at the index stands, and what it holds there is what the row of the registered name has
 pub record IsFresh (form : StrForm) (history : CacheHistory) (conn : ConnId) (index : ℕ) : Type 0 where
@@ -43,7 +43,7 @@ pub record IsFresh (form : StrForm) (history : CacheHistory) (conn : ConnId) (in
   pub stands : IsTrue (stands_after cache_meaning form history conn index)
   pub registered : registered_at (content_after form history).regs conn index ≡ Some name
   pub there : row_of name (content_after form history).rows ≡ Some row
-  pub same : held history conn index ≡ row_copy row
+  pub same : copy_held history conn index ≡ row_copy row
 
 -- an accepted READ of the registered name, asked next by anyone, is answered with what the connector holds
 pub record IsAsRead (form : StrForm) (history : CacheHistory) (conn : ConnId) (index : ℕ) : Type 0 where
@@ -51,7 +51,7 @@ pub record IsAsRead (form : StrForm) (history : CacheHistory) (conn : ConnId) (i
   pub registered : registered_at (content_after form history).regs conn index ≡ Some name
   pub same : (by : ConnId) (at : ℕ) (old : Option Name16) (stg : ℕ) (answer : CacheReply)
       → next_reply cache_meaning form history by (ask.Content (Read name at old stg)) ≡ reply.Content answer
-      → reply_copy answer ≡ held history conn index
+      → reply_copy answer ≡ copy_held history conn index
 
 -- a test that tells with the number n, to a connector that has seen the calls up to q complete, that its copy is
 -- fresh:

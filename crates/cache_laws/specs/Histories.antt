@@ -51,9 +51,9 @@ accepted_as (what.Call (ask.Content command)) (reply.Content answer) = Some
 accepted_as _ _ = None
 
 -- the accepted command that an entry tells, if it tells one
-abbrev pub accepted : CacheEntry → Option Accepted
-accepted entry = accepted_as entry.what entry.reply
+abbrev pub acceptance_of : CacheEntry → Option Accepted
+acceptance_of entry = accepted_as entry.what entry.reply
 
 -- the entry tells an accepted command of this sort
 abbrev pub is_accepted : (CacheCmd → Bool) → CacheEntry → Bool
-is_accepted is entry = unwrap_or (option_map (λ told. is told.command) (accepted entry)) false
+is_accepted is entry = unwrap_or (option_map (λ told. is told.command) (acceptance_of entry)) false

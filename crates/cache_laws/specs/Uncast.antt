@@ -18,7 +18,7 @@ use Rattle.cache_model.specs.declared.items.CacheItem.{CacheItem}
 use Rattle.engine_api.specs.History.{next_reply}
 use Rattle.cache_model.specs.Meaning.{cache_meaning}
 use Rattle.cache_model.specs.Rows.{row_of}
-use Rattle.cache_laws.specs.Histories.{CacheEntry, CacheHistory, accepted, is_accepted, content_after, StaysAllocated}
+use Rattle.cache_laws.specs.Histories.{CacheEntry, CacheHistory, acceptance_of, is_accepted, content_after, StaysAllocated}
 
 -- what a changed WRITE wrote: the data, the adjunct, and the castout class
 pub record Page : Type 0 where
@@ -36,7 +36,7 @@ page_in name _ = None
 
 -- what an accepted changed WRITE of the name wrote
 abbrev pub page_written : Name16 → CacheEntry → Option Page
-page_written name entry = option_and_then (λ told. page_in name told.command) (accepted entry)
+page_written name entry = option_and_then (λ told. page_in name told.command) (acceptance_of entry)
 
 abbrev pub is_changed_write : Name16 → CacheEntry → Bool
 is_changed_write name entry = is_some (page_written name entry)

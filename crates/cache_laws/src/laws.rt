@@ -7,7 +7,7 @@ ghost use Rattle.engine_api.specs.Meaning.{Held};
 ghost use Rattle.cache_model.specs.Contents.{Content, IsContent};
 ghost use Rattle.cache_model.specs.Meaning.{cache_meaning};
 ghost use Rattle.cache_model.specs.Runs.{Deed, Copies};
-ghost use Rattle.cache_laws.specs.Applied.{IsHeldAfter, applied, copies_then, uncast_then, AreFresh, AreKept};
+ghost use Rattle.cache_laws.specs.Applied.{IsHeldAfter, content_applied, copies_then, uncast_then, AreFresh, AreKept};
 ghost use Rattle.cache_laws.specs.Copies.{IsAsRead, IsFresh, TellsFresh};
 ghost use Rattle.cache_laws.specs.Histories.{IsLegalCache, content_after};
 ghost use Rattle.cache_laws.specs.Uncast.{HasPage, IsAnswered, IsUncast, Page};
@@ -68,9 +68,10 @@ pub fn uncast_kept(form: &StrForm, history: &History<CacheCmd, CacheReply>)
 pub fn after_apply()
     ensures fresh { (held : Held Content) (deeds : List Deed) (by : ConnId) (cmd : CacheCmd)
         (copies : Copies) → IsHeldAfter deeds held
-        → AreFresh (applied held by cmd) (copies_then held copies deeds by cmd) }
+        → AreFresh (content_applied held by cmd) (copies_then held copies deeds by cmd) }
     ensures kept { (held : Held Content) (deeds : List Deed) (by : ConnId) (cmd : CacheCmd)
-        → IsHeldAfter deeds held → AreKept (applied held by cmd) (uncast_then held deeds by cmd) }
+        → IsHeldAfter deeds held
+        → AreKept (content_applied held by cmd) (uncast_then held deeds by cmd) }
     ensures unique { (held : Held Content) (deeds : List Deed) (by : ConnId) (cmd : CacheCmd)
-        → IsHeldAfter deeds held → IsUnique (applied held by cmd) }
+        → IsHeldAfter deeds held → IsUnique (content_applied held by cmd) }
 {}

@@ -21,7 +21,7 @@ use Rattle.cache_regs.specs.Registrations.{is_of, is_at, is_for, is_replaced, re
 use Rattle.cache_regs.proofs.NameLaws.{same_name-eq, same_name-refl, same_name-sym}
 use Rattle.cache_model.specs.declared.items.CacheItem.{CacheItem}
 use Rattle.cache_model.specs.Rows.{is_row_of, is_changed, row_of, has_row, rows_without, stands_before, rows_replaced, new_row, row_or_new}
-use Rattle.cache_model.specs.Contents.{Content, IsContent, nothing, content_without, without_hold, is_among, rows_spared}
+use Rattle.cache_model.specs.Contents.{Content, IsContent, no_content, content_without, without_hold, is_among, rows_spared}
 use Rattle.cache_model.specs.Commands.Read as read
 use Rattle.cache_model.specs.Commands.Write as write
 use Rattle.cache_model.specs.Commands.Castout as castout
@@ -396,9 +396,12 @@ fresh_at rows copies conn index name (reg ∷ regs) all h =
 -- registered for a name is what the name's row has
 pub fresh-copy : (vector : ℕ) (caps : Caps) (copies : Copies) (deeds : List Deed) (conn : ConnId) (index : ℕ)
     (name : Name16)
-    → registered_at (after_run vector caps nothing deeds).regs conn index ≡ Some name
-    → copies_run vector caps nothing copies deeds conn index ≡ copy_in (after_run vector caps nothing deeds).rows name
+    → registered_at (after_run vector caps no_content deeds).regs conn index ≡ Some name
+    → copies_run vector caps no_content copies deeds conn index
+    ≡ copy_in (after_run vector caps no_content deeds).rows name
 fresh-copy vector caps copies deeds conn index name h =
-    fresh_at (after_run vector caps nothing deeds).rows (copies_run vector caps nothing copies deeds) conn index name
-    (after_run vector caps nothing deeds).regs (run_fresh vector caps nothing copies deeds (content-nothing caps) tt)
+    fresh_at (after_run vector caps no_content deeds).rows
+    (copies_run vector caps no_content copies deeds) conn index name
+    (after_run vector caps no_content deeds).regs (run_fresh vector caps no_content copies deeds
+    (content-nothing caps) tt)
     h

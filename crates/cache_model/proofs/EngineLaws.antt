@@ -14,18 +14,18 @@ use Rattle.cf_types.specs.declared.forms.Kind.TheVariants as kind
 use Rattle.cf_types.specs.declared.numbers.ConnId.{ConnId}
 use Rattle.cf_types.specs.declared.cache_commands.CacheCmd.{CacheCmd}
 use Rattle.engine_api.specs.declared.shapes.Shape.{Shape}
-use Rattle.engine_api.specs.Meaning.{stepped}
+use Rattle.engine_api.specs.Meaning.{step_result}
 use Rattle.engine_api.specs.Items.{Fits, IsNoMore, IsNoMoreOf}
 use Rattle.list_laws.specs.Pairwise.{pairwise}
 use Rattle.list_laws.proofs.PairwiseLaws.{pairwise_front}
 use Rattle.cache_model.specs.declared.items.CacheItem.{CacheItem}
 use Rattle.cache_model.specs.Rows.{is_row_of, elements_in, has_row, may_precede, names_apart, is_sound}
-use Rattle.cache_model.specs.Contents.{Content, IsContent, nothing, content_without, content_forgotten, content_with, content_without_last, need_of, without_hold}
+use Rattle.cache_model.specs.Contents.{Content, IsContent, no_content, content_without, content_forgotten, content_with, content_without_last, need_of, without_hold}
 use Rattle.cache_model.specs.Meaning.{cache_meaning}
 use Rattle.cache_model.proofs.RowLaws.{size, elements-without_hold}
 use Rattle.cache_model.proofs.ContentLaws as laws
 
-pub content-nothing : (caps : Caps) → IsContent caps nothing
+pub content-nothing : (caps : Caps) → IsContent caps no_content
 content-nothing caps =
     record {
       directory = record { ordered = refl; one_for_name = refl; sound = refl };
@@ -37,7 +37,7 @@ content-nothing caps =
 
 pub step-content : (shape : Shape) (caps : Caps) (content : Content) (by : ConnId) (cmd : CacheCmd)
     → IsContent caps content
-    → IsContent caps (stepped cache_meaning (record { shape = shape; caps = caps; state = content }) by cmd).state
+    → IsContent caps (step_result cache_meaning (record { shape = shape; caps = caps; state = content }) by cmd).state
 step-content shape caps content by cmd is = laws.content-step shape.vector caps content by cmd is
 
 pub leave-content : (caps : Caps) (content : Content) (conn : ConnId) → IsContent caps content
@@ -57,15 +57,15 @@ made-from content (item ∷ items) =
     made-from (content_with content item) items ∙ ap (λ (l : List CacheItem). record content { rows = l })
     (append_assoc content.rows (item ∷ []) items)
 
-pub made-items : (rows : List CacheItem) → fold content_with nothing rows ≡ record { rows = rows; regs = [] }
-made-items rows = made-from nothing rows
+pub made-items : (rows : List CacheItem) → fold content_with no_content rows ≡ record { rows = rows; regs = [] }
+made-items rows = made-from no_content rows
 
 last-away : (rows : List CacheItem) (item : CacheItem) → take (length (rows ++ item ∷ []) - 1) (rows ++ item ∷ []) ≡
     rows
 last-away rows item = take_at rows (item ∷ []) (length (rows ++ item ∷ []) - 1)
     (omega (arith, length-append rows (item ∷ [])))
 
-pub unplace-place : (content : Content) (item : CacheItem) → fold content_with nothing content.rows ≡ content
+pub unplace-place : (content : Content) (item : CacheItem) → fold content_with no_content content.rows ≡ content
     → content_without_last (content_with content item) ≡ content
 unplace-place content item made =
     let alone : content ≡ record { rows = content.rows; regs = [] } = sym made ∙ made-items content.rows in

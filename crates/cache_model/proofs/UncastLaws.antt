@@ -18,7 +18,7 @@ use Rattle.cache_model.specs.declared.items.CacheItem.{CacheItem}
 use Rattle.cache_model.specs.declared.items.Holder.{Holder}
 use Rattle.cache_model.specs.declared.requests.Request.{Request}
 use Rattle.cache_model.specs.Rows.{is_row_of, is_changed, is_held_by, row_of, rows_without, rows_replaced, new_row, row_or_new, IsDirectory}
-use Rattle.cache_model.specs.Contents.{Content, IsContent, nothing, without_hold, is_among, rows_spared}
+use Rattle.cache_model.specs.Contents.{Content, IsContent, no_content, without_hold, is_among, rows_spared}
 use Rattle.cache_model.specs.Room.{victims}
 use Rattle.cache_model.specs.Refusals.{entry_refusal, not_held_refusal, is_changed_row}
 use Rattle.cache_model.specs.Commands.Read as read
@@ -295,7 +295,8 @@ run_kept vector caps content uncast (deed ∷ deeds) is all =
 -- A changed WRITE: after every run from the empty content, a name whose last changed WRITE isn't cast out nor deleted
 -- has a changed row with what was written
 pub uncast-kept : (vector : ℕ) (caps : Caps) (deeds : List Deed) (name : Name16)
-    → Kept (row_of name (after_run vector caps nothing deeds).rows) (uncast_run vector caps nothing (λ n. None) deeds
+    → Kept (row_of name (after_run vector caps no_content deeds).rows)
+    (uncast_run vector caps no_content (λ n. None) deeds
     name)
-uncast-kept vector caps deeds name = run_kept vector caps nothing (λ n. None) deeds (content-nothing caps) (λ n. tt)
+uncast-kept vector caps deeds name = run_kept vector caps no_content (λ n. None) deeds (content-nothing caps) (λ n. tt)
     name

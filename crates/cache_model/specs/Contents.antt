@@ -14,8 +14,8 @@ pub record Content : Type 0 where
   pub rows : List CacheItem
   pub regs : List Registration
 
-abbrev pub nothing : Content
-nothing = record { rows = []; regs = [] }
+abbrev pub no_content : Content
+no_content = record { rows = []; regs = [] }
 
 -- rows and data within the capacity, and a row for each registration
 pub record IsContent (caps : Caps) (content : Content) : Type 0 where

@@ -7,7 +7,7 @@ use Rattle.std.proofs.lemmas.Map.Views.{any-filter_same}
 use Rattle.cf_types.specs.declared.names.Name16.{Name16}
 use Rattle.cf_types.specs.declared.numbers.ConnId.{ConnId}
 use Rattle.cf_types.specs.declared.effects.BitChange.{BitChange}
-use Rattle.cf_types.specs.Gains.{Gains, told, difference}
+use Rattle.cf_types.specs.Gains.{Gains, bits_told, difference}
 use Rattle.cf_types.proofs.GainsLaws.{Falls, gains_none, gains_one, gains_then}
 use Rattle.list_laws.specs.Pairwise.{pairwise}
 use Rattle.list_laws.specs.Insertions.{insertion}
@@ -38,26 +38,26 @@ none_later reg regs conn index ordered here =
 ended_step : (p : Registration → Bool) (conn : ConnId) (index : ℕ) (a b : Bool) (reg : Registration)
     (regs : List Registration)
     → is_at conn index reg ≡ a → p reg ≡ b → (a ≡ true → stands regs conn index ≡ false)
-    → told (map clear_change (filter p regs)) conn index ≡ difference (stands regs conn index)
+    → bits_told (map clear_change (filter p regs)) conn index ≡ difference (stands regs conn index)
     (stands (filter (λ r. not (p r)) regs) conn index)
-    → told (map clear_change (filter p (reg ∷ regs))) conn index
+    → bits_told (map clear_change (filter p (reg ∷ regs))) conn index
     ≡ difference (stands (reg ∷ regs) conn index) (stands (filter (λ r. not (p r)) (reg ∷ regs)) conn index)
 ended_step p conn index true true reg regs e f none ih =
     let gone : stands (filter (λ r. not (p r)) regs) conn index ≡ false = none-filter (is_at conn index)
     (λ r. not (p r)) regs (none refl) in
-    let quiet : told (map clear_change (filter p regs)) conn index ≡ [] = ih ∙ rw (none refl, gone) refl in
+    let quiet : bits_told (map clear_change (filter p regs)) conn index ≡ [] = ih ∙ rw (none refl, gone) refl in
     rw (f, e, gone, quiet) refl
 ended_step p conn index true false reg regs e f none ih =
     let gone : stands (filter (λ r. not (p r)) regs) conn index ≡ false = none-filter (is_at conn index)
     (λ r. not (p r)) regs (none refl) in
-    let quiet : told (map clear_change (filter p regs)) conn index ≡ [] = ih ∙ rw (none refl, gone) refl in
+    let quiet : bits_told (map clear_change (filter p regs)) conn index ≡ [] = ih ∙ rw (none refl, gone) refl in
     rw (f, e, quiet) refl
 ended_step p conn index false true reg regs e f none ih = rw (f, e) ih
 ended_step p conn index false false reg regs e f none ih = rw (f, e) ih
 
 ended_told : (p : Registration → Bool) (conn : ConnId) (index : ℕ) (regs : List Registration)
     → pairwise stands_before regs ≡ true
-    → told (map clear_change (filter p regs)) conn index ≡ difference (stands regs conn index)
+    → bits_told (map clear_change (filter p regs)) conn index ≡ difference (stands regs conn index)
     (stands (filter (λ r. not (p r)) regs) conn index)
 ended_told p conn index [] h = refl
 ended_told p conn index (reg ∷ regs) h =

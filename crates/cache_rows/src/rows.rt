@@ -8,7 +8,7 @@ ghost use Rattle.cache_model.specs.declared.items.CacheItem.{CacheItem};
 ghost use Rattle.cache_classes.specs.Castout.{names_set, names_without};
 ghost use Rattle.cache_reclaim.specs.LastUse.{order_without};
 ghost use Rattle.cache_rows.specs.Indexes.{order_with, reclaimed_for};
-ghost use Rattle.cache_model.specs.Contents.{is_among, rows_spared, without_hold};
+ghost use Rattle.cache_model.specs.Contents.{rows_spared, without_hold};
 
 use cache_classes::Classes;
 use cache_model::CacheItem;
@@ -146,13 +146,6 @@ fn put_row(rows: &mut Vec<CacheItem>, row: CacheItem)
     } else {
         rows.push_reserved(row);
     }
-}
-
-// Whether a name is among others.
-fn is_among(names: &[Name16], name: &Name16) -> bool
-    ensures { result ≡ is_among names.now name.now }
-{
-    names.iter().any(|other| *other == *name)
 }
 
 // Releases the castout lock of a row, where it is this connector's.

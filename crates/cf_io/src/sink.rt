@@ -22,7 +22,8 @@ pub trait Sink {
     /// `Failed` where the sink had a fault, or took none of the bytes. It holds what it held then.
     fn write(&mut self, from: &[u8]) -> Result<usize, Failed>
         ensures within { IfOk result (λ n. n ≤ length from.now) }
-        ensures taken { IfOk result (λ n. Appends (held self.old) (held self.new) (take n from.now)) }
+        ensures taken { IfOk result
+            (λ n. Appends (held self.old) (held self.new) (take n from.now)) }
         ensures some { IfOk result (λ n. 0 < length from.now → 0 < n) }
 
         ensures kept { OnErr result (Keeps (held self.old) (held self.new)) }

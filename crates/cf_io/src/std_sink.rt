@@ -28,7 +28,8 @@ impl<W: Write> Sink for StdSink<W> {
         ensures taken { IfOk result (λ n. Appends (W.contents self.old.inner)
             (W.contents self.new.inner) (take n from.now)) }
         ensures some { IfOk result (λ n. 0 < length from.now → 0 < n) }
-        ensures kept { OnErr result (Keeps (W.contents self.old.inner) (W.contents self.new.inner)) }
+        ensures kept { OnErr result
+            (Keeps (W.contents self.old.inner) (W.contents self.new.inner)) }
 
         // Each error counts, and nothing else does.
         ensures ok { OnOk result (self.new.faults ≡ self.old.faults) }

@@ -9,7 +9,7 @@ use Rattle.atomic_table.proofs.Lists.{at_set, at_snoc, set_else}
 use Rattle.atomic_table.specs.Table.{State, Me, Act, step, keeps, takes, gives, Valid, carried_after, homes_after}
 use Rattle.atomic_table.specs.Table.{put_back, Allows, Enters, Splits, Joins}
 use Rattle.cf_turn.specs.declared.turns.Stand.{Stand}
-use Rattle.cf_turn.specs.Turns.{waiting, having, spent, cut, both, turns_of, Knows, AllKnow, IsFree, IsTaken, Kept}
+use Rattle.cf_turn.specs.Turns.{stand_waiting, stand_in_turn, stand_spent, without_turns, both, turns_of, Knows, AllKnow, IsFree, IsTaken, Kept}
 use Rattle.cf_turn.specs.Turns.{Starts, Tries}
 
 module _ {K : Type 0} where
@@ -54,7 +54,7 @@ module _ {K : Type 0} where
   same key k e = ap (λ o. unwrap_or o key) e
 
   -- a seat that waits knows the key
-  knows : (key : K) → Knows key (waiting key)
+  knows : (key : K) → Knows key (stand_waiting key)
   knows key k e = sym (same key k e)
 
 module _ {V K : Type 0} (stands : K → V → Type 0) (key : K) where
@@ -66,9 +66,9 @@ module _ {V K : Type 0} (stands : K → V → Type 0) (key : K) where
 
   -- a load makes a seat
   pub enters : (n : ℕ) → Enters (Kept stands key) n 0
-      (λ found w. Starts {V = V} (step n 0 0 0 none) (waiting key, []) found (w, []))
+      (λ found w. Starts {V = V} (step n 0 0 0 none) (stand_waiting key, []) found (w, []))
   enters n s kept wide _ =
-      let w : Stand K = waiting key in let added = turns-snoc s.views w in (
+      let w : Stand K = stand_waiting key in let added = turns-snoc s.views w in (
         w,
         (
           know-snoc key s.views w kept.0 (knows key),
@@ -87,12 +87,13 @@ module _ {V K : Type 0} (stands : K → V → Type 0) (key : K) where
       let found = get_or ws 0 0 in let new = either (eqb found 0) 1 found in
       (w : Stand K) × (a : Act (Option V)) × Valid s.homes [] a × Kept stands key
       (hall (set ws 0 new) (homes_after s.homes [] a) (set s.views id w))
-      × Tries stands (step n 0 0 1 none) (waiting key, []) found (w, carried_after [] a)
+      × Tries stands (step n 0 0 1 none) (stand_waiting key, []) found (w, carried_after [] a)
 
-  goes-free : (n id : ℕ) (s : Hall) → AllKnow key s.views → get_elem? s.views id ≡ some (waiting key)
+  goes-free : (n id : ℕ) (s : Hall) → AllKnow key s.views → get_elem? s.views id ≡ some (stand_waiting key)
       → IsFree (stands key) s → Goes n id s (0 ∷ [])
   goes-free n id s all at free =
-      let w : Stand K = having key in let moved = turns-set s.views id (waiting key) w at in let none_before =
+      let w : Stand K = stand_in_turn key in let moved = turns-set s.views id (stand_waiting key) w at in
+      let none_before =
       free.1 in let there = free.2 in (
         w,
         takes 0 (Some there.0),
@@ -105,10 +106,10 @@ module _ {V K : Type 0} (stands : K → V → Type 0) (key : K) where
         ),
       )
 
-  goes-taken : (n id : ℕ) (s : Hall) → AllKnow key s.views → get_elem? s.views id ≡ some (waiting key) → IsTaken s
+  goes-taken : (n id : ℕ) (s : Hall) → AllKnow key s.views → get_elem? s.views id ≡ some (stand_waiting key) → IsTaken s
       → Goes n id s (1 ∷ [])
   goes-taken n id s all at taken =
-      let w : Stand K = waiting key in let moved = turns-set s.views id w w at in let one_before = taken.1 in (
+      let w : Stand K = stand_waiting key in let moved = turns-set s.views id w w at in let one_before = taken.1 in (
         w,
         keeps,
         tt,
@@ -117,7 +118,7 @@ module _ {V K : Type 0} (stands : K → V → Type 0) (key : K) where
       )
 
   -- an attempt keeps the rule
-  pub tries : (n id : ℕ) (me : Mine) → me ≡ (waiting key, [])
+  pub tries : (n id : ℕ) (me : Mine) → me ≡ (stand_waiting key, [])
       → Allows (Kept stands key) n id me 0 (λ found. either (eqb found 0) 1 found)
       (Tries stands (step n 0 0 1 none) me)
   tries n id me e = subst (λ (x : Mine). Allows (Kept stands key) n id x 0 (λ found. either (eqb found 0) 1 found)
@@ -131,7 +132,7 @@ module _ {V K : Type 0} (stands : K → V → Type 0) (key : K) where
       → stands key value
       → Allows (Kept stands key) n id me 0 (λ _. 0) (λ _ after. after.0.turns ≡ 0)
   gives-back n id me value one out ok s kept wide at _ =
-      let w : Stand K = waiting key in let moved = turns-set s.views id me.0 w at in (
+      let w : Stand K = stand_waiting key in let moved = turns-set s.views id me.0 w at in (
         w,
         gives,
         tt,
@@ -150,11 +151,12 @@ module _ {V K : Type 0} (stands : K → V → Type 0) (key : K) where
       )
 
   -- a seat is cut in two: one without the turns, and one with them
-  pub splits : (id : ℕ) (v : Stand K) → Splits (Kept stands key) id v (cut v) v
+  pub splits : (id : ℕ) (v : Stand K) → Splits (Kept stands key) id v (without_turns v) v
   splits id v s kept at =
-      let vs = s.views in let moved = turns-set vs id v (cut v) at in let added = turns-snoc (set vs id (cut v)) v in
+      let vs = s.views in let moved = turns-set vs id v (without_turns v) at in let added =
+      turns-snoc (set vs id (without_turns v)) v in
       let ours : Knows key v = kept.0 id v at in (
-        know-snoc key (set vs id (cut v)) v (know-set key vs id (cut v) kept.0 ours) ours,
+        know-snoc key (set vs id (without_turns v)) v (know-set key vs id (without_turns v) kept.0 ours) ours,
         ⊎_elim (λ (t : IsFree (stands key) s). let none_before = t.1 in inl (t.0, omega arith, t.2))
             (λ (t : IsTaken s). let one_before = t.1 in inr (t.0, omega arith, t.2)) kept.1,
       )
@@ -166,15 +168,15 @@ module _ {V K : Type 0} (stands : K → V → Type 0) (key : K) where
 
   -- so two seats that have the turn can't be joined
   pub joins : (id : ℕ) (v : Stand K) (other : ℕ) (w : Stand K) → v.turns ≡ 1 → w.turns ≡ 1
-      → Joins (Kept stands key) id v other w (both v w) spent
+      → Joins (Kept stands key) id v other w (both v w) stand_spent
   joins id v other w one two s kept at apart there =
-      let vs : List (Stand K) = set s.views id spent in let was =
+      let vs : List (Stand K) = set s.views id stand_spent in let was =
       sym (set_else s.views id other (both v w) apart) ∙ there in
-      let moved = turns-set s.views id v spent at in let gone =
-      turns-set vs other w spent (set_else s.views id other spent apart ∙ was) in
+      let moved = turns-set s.views id v stand_spent at in let gone =
+      turns-set vs other w stand_spent (set_else s.views id other stand_spent apart ∙ was) in
       let most = few s kept in absurd (omega arith)
 
   -- and no seat has two turns
   pub never : (n id : ℕ) (me : Mine) → 1 < me.0.turns → Allows (Kept stands key) n id me 0 (λ found. found) (λ _ _. ⊥)
-  never n id me two s kept wide at _ = let moved = turns-set s.views id me.0 spent at in let most =
+  never n id me two s kept wide at _ = let moved = turns-set s.views id me.0 stand_spent at in let most =
       few s kept in absurd (omega arith)

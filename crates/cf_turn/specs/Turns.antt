@@ -7,20 +7,20 @@ use Rattle.cf_turn.specs.declared.turns.Stand.{Stand}
 
 module _ {K : Type 0} where
   -- a seat that has no turn
-  abbrev pub waiting : K → Stand K
-  waiting key = record { turns = 0; key = Some key }
+  abbrev pub stand_waiting : K → Stand K
+  stand_waiting key = record { turns = 0; key = Some key }
 
   -- a seat that has the turn
-  abbrev pub having : K → Stand K
-  having key = record { turns = 1; key = Some key }
+  abbrev pub stand_in_turn : K → Stand K
+  stand_in_turn key = record { turns = 1; key = Some key }
 
   -- a seat that another took in
-  abbrev pub spent : Stand K
-  spent = record { turns = 0; key = None }
+  abbrev pub stand_spent : Stand K
+  stand_spent = record { turns = 0; key = None }
 
   -- a seat without its turns
-  abbrev pub cut : Stand K → Stand K
-  cut v = record { turns = 0; key = v.key }
+  abbrev pub without_turns : Stand K → Stand K
+  without_turns v = record { turns = 0; key = v.key }
 
   -- a seat with the turns of two
   abbrev pub both : Stand K → Stand K → Stand K
@@ -62,7 +62,7 @@ module _ {V K : Type 0} where
 
   -- a new seat knows what the first one did, and has no turn
   abbrev pub Starts : Step (Option V) → Me (Option V) (Stand K) → ℕ → Me (Option V) (Stand K) → Type 0
-  Starts s before found after = after.0 ≡ cut before.0
+  Starts s before found after = after.0 ≡ without_turns before.0
 
   -- where 0 was found the seat has the turn, and a value that stands to the key; else it is as it was
   abbrev pub Tries : (K → V → Type 0) → Step (Option V) → Me (Option V) (Stand K) → ℕ → Me (Option V) (Stand K)

@@ -1,6 +1,6 @@
 // The lock and its ticket.
 ghost use Rattle.std.specs.Prelude.{◌≡◌, [], true, false, IfOk, IfErr};
-ghost use Rattle.cf_turn.specs.Turns.{waiting, HasTurn, HasValue};
+ghost use Rattle.cf_turn.specs.Turns.{stand_waiting, HasTurn, HasValue};
 
 use crate::keeps::{Boxed, Keeps};
 use crate::turns::{Back, Stand, Start, Try, Turns, Two};
@@ -134,7 +134,7 @@ impl<F: Keeps> KeyLock<F> {
     // Comes to the lock, with no turn yet.
     fn enter(&self) -> Seat<Option<F::Value>, Stand<F::Key>>
         ensures name { result.table_id ≡ self.now.name }
-        ensures waits { result.me ≡ (waiting self.now.key, []) }
+        ensures waits { result.me ≡ (stand_waiting self.now.key, []) }
     {
         self.table.shared.load_new_seat::<Start>(0).1
     }
@@ -157,7 +157,7 @@ impl<F: Keeps> KeyLock<F> {
     // Tries for the turn once. True if it came.
     fn try_turn(&self, seat: &mut Seat<Option<F::Value>, Stand<F::Key>>) -> bool
         requires name { seat.old.table_id ≡ self.now.name }
-        requires waits { seat.old.me ≡ (waiting self.now.key, []) }
+        requires waits { seat.old.me ≡ (stand_waiting self.now.key, []) }
         ensures name { seat.new.table_id ≡ seat.old.table_id }
         ensures won { result ≡ true → HasValue (F.stands self.now.key) seat.new.me }
         ensures lost { result ≡ false → seat.new.me ≡ seat.old.me }

@@ -1,6 +1,6 @@
 // The rule of the lock's table, and what each step on its word tells.
 ghost use Rattle.std.specs.Prelude.{◌≡◌, None};
-ghost use Rattle.cf_turn.specs.Turns.{Kept, waiting, spent, cut, both, Starts, Tries};
+ghost use Rattle.cf_turn.specs.Turns.{Kept, stand_waiting, stand_spent, without_turns, both, Starts, Tries};
 
 use crate::keeps::Keeps;
 use atomic_table::{Join, Play, Split, TableRule};
@@ -23,7 +23,7 @@ pub struct Turns<F> {
 impl<F: Keeps> TableRule<Option<F::Value>, Stand<F::Key>, Snapshot<F::Value>> for Turns<F> {
     ghost holds = { λ start. Kept F.stands (F.key_of start.value) };
 
-    ghost first = { λ start. waiting (F.key_of start.value) };
+    ghost first = { λ start. stand_waiting (F.key_of start.value) };
 }
 
 /// A seat is made, with no turn.
@@ -53,7 +53,7 @@ impl<V, K> Play<Option<V>, Stand<K>> for Back {
 pub struct Two;
 
 impl<K> Split<Stand<K>> for Two {
-    ghost left = { cut };
+    ghost left = { without_turns };
 
     ghost right = { λ v. v };
 }
@@ -61,7 +61,7 @@ impl<K> Split<Stand<K>> for Two {
 impl<K> Join<Stand<K>> for Two {
     ghost both = { both };
 
-    ghost spent = { spent };
+    ghost spent = { stand_spent };
 }
 
 impl<V, K> Play<Option<V>, Stand<K>> for Two {

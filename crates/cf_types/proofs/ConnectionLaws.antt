@@ -10,7 +10,7 @@ use Rattle.cf_types.specs.declared.numbers.ConnId.{ConnId}
 use Rattle.cf_types.specs.declared.connections.ConnState.{ConnState}
 use Rattle.cf_types.specs.declared.connections.ConnState.TheVariants.{Active, Leaving, Failed}
 use Rattle.cf_types.specs.ConnSets.{is_member, with_member, without_member}
-use Rattle.cf_types.specs.Connections.{Connections, unconnected, state_of, is_active_state, is_leaving_state, is_failed_state, is_active, is_leaving, is_failed, is_gone, actives, defined_count, awaited_by, departed_state, excused_state, with_connect, with_departure, with_answer, with_forced, AreConnections}
+use Rattle.cf_types.specs.Connections.{Connections, no_connections, state_of, is_active_state, is_leaving_state, is_failed_state, is_active, is_leaving, is_failed, is_gone, actives, defined_count, awaited_by, departed_state, excused_state, with_connect, with_departure, with_answer, with_forced, AreConnections}
 use Rattle.cf_types.proofs.ConnSetLaws.{filter_agree_from, filter_none_from, is_member-without_member_same, is_member-from, with_member-from, without_member-from}
 
 -- ---- one connector's state
@@ -95,8 +95,8 @@ nobody zero at = refl
 nobody (suc n) zero = refl
 nobody (suc n) (suc at) = nobody n at
 
-pub state_of-unconnected : (conn : ConnId) → state_of unconnected conn ≡ None
-unfolding unconnected
+pub state_of-unconnected : (conn : ConnId) → state_of no_connections conn ≡ None
+unfolding no_connections
 state_of-unconnected conn = nobody 33 conn.0
 
 pub state_of-with_connect_same : (conn : ConnId) (keep : Bool) (conns : Connections) → conn.0 < length conns
@@ -154,9 +154,9 @@ pub is_member-actives : (conns : Connections) (conn : ConnId) → conn.0 < 33
 unfolding actives
 is_member-actives conns conn within = is_member-from (is_active conns) conn 0 33 (omega arith) within
 
-pub actives-unconnected : actives unconnected ≡ []
+pub actives-unconnected : actives no_connections ≡ []
 unfolding actives
-actives-unconnected = filter_none_from (is_active unconnected) 0 33
+actives-unconnected = filter_none_from (is_active no_connections) 0 33
     (λ c low high. ap is_active_state (state_of-unconnected c))
 
 -- a departing connector is active no more
@@ -268,8 +268,8 @@ with_answer-same by about conns idle =
 
 -- ---- how many are defined
 
-pub defined_count-unconnected : defined_count unconnected ≡ 0
-unfolding unconnected
+pub defined_count-unconnected : defined_count no_connections ≡ 0
+unfolding no_connections
 defined_count-unconnected = refl
 
 -- a state in place of another
@@ -379,8 +379,8 @@ gone_excused : (conn : ConnId) (state : Option ConnState) → IsTrue (is_none st
 gone_excused conn (Some state) gone = absurd (false≢true gone)
 gone_excused conn None gone = refl
 
-pub AreConnections-unconnected : AreConnections unconnected
-unfolding unconnected
+pub AreConnections-unconnected : AreConnections no_connections
+unfolding no_connections
 AreConnections-unconnected = record { places = refl; operator = refl }
 
 pub AreConnections-with_connect : (conn : ConnId) (keep : Bool) (conns : Connections) → 1 ≤ conn.0

@@ -5,7 +5,7 @@ use Rattle.std.proofs.lemmas.List.Elements.{filter-append}
 use Rattle.std.proofs.lemmas.Bool.Decides.{nat_tests}
 use Rattle.cf_types.specs.declared.numbers.ConnId.{ConnId}
 use Rattle.cf_types.specs.declared.effects.BitChange.{BitChange}
-use Rattle.cf_types.specs.Gains.{Bits, Gains, is_for, told, difference}
+use Rattle.cf_types.specs.Gains.{Bits, Gains, is_for, bits_told, difference}
 
 difference_none : (b : Bool) → [] ≡ difference b b
 difference_none false = refl
@@ -22,7 +22,7 @@ gains_none before after bits same =
     }
 
 pub told-append : (xs ys : List BitChange) (conn : ConnId) (index : ℕ)
-    → told (xs ++ ys) conn index ≡ told xs conn index ++ told ys conn index
+    → bits_told (xs ++ ys) conn index ≡ bits_told xs conn index ++ bits_told ys conn index
 told-append xs ys conn index =
     ap (map (λ (change : BitChange). change.bit)) (filter-append (is_for conn index) xs ys)
     ∙ map-append (λ (change : BitChange). change.bit) (filter (is_for conn index) xs) (filter (is_for conn index) ys)
@@ -80,12 +80,12 @@ difference_changed true true h = absurd (h refl)
 told_one : (by conn : ConnId) (index i : ℕ) (before after : Bits)
     → (before by index ≡ after by index → ⊥)
     → ((by.0 == conn.0) && (index == i) ≡ false → after conn i ≡ before conn i)
-    → told (record { conn = by; index = index; bit = after by index } ∷ []) conn i ≡ difference (before conn i)
+    → bits_told (record { conn = by; index = index; bit = after by index } ∷ []) conn i ≡ difference (before conn i)
     (after conn i)
 told_one by conn index i before after changed others = go ((by.0 == conn.0) && (index == i)) refl
   where
     go : (b : Bool) → (by.0 == conn.0) && (index == i) ≡ b
-        → told (record { conn = by; index = index; bit = after by index } ∷ []) conn i ≡ difference (before conn i)
+        → bits_told (record { conn = by; index = index; bit = after by index } ∷ []) conn i ≡ difference (before conn i)
         (after conn i)
     go true same =
         let conns : by.0 ≡ conn.0 = both_left by.0 conn.0 index i same in

@@ -10,8 +10,8 @@ abbrev pub Connections : Type 0
 Connections = List (Option ConnState)
 
 -- nobody is connected
-unfoldable pub unconnected : Connections
-unconnected = replicate 33 None
+unfoldable pub no_connections : Connections
+no_connections = replicate 33 None
 
 abbrev pub state_of : Connections → ConnId → Option ConnState
 state_of conns conn = unwrap_or (slice_get conns conn.0) None

@@ -2,5 +2,5 @@
 use Rattle.std.specs.Prelude.{ℕ, ◌-◌, List, ◌++◌, length, replicate}
 
 -- 64 bytes: those of the adjunct, then zeros
-abbrev pub filled : List ℕ → List ℕ
-filled text = text ++ replicate (64 - length text) 0
+abbrev pub adjunct_block : List ℕ → List ℕ
+adjunct_block text = text ++ replicate (64 - length text) 0

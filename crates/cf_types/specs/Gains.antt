@@ -11,8 +11,8 @@ abbrev pub is_for : ConnId → ℕ → BitChange → Bool
 is_for conn index change = (change.conn.0 == conn.0) && (change.index == index)
 
 -- the values told of one bit, in order
-abbrev pub told : List BitChange → ConnId → ℕ → List Bool
-told changes conn index = map (λ change. change.bit) (filter (is_for conn index) changes)
+abbrev pub bits_told : List BitChange → ConnId → ℕ → List Bool
+bits_told changes conn index = map (λ change. change.bit) (filter (is_for conn index) changes)
 
 -- what is to be told of a bit: its new value where it changed, and else nothing
 abbrev pub difference : Bool → Bool → List Bool
@@ -25,5 +25,5 @@ difference Bool.true Bool.true = []
 pub record Gains (before after : Bits) (old new : List BitChange) : Type 0 where
   pub added : List BitChange
   pub behind : new ≡ old ++ added
-  pub exactly : (conn : ConnId) (index : ℕ) → told added conn index ≡ difference (before conn index)
+  pub exactly : (conn : ConnId) (index : ℕ) → bits_told added conn index ≡ difference (before conn index)
       (after conn index)

@@ -25,13 +25,13 @@ IsFaultOf limit text (TooLong len) = (limit < length text) × (len ≡ length te
 IsFaultOf limit text (BadName at) = (length text ≤ limit) × (fault_at text ≡ Some at)
 
 -- names and keys have 16 bytes: the text, then blanks
-abbrev pub padded : List ℕ → List ℕ
-padded text = text ++ replicate (16 - length text) 32
+abbrev pub block_of : List ℕ → List ℕ
+block_of text = text ++ replicate (16 - length text) 32
 
 -- the text of a name or a key of 16 bytes
-abbrev pub unpadded : List ℕ → List ℕ
-unpadded bytes = take_while (λ b. not (b == 32)) bytes
+abbrev pub text_in_block : List ℕ → List ℕ
+text_in_block bytes = take_while (λ b. not (b == 32)) bytes
 
 -- 16 bytes that are a name or a key
 abbrev pub IsPadded : List ℕ → Type 0
-IsPadded bytes = IsTerm 16 (unpadded bytes) × (bytes ≡ padded (unpadded bytes))
+IsPadded bytes = IsTerm 16 (text_in_block bytes) × (bytes ≡ block_of (text_in_block bytes))

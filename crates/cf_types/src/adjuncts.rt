@@ -1,6 +1,6 @@
 ghost use Rattle.std.specs.Prelude.{◌≡◌, ◌↔◌, ℕ, ◌≤◌, length, IsOk, IfOk, IfErr};
 ghost use Rattle.cf_types.specs.Term.{IsTerm, IsFaultOf};
-ghost use Rattle.cf_types.specs.Filled.{filled};
+ghost use Rattle.cf_types.specs.Filled.{adjunct_block};
 
 use crate::names::{NameFault, checked};
 use std::marker::Model;
@@ -21,13 +21,13 @@ impl Model for Adjunct {
 
     ghost Value = { List ℕ };
 
-    ghost use Rattle.cf_types.specs.AdjunctBytes.{IsFilled, refilled, refilled-take};
+    ghost use Rattle.cf_types.specs.AdjunctBytes.{IsFilled, adjunct_inside, refilled-take};
 
     ghost view = { λ a. take a.len a.bytes };
 
     ghost invariant = { IsFilled };
 
-    ghost inverse = { refilled };
+    ghost inverse = { adjunct_inside };
 
     ghost inverse_ok = { refilled-take };
 }
@@ -58,7 +58,7 @@ pub fn parse_adjunct(text: &[u8]) -> Result<Adjunct, NameFault>
 // The text, which has at most 64 bytes, and zeros behind it.
 fn filled_bytes(text: &[u8]) -> [u8; 64]
     requires { length text.now ≤ 64 }
-    ensures { result ≡ filled text.now }
+    ensures { result ≡ adjunct_block text.now }
 {
     let mut bytes = [0; 64];
     let (front, _) = bytes.split_at_mut(text.len());

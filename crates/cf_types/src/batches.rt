@@ -13,9 +13,9 @@ pub struct Batch<T> {
 impl<T> Model for Batch<T> {
     ghost use Rattle.std.specs.Prelude.{◌-◌};
     ghost use Rattle.std.specs.Vec.{vec_len, vec_capacity};
-    ghost use Rattle.cf_types.specs.Batch.{Batched};
+    ghost use Rattle.cf_types.specs.Batch.{BatchView};
 
-    ghost Value = { Batched T };
+    ghost Value = { BatchView T };
 
     ghost view = { λ b. record {
       items = b.items.items;

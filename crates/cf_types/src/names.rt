@@ -1,5 +1,5 @@
 ghost use Rattle.std.specs.Prelude.{◌≡◌, ◌↔◌, ℕ, ◌≤◌, length, not, position, IsOk, IfOk, IfErr};
-ghost use Rattle.cf_types.specs.Term.{IsTerm, IsFaultOf, padded, term_byte};
+ghost use Rattle.cf_types.specs.Term.{IsTerm, IsFaultOf, block_of, term_byte};
 
 /// A name of 1 to 16 term characters, padded with blanks to 16 bytes. Names stand in the order of
 /// their bytes.
@@ -54,7 +54,7 @@ pub(crate) fn checked(text: &[u8], limit: usize) -> Result<(), NameFault>
 // The text, which has at most 16 bytes, and blanks behind it.
 fn padded_bytes(text: &[u8]) -> [u8; 16]
     requires { length text.now ≤ 16 }
-    ensures { result ≡ padded text.now }
+    ensures { result ≡ block_of text.now }
 {
     let mut bytes = [b' '; 16];
     let (front, _) = bytes.split_at_mut(text.len());
@@ -65,7 +65,7 @@ fn padded_bytes(text: &[u8]) -> [u8; 16]
 /// Reads a name of a cache entry or a list record: 1 to 16 term characters.
 pub fn parse_name(text: &[u8]) -> Result<Name16, NameFault>
     ensures term { IsOk result ↔ IsTerm 16 text.now }
-    ensures name { IfOk result (λ name. name.0 ≡ padded text.now) }
+    ensures name { IfOk result (λ name. name.0 ≡ block_of text.now) }
     ensures fault { IfErr result (IsFaultOf 16 text.now) }
 {
     checked(text, 16)?;
@@ -75,7 +75,7 @@ pub fn parse_name(text: &[u8]) -> Result<Name16, NameFault>
 /// Reads a list key: 1 to 16 term characters.
 pub fn parse_key(text: &[u8]) -> Result<Key16, NameFault>
     ensures term { IsOk result ↔ IsTerm 16 text.now }
-    ensures key { IfOk result (λ key. key.0 ≡ padded text.now) }
+    ensures key { IfOk result (λ key. key.0 ≡ block_of text.now) }
     ensures fault { IfErr result (IsFaultOf 16 text.now) }
 {
     checked(text, 16)?;

@@ -1,6 +1,6 @@
 ghost use Rattle.std.specs.Prelude.{◌≡◌, ◌↔◌, ◌<◌, ◌≤◌, ◌||◌, IsTrue};
 ghost use Rattle.cf_types.specs.Forms.{IsConnector};
-ghost use Rattle.cf_types.specs.Connections.{unconnected, state_of, is_active, is_failed, is_gone, actives, defined_count, with_connect, with_departure, with_answer, with_forced, AreConnections};
+ghost use Rattle.cf_types.specs.Connections.{no_connections, state_of, is_active, is_failed, is_gone, actives, defined_count, with_connect, with_departure, with_answer, with_forced, AreConnections};
 
 use crate::departures::{departed_state, excuse, excused_state};
 use cf_types::{ConnId, ConnSet, ConnState};
@@ -29,7 +29,7 @@ impl Model for Conns {
 impl Conns {
     /// Nobody is connected.
     pub fn new() -> Conns
-        ensures { result ≡ unconnected }
+        ensures { result ≡ no_connections }
     {
         Conns {
             states: [None; PLACES],

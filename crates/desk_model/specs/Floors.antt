@@ -56,13 +56,13 @@ abbrev pub heard_from : Floor → ConnId → StrNo → Option ConnId → AtWork 
 heard_from floor by on None worker = worker
 heard_from floor by on (Some other) worker = if other.0 == by.0 then worker else told_by floor on other worker
 
-abbrev pub heard : Floor → ConnId → AtWork → StrNo → AtWork
-heard floor by worker on = heard_from floor by on (slice_index_or floor.last on.0 None) worker
+abbrev pub heard_from_last : Floor → ConnId → AtWork → StrNo → AtWork
+heard_from_last floor by worker on = heard_from floor by on (slice_index_or floor.last on.0 None) worker
 
 -- the same at every structure
 abbrev pub heard_all : {L : Type 0} → BoardShown L → Floor → ConnId → AtWork
 heard_all board floor by =
-    fold (λ worker place. heard floor by worker (record { 0 = place })) (worker_of floor by)
+    fold (λ worker place. heard_from_last floor by worker (record { 0 = place })) (worker_of floor by)
     (range_with_len 0 (length board.cells))
 
 -- ---- lines
@@ -79,15 +79,16 @@ is_counted form act.Take = false
 
 -- the structure's note in the tray is told to the caller, and the number of a call that it has now seen complete is
 -- shown
-abbrev pub taken : StrNo → Option NoteShown → AtWork → AtWork
-taken on note worker =
+abbrev pub worker_after_take : StrNo → Option NoteShown → AtWork → AtWork
+worker_after_take on note worker =
     let pass = with_any_note note (pass_at worker.desk on) in
     record { desk = with_pass on pass worker.desk; shown = with_item (shown.Took on pass.sure) worker.shown }
 
 -- the worker as it begins a line, and who has acted last once the line is done
-abbrev pub ready : StrForm → Line → Floor → AtWork
-ready form line floor =
-    if is_counted form line.act then heard floor line.by (worker_of floor line.by) line.on else worker_of floor
+abbrev pub worker_ready : StrForm → Line → Floor → AtWork
+worker_ready form line floor =
+    if is_counted form line.act then heard_from_last floor line.by (worker_of floor line.by) line.on
+    else worker_of floor
     line.by
 
 abbrev pub last_after : StrForm → Line → Floor → List (Option ConnId)
@@ -101,9 +102,10 @@ PlaysAct cell line act.Post before after =
       tray = slice_set before.tray line.on.0 (Some (note_of (pass_at (worker_of before line.by).desk line.on)));
     })
 PlaysAct cell line act.Take before after =
-    after ≡ with_worker line.by (taken line.on (note_in before.tray line.on) (worker_of before line.by)) before
+    after ≡ with_worker line.by (worker_after_take line.on (note_in before.tray line.on)
+    (worker_of before line.by)) before
 PlaysAct cell line some before after =
-    (worker : AtWork) × Turns cell.limit cell.form line (ready cell.form line before) worker
+    (worker : AtWork) × Turns cell.limit cell.form line (worker_ready cell.form line before) worker
     × (after ≡ record (with_worker line.by worker before) { last = last_after cell.form line before })
 
 -- the caller's work goes on

@@ -18,7 +18,7 @@ use Rattle.plex_script.specs.declared.transcripts.AgentEnd.TheVariants as ended
 use Rattle.plex_script.specs.declared.transcripts.Shown.{Shown}
 use Rattle.plex_script.specs.declared.transcripts.Shown.TheVariants as shown
 use Rattle.plex_script.specs.declared.transcripts.Transcript.{Transcript}
-use Rattle.plex_script.specs.Agent.{first_step, step_after, asked_by, common}
+use Rattle.plex_script.specs.Agent.{first_step, step_after, asked_by, shell_ask}
 use Rattle.plex_script.specs.Heard.{is_linked}
 use Rattle.vec_words.specs.Logged.{indices_of, sight}
 use Rattle.any_model.specs.Kinds.{MayAskAny}
@@ -164,5 +164,5 @@ Turns limit form line before after =
 abbrev pub Departs : ℕ → StrForm → StrNo → AtWork → AtWork → Type 0
 Departs limit form on before after = IfDone before after
     (MatchBool (is_linked (pass_at before.desk on).calls)
-    (Asks limit form.kind (Some (common form.kind cmd.Disconnect)) on (step.Call 0) before after)
+    (Asks limit form.kind (Some (shell_ask form.kind cmd.Disconnect)) on (step.Call 0) before after)
     (after ≡ before))

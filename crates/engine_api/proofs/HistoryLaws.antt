@@ -11,7 +11,7 @@ use Rattle.engine_api.specs.declared.asks.What.TheVariants as what
 use Rattle.engine_api.specs.declared.histories.Entry.{Entry}
 use Rattle.engine_api.specs.Meaning.{Meaning}
 use Rattle.engine_api.specs.Machine.{opening}
-use Rattle.engine_api.specs.History.{Call, call_of, calls, numbers, own, losses_after, AreGroupsAfter, after, replay, next_entry, next, next_reply, IsNext, IsNextAs, IsLegal, Continues, IsPoint}
+use Rattle.engine_api.specs.History.{Call, call_of, calls, numbers, own, losses_after, AreGroupsAfter, machine_after, replay, next_entry, next, next_reply, IsNext, IsNextAs, IsLegal, Continues, IsPoint}
 use Rattle.engine_api.proofs.Pushed.{pushed_cases, get_front}
 
 -- ---- calls
@@ -39,8 +39,8 @@ module _ {C R I S : Type 0} (meaning : Meaning C R I S) (form : StrForm) where
   -- ---- replay
 
   pub replay-push : (history : List (Entry C R)) (entry : Entry C R)
-      → replay meaning form (history ++ entry ∷ []) ≡ after meaning form (replay meaning form history) entry
-  replay-push history entry = fold_push (after meaning form) (opening meaning form) history entry
+      → replay meaning form (history ++ entry ∷ []) ≡ machine_after meaning form (replay meaning form history) entry
+  replay-push history entry = fold_push (machine_after meaning form) (opening meaning form) history entry
 
   -- ---- legality
 

@@ -16,7 +16,7 @@ use Rattle.cf_types.specs.declared.refusals.Refusal.TheVariants as refusal
 use Rattle.cf_types.specs.declared.shell_commands.ShellCmd.{ShellCmd}
 use Rattle.cf_types.specs.declared.shell_commands.ShellCmd.TheVariants as cmd
 use Rattle.cf_types.specs.declared.shell_commands.ShellReply.TheVariants as answer
-use Rattle.cf_types.specs.Connections.{Connections, unconnected, state_of, is_active_state, is_active, excused_state, with_connect, with_departure, with_forced}
+use Rattle.cf_types.specs.Connections.{Connections, no_connections, state_of, is_active_state, is_active, excused_state, with_connect, with_departure, with_forced}
 use Rattle.cf_types.specs.Mailboxes.{next_event, owed_event}
 use Rattle.cf_types.proofs.ConnectionLaws.{state_of-with_connect_same, state_of-with_connect_other, state_of-with_forced_same, state_of-with_forced_other, is_active-with_departure_same, is_active-with_departure_other, is_active-with_answer, state_of-unconnected}
 use Rattle.engine_api.specs.declared.asks.Ask.{Ask}
@@ -27,12 +27,12 @@ use Rattle.engine_api.specs.declared.asks.Reply.{Reply}
 use Rattle.engine_api.specs.declared.asks.Reply.TheVariants as reply
 use Rattle.engine_api.specs.declared.histories.Entry.{Entry}
 use Rattle.engine_api.specs.Asking.{MayAsk, MayCommand, IsBuilt}
-use Rattle.engine_api.specs.History.{Call, own, after_what, after, replay, next_entry, next, next_reply}
+use Rattle.engine_api.specs.History.{Call, own, after_what, machine_after, replay, next_entry, next, next_reply}
 use Rattle.engine_api.specs.Instances.{no_instance}
-use Rattle.engine_api.specs.Machine.{Machine, Answered, opening, refusing, unless, content_reply, content_done, capacity, leaving, command_done, step}
+use Rattle.engine_api.specs.Machine.{Machine, CallOutcome, opening, refusal_outcome, unless, content_reply, content_done, capacity, departure_from, command_done, step}
 use Rattle.engine_api.specs.Meaning.{Meaning, Outcome, first_refusal, unless_refused}
-use Rattle.engine_api.specs.Shell.{Shell, Acted, unless_active, unless_failed, shell_cause, content_cause, shell_done, leaver, posting, no_deeds, goes, unless_gone, made_at, facility_of, connecting, connect, depart, answering, take_event, respond, force_connection, is_kept, is_built}
-use Rattle.engine_api.specs.Told.{link_of, told}
+use Rattle.engine_api.specs.Shell.{Shell, ShellOutcome, unless_active, unless_failed, shell_cause, content_cause, shell_done, leaver, with_posted, no_deeds, goes, unless_gone, made_at, facility_of, connected_shell, connect_outcome, departure_outcome, conns_answered, take_event, response_outcome, force_connection, is_kept, is_built}
+use Rattle.engine_api.specs.Told.{link_of, told_of}
 use Rattle.engine_api.proofs.HistoryLaws.{replay-push, next_call, own-next_same, own-next_other}
 
 -- ---- cases
@@ -85,7 +85,7 @@ conns-take_event shell by None = refl
 conns-take_event shell by (Some taken) = refl
 
 is_active-answering : (by : ConnId) (answered : Event) (conns : Connections) (conn : ConnId)
-    → is_active (answering by answered conns) conn ≡ is_active conns conn
+    → is_active (conns_answered by answered conns) conn ≡ is_active conns conn
 is_active-answering by (event.NewConn other) conns conn = refl
 is_active-answering by (event.DiscFail other) conns conn = is_active-with_answer by other conns conn
 is_active-answering by (event.Quiesce number) conns conn = refl
@@ -103,7 +103,7 @@ is_active-answering by (event.Granted r excl) conns conn = refl
 is_active-answering by (event.Denied r) conns conn = refl
 
 length-answering : (by : ConnId) (answered : Event) (conns : Connections)
-    → length (answering by answered conns) ≡ length conns
+    → length (conns_answered by answered conns) ≡ length conns
 length-answering by (event.NewConn other) conns = refl
 length-answering by (event.DiscFail other) conns = length-set conns other.0 _
 length-answering by (event.Quiesce number) conns = refl
@@ -126,18 +126,18 @@ length-with_departure conn keep conns =
     length-set (map (excused_state conn) conns) conn.0 _ ∙ length-map conns (excused_state conn)
 
 -- what CONNECT does where the caller had no connection, and where its connection had failed
-abbrev connected_new : StrForm → Shell → ConnId → Bool → Acted
+abbrev connected_new : StrForm → Shell → ConnId → Bool → ShellOutcome
 connected_new form shell by keep =
-    let shell' = connecting form shell by keep in
+    let shell' = connected_shell form shell by keep in
     record {
       reply = answer.OkNew (facility_of shell'.instances.primary);
       shell = shell';
       deeds = record no_deeds { make = made_at form shell };
     }
 
-abbrev connected_again : StrForm → Shell → ConnId → Bool → Acted
+abbrev connected_again : StrForm → Shell → ConnId → Bool → ShellOutcome
 connected_again form shell by keep =
-    let shell' = connecting form shell by keep in
+    let shell' = connected_shell form shell by keep in
     record {
       reply = answer.Reconnected (facility_of shell'.instances.primary);
       shell = shell';
@@ -146,7 +146,7 @@ connected_again form shell by keep =
 
 -- CONNECT leaves the caller active, and its answer tells so
 pub conns-connect : (form : StrForm) (shell : Shell) (by : ConnId) (keep : Bool)
-    → (connect form shell by keep).shell.conns ≡ with_connect by keep shell.conns
+    → (connect_outcome form shell by keep).shell.conns ≡ with_connect by keep shell.conns
 conns-connect form shell by keep = go (is_some (state_of shell.conns by))
   where
     go : (back : Bool) → (cond back (connected_again form shell by keep)
@@ -156,7 +156,7 @@ conns-connect form shell by keep = go (is_some (state_of shell.conns by))
     go false = refl
 
 pub link-connect : (form : StrForm) (shell : Shell) (by : ConnId) (keep : Bool)
-    → link_of (cmd.Connect keep) (connect form shell by keep).reply ≡ Some true
+    → link_of (cmd.Connect keep) (connect_outcome form shell by keep).reply ≡ Some true
 link-connect form shell by keep = go (is_some (state_of shell.conns by))
   where
     go : (back : Bool)
@@ -171,26 +171,26 @@ link-take_event shell by None = refl
 link-take_event shell by (Some taken) = refl
 
 link-respond : (shell : Shell) (by : ConnId) (answered : Option Event)
-    → link_of cmd.Respond (respond shell by answered).reply ≡ None
+    → link_of cmd.Respond (response_outcome shell by answered).reply ≡ None
 link-respond shell by None = refl
 link-respond shell by (Some answered) = refl
 
 is_active-respond : (shell : Shell) (by : ConnId) (answered : Option Event) (conn : ConnId)
-    → is_active (respond shell by answered).shell.conns conn ≡ is_active shell.conns conn
+    → is_active (response_outcome shell by answered).shell.conns conn ≡ is_active shell.conns conn
 is_active-respond shell by None conn = refl
 is_active-respond shell by (Some answered) conn = is_active-answering by answered shell.conns conn
 
 length-respond : (shell : Shell) (by : ConnId) (answered : Option Event)
-    → length (respond shell by answered).shell.conns ≡ length shell.conns
+    → length (response_outcome shell by answered).shell.conns ≡ length shell.conns
 length-respond shell by None = refl
 length-respond shell by (Some answered) = length-answering by answered shell.conns
 
 -- a departed connector isn't active
 depart_changes : (form : StrForm) (shell : Shell) (by : ConnId) (keep : Bool) (conn : ConnId)
     → by.0 < length shell.conns
-    → TellsActive by conn (Some false) shell.conns (depart form shell by keep).shell.conns
+    → TellsActive by conn (Some false) shell.conns (departure_outcome form shell by keep).shell.conns
 depart_changes form shell by keep conn within =
-    let conns : (depart form shell by keep).shell.conns ≡ with_departure by keep shell.conns =
+    let conns : (departure_outcome form shell by keep).shell.conns ≡ with_departure by keep shell.conns =
     conns-unless_gone form _ in
     subst (TellsActive by conn (Some false) shell.conns) (sym conns)
     (caller_changes by conn (Some false) shell.conns (with_departure by keep shell.conns)
@@ -199,7 +199,7 @@ depart_changes form shell by keep conn within =
 
 connect_changes : (form : StrForm) (shell : Shell) (by : ConnId) (keep : Bool) (conn : ConnId)
     → by.0 < length shell.conns
-    → TellsActive by conn (Some true) shell.conns (connect form shell by keep).shell.conns
+    → TellsActive by conn (Some true) shell.conns (connect_outcome form shell by keep).shell.conns
 connect_changes form shell by keep conn within =
     subst (TellsActive by conn (Some true) shell.conns) (sym (conns-connect form shell by keep))
     (caller_changes by conn (Some true) shell.conns (with_connect by keep shell.conns)
@@ -234,7 +234,7 @@ command_changes : (form : StrForm) (shell shell' : Shell) (by : ConnId) (command
     TellsActive by conn (link_of command acted.reply) shell'.conns acted.shell.conns
 command_changes form shell shell' by (cmd.Connect keep) conn same within built accepted =
     subst (λ (change : Option Bool). TellsActive by conn change shell'.conns
-    (connect form shell' by keep).shell.conns)
+    (connect_outcome form shell' by keep).shell.conns)
     (sym (link-connect form shell' by keep)) (connect_changes form shell' by keep conn (rw same within))
 command_changes form shell shell' by cmd.Disconnect conn same within built accepted =
     depart_changes form shell' by false conn (rw same within)
@@ -248,7 +248,8 @@ command_changes form shell shell' by cmd.Next conn same within built accepted =
     (ap (λ (c : Connections). is_active c conn) (conns-take_event shell' by taken)))
 command_changes form shell shell' by cmd.Respond conn same within built accepted =
     let answered = owed_event shell'.mail by in
-    subst (λ (change : Option Bool). TellsActive by conn change shell'.conns (respond shell' by answered).shell.conns)
+    subst (λ (change : Option Bool). TellsActive by conn change shell'.conns
+    (response_outcome shell' by answered).shell.conns)
     (sym (link-respond shell' by answered))
     (nobody_changes by conn shell'.conns _ (is_active-respond shell' by answered conn))
 command_changes form shell shell' by (cmd.ForceConn other) conn same within built accepted =
@@ -305,8 +306,8 @@ length-shell_done form shell by (cmd.Vary cf off) = refl
 length-shell_done form shell by cmd.DuplexStart = refl
 length-shell_done form shell by cmd.DuplexStop = refl
 
-length-unconnected : length unconnected ≡ 33
-unfolding unconnected
+length-unconnected : length no_connections ≡ 33
+unfolding no_connections
 length-unconnected = refl
 
 within_places : (by : ConnId) (command : ShellCmd) → MayCommand by command → by.0 < 33
@@ -345,7 +346,7 @@ is_active_in machine conn = is_active machine.shell.conns conn
 
 -- whether a connector is active, by what its own calls told
 abbrev pub link_told : {C R : Type 0} → Bool → Call C R → Bool
-link_told linked call = unwrap_or (told call.no call.ask call.reply).linked linked
+link_told linked call = unwrap_or (told_of call.no call.ask call.reply).linked linked
 
 abbrev pub linked_by : {C R : Type 0} → List (Call C R) → Bool
 linked_by calls = fold link_told false calls
@@ -365,7 +366,7 @@ module _ {C R I S : Type 0} (meaning : Meaning C R I S) (form : StrForm) where
   conns-content machine by command None = refl
 
   linked-content : (number : ℕ) (command : C) (answered : Reply R)
-      → (told number (ask.Content command) answered).linked ≡ None
+      → (told_of number (ask.Content command) answered).linked ≡ None
   linked-content number command (reply.Shell answered) = refl
   linked-content number command (reply.Content answered) = refl
   linked-content number command (reply.Refused why) = refl
@@ -375,7 +376,7 @@ module _ {C R I S : Type 0} (meaning : Meaning C R I S) (form : StrForm) where
       → length machine.shell.conns ≡ 33 → MayAsk by asked → IsBuilt asked
       → is_active_in (step meaning form machine by asked).machine conn
       ≡ cond (by.0 == conn.0)
-      (unwrap_or (told number asked (step meaning form machine by asked).reply).linked (is_active_in machine conn))
+      (unwrap_or (told_of number asked (step meaning form machine by asked).reply).linked (is_active_in machine conn))
       (is_active_in machine conn)
   is_active-step number machine by (ask.Shell command) conn places may built =
       go (shell_cause form machine.shell by command) refl
@@ -384,18 +385,18 @@ module _ {C R I S : Type 0} (meaning : Meaning C R I S) (form : StrForm) where
           → let answered = unless meaning form cause machine (command_done meaning form machine by command) in
           is_active answered.machine.shell.conns conn
           ≡ cond (by.0 == conn.0)
-          (unwrap_or (told {C = C} number (ask.Shell command) answered.reply).linked (is_active_in machine conn))
+          (unwrap_or (told_of {C = C} number (ask.Shell command) answered.reply).linked (is_active_in machine conn))
           (is_active_in machine conn)
       go (Some refusal) is = same-cond (by.0 == conn.0) (is_active_in machine conn)
       go None is =
-          let letters : List Letter = (leaving meaning form (leaver machine.shell by command) machine).letters in
+          let letters : List Letter = (departure_from meaning form (leaver machine.shell by command) machine).letters in
           let within : by.0 < length machine.shell.conns = omega (arith, within_places by command may, places) in
-          command_changes form machine.shell (posting letters machine.shell) by command conn refl within built is
+          command_changes form machine.shell (with_posted letters machine.shell) by command conn refl within built is
   is_active-step number machine by (ask.Content command) conn places may built =
       let answered = step meaning form machine by (ask.Content command) in
       same_connections answered.machine.shell.conns (conns-content machine by command
       (content_cause machine.shell by))
-      (told {C = C} number (ask.Content command) answered.reply).linked
+      (told_of {C = C} number (ask.Content command) answered.reply).linked
       (linked-content number command (step meaning form machine by (ask.Content command)).reply)
     where
       same_connections : (conns : Connections) → conns ≡ machine.shell.conns → (change : Option Bool) → change ≡ None
@@ -413,21 +414,22 @@ module _ {C R I S : Type 0} (meaning : Meaning C R I S) (form : StrForm) where
           length answered.machine.shell.conns ≡ length machine.shell.conns
       go (Some refusal) = refl
       go None =
-          let letters : List Letter = (leaving meaning form (leaver machine.shell by command) machine).letters in
-          length-shell_done form (posting letters machine.shell) by command
+          let letters : List Letter = (departure_from meaning form (leaver machine.shell by command) machine).letters in
+          length-shell_done form (with_posted letters machine.shell) by command
   length-conns-step machine by (ask.Content command) =
       ap (λ (c : Connections). length c) (conns-content machine by command (content_cause machine.shell by))
 
-  length-conns-after : (machine : Machine S) (by : ConnId) (told : What C)
-      → length (after_what meaning form machine by told).shell.conns ≡ length machine.shell.conns
+  length-conns-after : (machine : Machine S) (by : ConnId) (told_of : What C)
+      → length (after_what meaning form machine by told_of).shell.conns ≡ length machine.shell.conns
   length-conns-after machine by (what.Call asked) = length-conns-step machine by asked
   length-conns-after machine by (what.Lost cf) = refl
 
   length-conns-fold : (machine : Machine S) (history : List (Entry C R))
-      → length (fold (after meaning form) machine history).shell.conns ≡ length machine.shell.conns
+      → length (fold (machine_after meaning form) machine history).shell.conns ≡ length machine.shell.conns
   length-conns-fold machine [] = refl
   length-conns-fold machine (entry ∷ entries) =
-      length-conns-fold (after meaning form machine entry) entries ∙ length-conns-after machine entry.by entry.what
+      length-conns-fold (machine_after meaning form machine entry) entries
+      ∙ length-conns-after machine entry.by entry.what
 
   -- there is a place for the operator and one for each of 32 connectors
   pub length-conns-replay : (history : List (Entry C R)) → length (replay meaning form history).shell.conns ≡ 33
@@ -438,7 +440,8 @@ module _ {C R I S : Type 0} (meaning : Meaning C R I S) (form : StrForm) where
       → MayAsk by asked → IsBuilt asked
       → is_active_after (next meaning form history by asked) conn
       ≡ cond (by.0 == conn.0)
-      (unwrap_or (told number asked (next_reply meaning form history by asked)).linked (is_active_after history conn))
+      (unwrap_or (told_of number asked (next_reply meaning form history by asked)).linked
+      (is_active_after history conn))
       (is_active_after history conn)
   is_active-next number history by asked conn may built =
       let machine : Machine S = replay meaning form history in
@@ -450,7 +453,7 @@ module _ {C R I S : Type 0} (meaning : Meaning C R I S) (form : StrForm) where
   pub is_active-next_same : (number : ℕ) (history : List (Entry C R)) (by : ConnId) (asked : Ask C)
       → MayAsk by asked → IsBuilt asked
       → is_active_after (next meaning form history by asked) by
-      ≡ unwrap_or (told number asked (next_reply meaning form history by asked)).linked (is_active_after history by)
+      ≡ unwrap_or (told_of number asked (next_reply meaning form history by asked)).linked (is_active_after history by)
   is_active-next_same number history by asked may built =
       rw (eq-eqb by.0 by.0 refl) at (is_active-next number history by asked by may built)
 
@@ -501,7 +504,7 @@ module _ {C R I S : Type 0} (meaning : Meaning C R I S) (form : StrForm) where
       → next_reply meaning form history by (ask.Shell cmd.Disconnect) ≡ reply.Shell answer.Ok
   reply-disconnect history by active =
       let machine : Machine S = replay meaning form history in
-      let done : Answered R S = command_done meaning form machine by cmd.Disconnect in
+      let done : CallOutcome R S = command_done meaning form machine by cmd.Disconnect in
       ap (λ (cause : Option Refusal). (unless meaning form cause machine done).reply)
       (active_cause machine.shell by active)
 
@@ -509,7 +512,7 @@ module _ {C R I S : Type 0} (meaning : Meaning C R I S) (form : StrForm) where
       → next_reply meaning form history by (ask.Shell cmd.Fail) ≡ reply.Shell answer.Ok
   reply-fail history by active =
       let machine : Machine S = replay meaning form history in
-      let done : Answered R S = command_done meaning form machine by cmd.Fail in
+      let done : CallOutcome R S = command_done meaning form machine by cmd.Fail in
       ap (λ (cause : Option Refusal). (unless meaning form cause machine done).reply)
       (active_cause machine.shell by active)
 
@@ -519,13 +522,14 @@ module _ {C R I S : Type 0} (meaning : Meaning C R I S) (form : StrForm) where
       → first_refusal (unless_active shell by ∷ causes) ≡ Some refusal.NotConnected
   inactive_cause shell by causes idle = rw idle refl
 
-  refused_by : (machine : Machine S) (done : Answered R S) (cause : Option Refusal) (why : Refusal) → cause ≡ Some why
-      → unless meaning form cause machine done ≡ refusing machine why
+  refused_by : (machine : Machine S) (done : CallOutcome R S) (cause : Option Refusal) (why : Refusal)
+      → cause ≡ Some why
+      → unless meaning form cause machine done ≡ refusal_outcome machine why
   refused_by machine done cause why is = ap (λ (cause : Option Refusal). unless meaning form cause machine done) is
 
   -- whoever isn't active is refused what only an active connector may ask
   pub step-inactive : (machine : Machine S) (by : ConnId) (asked : Ask C) → is_active_in machine by ≡ false
-      → IsTrue (needs_link asked) → step meaning form machine by asked ≡ refusing machine refusal.NotConnected
+      → IsTrue (needs_link asked) → step meaning form machine by asked ≡ refusal_outcome machine refusal.NotConnected
   step-inactive machine by (ask.Shell (cmd.Connect keep)) idle needs = absurd (false≢true needs)
   step-inactive machine by (ask.Shell cmd.Disconnect) idle needs =
       refused_by machine _ _ refusal.NotConnected (inactive_cause machine.shell by _ idle)
@@ -561,7 +565,7 @@ module _ {C R I S : Type 0} (meaning : Meaning C R I S) (form : StrForm) where
       → let stepped = unless_refused cause machine.content outcome in
       content_reply stepped.reply ≡ reply.Refused refusal
       → let stepped = unless_refused cause machine.content outcome in
-      record { shell = posting stepped.letters machine.shell; content = stepped.state } ≡ machine
+      record { shell = with_posted stepped.letters machine.shell; content = stepped.state } ≡ machine
   refused_stepped machine (Some why) outcome refusal is = refl
   refused_stepped machine None outcome refusal is = absurd (cc)
 

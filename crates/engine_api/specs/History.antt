@@ -74,12 +74,12 @@ module _ {C R I S : Type 0} (meaning : Meaning C R I S) (form : StrForm) where
   after_what machine by (what.Call ask) = (step meaning form machine by ask).machine
   after_what machine by (what.Lost cf) = machine
 
-  abbrev pub after : Machine S → Entry C R → Machine S
-  after machine entry = after_what machine entry.by entry.what
+  abbrev pub machine_after : Machine S → Entry C R → Machine S
+  machine_after machine entry = after_what machine entry.by entry.what
 
   -- the machine after the entries of a history
   abbrev pub replay : List (Entry C R) → Machine S
-  replay history = fold after (opening meaning form) history
+  replay history = fold machine_after (opening meaning form) history
 
   -- the reply to a caller's next call
   abbrev pub next_reply : List (Entry C R) → ConnId → Ask C → Reply R

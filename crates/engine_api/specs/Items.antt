@@ -24,8 +24,8 @@ IsNoMoreOf kind.Lock need other = need.elements ≤ other.elements
 
 module _ {C R I S : Type 0} (meaning : Meaning C R I S) where
   -- the content that these items make
-  abbrev pub made : Shape → List I → S
-  made shape items = fold (meaning.place shape) (meaning.empty shape) items
+  abbrev pub content_of_items : Shape → List I → S
+  content_of_items shape items = fold (meaning.place shape) (meaning.empty shape) items
 
   -- the items so far make this content, and with one more they are the first of some content's
   pub record IsNextItem (IsContent : S → Type 0) (shape : Shape) (state : S) (item : I) : Type 0 where
@@ -33,4 +33,4 @@ module _ {C R I S : Type 0} (meaning : Meaning C R I S) where
     pub others : List I
     pub content : IsContent whole
     pub first : meaning.items shape whole ≡ meaning.items shape state ++ item ∷ others
-    pub made_so : made shape (meaning.items shape state) ≡ state
+    pub made_so : content_of_items shape (meaning.items shape state) ≡ state

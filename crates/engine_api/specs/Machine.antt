@@ -10,9 +10,9 @@ use Rattle.engine_api.specs.declared.asks.Ask.TheVariants as ask
 use Rattle.engine_api.specs.declared.asks.Reply.{Reply}
 use Rattle.engine_api.specs.declared.asks.Reply.TheVariants as reply
 use Rattle.engine_api.specs.declared.deeds.Deeds.{Deeds}
-use Rattle.engine_api.specs.Meaning.{Meaning, Held, Departure, stepped}
+use Rattle.engine_api.specs.Meaning.{Meaning, Held, Departure, step_result}
 use Rattle.engine_api.specs.Shapes.{shape_of}
-use Rattle.engine_api.specs.Shell.{Shell, Leaver, opening_shell, shell_cause, content_cause, shell_done, leaver, posting}
+use Rattle.engine_api.specs.Shell.{Shell, Leaver, opening_shell, shell_cause, content_cause, shell_done, leaver, with_posted}
 
 -- the part that is the same for every kind, and the content. Where no instance stands there is nothing in the content
 pub record Machine (S : Type 0) : Type 0 where
@@ -20,13 +20,13 @@ pub record Machine (S : Type 0) : Type 0 where
   pub content : S
 
 -- what a call answers, and the machine that it leaves
-pub record Answered (R S : Type 0) : Type 0 where
+pub record CallOutcome (R S : Type 0) : Type 0 where
   pub reply : Reply R
   pub machine : Machine S
 
 -- a refused call changes nothing
-abbrev pub refusing : {R S : Type 0} → Machine S → Refusal → Answered R S
-refusing machine refusal = record { reply = reply.Refused refusal; machine = machine }
+abbrev pub refusal_outcome : {R S : Type 0} → Machine S → Refusal → CallOutcome R S
+refusal_outcome machine refusal = record { reply = reply.Refused refusal; machine = machine }
 
 abbrev pub content_reply : {R : Type 0} → Result R Refusal → Reply R
 content_reply (Ok answer) = reply.Content answer
@@ -41,18 +41,18 @@ module _ {C R I S : Type 0} (meaning : Meaning C R I S) (form : StrForm) where
   capacity machine = record { shape = shape_of form; caps = form.caps; state = machine.content }
 
   -- a command on the content is done by the engine, and its letters are posted
-  abbrev pub content_done : Machine S → ConnId → C → Answered R S
+  abbrev pub content_done : Machine S → ConnId → C → CallOutcome R S
   content_done machine by cmd =
-      let step = stepped meaning (capacity machine) by cmd in
+      let step = step_result meaning (capacity machine) by cmd in
       record {
         reply = content_reply step.reply;
-        machine = record { shell = posting step.letters machine.shell; content = step.state };
+        machine = record { shell = with_posted step.letters machine.shell; content = step.state };
       }
 
   -- who departs leaves the content first, where an instance stands
-  abbrev pub leaving : Option Leaver → Machine S → Departure S
-  leaving None machine = record { state = machine.content; letters = [] }
-  leaving (Some leaver) machine =
+  abbrev pub departure_from : Option Leaver → Machine S → Departure S
+  departure_from None machine = record { state = machine.content; letters = [] }
+  departure_from (Some leaver) machine =
       if is_some machine.shell.instances.primary
       then meaning.leave (shape_of form) machine.content leaver.conn leaver.keep
       else record { state = machine.content; letters = [] }
@@ -71,10 +71,10 @@ module _ {C R I S : Type 0} (meaning : Meaning C R I S) (form : StrForm) where
       if deeds.drop_all then meaning.empty (shape_of form) else with_made deeds.make (with_back_of deeds.back content)
 
   -- a common command: the departure from the content, its letters, the command itself, and its deeds
-  abbrev pub command_done : Machine S → ConnId → ShellCmd → Answered R S
+  abbrev pub command_done : Machine S → ConnId → ShellCmd → CallOutcome R S
   command_done machine by cmd =
-      let gone = leaving (leaver machine.shell by cmd) machine in
-      let acted = shell_done form (posting gone.letters machine.shell) by cmd in
+      let gone = departure_from (leaver machine.shell by cmd) machine in
+      let acted = shell_done form (with_posted gone.letters machine.shell) by cmd in
       record {
         reply = reply.Shell acted.reply;
         machine = record {
@@ -84,12 +84,12 @@ module _ {C R I S : Type 0} (meaning : Meaning C R I S) (form : StrForm) where
         };
       }
 
-  abbrev pub unless : Option Refusal → Machine S → Answered R S → Answered R S
+  abbrev pub unless : Option Refusal → Machine S → CallOutcome R S → CallOutcome R S
   unless None machine done = done
-  unless (Some refusal) machine done = refusing machine refusal
+  unless (Some refusal) machine done = refusal_outcome machine refusal
 
   -- the step of a call
-  abbrev pub step : Machine S → ConnId → Ask C → Answered R S
+  abbrev pub step : Machine S → ConnId → Ask C → CallOutcome R S
   step machine by (ask.Shell cmd) = unless (shell_cause form machine.shell by cmd) machine
       (command_done machine by cmd)
   step machine by (ask.Content cmd) = unless (content_cause machine.shell by) machine (content_done machine by cmd)

@@ -39,13 +39,13 @@ first_refusal (None ∷ causes) = first_refusal causes
 first_refusal (Some refusal ∷ causes) = Some refusal
 
 -- the reply to a command, and what it leaves and sends
-pub record Stepped (R S : Type 0) : Type 0 where
+pub record StepResult (R S : Type 0) : Type 0 where
   pub reply : Result R Refusal
   pub state : S
   pub letters : List Letter
 
 -- a refused command changes nothing and sends nothing
-abbrev pub unless_refused : {R S : Type 0} → Option Refusal → S → Outcome R S → Stepped R S
+abbrev pub unless_refused : {R S : Type 0} → Option Refusal → S → Outcome R S → StepResult R S
 unless_refused None state outcome = record {
   reply = Ok outcome.reply;
   state = outcome.state;
@@ -73,21 +73,21 @@ pub data Wish (C : Type 0) : Type 0 where
 
 module _ {C R I S : Type 0} (meaning : Meaning C R I S) where
   -- the step of a command
-  abbrev pub stepped : Held S → ConnId → C → Stepped R S
-  stepped held by cmd =
+  abbrev pub step_result : Held S → ConnId → C → StepResult R S
+  step_result held by cmd =
       unless_refused (meaning.cause held.shape held.caps held.state by cmd) held.state
       (meaning.done held.shape held.caps held.state by cmd)
 
   -- an engine with nothing in it
-  abbrev pub opened : Shape → Caps → Held S
-  opened shape caps = record { shape = shape; caps = caps; state = meaning.empty shape }
+  abbrev pub new_held : Shape → Caps → Held S
+  new_held shape caps = record { shape = shape; caps = caps; state = meaning.empty shape }
 
   abbrev pub answer : Held S → ConnId → C → Answer R S
   answer held by cmd =
-      let step = stepped held by cmd in record { reply = step.reply; held = record held { state = step.state } }
+      let step = step_result held by cmd in record { reply = step.reply; held = record held { state = step.state } }
 
   abbrev pub letters_of : Held S → ConnId → C → List Letter
-  letters_of held by cmd = (stepped held by cmd).letters
+  letters_of held by cmd = (step_result held by cmd).letters
 
   -- after a departure, with the interests that last kept or not
   abbrev pub departure : Held S → ConnId → Bool → Departure S

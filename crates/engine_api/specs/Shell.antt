@@ -18,7 +18,7 @@ use Rattle.cf_types.specs.declared.shell_commands.ShellCmd.TheVariants as cmd
 use Rattle.cf_types.specs.declared.shell_commands.ShellReply.{ShellReply}
 use Rattle.cf_types.specs.declared.shell_commands.ShellReply.TheVariants as reply
 use Rattle.cf_types.specs.ConnSets.{without_member}
-use Rattle.cf_types.specs.Connections.{Connections, unconnected, state_of, is_active, actives, defined_count, with_connect, with_departure, with_answer, with_forced}
+use Rattle.cf_types.specs.Connections.{Connections, no_connections, state_of, is_active, actives, defined_count, with_connect, with_departure, with_answer, with_forced}
 use Rattle.cf_types.specs.Mailboxes.{Mailboxes, empty_mail, next_event, owed_event, with_letters, letters_to, with_taken, with_response, with_cleared}
 use Rattle.engine_api.specs.declared.deeds.Deeds.{Deeds}
 use Rattle.engine_api.specs.Meaning.{first_refusal}
@@ -31,17 +31,17 @@ pub record Shell : Type 0 where
 
 -- at first no instance stands, and nobody is connected
 abbrev pub opening_shell : Shell
-opening_shell = record { instances = no_instance; conns = unconnected; mail = empty_mail }
+opening_shell = record { instances = no_instance; conns = no_connections; mail = empty_mail }
 
 -- ---- refusals
 
-abbrev pub when : Bool → Refusal → Option Refusal
-when true refusal = Some refusal
-when false refusal = None
+abbrev pub refusal_when : Bool → Refusal → Option Refusal
+refusal_when true refusal = Some refusal
+refusal_when false refusal = None
 
 -- only an active connector may
 abbrev pub unless_active : Shell → ConnId → Option Refusal
-unless_active shell by = when (not (is_active shell.conns by)) refusal.NotConnected
+unless_active shell by = refusal_when (not (is_active shell.conns by)) refusal.NotConnected
 
 -- a connector that is active or leaving can't connect
 abbrev pub if_connected : Option ConnState → Option Refusal
@@ -53,14 +53,14 @@ if_connected None = None
 -- one that is gone can't where the structure has all the connections that it admits
 abbrev pub if_too_many : StrForm → Shell → ConnId → Option Refusal
 if_too_many form shell by =
-    when (is_none (state_of shell.conns by) && nat_le form.conns (defined_count shell.conns))
+    refusal_when (is_none (state_of shell.conns by) && nat_le form.conns (defined_count shell.conns))
     (refusal.TooManyConns form.conns)
 
 -- no facility can hold an instance, or none is large enough
 abbrev pub if_no_place : ℕ → List Pref → Option Refusal
 if_no_place units [] = Some refusal.NoFacility
 if_no_place units (pref ∷ prefs) =
-    when (is_none (place_for units (pref ∷ prefs))) (refusal.NoSpace units (greatest_units (pref ∷ prefs)))
+    refusal_when (is_none (place_for units (pref ∷ prefs))) (refusal.NoSpace units (greatest_units (pref ∷ prefs)))
 
 abbrev pub unless_placed : StrForm → Shell → Option Refusal
 unless_placed form shell =
@@ -81,12 +81,12 @@ shell_causes form shell by (cmd.Connect keep) =
 shell_causes form shell by cmd.Disconnect = unless_active shell by ∷ []
 shell_causes form shell by cmd.Fail = unless_active shell by ∷ []
 shell_causes form shell by cmd.Next =
-    unless_active shell by ∷ when (is_none (next_event shell.mail by)) refusal.NoEvent ∷ []
+    unless_active shell by ∷ refusal_when (is_none (next_event shell.mail by)) refusal.NoEvent ∷ []
 shell_causes form shell by cmd.Respond =
-    unless_active shell by ∷ when (is_none (owed_event shell.mail by)) refusal.NothingOwed ∷ []
+    unless_active shell by ∷ refusal_when (is_none (owed_event shell.mail by)) refusal.NothingOwed ∷ []
 shell_causes form shell by (cmd.ForceConn other) = unless_failed (state_of shell.conns other) ∷ []
 shell_causes form shell by cmd.ForceStr =
-    when (nat_lt 0 (defined_count shell.conns)) (refusal.HasConnections (defined_count shell.conns)) ∷ []
+    refusal_when (nat_lt 0 (defined_count shell.conns)) (refusal.HasConnections (defined_count shell.conns)) ∷ []
 shell_causes form shell by (cmd.RebuildStart caps) = Some refusal.NotAllocated ∷ []
 shell_causes form shell by cmd.RebuildStop = Some refusal.NotAllocated ∷ []
 shell_causes form shell by cmd.RebuildConnect = Some refusal.NotAllocated ∷ []
@@ -140,7 +140,7 @@ leaver shell by cmd.DuplexStart = None
 leaver shell by cmd.DuplexStop = None
 
 -- what a command answers, what it leaves, and what it does to the instances and their content
-pub record Acted : Type 0 where
+pub record ShellOutcome : Type 0 where
   pub reply : ShellReply
   pub shell : Shell
   pub deeds : Deeds
@@ -159,8 +159,8 @@ no_deeds =
     }
 
 -- letters are posted in their order
-abbrev pub posting : List Letter → Shell → Shell
-posting letters shell = record shell { mail = with_letters shell.mail letters }
+abbrev pub with_posted : List Letter → Shell → Shell
+with_posted letters shell = record shell { mail = with_letters shell.mail letters }
 
 -- a structure whose disposition is DELETE goes with its last connection
 abbrev pub goes : StrForm → Connections → Bool
@@ -183,8 +183,8 @@ abbrev pub facility_of : Option CfId → CfId
 facility_of at = unwrap_or at (record { 0 = 0 })
 
 -- the connector becomes active, and the other active ones are told. A failed connection is taken up again
-abbrev pub connecting : StrForm → Shell → ConnId → Bool → Shell
-connecting form shell by keep =
+abbrev pub connected_shell : StrForm → Shell → ConnId → Bool → Shell
+connected_shell form shell by keep =
     let others = without_member by (actives shell.conns) in
     record {
       instances = with_primary (made_at form shell) shell.instances;
@@ -192,9 +192,9 @@ connecting form shell by keep =
       mail = with_letters shell.mail (letters_to others (event.NewConn by));
     }
 
-abbrev pub connect : StrForm → Shell → ConnId → Bool → Acted
-connect form shell by keep =
-    let shell' = connecting form shell by keep in
+abbrev pub connect_outcome : StrForm → Shell → ConnId → Bool → ShellOutcome
+connect_outcome form shell by keep =
+    let shell' = connected_shell form shell by keep in
     let primary = facility_of shell'.instances.primary in
     if is_some (state_of shell.conns by)
     then record {
@@ -214,47 +214,47 @@ departing_shell form shell by keep =
       mail = with_letters (with_cleared by shell.mail) (letters_to (actives conns) (event.DiscFail by));
     })
 
-abbrev pub depart : StrForm → Shell → ConnId → Bool → Acted
-depart form shell by keep =
+abbrev pub departure_outcome : StrForm → Shell → ConnId → Bool → ShellOutcome
+departure_outcome form shell by keep =
     let shell' = departing_shell form shell by keep in
     record { reply = reply.Ok; shell = shell'; deeds = record no_deeds { drop_all = goes form shell'.conns } }
 
 -- the first event that waits is taken
-abbrev pub take_event : Shell → ConnId → Option Event → Acted
+abbrev pub take_event : Shell → ConnId → Option Event → ShellOutcome
 take_event shell by None = record { reply = reply.OkNone; shell = shell; deeds = no_deeds }
 take_event shell by (Some taken) =
     record { reply = reply.Event taken; shell = record shell { mail = with_taken by shell.mail }; deeds = no_deeds }
 
 -- the connections after an event was answered
-abbrev pub answering : ConnId → Event → Connections → Connections
-answering by (event.NewConn other) conns = conns
-answering by (event.DiscFail other) conns = with_answer by other conns
-answering by (event.Quiesce number) conns = conns
-answering by (event.RebuildConnect number) conns = conns
-answering by (event.ConnectsDone number) conns = conns
-answering by (event.Cleanup number) conns = conns
-answering by (event.Complete number) conns = conns
-answering by (event.Stop number) conns = conns
-answering by (event.StopDone number) conns = conns
-answering by (event.LostConn cf) conns = conns
-answering by event.StrFail conns = conns
-answering by (event.Contention r other) conns = conns
-answering by (event.Notify r other) conns = conns
-answering by (event.Granted r excl) conns = conns
-answering by (event.Denied r) conns = conns
+abbrev pub conns_answered : ConnId → Event → Connections → Connections
+conns_answered by (event.NewConn other) conns = conns
+conns_answered by (event.DiscFail other) conns = with_answer by other conns
+conns_answered by (event.Quiesce number) conns = conns
+conns_answered by (event.RebuildConnect number) conns = conns
+conns_answered by (event.ConnectsDone number) conns = conns
+conns_answered by (event.Cleanup number) conns = conns
+conns_answered by (event.Complete number) conns = conns
+conns_answered by (event.Stop number) conns = conns
+conns_answered by (event.StopDone number) conns = conns
+conns_answered by (event.LostConn cf) conns = conns
+conns_answered by event.StrFail conns = conns
+conns_answered by (event.Contention r other) conns = conns
+conns_answered by (event.Notify r other) conns = conns
+conns_answered by (event.Granted r excl) conns = conns
+conns_answered by (event.Denied r) conns = conns
 
 -- the oldest event that is owed is answered
-abbrev pub respond : Shell → ConnId → Option Event → Acted
-respond shell by None = record { reply = reply.OkNone; shell = shell; deeds = no_deeds }
-respond shell by (Some answered) =
+abbrev pub response_outcome : Shell → ConnId → Option Event → ShellOutcome
+response_outcome shell by None = record { reply = reply.OkNone; shell = shell; deeds = no_deeds }
+response_outcome shell by (Some answered) =
     record {
       reply = reply.Responded answered;
-      shell = record shell { conns = answering by answered shell.conns; mail = with_response by shell.mail };
+      shell = record shell { conns = conns_answered by answered shell.conns; mail = with_response by shell.mail };
       deeds = no_deeds;
     }
 
 -- a failed connection is gone
-abbrev pub force_connection : StrForm → Shell → ConnId → Acted
+abbrev pub force_connection : StrForm → Shell → ConnId → ShellOutcome
 force_connection form shell other =
     let conns = with_forced other shell.conns in
     record {
@@ -264,7 +264,7 @@ force_connection form shell other =
     }
 
 -- the structure is deallocated
-abbrev pub force_structure : Shell → Acted
+abbrev pub force_structure : Shell → ShellOutcome
 force_structure shell =
     record {
       reply = reply.Ok;
@@ -273,28 +273,28 @@ force_structure shell =
           { drop_all = true };
     }
 
-abbrev pub idle : Shell → Acted
-idle shell = record { reply = reply.Ok; shell = shell; deeds = no_deeds }
+abbrev pub idle_outcome : Shell → ShellOutcome
+idle_outcome shell = record { reply = reply.Ok; shell = shell; deeds = no_deeds }
 
 -- what each command does where it isn't refused; those that aren't built yet do nothing
-abbrev pub shell_done : StrForm → Shell → ConnId → ShellCmd → Acted
-shell_done form shell by (cmd.Connect keep) = connect form shell by keep
-shell_done form shell by cmd.Disconnect = depart form shell by false
-shell_done form shell by cmd.Fail = depart form shell by (is_kept (state_of shell.conns by))
+abbrev pub shell_done : StrForm → Shell → ConnId → ShellCmd → ShellOutcome
+shell_done form shell by (cmd.Connect keep) = connect_outcome form shell by keep
+shell_done form shell by cmd.Disconnect = departure_outcome form shell by false
+shell_done form shell by cmd.Fail = departure_outcome form shell by (is_kept (state_of shell.conns by))
 shell_done form shell by cmd.Next = take_event shell by (next_event shell.mail by)
-shell_done form shell by cmd.Respond = respond shell by (owed_event shell.mail by)
+shell_done form shell by cmd.Respond = response_outcome shell by (owed_event shell.mail by)
 shell_done form shell by (cmd.ForceConn other) = force_connection form shell other
 shell_done form shell by cmd.ForceStr = force_structure shell
-shell_done form shell by (cmd.RebuildStart caps) = idle shell
-shell_done form shell by cmd.RebuildStop = idle shell
-shell_done form shell by cmd.RebuildConnect = idle shell
-shell_done form shell by (cmd.Copy n) = idle shell
-shell_done form shell by cmd.RebuildComplete = idle shell
-shell_done form shell by (cmd.LoseConn other cf) = idle shell
-shell_done form shell by (cmd.RestoreConn other cf) = idle shell
-shell_done form shell by (cmd.Vary cf off) = idle shell
-shell_done form shell by cmd.DuplexStart = idle shell
-shell_done form shell by cmd.DuplexStop = idle shell
+shell_done form shell by (cmd.RebuildStart caps) = idle_outcome shell
+shell_done form shell by cmd.RebuildStop = idle_outcome shell
+shell_done form shell by cmd.RebuildConnect = idle_outcome shell
+shell_done form shell by (cmd.Copy n) = idle_outcome shell
+shell_done form shell by cmd.RebuildComplete = idle_outcome shell
+shell_done form shell by (cmd.LoseConn other cf) = idle_outcome shell
+shell_done form shell by (cmd.RestoreConn other cf) = idle_outcome shell
+shell_done form shell by (cmd.Vary cf off) = idle_outcome shell
+shell_done form shell by cmd.DuplexStart = idle_outcome shell
+shell_done form shell by cmd.DuplexStop = idle_outcome shell
 
 -- ---- which commands are built, and who may give them
 

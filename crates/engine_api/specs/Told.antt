@@ -44,8 +44,8 @@ link_of_ask (ask.Content command) answered = None
 abbrev pub told_plainly : ℕ → Bool → Told
 told_plainly number again = record { no = number; again = again; event = false; owes = false; linked = None }
 
-abbrev pub told : {C R : Type 0} → ℕ → Ask C → Reply R → Told
-told number asked (reply.Shell answered) =
+abbrev pub told_of : {C R : Type 0} → ℕ → Ask C → Reply R → Told
+told_of number asked (reply.Shell answered) =
     record {
       no = number;
       again = false;
@@ -53,5 +53,5 @@ told number asked (reply.Shell answered) =
       owes = is_owing answered;
       linked = link_of_ask asked answered;
     }
-told number asked (reply.Content answered) = told_plainly number false
-told number asked (reply.Refused refusal) = told_plainly number (is_passing refusal)
+told_of number asked (reply.Content answered) = told_plainly number false
+told_of number asked (reply.Refused refusal) = told_plainly number (is_passing refusal)

@@ -7,9 +7,9 @@ ghost use Rattle.cf_types.specs.declared.forms.Kind.{Kind};
 ghost use Rattle.cf_types.specs.declared.numbers.ConnId.{ConnId};
 ghost use Rattle.engine_api.specs.declared.shapes.Shape.{Shape};
 ghost use Rattle.engine_api.specs.Shapes.{shape_of};
-ghost use Rattle.engine_api.specs.Meaning.{Meaning, Held, Wish, stepped, opened, answer, letters_of, departure, with_departure, with_back, with_forgotten, stands_in, items_of, with_item, without_last_item};
+ghost use Rattle.engine_api.specs.Meaning.{Meaning, Held, Wish, step_result, new_held, answer, letters_of, departure, with_departure, with_back, with_forgotten, stands_in, items_of, with_item, without_last_item};
 ghost use Rattle.engine_api.specs.Meaning.Wish.{ForCmd, ForLeave, ForForget};
-ghost use Rattle.engine_api.specs.Items.{Fits, IsNoMore, IsNoMoreOf, IsNextItem, made};
+ghost use Rattle.engine_api.specs.Items.{Fits, IsNoMore, IsNoMoreOf, IsNextItem, content_of_items};
 
 use cf_types::{Caps, ConnId, Effects, NoMemory, Refusal, StrForm};
 use std::alloc::Global;
@@ -51,7 +51,7 @@ pub trait Engine: Sized + Send + Drop {
         requires form { IsForm form.now }
         requires kind { IsTrue (is_kind form.now.kind) }
         requires caps { IsCapacity caps }
-        ensures { IfOk result (λ engine. held engine ≡ opened meaning (shape_of form.now) caps) };
+        ensures { IfOk result (λ engine. held engine ≡ new_held meaning (shape_of form.now) caps) };
 
     /// A second engine with the same content.
     fn copy(&self, alloc: Global) -> Result<Self, NoMemory>
@@ -130,7 +130,8 @@ pub trait Engine: Sized + Send + Drop {
     /// A copy of an item, counted from 0.
     fn item(&self, alloc: Global, k: u32) -> Result<Self::Item, NoMemory>
         requires { k < length (items_of meaning (held self.now)) }
-        ensures { IfOk result (λ item. slice_get (items_of meaning (held self.now)) k ≡ Some item) };
+        ensures { IfOk result
+            (λ item. slice_get (items_of meaning (held self.now)) k ≡ Some item) };
 
     /// Puts an item behind the others; want of memory hands it back.
     fn place(&mut self, item: Self::Item) -> Result<(), Self::Item>
@@ -170,12 +171,14 @@ pub trait Engine: Sized + Send + Drop {
     ghost items_empty: { (shape : Shape) → meaning.items shape (meaning.empty shape) ≡ [] };
 
     /// Commands and departures lead from content to content.
-    ghost content_step: { (shape : Shape) (caps : Caps) (state : Self.State) (by : ConnId) (cmd : Self.Cmd)
+    ghost content_step: { (shape : Shape) (caps : Caps) (state : Self.State)
+        (by : ConnId) (cmd : Self.Cmd)
         → is_content shape caps state
-        → is_content shape caps (stepped meaning
+        → is_content shape caps (step_result meaning
         (record { shape = shape; caps = caps; state = state }) by cmd).state };
 
-    ghost content_leave: { (shape : Shape) (caps : Caps) (state : Self.State) (conn : ConnId) (keep : Bool)
+    ghost content_leave: { (shape : Shape) (caps : Caps) (state : Self.State)
+        (conn : ConnId) (keep : Bool)
         → is_content shape caps state → is_content shape caps
         (meaning.leave shape state conn keep).state };
 
@@ -187,7 +190,7 @@ pub trait Engine: Sized + Send + Drop {
 
     /// The items of a content make the content again, without its registrations.
     ghost made_again: { (shape : Shape) (caps : Caps) (state : Self.State)
-        → is_content shape caps state → made meaning shape (meaning.items shape state) ≡
+        → is_content shape caps state → content_of_items meaning shape (meaning.items shape state) ≡
         meaning.forget state };
 
     /// A content whose items fit another capacity is a content there too, without its
@@ -212,7 +215,8 @@ pub trait Engine: Sized + Send + Drop {
         (meaning.need (items ++ others)) };
 
     /// A departure, and the end of registrations, never raise the need.
-    ghost need_leave: { (shape : Shape) (caps : Caps) (state : Self.State) (conn : ConnId) (keep : Bool)
+    ghost need_leave: { (shape : Shape) (caps : Caps) (state : Self.State)
+        (conn : ConnId) (keep : Bool)
         → is_content shape caps state
         → IsNoMoreOf shape.kind (meaning.need
         (meaning.items shape (meaning.leave shape state conn keep).state))

@@ -1,6 +1,6 @@
 ghost use Rattle.std.specs.Prelude.{◌≡◌};
 ghost use Rattle.cf_types.specs.Mailboxes.{owes_response};
-ghost use Rattle.engine_api.specs.Told.{told, told_plainly, link_of, link_of_ask, is_passing, is_owing};
+ghost use Rattle.engine_api.specs.Told.{told_of, told_plainly, link_of, link_of_ask, is_passing, is_owing};
 
 use crate::asks::{Ask, Reply};
 use cf_types::{Event, Refusal, ShellCmd, ShellReply};
@@ -23,7 +23,7 @@ pub struct Told {
 impl Told {
     /// What is told of a call with this number.
     pub fn of<C, R>(no: u32, ask: &Ask<C>, reply: &Reply<R>) -> Told
-        ensures { result ≡ told no ask.now reply.now }
+        ensures { result ≡ told_of no ask.now reply.now }
     {
         match reply {
             Reply::Shell(answer) => Told {

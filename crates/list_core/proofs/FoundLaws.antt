@@ -8,8 +8,8 @@ use Rattle.cf_types.specs.declared.names.Key16.{Key16}
 use Rattle.list_store.specs.declared.records.Rec.{Rec}
 use Rattle.list_store.specs.Lists.{Lists, all_records, is_id, record_of, lists_without}
 use Rattle.list_model.specs.Lists.{record_at, the_record, no_record, with_record}
-use Rattle.list_model.specs.Commands.Move.{moved}
-use Rattle.list_kept.specs.Keeping.{put_back}
+use Rattle.list_model.specs.Commands.Move.{with_new_key}
+use Rattle.list_kept.specs.ContentView.{put_back}
 use Rattle.list_core.specs.Found.{IsFound}
 
 pub found-any : (lists : Lists) (at : At) → IsFound lists at → list_any (is_id (the_record lists at).id)
@@ -22,12 +22,12 @@ found-any lists at is =
 pub found-put_back : (head : Bool) (header : ℕ) (key : Option Key16) (lists : Lists) (at : At) → IsFound lists at
     → put_back head header key (record_of (the_record lists at).id lists) (lists_without (the_record lists at).id
     lists)
-    ≡ with_record head header (moved key (the_record lists at)) (lists_without (the_record lists at).id lists)
+    ≡ with_record head header (with_new_key key (the_record lists at)) (lists_without (the_record lists at).id lists)
 found-put_back head header key lists at is =
     ap (λ (o : Option Rec). put_back head header key o (lists_without (the_record lists at).id lists)) is.by_id
     ∙ go (record_at lists at) is.there (lists_without (the_record lists at).id lists)
   where
     go : (o : Option Rec) → is_some o ≡ true → (rest : Lists)
-        → put_back head header key o rest ≡ with_record head header (moved key (unwrap_or o no_record)) rest
+        → put_back head header key o rest ≡ with_record head header (with_new_key key (unwrap_or o no_record)) rest
     go None e rest = absurd (false≢true e)
     go (Some rec) e rest = refl

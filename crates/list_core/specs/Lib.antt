@@ -1,4 +1,4 @@
 pub mod Found
 pub mod Plans
-pub mod Seen
+pub mod EngineView
 pub mod Rows

@@ -12,7 +12,7 @@ use std::marker::Model;
 pub struct ListContent {}
 
 impl Model for ListContent {
-    ghost use Rattle.list_core.specs.Seen.{no_content};
+    ghost use Rattle.list_core.specs.EngineView.{no_content};
     ghost use Rattle.list_model.specs.Contents.{Content};
 
     ghost Value = { Content };
@@ -31,11 +31,11 @@ pub struct ListEngine {
 }
 
 impl Model for ListEngine {
-    ghost use Rattle.list_core.specs.Seen.{Seen, seen, IsKept};
+    ghost use Rattle.list_core.specs.EngineView.{EngineView, view_of, IsKept};
 
-    ghost Value = { Seen };
+    ghost Value = { EngineView };
 
-    ghost view = { seen };
+    ghost view = { view_of };
 
     ghost invariant = { IsKept };
 }
@@ -43,7 +43,7 @@ impl Model for ListEngine {
 impl Engine for ListEngine {
     ghost use Rattle.std.specs.Prelude.{refl};
     ghost use Rattle.cf_types.specs.Forms.{is_list};
-    ghost use Rattle.list_core.specs.Seen.{IsReady};
+    ghost use Rattle.list_core.specs.EngineView.{IsReady};
     ghost use Rattle.list_model.specs.Contents.{IsContent};
     ghost use Rattle.list_model.specs.Meaning.{list_meaning};
     ghost use Rattle.list_model.proofs.EngineLaws.{content-nothing, items-nothing, step-content, leave-content, content-moved, made-items, items-place, unplace-place, need-front, need-leave, need-same};

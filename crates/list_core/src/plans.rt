@@ -7,7 +7,7 @@ ghost use Rattle.list_model.specs.Records.{elements_in};
 ghost use Rattle.list_model.specs.Contents.{stands};
 ghost use Rattle.list_model.specs.Commands.Write as write;
 ghost use Rattle.list_model.specs.Step.{cause, reply, after};
-ghost use Rattle.list_kept.specs.Keeping.{IsRoomy};
+ghost use Rattle.list_kept.specs.ContentView.{IsRoomy};
 ghost use Rattle.list_core.specs.Plans.{body_of, plan_unless, plan_for, IsPossible};
 
 use crate::commands::{

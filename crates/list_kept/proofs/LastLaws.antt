@@ -3,7 +3,7 @@ use Rattle.std.proofs.Common.{◌≡◌, ℕ, ◌-◌, ◌<◌, ◌==◌, ◌++�
 use Rattle.std.proofs.lemmas.Bool.Decides.{nat_tests}
 use Rattle.list_store.specs.declared.records.Rec.{Rec}
 use Rattle.list_store.specs.Lists.{Lists, all_records, records_of, with_records, count_of}
-use Rattle.list_store.specs.Stored.{IsLastFull}
+use Rattle.list_store.specs.StoreView.{IsLastFull}
 use Rattle.list_store.proofs.RecordLaws.{all-split}
 use Rattle.list_store.proofs.PlaceLaws as store
 use Rattle.list_store.proofs.PlaceLaws.{popped}

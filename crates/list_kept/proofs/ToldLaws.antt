@@ -13,7 +13,7 @@ use Rattle.list_watch.specs.declared.monitors.Monitor.{Monitor}
 use Rattle.list_watch.specs.declared.monitors.Watched.{Watched}
 use Rattle.list_watch.specs.Monitors.{is_at, is_replaced}
 use Rattle.list_watch.specs.Monitors as watch
-use Rattle.list_watch.specs.Rows.{monitors_of, is_lit, lit, turned, rows_turned, rows_with}
+use Rattle.list_watch.specs.Rows.{monitors_of, is_lit, bit_of, row_turned, rows_turned, rows_with}
 use Rattle.list_watch.specs.Ends.{differs}
 use Rattle.list_model.specs.Contents.{Content, has_records}
 use Rattle.cf_types.specs.declared.names.Key16.{Key16}
@@ -22,9 +22,9 @@ use Rattle.list_laws.specs.Pairwise.{pairwise}
 use Rattle.list_store.specs.declared.records.Rec.{Rec}
 use Rattle.list_store.specs.declared.records.Spot.{Spot}
 use Rattle.list_store.specs.Lists.{all_records, ids_apart, record_of, spot_of, lists_without}
-use Rattle.list_model.specs.Commands.Move.{moved}
+use Rattle.list_model.specs.Commands.Move.{with_new_key}
 use Rattle.list_model.proofs.StoreLaws.{full-elsewhere, full-others}
-use Rattle.list_kept.specs.Keeping.{put_back}
+use Rattle.list_kept.specs.ContentView.{put_back}
 use Rattle.list_kept.specs.Told.{is_told}
 
 -- ---- the bits that stand
@@ -41,7 +41,7 @@ same false = refl
 
 pub told-stands : (lists : Lists) (rows : List Watched) → list_all (is_told lists) rows ≡ true
     → (conn : ConnId) (index : ℕ)
-    → watch.stands (monitors_of rows) (has_records lists) conn index ≡ lit rows conn index
+    → watch.stands (monitors_of rows) (has_records lists) conn index ≡ bit_of rows conn index
 told-stands lists [] h conn index = refl
 told-stands lists (row ∷ rows) h conn index =
     let parts = and_parts (is_told lists row) (list_all (is_told lists) rows) h in
@@ -64,13 +64,13 @@ gains_agree before after old new bits more e f gains =
 
 pub gains-told : (lists later : Lists) (rows next : List Watched) (bits more : List BitChange)
     → list_all (is_told lists) rows ≡ true → list_all (is_told later) next ≡ true
-    → Gains (lit rows) (lit next) bits more
+    → Gains (bit_of rows) (bit_of next) bits more
     → Gains (watch.stands (monitors_of rows) (has_records lists)) (watch.stands (monitors_of next)
     (has_records later)) bits more
 gains-told lists later rows next bits more h k gains =
     gains_agree (watch.stands (monitors_of rows) (has_records lists)) (watch.stands (monitors_of next)
     (has_records later))
-    (lit rows) (lit next) bits more (told-stands lists rows h) (told-stands later next k) gains
+    (bit_of rows) (bit_of next) bits more (told-stands lists rows h) (told-stands later next k) gains
 
 -- ---- told of all headers but some
 
@@ -117,7 +117,7 @@ told-turned header spared lists [] h = refl
 told-turned header spared lists (row ∷ rows) h =
     let parts = and_parts (is_told_but (λ k. (k == header) || spared k) lists row)
     (list_all (is_told_but (λ k. (k == header) || spared k) lists) rows) h in
-    and_from (is_told_but spared lists (turned header (has_records lists header) row))
+    and_from (is_told_but spared lists (row_turned header (has_records lists header) row))
     (list_all (is_told_but spared lists) (rows_turned header (has_records lists header) rows))
     (turn_step header spared lists row (row.monitor.header == header) refl parts.0)
     (told-turned header spared lists rows parts.1)
@@ -208,5 +208,5 @@ full-put_back head id header key lists spot other apart there e f = go (record_o
     go : (o : Option Rec) → has_records (put_back head header key o (lists_without id lists)) other ≡ has_records
         lists other
     go None = out
-    go (Some rec) = full-elsewhere head header other (moved key rec) (lists_without id lists)
+    go (Some rec) = full-elsewhere head header other (with_new_key key rec) (lists_without id lists)
         (sym_test other header f) ∙ out

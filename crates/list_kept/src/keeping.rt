@@ -4,7 +4,7 @@ ghost use Rattle.std.specs.List.{list_any};
 ghost use Rattle.cf_types.specs.Gains.{Gains};
 ghost use Rattle.list_store.specs.Lists.{all_records, records_of, is_id, record_of, lists_without, lists_replaced, with_records};
 ghost use Rattle.list_watch.specs.Monitors.{is_for, monitored_at, monitors_with, monitors_without};
-ghost use Rattle.list_model.specs.Contents.{nothing, headers_of, locks_of, holder_of, holder_without, stands, has_records, content_without};
+ghost use Rattle.list_model.specs.Contents.{no_content, headers_of, locks_of, holder_of, holder_without, stands, has_records, content_without};
 ghost use Rattle.list_model.specs.Lists.{header_of, stands_before, with_record};
 
 use cf_types::{ConnId, Effects, EntryId, Key16, Kind, NoMemory};
@@ -28,11 +28,11 @@ pub struct Kept {
 }
 
 impl Model for Kept {
-    ghost use Rattle.list_kept.specs.Keeping.{Keeping, keeping, IsKept};
+    ghost use Rattle.list_kept.specs.ContentView.{ContentView, content_view, IsKept};
 
-    ghost Value = { Keeping };
+    ghost Value = { ContentView };
 
-    ghost view = { keeping };
+    ghost view = { content_view };
 
     ghost invariant = { IsKept };
 }
@@ -90,7 +90,7 @@ fn stands_before(head: bool, key: Option<Key16>, other: &Rec) -> bool
     }
 }
 
-ghost use Rattle.list_kept.specs.Keeping.{comes_behind};
+ghost use Rattle.list_kept.specs.ContentView.{comes_behind};
 ghost use Rattle.list_model.specs.Keys.{key_up_to};
 
 // Whether a key isn't behind another.
@@ -218,7 +218,7 @@ impl Kept {
     /// The content of a new structure of a shape: no records, no monitors, no list lock held, each
     /// limit the entries of the shape, and 1 as the next id. The error is want of memory.
     pub fn new(alloc: Global, shape: Shape) -> Result<Kept, NoMemory>
-        ensures { IfOk result (λ kept. kept.content ≡ nothing shape) }
+        ensures { IfOk result (λ kept. kept.content ≡ no_content shape) }
     {
         let headers = headers_of(shape.kind);
         let locks = locks_of(shape.kind);
@@ -639,4 +639,4 @@ ghost use Rattle.list_watch.specs.Rows.{monitors_of};
 ghost use Rattle.list_model.specs.Lists.{first_records};
 ghost use Rattle.list_model.specs.Items.{content_without_last};
 ghost use Rattle.list_kept.specs.Told.{AreTold};
-ghost use Rattle.list_kept.specs.Keeping.{IsRoomy, put_back};
+ghost use Rattle.list_kept.specs.ContentView.{IsRoomy, put_back};

@@ -4,5 +4,6 @@ pub mod PairwiseLaws
 pub mod PrefixLaws
 pub mod KeyLaws
 pub mod MapLaws
+pub mod ImageLaws
 pub mod TableLaws
 pub mod TakeLaws

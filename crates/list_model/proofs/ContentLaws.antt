@@ -264,26 +264,26 @@ only_one rec others all w h =
     (each_append (IsOnly rec) w.front (rec ∷ w.back) sides.0 (λ e. refl, sides.1))
 
 agree_one : (body adj : Option (List ℕ)) (rec other : Rec) (b : Bool) → is_id rec.id other ≡ b → IsOnly rec other
-    → replaced_by (update.updated body adj rec) other ≡ patched rec.id body adj other
+    → replaced_by (update.with_new_data body adj rec) other ≡ patched rec.id body adj other
 agree_one body adj rec other true e only =
-    rw e (ap (λ (r : Rec). update.updated body adj r) (sym (only e)))
+    rw e (ap (λ (r : Rec). update.with_new_data body adj r) (sym (only e)))
 agree_one body adj rec other false e only = rw e refl
 
 agree_list : (body adj : Option (List ℕ)) (rec : Rec) (records : List Rec) → Each (IsOnly rec) records
-    → map (replaced_by (update.updated body adj rec)) records ≡ map (patched rec.id body adj) records
+    → map (replaced_by (update.with_new_data body adj rec)) records ≡ map (patched rec.id body adj) records
 agree_list body adj rec [] each = refl
 agree_list body adj rec (other ∷ records) each =
-    ap (λ (r : Rec). r ∷ map (replaced_by (update.updated body adj rec)) records)
+    ap (λ (r : Rec). r ∷ map (replaced_by (update.with_new_data body adj rec)) records)
     (agree_one body adj rec other (is_id rec.id other) refl each.0)
     ∙ ap (λ (l : List Rec). patched rec.id body adj other ∷ l) (agree_list body adj rec records each.1)
 
 agree_lists : (body adj : Option (List ℕ)) (rec : Rec) (lists : Lists) → Each (IsOnly rec) (all_records lists)
-    → lists_replaced (update.updated body adj rec) lists ≡ map
+    → lists_replaced (update.with_new_data body adj rec) lists ≡ map
     (λ records. map (patched rec.id body adj) records) lists
 agree_lists body adj rec [] each = refl
 agree_lists body adj rec (records ∷ lists) each =
     let parts = each_parts (IsOnly rec) records (all_records lists) each in
-    ap (λ (l : List Rec). l ∷ lists_replaced (update.updated body adj rec) lists)
+    ap (λ (l : List Rec). l ∷ lists_replaced (update.with_new_data body adj rec) lists)
     (agree_list body adj rec records parts.0)
     ∙ ap (λ (l : Lists). map (patched rec.id body adj) records ∷ l) (agree_lists body adj rec lists parts.1)
 
@@ -425,7 +425,7 @@ content-without shape caps content id is =
 
 moved_known : (refs : Refs) (key : Option Key16) (rec : Rec) → new_key_refusal refs key ≡ None
     → is_known refs rec ≡ true
-    → is_known refs (move.moved key rec) ≡ true
+    → is_known refs (move.with_new_key key rec) ≡ true
 moved_known refs None rec h known = known
 moved_known refs.Names (Some key) rec h known = absurd (cc)
 moved_known refs.Keys (Some key) rec h known =
@@ -440,7 +440,7 @@ pub content-move : (shape : Shape) (caps : Caps) (content : Content) (by : ConnI
 content-move shape caps content by at header head key cond is h =
     let none = none_hold (move.causes shape content by at header key cond) h in
     let old = the_record content.lists at in
-    let rec = move.moved key old in
+    let rec = move.with_new_key key old in
     let kept = λ (other : Rec). not (is_id old.id other) in
     let all = all_records content.lists in
     let rest = records_without old.id all in

@@ -16,8 +16,8 @@ use Rattle.cf_types.specs.declared.names.Key16.{Key16}
 use Rattle.cf_types.specs.declared.names.Name16.{Name16}
 use Rattle.cf_types.specs.declared.numbers.EntryId.{EntryId}
 use Rattle.engine_api.specs.declared.shapes.Shape.{Shape}
-use Rattle.engine_api.specs.Meaning.{stepped}
-use Rattle.engine_api.specs.Items.{Fits, IsNoMore, IsNoMoreOf, IsNextItem, made}
+use Rattle.engine_api.specs.Meaning.{step_result}
+use Rattle.engine_api.specs.Items.{Fits, IsNoMore, IsNoMoreOf, IsNextItem, content_of_items}
 use Rattle.list_laws.specs.Pairwise.{pairwise}
 use Rattle.list_laws.proofs.PairwiseLaws.{pairwise_front}
 use Rattle.list_laws.proofs.TakeLaws.{take_next}
@@ -28,7 +28,7 @@ use Rattle.list_model.specs.declared.items.ListItem.{ListItem}
 use Rattle.list_model.specs.declared.items.ListItem.TheVariants.{Controls, Row}
 use Rattle.list_model.specs.Records.{elements_in, is_known, names_apart, may_precede}
 use Rattle.list_model.specs.Lists.{first_records, no_record}
-use Rattle.list_model.specs.Contents.{Content, IsContent, is_given, nothing, headers_of, locks_of, refs_of, content_without, stands}
+use Rattle.list_model.specs.Contents.{Content, IsContent, is_given, no_content, headers_of, locks_of, refs_of, content_without, stands}
 use Rattle.list_model.specs.Items.{has_controls, controls_of, row_of, rows_from, items_of, content_with, content_without_last, entries_for, elements_for, need_of, Triple}
 use Rattle.list_model.specs.Meaning.{list_meaning}
 use Rattle.list_model.proofs.RecordLaws.{ids_apart-sym}
@@ -51,7 +51,7 @@ all_ordered : (n : ℕ) → list_all (pairwise may_precede) (replicate n []) ≡
 all_ordered zero = refl
 all_ordered (suc n) = all_ordered n
 
-pub content-nothing : (shape : Shape) (caps : Caps) → IsContent shape caps (nothing shape)
+pub content-nothing : (shape : Shape) (caps : Caps) → IsContent shape caps (no_content shape)
 content-nothing shape caps =
     let none = no_lists (headers_of shape.kind) in
     record {
@@ -69,7 +69,7 @@ content-nothing shape caps =
       within = refl;
     }
 
-pub clear-nothing : (shape : Shape) (conn : ConnId) (index : ℕ) → stands (nothing shape) conn index ≡ false
+pub clear-nothing : (shape : Shape) (conn : ConnId) (index : ℕ) → stands (no_content shape) conn index ≡ false
 clear-nothing shape conn index = refl
 
 same_test : (n : ℕ) → not (n == n) ≡ false
@@ -85,7 +85,7 @@ no_holders : (k : ℕ) → list_any is_some (replicate k (let nobody : Option Co
 no_holders zero = refl
 no_holders (suc k) = no_holders k
 
-pub no-controls : (shape : Shape) → has_controls shape (nothing shape) ≡ false
+pub no-controls : (shape : Shape) → has_controls shape (no_content shape) ≡ false
 no-controls shape =
     let limited =
     list_any (λ (limit : ℕ). not (limit == shape.caps.entries))
@@ -97,10 +97,10 @@ no-controls shape =
     (no_limits (headers_of shape.kind) shape.caps.entries))
     (no_holders (locks_of shape.kind))) refl
 
-pub items-nothing : (shape : Shape) → items_of shape (nothing shape) ≡ []
+pub items-nothing : (shape : Shape) → items_of shape (no_content shape) ≡ []
 items-nothing shape =
-    ap (λ (b : Bool). cond b (controls_of (nothing shape) ∷ rows_from 0 (nothing shape).lists)
-    (rows_from 0 (nothing shape).lists)) (no-controls shape)
+    ap (λ (b : Bool). cond b (controls_of (no_content shape) ∷ rows_from 0 (no_content shape).lists)
+    (rows_from 0 (no_content shape).lists)) (no-controls shape)
     ∙ no_rows (headers_of shape.kind) 0
 
 -- ---- commands and departures
@@ -108,7 +108,7 @@ items-nothing shape =
 pub step-content : (shape : Shape) (caps : Caps) (content : Content) (by : ConnId) (cmd : ListCmd)
     → IsContent shape caps content
     → IsContent shape caps
-    (stepped list_meaning (record { shape = shape; caps = caps; state = content }) by cmd).state
+    (step_result list_meaning (record { shape = shape; caps = caps; state = content }) by cmd).state
 step-content shape caps content by cmd is = laws.content-step shape caps content by cmd is
 
 pub leave-content : (shape : Shape) (caps : Caps) (content : Content) (conn : ConnId) (keep : Bool)
@@ -119,7 +119,7 @@ leave-content shape caps content conn keep is = laws.content-leave shape caps co
 -- ---- items
 
 pub made-items : (shape : Shape) (caps : Caps) (content : Content) → IsContent shape caps content
-    → made list_meaning shape (items_of shape content) ≡ content
+    → content_of_items list_meaning shape (items_of shape content) ≡ content
 made-items shape caps content is = made-again shape caps content is
 
 -- where the item comes
@@ -166,7 +166,7 @@ items-place shape caps state item next =
     place_items shape caps next.whole state item next.content (next-comes shape caps state item next)
 
 without_none : (shape : Shape) (content : Content) → count_of content.lists ≡ 0
-    → content_without_last shape content ≡ record (nothing shape) { lists = content.lists }
+    → content_without_last shape content ≡ record (no_content shape) { lists = content.lists }
 without_none shape content h =
     let e : (count_of content.lists == 0) ≡ true = grind (arith, nat_tests, h) in
     rw e refl
@@ -184,7 +184,7 @@ place_back : (shape : Shape) (caps : Caps) (whole state : Content) (item : ListI
 place_back shape caps whole state item is (inl first) =
     ap (λ (c : Content). content_without_last shape c) (comes_first shape caps whole state item is first)
     ∙ without_none shape (content_front 0 whole) (omega (arith, count-first 0 whole.lists))
-    ∙ ap (λ (l : Lists). record (nothing shape) { lists = l })
+    ∙ ap (λ (l : Lists). record (no_content shape) { lists = l })
     (first-none whole.lists ∙ ap (λ (k : ℕ). replicate k []) is.headers)
     ∙ sym first.start
 place_back shape caps whole state item is (inr next) =
@@ -422,7 +422,10 @@ fits_next shape caps whole state item is next placed =
     let rec = record_in item in
     let all = all_records state.lists in
     let records = records_of state.lists (header_in item) ++ rec ∷ [] in
-    let made : content_with state item ≡ record state { lists = with_records state.lists (header_in item) records } =
+    let placed_so : content_with state item ≡ record state {
+      lists =
+          with_records state.lists (header_in item) records;
+    } =
     ap (λ (i : ListItem). content_with state i) row.is_row
     ∙ ap (λ (h : ℕ). record state { lists = with_records state.lists h (records_of state.lists h ++ rec ∷ []) })
     (let e : 0 + row.place ≡ row.place = omega arith in e ∙ sym at) in
@@ -430,7 +433,7 @@ fits_next shape caps whole state item is next placed =
     with-records rec state.lists (header_in item) records header
     (with-push rec (records_of state.lists (header_in item))) in
     let apart : pairwise ids_apart (all_records (with_records state.lists (header_in item) records)) ≡ true =
-    ap (λ (c : Content). pairwise ids_apart (all_records c.lists)) (sym made) ∙ placed.one_for_id in
+    ap (λ (c : Content). pairwise ids_apart (all_records c.lists)) (sym placed_so) ∙ placed.one_for_id in
     record {
       header = header;
       alone = none_from_all (is_id rec.id) all
@@ -466,12 +469,12 @@ pub controls-first : (shape : Shape) (caps : Caps) (state : Content) (next : ℕ
     (locks : List (Option ConnId))
     (watches : List Triple)
     → IsNextItem list_meaning (IsContent shape caps) shape state (Controls next limits locks watches)
-    → state ≡ nothing shape
+    → state ≡ no_content shape
 controls-first shape caps state next limits locks watches comes =
     go (next-comes shape caps state (Controls next limits locks watches) comes)
   where
     go : ComesFirst shape comes.whole state (Controls next limits locks watches)
-        ⊎ ComesNext shape comes.whole state (Controls next limits locks watches) → state ≡ nothing shape
+        ⊎ ComesNext shape comes.whole state (Controls next limits locks watches) → state ≡ no_content shape
     go (inl first) = first.start
     go (inr behind) =
         let row = next-row 0 behind.count comes.whole.lists (Controls next limits locks watches) behind.row in
@@ -485,7 +488,7 @@ without_step shape caps content is zero h =
     sym (first-all 0 content.lists (omega (arith, h))) ∙ first-none content.lists
     ∙ ap (λ (k : ℕ). replicate k []) is.headers in
     subst (λ (c : Content). IsContent shape caps c)
-    (sym (without_none shape content h ∙ ap (λ (l : Lists). record (nothing shape) { lists = l }) alone))
+    (sym (without_none shape content h ∙ ap (λ (l : Lists). record (no_content shape) { lists = l }) alone))
     (content-nothing shape caps)
 without_step shape caps content is (suc n) h =
     subst (λ (c : Content). IsContent shape caps c) (sym (without_one shape content n (omega (arith, h))))

@@ -16,7 +16,7 @@ use Rattle.list_watch.specs.declared.monitors.Monitor.{Monitor}
 use Rattle.list_model.specs.declared.items.ListItem.{ListItem}
 use Rattle.list_model.specs.declared.items.ListItem.TheVariants.{Controls, Row}
 use Rattle.list_model.specs.Lists.{no_record, first_records}
-use Rattle.list_model.specs.Contents.{Content, IsContent, nothing, headers_of, locks_of}
+use Rattle.list_model.specs.Contents.{Content, IsContent, no_content, headers_of, locks_of}
 use Rattle.list_model.specs.Items.{triple_of, monitor_of, has_controls, controls_of, row_of, rows_from, items_of, content_with}
 
 -- ---- lists
@@ -286,7 +286,7 @@ no_records shape caps content is =
 
 -- the controls alone make the content without its records
 pub controls-placed : (shape : Shape) (caps : Caps) (content : Content) → IsContent shape caps content
-    → content_with (nothing shape) (controls_of content) ≡ content_front 0 content
+    → content_with (no_content shape) (controls_of content) ≡ content_front 0 content
 controls-placed shape caps content is =
     let put : Lists → List Monitor → Content =
     λ lists monitors. record content { lists = lists; monitors = monitors } in
@@ -328,7 +328,7 @@ is_it n m h = grind (arith, nat_tests)
 
 -- where nothing of the controls differs
 pub controls-absent : (shape : Shape) (caps : Caps) (content : Content) → IsContent shape caps content
-    → has_controls shape content ≡ false → nothing shape ≡ content_front 0 content
+    → has_controls shape content ≡ false → no_content shape ≡ content_front 0 content
 controls-absent shape caps content is h =
     let put : Lists → List ℕ → List (Option ConnId) → List Monitor → ℕ → Content =
     λ lists limits locks monitors next. record {
@@ -377,31 +377,31 @@ items-split shape content = split (has_controls shape content) (controls_of cont
 
 made_controls_step : (shape : Shape) (caps : Caps) (content : Content) → IsContent shape caps content → (b : Bool)
     → has_controls shape content ≡ b
-    → fold content_with (nothing shape) (cond b (controls_of content ∷ []) []) ≡ content_front 0 content
+    → fold content_with (no_content shape) (cond b (controls_of content ∷ []) []) ≡ content_front 0 content
 made_controls_step shape caps content is true e = controls-placed shape caps content is
 made_controls_step shape caps content is false e = controls-absent shape caps content is e
 
 pub made-controls : (shape : Shape) (caps : Caps) (content : Content) → IsContent shape caps content
-    → fold content_with (nothing shape) (controls_in shape content) ≡ content_front 0 content
+    → fold content_with (no_content shape) (controls_in shape content) ≡ content_front 0 content
 made-controls shape caps content is = made_controls_step shape caps content is (has_controls shape content) refl
 
 -- the controls and the first n rows make the content of the first n records
 pub made-first : (shape : Shape) (caps : Caps) (content : Content) (n : ℕ) → IsContent shape caps content
     → n ≤ length (rows_from 0 content.lists)
-    → fold content_with (nothing shape)
+    → fold content_with (no_content shape)
     (controls_in shape content ++ take n (rows_from 0 content.lists)) ≡ content_front n content
 made-first shape caps content n is h =
-    fold-append content_with (nothing shape) (controls_in shape content) (take n (rows_from 0 content.lists))
+    fold-append content_with (no_content shape) (controls_in shape content) (take n (rows_from 0 content.lists))
     ∙ ap (λ (c : Content). fold content_with c (take n (rows_from 0 content.lists)))
     (made-controls shape caps content is)
     ∙ made-front content n h
 
 -- the items of a content make it again
 pub made-again : (shape : Shape) (caps : Caps) (content : Content) → IsContent shape caps content
-    → fold content_with (nothing shape) (items_of shape content) ≡ content
+    → fold content_with (no_content shape) (items_of shape content) ≡ content
 made-again shape caps content is =
     let rows = rows_from 0 content.lists in
-    ap (λ (l : List ListItem). fold content_with (nothing shape) l)
+    ap (λ (l : List ListItem). fold content_with (no_content shape) l)
     (items-split shape content ∙ ap (λ (l : List ListItem). controls_in shape content ++ l)
     (sym (take_all (length rows) rows (omega arith))))
     ∙ made-first shape caps content (length rows) is (omega arith)
@@ -454,7 +454,7 @@ pub record ComesNext (shape : Shape) (whole state : Content) (item : ListItem) :
   pub row : slice_get (rows_from 0 whole.lists) count ≡ Some item
 
 pub record ComesFirst (shape : Shape) (whole state : Content) (item : ListItem) : Type 0 where
-  pub start : state ≡ nothing shape
+  pub start : state ≡ no_content shape
   pub there : has_controls shape whole ≡ true
   pub controls : item ≡ controls_of whole
 
@@ -462,7 +462,7 @@ row_comes : (shape : Shape) (caps : Caps) (whole state : Content) (item : ListIt
     (controls rows others : List ListItem)
     → IsContent shape caps whole → controls ≡ controls_in shape whole
     → rows_from 0 whole.lists ≡ rows ++ item ∷ others
-    → fold content_with (nothing shape) (controls ++ rows) ≡ state → ComesNext shape whole state item
+    → fold content_with (no_content shape) (controls ++ rows) ≡ state → ComesNext shape whole state item
 row_comes shape caps whole state item controls rows others is e split made =
     let all = rows_from 0 whole.lists in
     let n = length rows in
@@ -472,7 +472,7 @@ row_comes shape caps whole state item controls rows others is e split made =
     record {
       count = n;
       front = sym made
-          ∙ (λ i. fold content_with (nothing shape) (e i ++ sym first i))
+          ∙ (λ i. fold content_with (no_content shape) (e i ++ sym first i))
           ∙ made-first shape caps whole n is within;
       row = ap (λ (l : List ListItem). slice_get l n) split ∙ slice_seam rows item others;
     }
@@ -481,7 +481,7 @@ comes : (shape : Shape) (caps : Caps) (whole state : Content) (item : ListItem) 
     → IsContent shape caps whole
     → (b : Bool) → has_controls shape whole ≡ b
     → cond b (controls_of whole ∷ rows_from 0 whole.lists) (rows_from 0 whole.lists) ≡ items ++ item ∷ others
-    → fold content_with (nothing shape) items ≡ state
+    → fold content_with (no_content shape) items ≡ state
     → ComesFirst shape whole state item ⊎ ComesNext shape whole state item
 comes shape caps whole state item [] others is true e split made =
     let same : controls_of whole ≡ item = cc in
@@ -499,7 +499,7 @@ comes shape caps whole state item items others is false e split made =
 pub item-comes : (shape : Shape) (caps : Caps) (whole state : Content) (item : ListItem)
     (items others : List ListItem)
     → IsContent shape caps whole → items_of shape whole ≡ items ++ item ∷ others
-    → fold content_with (nothing shape) items ≡ state
+    → fold content_with (no_content shape) items ≡ state
     → ComesFirst shape whole state item ⊎ ComesNext shape whole state item
 item-comes shape caps whole state item items others is split made =
     comes shape caps whole state item items others is (has_controls shape whole) refl split made

@@ -14,7 +14,7 @@ use Rattle.list_store.specs.Lists.{Lists}
 use Rattle.list_watch.specs.declared.monitors.Monitor.{Monitor}
 use Rattle.list_watch.specs.declared.monitors.Watched.{Watched}
 use Rattle.list_watch.specs.Monitors.{is_of, is_at, is_for, is_replaced, stands, monitors_with, monitors_without, monitors_of_others, places_apart}
-use Rattle.list_watch.specs.Rows.{monitors_of, is_lit, lit, turned, rows_turned, rows_with, rows_without, rows_of_others}
+use Rattle.list_watch.specs.Rows.{monitors_of, is_lit, bit_of, row_turned, rows_turned, rows_with, rows_without, rows_of_others}
 use Rattle.list_watch.proofs.MonitorLaws.{pairwise-of_map}
 use Rattle.list_model.specs.Contents.{has_records}
 
@@ -31,7 +31,7 @@ monitors-told lists (monitor ∷ monitors) = ap (λ (l : List Monitor). monitor 
 
 -- the bits that were told are those that stand
 pub lit-told : (lists : Lists) (monitors : List Monitor) (conn : ConnId) (index : ℕ)
-    → lit (all_told lists monitors) conn index ≡ stands monitors (has_records lists) conn index
+    → bit_of (all_told lists monitors) conn index ≡ stands monitors (has_records lists) conn index
 lit-told lists [] conn index = refl
 lit-told lists (monitor ∷ monitors) conn index =
     ap (λ (b : Bool). is_lit conn index (told lists monitor) || b) (lit-told lists monitors conn index)
@@ -42,7 +42,7 @@ turn a b = grind (arith, nat_tests)
 turned_one : (header : ℕ) (full : Bool) (lists after : Lists) → has_records after header ≡ full
     → ((other : ℕ) → (header == other) ≡ false → has_records after other ≡ has_records lists other)
     → (monitor : Monitor) (b : Bool) → (monitor.header == header) ≡ b
-    → turned header full (told lists monitor) ≡ told after monitor
+    → row_turned header full (told lists monitor) ≡ told after monitor
 turned_one header full lists after here others monitor true e =
     let bit : Bool → Watched = λ b. record { monitor = monitor; full = b } in
     let at : has_records after monitor.header ≡ full =
@@ -175,7 +175,7 @@ one_monitor conn index a b rows apart e h =
 same_bit : (header : ℕ) (full : Bool) (conn : ConnId) (index : ℕ) (row : Watched) (b c : Bool)
     → (row.monitor.header == header) ≡ b
     → at_place conn index row ≡ c → c && b ≡ false
-    → is_lit conn index (turned header full row) ≡ is_lit conn index row
+    → is_lit conn index (row_turned header full row) ≡ is_lit conn index row
 same_bit header full conn index row true true e f h = absurd (false≢true (sym h))
 same_bit header full conn index row true false e f h = rw (e, f) refl
 same_bit header full conn index row false c e f h = rw e refl
@@ -183,17 +183,17 @@ same_bit header full conn index row false c e f h = rw e refl
 -- a bit that monitors another header stays
 pub turned-other : (header : ℕ) (full : Bool) (conn : ConnId) (index : ℕ) (rows : List Watched)
     → list_any (at_header conn index header) rows ≡ false
-    → lit (rows_turned header full rows) conn index ≡ lit rows conn index
+    → bit_of (rows_turned header full rows) conn index ≡ bit_of rows conn index
 turned-other header full conn index [] h = refl
 turned-other header full conn index (row ∷ rows) h =
     let parts = or_parts (at_header conn index header row) (list_any (at_header conn index header) rows) h in
-    ap (λ (b : Bool). b || lit (rows_turned header full rows) conn index)
+    ap (λ (b : Bool). b || bit_of (rows_turned header full rows) conn index)
     (same_bit header full conn index row (row.monitor.header == header) (at_place conn index row) refl refl parts.0)
     ∙ ap (λ (b : Bool). is_lit conn index row || b) (turned-other header full conn index rows parts.1)
 
 same_monitor : (a b : ℕ) (full : Bool) (conn : ConnId) (index : ℕ) (row : Watched) (t : Bool)
     → (row.monitor.header == a) ≡ t
-    → at_header conn index b (turned a full row) ≡ at_header conn index b row
+    → at_header conn index b (row_turned a full row) ≡ at_header conn index b row
 same_monitor a b full conn index row true e = rw e refl
 same_monitor a b full conn index row false e = rw e refl
 
@@ -207,17 +207,18 @@ any_turned a b full conn index (row ∷ rows) =
 
 pub gains-twice : (a b : ℕ) (left came : Bool) (rows : List Watched) (xs ys zs : List BitChange)
     → pairwise places_apart (monitors_of rows) ≡ true → (a == b) ≡ false
-    → Gains (lit rows) (lit (rows_turned a left rows)) xs ys
-    → Gains (lit (rows_turned a left rows)) (lit (rows_turned b came (rows_turned a left rows))) ys zs
-    → Gains (lit rows) (lit (rows_turned b came (rows_turned a left rows))) xs zs
+    → Gains (bit_of rows) (bit_of (rows_turned a left rows)) xs ys
+    → Gains (bit_of (rows_turned a left rows)) (bit_of (rows_turned b came (rows_turned a left rows))) ys zs
+    → Gains (bit_of rows) (bit_of (rows_turned b came (rows_turned a left rows))) xs zs
 gains-twice a b left came rows xs ys zs apart e first second =
-    gains_then (lit rows) (lit (rows_turned a left rows))
-    (lit (rows_turned b came (rows_turned a left rows))) xs ys zs
+    gains_then (bit_of rows) (bit_of (rows_turned a left rows))
+    (bit_of (rows_turned b came (rows_turned a left rows))) xs ys zs
     (λ conn index. once conn index (list_any (at_header conn index a) rows) refl) first second
   where
     once : (conn : ConnId) (index : ℕ) (t : Bool) → list_any (at_header conn index a) rows ≡ t
-        → (lit (rows_turned a left rows) conn index ≡ lit rows conn index)
-        ⊎ (lit (rows_turned b came (rows_turned a left rows)) conn index ≡ lit (rows_turned a left rows) conn index)
+        → (bit_of (rows_turned a left rows) conn index ≡ bit_of rows conn index)
+        ⊎ (bit_of (rows_turned b came (rows_turned a left rows)) conn index
+        ≡ bit_of (rows_turned a left rows) conn index)
     once conn index true h =
         inr (turned-other b came conn index (rows_turned a left rows)
         (any_turned a b left conn index rows ∙ one_monitor conn index a b rows apart e h))

@@ -43,8 +43,8 @@ refs_of kind.Lock = Nothing
 
 -- no records and monitors; each limit is the entries that the policy states, nobody holds a lock, and
 -- ids begin at 1
-abbrev pub nothing : Shape → Content
-nothing shape =
+abbrev pub no_content : Shape → Content
+no_content shape =
     record {
       lists = replicate (headers_of shape.kind) [];
       limits = replicate (headers_of shape.kind) shape.caps.entries;

@@ -12,7 +12,7 @@ use Rattle.list_model.specs.declared.items.ListItem.{ListItem}
 use Rattle.list_model.specs.declared.items.ListItem.TheVariants.{Controls, Row}
 use Rattle.list_model.specs.Records.{elements_of}
 use Rattle.list_model.specs.Lists.{first_records}
-use Rattle.list_model.specs.Contents.{Content, nothing}
+use Rattle.list_model.specs.Contents.{Content, no_content}
 
 -- a monitor as three numbers
 abbrev pub Triple : Type 0
@@ -68,7 +68,7 @@ content_with content (Row header id name key body adj) =
 abbrev pub content_without_last : Shape → Content → Content
 content_without_last shape content =
     if count_of content.lists == 0
-    then record (nothing shape) { lists = content.lists }
+    then record (no_content shape) { lists = content.lists }
     else record content { lists = first_records (count_of content.lists - 1) content.lists }
 
 -- the entries and elements that items need

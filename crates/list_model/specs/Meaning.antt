@@ -4,14 +4,14 @@ use Rattle.cf_types.specs.declared.list_commands.ListCmd.{ListCmd}
 use Rattle.cf_types.specs.declared.list_commands.ListReply.{ListReply}
 use Rattle.engine_api.specs.Meaning.{Meaning}
 use Rattle.list_model.specs.declared.items.ListItem.{ListItem}
-use Rattle.list_model.specs.Contents.{Content, nothing, content_without, stands}
+use Rattle.list_model.specs.Contents.{Content, no_content, content_without, stands}
 use Rattle.list_model.specs.Items.{items_of, content_with, content_without_last, need_of}
 use Rattle.list_model.specs.Step.{cause, done}
 
 abbrev pub list_meaning : Meaning ListCmd ListReply ListItem Content
 list_meaning =
     record {
-      empty = nothing;
+      empty = no_content;
       cause = cause;
       done = λ shape caps content by cmd. done content by cmd;
       leave = λ shape content conn keep.

@@ -16,7 +16,7 @@ use Rattle.list_laws.proofs.PairwiseLaws.{pairwise_front, pairwise_weaker}
 use Rattle.list_store.specs.declared.records.Rec.{Rec}
 use Rattle.list_store.specs.declared.records.Spot.{Spot}
 use Rattle.list_store.specs.Lists.{all_records, is_id, record_of, spot_of, spot_in, lists_without, lists_with, lists_replaced, ids_apart}
-use Rattle.list_store.specs.Stored.{lists_in, places_of, place_within, IsLastFull}
+use Rattle.list_store.specs.StoreView.{lists_in, places_of, place_within, IsLastFull}
 use Rattle.list_store.proofs.RecordLaws.{all-filter, list_of, list_of-get_or, has_any, changed, map_same, only_there, found_there, position-map, all-split, all-set, pairwise_middle, once}
 
 -- ---- places

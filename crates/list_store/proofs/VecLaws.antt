@@ -9,7 +9,7 @@ use Rattle.std.proofs.lemmas.List.{get_or-map, map-set, set-get_or, take_more_se
 use Rattle.std.proofs.lemmas.List.Folds.{list_all-append}
 use Rattle.list_store.specs.declared.records.Rec.{Rec}
 use Rattle.list_store.specs.Lists.{all_records}
-use Rattle.list_store.specs.Stored.{lists_in, has_place, is_few}
+use Rattle.list_store.specs.StoreView.{lists_in, has_place, is_few}
 use Rattle.list_store.proofs.RecordLaws.{list_of, list_of-get_or, list_all-set, list_all-get_or}
 
 -- the vector of a header holds its records

@@ -4,7 +4,7 @@ ghost use Rattle.std.specs.List.{list_all, list_any, insert, remove};
 ghost use Rattle.std.specs.Vec.{vec_len, vec_capacity};
 ghost use Rattle.list_laws.specs.Pairwise.{pairwise};
 ghost use Rattle.list_store.specs.Lists.{all_records, records_of, is_id, record_of, spot_of, lists_without, lists_with, lists_replaced, ids_apart};
-ghost use Rattle.list_store.specs.Stored.{lists_in, places_of, has_place, is_few, IsLastFull};
+ghost use Rattle.list_store.specs.StoreView.{lists_in, places_of, has_place, is_few, IsLastFull};
 
 use crate::records::{Rec, Spot};
 use cf_types::{Body, EntryId, NoMemory, copy_body};

@@ -2,7 +2,7 @@ ghost use Rattle.std.specs.Prelude.{◌≡◌, ◌-◌, ◌<◌, ◌≤◌, ◌+
 ghost use Rattle.std.specs.List.{list_any};
 ghost use Rattle.list_laws.specs.Pairwise.{pairwise};
 ghost use Rattle.list_store.specs.Lists.{all_records, records_of, with_records, is_id, record_of, spot_of, lists_without, lists_with, lists_replaced, ids_apart};
-ghost use Rattle.list_store.specs.Stored.{IsLastFull};
+ghost use Rattle.list_store.specs.StoreView.{IsLastFull};
 
 use crate::lists::{
     copy_lists, last_header, no_records, places_of, pop_at, push, put, reserve, set_at, take_at,
@@ -20,11 +20,11 @@ pub struct Store {
 }
 
 impl Model for Store {
-    ghost use Rattle.list_store.specs.Stored.{Stored, stored, IsKept};
+    ghost use Rattle.list_store.specs.StoreView.{StoreView, store_view, IsKept};
 
-    ghost Value = { Stored };
+    ghost Value = { StoreView };
 
-    ghost view = { stored };
+    ghost view = { store_view };
 
     ghost invariant = { IsKept };
 }

@@ -8,14 +8,14 @@ use Rattle.std.proofs.lemmas.List.Folds.{list_all-map, list_any-append}
 use Rattle.std.proofs.lemmas.Map.Views.{any-filter_same}
 use Rattle.cf_types.specs.declared.numbers.ConnId.{ConnId}
 use Rattle.cf_types.specs.declared.effects.BitChange.{BitChange}
-use Rattle.cf_types.specs.Gains.{Gains, told, difference}
+use Rattle.cf_types.specs.Gains.{Gains, bits_told, difference}
 use Rattle.cf_types.proofs.GainsLaws.{gains_none, gains_one, gains_then}
 use Rattle.list_laws.specs.Pairwise.{pairwise}
 use Rattle.list_laws.proofs.FilterLaws.{none_from_all, list_all_weaker}
 use Rattle.list_watch.specs.declared.monitors.Monitor.{Monitor}
 use Rattle.list_watch.specs.declared.monitors.Watched.{Watched}
 use Rattle.list_watch.specs.Monitors.{is_at, is_for, places_apart}
-use Rattle.list_watch.specs.Rows.{monitors_of, is_lit, lit, turned}
+use Rattle.list_watch.specs.Rows.{monitors_of, is_lit, bit_of, row_turned}
 use Rattle.list_watch.specs.Ends.{change_to, differs, is_turned, turn_changes, rows_put}
 
 -- ---- one monitor at most at an index
@@ -47,39 +47,40 @@ rest_apart row rows apart = (and_parts (list_all (places_apart row.monitor) (mon
 
 -- nobody there, so no bit and nothing told
 dark : (conn : ConnId) (index : ℕ) (rows : List Watched) → list_any (stands_at conn index) rows ≡ false
-    → lit rows conn index ≡ false
+    → bit_of rows conn index ≡ false
 dark conn index [] e = refl
 dark conn index (row ∷ rows) e = go (stands_at conn index row) refl e (dark conn index rows)
   where
     go : (b : Bool) → stands_at conn index row ≡ b → b || list_any (stands_at conn index) rows ≡ false
-        → (list_any (stands_at conn index) rows ≡ false → lit rows conn index ≡ false) → lit (row ∷ rows) conn index ≡
+        → (list_any (stands_at conn index) rows ≡ false → bit_of rows conn index ≡ false)
+        → bit_of (row ∷ rows) conn index ≡
         false
     go true f e rest = absurd (false≢true (sym e))
     go false f e rest = rw f (rest e)
 
 dark_filter : (p : Watched → Bool) (conn : ConnId) (index : ℕ) (rows : List Watched) → list_any (stands_at conn index)
     rows ≡ false
-    → lit (filter p rows) conn index ≡ false
+    → bit_of (filter p rows) conn index ≡ false
 dark_filter p conn index [] e = refl
 dark_filter p conn index (row ∷ rows) e = go (stands_at conn index row) (p row) refl refl e
     (dark_filter p conn index rows)
   where
     go : (b d : Bool) → stands_at conn index row ≡ b → p row ≡ d → b || list_any (stands_at conn index) rows ≡ false
-        → (list_any (stands_at conn index) rows ≡ false → lit (filter p rows) conn index ≡ false)
-        → lit (filter p (row ∷ rows)) conn index ≡ false
+        → (list_any (stands_at conn index) rows ≡ false → bit_of (filter p rows) conn index ≡ false)
+        → bit_of (filter p (row ∷ rows)) conn index ≡ false
     go true d f g e rest = absurd (false≢true (sym e))
     go false true f g e rest = rw (g, f) (rest e)
     go false false f g e rest = rw g (rest e)
 
 dark_map : (f : Watched → Watched) → ((row : Watched) → (f row).monitor ≡ row.monitor) → (conn : ConnId) (index : ℕ)
     (rows : List Watched)
-    → list_any (stands_at conn index) rows ≡ false → lit (map f rows) conn index ≡ false
+    → list_any (stands_at conn index) rows ≡ false → bit_of (map f rows) conn index ≡ false
 dark_map f same conn index [] e = refl
 dark_map f same conn index (row ∷ rows) e = go (stands_at conn index row) refl e (dark_map f same conn index rows)
   where
     go : (b : Bool) → stands_at conn index row ≡ b → b || list_any (stands_at conn index) rows ≡ false
-        → (list_any (stands_at conn index) rows ≡ false → lit (map f rows) conn index ≡ false)
-        → lit (map f (row ∷ rows)) conn index ≡ false
+        → (list_any (stands_at conn index) rows ≡ false → bit_of (map f rows) conn index ≡ false)
+        → bit_of (map f (row ∷ rows)) conn index ≡ false
     go true g e rest = absurd (false≢true (sym e))
     go false g e rest =
         let here : stands_at conn index (f row) ≡ false = ap (is_at conn index) (same row) ∙ g in
@@ -87,14 +88,15 @@ dark_map f same conn index (row ∷ rows) e = go (stands_at conn index row) refl
 
 quiet : (bit : Bool) (p : Watched → Bool) (conn : ConnId) (index : ℕ) (rows : List Watched)
     → list_any (stands_at conn index) rows ≡ false
-    → told (map (change_to bit) (filter p rows)) conn index ≡ []
+    → bits_told (map (change_to bit) (filter p rows)) conn index ≡ []
 quiet bit p conn index [] e = refl
 quiet bit p conn index (row ∷ rows) e = go (stands_at conn index row) (p row) refl refl e
     (quiet bit p conn index rows)
   where
     go : (b d : Bool) → stands_at conn index row ≡ b → p row ≡ d → b || list_any (stands_at conn index) rows ≡ false
-        → (list_any (stands_at conn index) rows ≡ false → told (map (change_to bit) (filter p rows)) conn index ≡ [])
-        → told (map (change_to bit) (filter p (row ∷ rows))) conn index ≡ []
+        → (list_any (stands_at conn index) rows ≡ false → bits_told (map (change_to bit) (filter p rows)) conn index
+        ≡ [])
+        → bits_told (map (change_to bit) (filter p (row ∷ rows))) conn index ≡ []
     go true d f g e rest = absurd (false≢true (sym e))
     go false true f g e rest = rw (g, f) (rest e)
     go false false f g e rest = rw g (rest e)
@@ -104,10 +106,10 @@ quiet bit p conn index (row ∷ rows) e = go (stands_at conn index row) (p row) 
 ended_step : (p : Watched → Bool) (conn : ConnId) (index : ℕ) (row : Watched) (rows : List Watched) (a b c : Bool)
     → stands_at conn index row ≡ a → p row ≡ b → row.full ≡ c
     → (a ≡ true → list_any (stands_at conn index) rows ≡ false)
-    → told (map (change_to false) (filter (λ r. r.full && p r) rows)) conn index
-    ≡ difference (lit rows conn index) (lit (filter (λ r. not (p r)) rows) conn index)
-    → told (map (change_to false) (filter (λ r. r.full && p r) (row ∷ rows))) conn index
-    ≡ difference (lit (row ∷ rows) conn index) (lit (filter (λ r. not (p r)) (row ∷ rows)) conn index)
+    → bits_told (map (change_to false) (filter (λ r. r.full && p r) rows)) conn index
+    ≡ difference (bit_of rows conn index) (bit_of (filter (λ r. not (p r)) rows) conn index)
+    → bits_told (map (change_to false) (filter (λ r. r.full && p r) (row ∷ rows))) conn index
+    ≡ difference (bit_of (row ∷ rows) conn index) (bit_of (filter (λ r. not (p r)) (row ∷ rows)) conn index)
 ended_step p conn index row rows true true true e f g none ih =
     rw (
       f,
@@ -146,8 +148,8 @@ ended_step p conn index row rows false false false e f g none ih = rw (f, g, e) 
 
 ended_told : (p : Watched → Bool) (conn : ConnId) (index : ℕ) (rows : List Watched) → pairwise places_apart
     (monitors_of rows) ≡ true
-    → told (map (change_to false) (filter (λ r. r.full && p r) rows)) conn index
-    ≡ difference (lit rows conn index) (lit (filter (λ r. not (p r)) rows) conn index)
+    → bits_told (map (change_to false) (filter (λ r. r.full && p r) rows)) conn index
+    ≡ difference (bit_of rows conn index) (bit_of (filter (λ r. not (p r)) rows) conn index)
 ended_told p conn index [] apart = refl
 ended_told p conn index (row ∷ rows) apart =
     ended_step p conn index row rows (stands_at conn index row) (p row) row.full refl refl refl
@@ -157,7 +159,7 @@ ended_told p conn index (row ∷ rows) apart =
 -- each monitor that ends clears its bit
 pub gains_ended : (p : Watched → Bool) (rows : List Watched) (bits : List BitChange) → pairwise places_apart
     (monitors_of rows) ≡ true
-    → Gains (lit rows) (lit (filter (λ row. not (p row)) rows)) bits (bits ++ map (change_to false)
+    → Gains (bit_of rows) (bit_of (filter (λ row. not (p row)) rows)) bits (bits ++ map (change_to false)
     (filter (λ row. row.full && p row) rows))
 gains_ended p rows bits apart =
     record {
@@ -168,7 +170,7 @@ gains_ended p rows bits apart =
 
 -- ---- the monitors of a header turn
 
-same_monitor : (header : ℕ) (full : Bool) (row : Watched) → (turned header full row).monitor ≡ row.monitor
+same_monitor : (header : ℕ) (full : Bool) (row : Watched) → (row_turned header full row).monitor ≡ row.monitor
 same_monitor header full row = go (row.monitor.header == header)
   where
     go : (b : Bool) → (if b then record row { full = full } else row).monitor ≡ row.monitor
@@ -179,10 +181,10 @@ turned_step : (header : ℕ) (full : Bool) (conn : ConnId) (index : ℕ) (row : 
     (a b c : Bool)
     → stands_at conn index row ≡ a → (row.monitor.header == header) ≡ b → row.full ≡ c
     → (a ≡ true → list_any (stands_at conn index) rows ≡ false)
-    → told (turn_changes header full rows) conn index ≡ difference (lit rows conn index)
-    (lit (map (turned header full) rows) conn index)
-    → told (turn_changes header full (row ∷ rows)) conn index
-    ≡ difference (lit (row ∷ rows) conn index) (lit (map (turned header full) (row ∷ rows)) conn index)
+    → bits_told (turn_changes header full rows) conn index ≡ difference (bit_of rows conn index)
+    (bit_of (map (row_turned header full) rows) conn index)
+    → bits_told (turn_changes header full (row ∷ rows)) conn index
+    ≡ difference (bit_of (row ∷ rows) conn index) (bit_of (map (row_turned header full) (row ∷ rows)) conn index)
 turned_step header true conn index row rows true true true e f g none ih =
     rw (f, g, e, quiet true (is_turned header true) conn index rows (none refl)) refl
 turned_step header true conn index row rows true true false e f g none ih =
@@ -197,7 +199,7 @@ turned_step header true conn index row rows true false false e f g none ih =
       e,
       quiet true (is_turned header true) conn index rows (none refl),
       dark conn index rows (none refl),
-      dark_map (turned header true) (same_monitor header true) conn index rows (none refl),
+      dark_map (row_turned header true) (same_monitor header true) conn index rows (none refl),
     ) refl
 turned_step header true conn index row rows false true true e f g none ih =
     rw (f, g, e) ih
@@ -213,7 +215,7 @@ turned_step header false conn index row rows true true true e f g none ih =
       g,
       e,
       quiet false (is_turned header false) conn index rows (none refl),
-      dark_map (turned header false)
+      dark_map (row_turned header false)
           (same_monitor header false) conn index rows (none refl),
     ) refl
 turned_step header false conn index row rows true true false e f g none ih =
@@ -223,7 +225,7 @@ turned_step header false conn index row rows true true false e f g none ih =
       e,
       quiet false (is_turned header false) conn index rows (none refl),
       dark conn index rows (none refl),
-      dark_map (turned header false) (same_monitor header false) conn index rows (none refl),
+      dark_map (row_turned header false) (same_monitor header false) conn index rows (none refl),
     ) refl
 turned_step header false conn index row rows true false true e f g none ih =
     rw (f, g, e, quiet false (is_turned header false) conn index rows (none refl)) refl
@@ -234,7 +236,7 @@ turned_step header false conn index row rows true false false e f g none ih =
       e,
       quiet false (is_turned header false) conn index rows (none refl),
       dark conn index rows (none refl),
-      dark_map (turned header false) (same_monitor header false) conn index rows (none refl),
+      dark_map (row_turned header false) (same_monitor header false) conn index rows (none refl),
     ) refl
 turned_step header false conn index row rows false true true e f g none ih =
     rw (f, g, e) ih
@@ -247,8 +249,8 @@ turned_step header false conn index row rows false false false e f g none ih =
 
 turned_told : (header : ℕ) (full : Bool) (conn : ConnId) (index : ℕ) (rows : List Watched) → pairwise places_apart
     (monitors_of rows) ≡ true
-    → told (turn_changes header full rows) conn index ≡ difference (lit rows conn index)
-    (lit (map (turned header full) rows) conn index)
+    → bits_told (turn_changes header full rows) conn index ≡ difference (bit_of rows conn index)
+    (bit_of (map (row_turned header full) rows) conn index)
 turned_told header full conn index [] apart = refl
 turned_told header full conn index (row ∷ rows) apart =
     turned_step header full conn index row rows (stands_at conn index row) (row.monitor.header == header) row.full
@@ -257,7 +259,7 @@ turned_told header full conn index (row ∷ rows) apart =
 
 pub gains_turned : (header : ℕ) (full : Bool) (rows : List Watched) (bits : List BitChange) → pairwise places_apart
     (monitors_of rows) ≡ true
-    → Gains (lit rows) (lit (map (turned header full) rows)) bits (bits ++ turn_changes header full rows)
+    → Gains (bit_of rows) (bit_of (map (row_turned header full) rows)) bits (bits ++ turn_changes header full rows)
 gains_turned header full rows bits apart =
     record {
       added = turn_changes header full rows;
@@ -266,11 +268,12 @@ gains_turned header full rows bits apart =
     }
 
 -- the monitors stay
-pub monitors-turned : (header : ℕ) (full : Bool) (rows : List Watched) → monitors_of (map (turned header full) rows) ≡
+pub monitors-turned : (header : ℕ) (full : Bool) (rows : List Watched)
+    → monitors_of (map (row_turned header full) rows) ≡
     monitors_of rows
 monitors-turned header full [] = refl
 monitors-turned header full (row ∷ rows) =
-    ap (λ (m : Monitor). m ∷ monitors_of (map (turned header full) rows)) (same_monitor header full row)
+    ap (λ (m : Monitor). m ∷ monitors_of (map (row_turned header full) rows)) (same_monitor header full row)
     ∙ ap (λ (l : List Monitor). row.monitor ∷ l) (monitors-turned header full rows)
 
 -- ---- a monitor comes
@@ -282,8 +285,8 @@ elsewhere_step : (conn : ConnId) (i : ℕ) (by : ConnId) (index : ℕ) (row : Wa
     (a b d : Bool)
     → stands_at conn i row ≡ a → not (is_at by index row.monitor) ≡ b → not ((by.0 == conn.0) && (index == i)) ≡ d
     → (a ≡ true → b ≡ d)
-    → lit (filter (λ r. not (is_at by index r.monitor)) rows) conn i ≡ (d && lit rows conn i)
-    → lit (filter (λ r. not (is_at by index r.monitor)) (row ∷ rows)) conn i ≡ (d && lit (row ∷ rows) conn i)
+    → bit_of (filter (λ r. not (is_at by index r.monitor)) rows) conn i ≡ (d && bit_of rows conn i)
+    → bit_of (filter (λ r. not (is_at by index r.monitor)) (row ∷ rows)) conn i ≡ (d && bit_of (row ∷ rows) conn i)
 elsewhere_step conn i by index row rows a true true e f g h ih = rw f (ap (λ b. is_lit conn i row || b) ih)
 elsewhere_step conn i by index row rows a false false e f g h ih = rw f ih
 elsewhere_step conn i by index row rows true true false e f g h ih = absurd (false≢true (sym (h refl)))
@@ -293,8 +296,8 @@ elsewhere_step conn i by index row rows false false true e f g h ih = rw (f, e) 
 
 -- without what stood at an index
 lit_elsewhere : (rows : List Watched) (by conn : ConnId) (index i : ℕ)
-    → lit (filter (λ r. not (is_at by index r.monitor)) rows) conn i ≡ (not ((by.0 == conn.0) && (index == i))
-    && lit rows conn i)
+    → bit_of (filter (λ r. not (is_at by index r.monitor)) rows) conn i ≡ (not ((by.0 == conn.0) && (index == i))
+    && bit_of rows conn i)
 lit_elsewhere [] by conn index i = none (not ((by.0 == conn.0) && (index == i)))
   where
     none : (b : Bool) → false ≡ b && false
@@ -308,8 +311,8 @@ lit_elsewhere (row ∷ rows) by conn index i =
 
 -- with the new one behind
 lit_put : (new : Watched) (rows : List Watched) (conn : ConnId) (i : ℕ)
-    → lit (rows_put new rows) conn i
-    ≡ (not ((new.monitor.conn.0 == conn.0) && (new.monitor.index == i)) && lit rows conn i)
+    → bit_of (rows_put new rows) conn i
+    ≡ (not ((new.monitor.conn.0 == conn.0) && (new.monitor.index == i)) && bit_of rows conn i)
     || ((((new.monitor.conn.0 == conn.0) && (new.monitor.index == i)) && new.full) || false)
 lit_put new rows conn i =
     list_any-append (is_lit conn i) (filter (λ r. not (is_at new.monitor.conn new.monitor.index r.monitor)) rows)
@@ -329,25 +332,25 @@ own_bit false x y e = absurd (false≢true e)
 
 lit_put-other : (new : Watched) (rows : List Watched) (conn : ConnId) (i : ℕ) → (new.monitor.conn.0 == conn.0)
     && (new.monitor.index == i) ≡ false
-    → lit (rows_put new rows) conn i ≡ lit rows conn i
+    → bit_of (rows_put new rows) conn i ≡ bit_of rows conn i
 lit_put-other new rows conn i e =
     lit_put new rows conn i ∙ other_bits ((new.monitor.conn.0 == conn.0) && (new.monitor.index == i))
-    (lit rows conn i) new.full e
+    (bit_of rows conn i) new.full e
 
 self : (a b : ℕ) → (a == a) && (b == b) ≡ true
 self a b = grind (arith, nat_tests)
 
-lit_put-here : (new : Watched) (rows : List Watched) → lit (rows_put new rows) new.monitor.conn new.monitor.index ≡
+lit_put-here : (new : Watched) (rows : List Watched) → bit_of (rows_put new rows) new.monitor.conn new.monitor.index ≡
     new.full
 lit_put-here new rows =
     lit_put new rows new.monitor.conn new.monitor.index
     ∙ own_bit ((new.monitor.conn.0 == new.monitor.conn.0) && (new.monitor.index == new.monitor.index))
-    (lit rows new.monitor.conn new.monitor.index) new.full
+    (bit_of rows new.monitor.conn new.monitor.index) new.full
     (self new.monitor.conn.0 new.monitor.index)
 
 same_pair : (new : Watched) (rows : List Watched) (conn : ConnId) (i : ℕ) (b : Bool) → (new.monitor.conn.0 == conn.0)
     && (new.monitor.index == i) ≡ b
-    → lit rows new.monitor.conn new.monitor.index ≡ new.full → lit (rows_put new rows) conn i ≡ lit rows conn i
+    → bit_of rows new.monitor.conn new.monitor.index ≡ new.full → bit_of (rows_put new rows) conn i ≡ bit_of rows conn i
 same_pair new rows conn i true e stood =
     let parts = and_parts (new.monitor.conn.0 == conn.0) (new.monitor.index == i) e in
     subst₂ (λ (c n : ℕ). list_any (is_lit (record { 0 = c }) n) (rows_put new rows) ≡ list_any
@@ -370,26 +373,26 @@ equal false false e = refl
 
 -- its bit is told where it stood otherwise
 pub gains_put : (new : Watched) (rows : List Watched) (bits : List BitChange)
-    → Gains (lit rows) (lit (rows_put new rows)) bits
-    (if differs (lit rows new.monitor.conn new.monitor.index) new.full
+    → Gains (bit_of rows) (bit_of (rows_put new rows)) bits
+    (if differs (bit_of rows new.monitor.conn new.monitor.index) new.full
     then bits ++ record { conn = new.monitor.conn; index = new.monitor.index; bit = new.full } ∷ []
     else bits)
-gains_put new rows bits = go (differs (lit rows new.monitor.conn new.monitor.index) new.full) refl
+gains_put new rows bits = go (differs (bit_of rows new.monitor.conn new.monitor.index) new.full) refl
   where
-    go : (b : Bool) → differs (lit rows new.monitor.conn new.monitor.index) new.full ≡ b
-        → Gains (lit rows) (lit (rows_put new rows)) bits
+    go : (b : Bool) → differs (bit_of rows new.monitor.conn new.monitor.index) new.full ≡ b
+        → Gains (bit_of rows) (bit_of (rows_put new rows)) bits
         (if b then bits ++ record { conn = new.monitor.conn; index = new.monitor.index; bit = new.full } ∷
         [] else bits)
     go true e =
         let now = lit_put-here new rows in
-        let one = gains_one new.monitor.conn new.monitor.index (lit rows) (lit (rows_put new rows)) bits
-        (λ same. unequal (lit rows new.monitor.conn new.monitor.index) new.full e (same ∙ now))
+        let one = gains_one new.monitor.conn new.monitor.index (bit_of rows) (bit_of (rows_put new rows)) bits
+        (λ same. unequal (bit_of rows new.monitor.conn new.monitor.index) new.full e (same ∙ now))
         (λ conn i f. lit_put-other new rows conn i f) in
         rw now at one
     go false e =
-        gains_none (lit rows) (lit (rows_put new rows)) bits
+        gains_none (bit_of rows) (bit_of (rows_put new rows)) bits
         (λ conn i. same_pair new rows conn i ((new.monitor.conn.0 == conn.0) && (new.monitor.index == i)) refl
-        (equal (lit rows new.monitor.conn new.monitor.index) new.full e))
+        (equal (bit_of rows new.monitor.conn new.monitor.index) new.full e))
 
 -- ---- first the connector's monitor of the header elsewhere ends, and then it comes
 
@@ -409,16 +412,16 @@ is_elsewhere new row = is_for new.monitor.conn new.monitor.header row.monitor
 
 pub gains_with : (new : Watched) (rows : List Watched) (xs ys zs : List BitChange)
     → let middle = filter (λ row. not (is_elsewhere new row)) rows in
-    Gains (lit rows) (lit middle) xs ys → Gains (lit middle) (lit (rows_put new middle)) ys zs
-    → Gains (lit rows) (lit (rows_put new middle)) xs zs
+    Gains (bit_of rows) (bit_of middle) xs ys → Gains (bit_of middle) (bit_of (rows_put new middle)) ys zs
+    → Gains (bit_of rows) (bit_of (rows_put new middle)) xs zs
 gains_with new rows xs ys zs first second =
     let middle = filter (λ row. not (is_elsewhere new row)) rows in
-    gains_then (lit rows) (lit middle) (lit (rows_put new middle)) xs ys zs
+    gains_then (bit_of rows) (bit_of middle) (bit_of (rows_put new middle)) xs ys zs
     (λ conn i. once conn i ((new.monitor.conn.0 == conn.0) && (new.monitor.index == i)) refl) first second
   where
     once : (conn : ConnId) (i : ℕ) (b : Bool) → (new.monitor.conn.0 == conn.0) && (new.monitor.index == i) ≡ b
-        → (lit (filter (λ row. not (is_elsewhere new row)) rows) conn i ≡ lit rows conn i)
-        ⊎ (lit (rows_put new (filter (λ row. not (is_elsewhere new row)) rows)) conn i ≡ lit
+        → (bit_of (filter (λ row. not (is_elsewhere new row)) rows) conn i ≡ bit_of rows conn i)
+        ⊎ (bit_of (rows_put new (filter (λ row. not (is_elsewhere new row)) rows)) conn i ≡ bit_of
         (filter (λ row. not (is_elsewhere new row)) rows) conn i)
     once conn i true e =
         inl (any-filter_same (is_lit conn i) (λ row. not (is_elsewhere new row)) true
@@ -430,21 +433,22 @@ gains_with new rows xs ys zs first second =
 -- ---- two headers turn
 
 row_two : (a b : ℕ) (x y : Bool) → ((a == b) ≡ true → y ≡ x) → (row : Watched)
-    → ((turned a x row).full ≡ row.full) ⊎ ((turned b y (turned a x row)).full ≡ (turned a x row).full)
+    → ((row_turned a x row).full ≡ row.full) ⊎ ((row_turned b y (row_turned a x row)).full ≡ (row_turned a x row).full)
 row_two a b x y same row = go (row.monitor.header == a) (row.monitor.header == b) refl refl
   where
     both : (h a b : ℕ) → (h == a) ≡ true → (h == b) ≡ true → (a == b) ≡ true
     both h a b e f = grind (arith, nat_tests)
 
     go : (s t : Bool) → (row.monitor.header == a) ≡ s → (row.monitor.header == b) ≡ t
-        → ((turned a x row).full ≡ row.full) ⊎ ((turned b y (turned a x row)).full ≡ (turned a x row).full)
+        → ((row_turned a x row).full ≡ row.full) ⊎ ((row_turned b y (row_turned a x row)).full
+        ≡ (row_turned a x row).full)
     go false t e f = inl (rw e refl)
     go true true e f = inr (rw (e, f) (same (both row.monitor.header a b e f)))
     go true false e f = inr (rw (e, f) refl)
 
 alone : (f : Watched → Watched) → ((row : Watched) → (f row).monitor ≡ row.monitor) → (conn : ConnId) (index : ℕ)
     (row : Watched) (rows : List Watched)
-    → stands_at conn index row ≡ true → list_any (stands_at conn index) rows ≡ false → lit (map f (row ∷ rows)) conn
+    → stands_at conn index row ≡ true → list_any (stands_at conn index) rows ≡ false → bit_of (map f (row ∷ rows)) conn
     index ≡ (f row).full
 alone f same conn index row rows here none =
     let there : is_at conn index (f row).monitor ≡ true = ap (is_at conn index) (same row) ∙ here in
@@ -457,43 +461,47 @@ alone f same conn index row rows here none =
 
 absent : (f : Watched → Watched) → ((row : Watched) → (f row).monitor ≡ row.monitor) → (conn : ConnId) (index : ℕ)
     (row : Watched) (rows : List Watched)
-    → stands_at conn index row ≡ false → lit (map f (row ∷ rows)) conn index ≡ lit (map f rows) conn index
+    → stands_at conn index row ≡ false → bit_of (map f (row ∷ rows)) conn index ≡ bit_of (map f rows) conn index
 absent f same conn index row rows apart =
     let there : is_at conn index (f row).monitor ≡ false = ap (is_at conn index) (same row) ∙ apart in
-    ap (λ b. (b && (f row).full) || lit (map f rows) conn index) there
+    ap (λ b. (b && (f row).full) || bit_of (map f rows) conn index) there
 
 two_once : (a b : ℕ) (x y : Bool) → ((a == b) ≡ true → y ≡ x) → (conn : ConnId) (index : ℕ) (rows : List Watched)
     → pairwise places_apart (monitors_of rows) ≡ true
-    → (lit (map (turned a x) rows) conn index ≡ lit (map (λ r. r) rows) conn index)
-    ⊎ (lit (map (λ r. turned b y (turned a x r)) rows) conn index ≡ lit (map (turned a x) rows) conn index)
+    → (bit_of (map (row_turned a x) rows) conn index ≡ bit_of (map (λ r. r) rows) conn index)
+    ⊎ (bit_of (map (λ r. row_turned b y (row_turned a x r)) rows) conn index
+    ≡ bit_of (map (row_turned a x) rows) conn index)
 two_once a b x y same conn index [] apart = inl refl
 two_once a b x y same conn index (row ∷ rows) apart =
     go (stands_at conn index row) refl (none_later row rows conn index apart) (two_once a b x y same conn index rows
     (rest_apart row rows apart))
     (row_two a b x y same row)
   where
-    twice : (r : Watched) → (turned b y (turned a x r)).monitor ≡ r.monitor
-    twice r = same_monitor b y (turned a x r) ∙ same_monitor a x r
+    twice : (r : Watched) → (row_turned b y (row_turned a x r)).monitor ≡ r.monitor
+    twice r = same_monitor b y (row_turned a x r) ∙ same_monitor a x r
 
     go : (s : Bool) → stands_at conn index row ≡ s → (s ≡ true → list_any (stands_at conn index) rows ≡ false)
-        → (lit (map (turned a x) rows) conn index ≡ lit (map (λ r. r) rows) conn index)
-        ⊎ (lit (map (λ r. turned b y (turned a x r)) rows) conn index ≡ lit (map (turned a x) rows) conn index)
-        → ((turned a x row).full ≡ row.full) ⊎ ((turned b y (turned a x row)).full ≡ (turned a x row).full)
-        → (lit (map (turned a x) (row ∷ rows)) conn index ≡ lit (map (λ r. r) (row ∷ rows)) conn index)
-        ⊎ (lit (map (λ r. turned b y (turned a x r)) (row ∷ rows)) conn index ≡ lit (map (turned a x) (row ∷ rows))
+        → (bit_of (map (row_turned a x) rows) conn index ≡ bit_of (map (λ r. r) rows) conn index)
+        ⊎ (bit_of (map (λ r. row_turned b y (row_turned a x r)) rows) conn index
+        ≡ bit_of (map (row_turned a x) rows) conn index)
+        → ((row_turned a x row).full ≡ row.full) ⊎ ((row_turned b y (row_turned a x row)).full
+        ≡ (row_turned a x row).full)
+        → (bit_of (map (row_turned a x) (row ∷ rows)) conn index ≡ bit_of (map (λ r. r) (row ∷ rows)) conn index)
+        ⊎ (bit_of (map (λ r. row_turned b y (row_turned a x r)) (row ∷ rows)) conn index
+        ≡ bit_of (map (row_turned a x) (row ∷ rows))
         conn index)
     go true e none rest (inl h) =
-        inl (alone (turned a x) (same_monitor a x) conn index row rows e (none refl) ∙ h
+        inl (alone (row_turned a x) (same_monitor a x) conn index row rows e (none refl) ∙ h
         ∙ sym (alone (λ r. r) (λ r. refl) conn index row rows e (none refl)))
     go true e none rest (inr h) =
-        inr (alone (λ r. turned b y (turned a x r)) twice conn index row rows e (none refl) ∙ h
-        ∙ sym (alone (turned a x) (same_monitor a x) conn index row rows e (none refl)))
+        inr (alone (λ r. row_turned b y (row_turned a x r)) twice conn index row rows e (none refl) ∙ h
+        ∙ sym (alone (row_turned a x) (same_monitor a x) conn index row rows e (none refl)))
     go false e none (inl h) own =
-        inl (absent (turned a x) (same_monitor a x) conn index row rows e ∙ h
+        inl (absent (row_turned a x) (same_monitor a x) conn index row rows e ∙ h
         ∙ sym (absent (λ r. r) (λ r. refl) conn index row rows e))
     go false e none (inr h) own =
-        inr (absent (λ r. turned b y (turned a x r)) twice conn index row rows e ∙ h
-        ∙ sym (absent (turned a x) (same_monitor a x) conn index row rows e))
+        inr (absent (λ r. row_turned b y (row_turned a x r)) twice conn index row rows e ∙ h
+        ∙ sym (absent (row_turned a x) (same_monitor a x) conn index row rows e))
 
 map-twice : (f g : Watched → Watched) (rows : List Watched) → map g (map f rows) ≡ map (λ r. g (f r)) rows
 map-twice f g [] = refl
@@ -502,18 +510,21 @@ map-twice f g (row ∷ rows) = ap (λ (l : List Watched). g (f row) ∷ l) (map-
 -- no bit changes twice, also where both are one header
 pub gains_two : (a b : ℕ) (x y : Bool) (rows : List Watched) (xs ys zs : List BitChange) → ((a == b) ≡ true → y ≡ x)
     → pairwise places_apart (monitors_of rows) ≡ true
-    → Gains (lit rows) (lit (map (turned a x) rows)) xs ys
-    → Gains (lit (map (turned a x) rows)) (lit (map (turned b y) (map (turned a x) rows))) ys zs
-    → Gains (lit rows) (lit (map (turned b y) (map (turned a x) rows))) xs zs
+    → Gains (bit_of rows) (bit_of (map (row_turned a x) rows)) xs ys
+    → Gains (bit_of (map (row_turned a x) rows)) (bit_of (map (row_turned b y) (map (row_turned a x) rows))) ys zs
+    → Gains (bit_of rows) (bit_of (map (row_turned b y) (map (row_turned a x) rows))) xs zs
 gains_two a b x y rows xs ys zs same apart first second =
-    gains_then (lit rows) (lit (map (turned a x) rows)) (lit (map (turned b y) (map (turned a x) rows))) xs ys zs
+    gains_then (bit_of rows) (bit_of (map (row_turned a x) rows))
+    (bit_of (map (row_turned b y) (map (row_turned a x) rows))) xs ys zs
     (λ conn index. once conn index (two_once a b x y same conn index rows apart)) first second
   where
     once : (conn : ConnId) (index : ℕ)
-        → (lit (map (turned a x) rows) conn index ≡ lit (map (λ r. r) rows) conn index)
-        ⊎ (lit (map (λ r. turned b y (turned a x r)) rows) conn index ≡ lit (map (turned a x) rows) conn index)
-        → (lit (map (turned a x) rows) conn index ≡ lit rows conn index)
-        ⊎ (lit (map (turned b y) (map (turned a x) rows)) conn index ≡ lit (map (turned a x) rows) conn index)
-    once conn index (inl h) = inl (h ∙ ap (λ (l : List Watched). lit l conn index) (map-id rows))
-    once conn index (inr h) = inr (ap (λ (l : List Watched). lit l conn index)
-        (map-twice (turned a x) (turned b y) rows) ∙ h)
+        → (bit_of (map (row_turned a x) rows) conn index ≡ bit_of (map (λ r. r) rows) conn index)
+        ⊎ (bit_of (map (λ r. row_turned b y (row_turned a x r)) rows) conn index
+        ≡ bit_of (map (row_turned a x) rows) conn index)
+        → (bit_of (map (row_turned a x) rows) conn index ≡ bit_of rows conn index)
+        ⊎ (bit_of (map (row_turned b y) (map (row_turned a x) rows)) conn index
+        ≡ bit_of (map (row_turned a x) rows) conn index)
+    once conn index (inl h) = inl (h ∙ ap (λ (l : List Watched). bit_of l conn index) (map-id rows))
+    once conn index (inr h) = inr (ap (λ (l : List Watched). bit_of l conn index)
+        (map-twice (row_turned a x) (row_turned b y) rows) ∙ h)

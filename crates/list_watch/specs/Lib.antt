@@ -1,4 +1,4 @@
 pub mod Monitors
 pub mod Rows
 pub mod Ends
-pub mod Watching
+pub mod WatchView

@@ -13,15 +13,15 @@ monitors_of rows = map (λ row. row.monitor) rows
 abbrev pub is_lit : ConnId → ℕ → Watched → Bool
 is_lit conn index row = is_at conn index row.monitor && row.full
 
-abbrev pub lit : List Watched → ConnId → ℕ → Bool
-lit rows conn index = list_any (is_lit conn index) rows
+abbrev pub bit_of : List Watched → ConnId → ℕ → Bool
+bit_of rows conn index = list_any (is_lit conn index) rows
 
 -- the connectors that monitor a header are told whether it has records
-abbrev pub turned : ℕ → Bool → Watched → Watched
-turned header full row = if row.monitor.header == header then record row { full = full } else row
+abbrev pub row_turned : ℕ → Bool → Watched → Watched
+row_turned header full row = if row.monitor.header == header then record row { full = full } else row
 
 abbrev pub rows_turned : ℕ → Bool → List Watched → List Watched
-rows_turned header full rows = map (turned header full) rows
+rows_turned header full rows = map (row_turned header full) rows
 
 -- a monitor more, in place of the connector's own at that index and of its own for that header
 abbrev pub rows_with : ConnId → ℕ → ℕ → Bool → List Watched → List Watched

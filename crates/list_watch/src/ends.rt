@@ -3,7 +3,7 @@ ghost use Rattle.std.specs.Prelude.{◌≡◌, ◌+◌, ◌≤◌, ◌++◌, IsT
 ghost use Rattle.std.specs.Vec.{vec_len, vec_capacity};
 ghost use Rattle.cf_types.specs.Gains.{Gains};
 ghost use Rattle.list_watch.specs.Monitors.{AreMonitors};
-ghost use Rattle.list_watch.specs.Rows.{monitors_of, lit};
+ghost use Rattle.list_watch.specs.Rows.{monitors_of, bit_of};
 ghost use Rattle.list_watch.specs.Ends.{is_ended, is_cleared, rows_ended, clear_changes};
 
 use crate::monitors::Watched;
@@ -69,7 +69,7 @@ pub(crate) fn end(rows: &mut Vec<Watched>, ends: Ends, out: &mut Effects)
     requires apart { AreMonitors (monitors_of rows.old.items) }
     requires room { length (filter (is_cleared ends) rows.old.items) ≤ out.old.bits.room }
     ensures rows { rows.new.items ≡ rows_ended ends rows.old.items }
-    ensures bits { Gains (lit rows.old.items) (lit rows.new.items) out.old.bits.items
+    ensures bits { Gains (bit_of rows.old.items) (bit_of rows.new.items) out.old.bits.items
         out.new.bits.items }
     ensures room { out.new.bits.room + length (filter (is_cleared ends) rows.old.items) ≡
         out.old.bits.room }

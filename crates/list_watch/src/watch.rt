@@ -3,7 +3,7 @@ ghost use Rattle.std.specs.List.{list_any};
 ghost use Rattle.std.specs.Vec.{vec_len, vec_capacity};
 ghost use Rattle.cf_types.specs.Gains.{Gains};
 ghost use Rattle.list_watch.specs.Monitors.{is_at, is_for, monitored_at, AreMonitors};
-ghost use Rattle.list_watch.specs.Rows.{monitors_of, lit, turned, rows_turned, rows_with, rows_without, rows_of_others};
+ghost use Rattle.list_watch.specs.Rows.{monitors_of, bit_of, row_turned, rows_turned, rows_with, rows_without, rows_of_others};
 ghost use Rattle.list_watch.specs.Ends.{differs, is_turned, turn_changes, rows_put};
 
 use crate::ends::{Ends, end};
@@ -21,18 +21,18 @@ pub struct Watch {
 }
 
 impl Model for Watch {
-    ghost use Rattle.list_watch.specs.Watching.{Watching, watching, IsKept};
+    ghost use Rattle.list_watch.specs.WatchView.{WatchView, watch_view, IsKept};
 
-    ghost Value = { Watching };
+    ghost Value = { WatchView };
 
-    ghost view = { watching };
+    ghost view = { watch_view };
 
     ghost invariant = { IsKept };
 }
 
 // Whether a bit stands.
 fn is_lit(rows: &[Watched], conn: ConnId, index: u32) -> bool
-    ensures { result ≡ lit rows.now conn index }
+    ensures { result ≡ bit_of rows.now conn index }
 {
     rows.iter().any(|row| row.monitor.conn == conn && row.monitor.index == index && row.full)
 }
@@ -58,7 +58,7 @@ fn tell(rows: &[Watched], header: u32, full: bool, out: &mut Effects)
 
 // A monitor of a header takes its bit.
 fn turn(row: &mut Watched, header: u32, full: bool)
-    ensures { row.new ≡ turned header full row.old }
+    ensures { row.new ≡ row_turned header full row.old }
 {
     if row.monitor.header == header {
         row.full = full;
@@ -105,7 +105,7 @@ fn put(rows: &mut Vec<Watched>, new: Watched, out: &mut Effects)
     requires place { vec_len rows.old < vec_capacity rows.old }
     requires room { 1 ≤ out.old.bits.room }
     ensures rows { rows.new.items ≡ rows_put new rows.old.items }
-    ensures bits { Gains (lit rows.old.items) (lit rows.new.items) out.old.bits.items
+    ensures bits { Gains (bit_of rows.old.items) (bit_of rows.new.items) out.old.bits.items
         out.new.bits.items }
     ensures room { out.old.bits.room ≤ out.new.bits.room + 1 }
     ensures mail { out.new.mail ≡ out.old.mail }
@@ -155,7 +155,7 @@ impl Watch {
 
     /// Whether the bit of a connector's vector at an index stands.
     pub fn stands(&self, conn: ConnId, index: u32) -> bool
-        ensures { result ≡ lit self.now.rows conn index }
+        ensures { result ≡ bit_of self.now.rows conn index }
     {
         is_lit(&self.rows, conn, index)
     }
@@ -185,7 +185,7 @@ impl Watch {
         requires place { 1 ≤ self.old.room }
         requires room { 2 ≤ out.old.bits.room }
         ensures rows { self.new.rows ≡ rows_with conn index header full self.old.rows }
-        ensures bits { Gains (lit self.old.rows) (lit self.new.rows) out.old.bits.items
+        ensures bits { Gains (bit_of self.old.rows) (bit_of self.new.rows) out.old.bits.items
             out.new.bits.items }
         ensures mail { out.new.mail ≡ out.old.mail }
     {
@@ -211,7 +211,7 @@ impl Watch {
         requires { length self.old.rows ≤ out.old.bits.room }
         ensures found { result ≡ list_any (λ row. is_for conn header row.monitor) self.old.rows }
         ensures rows { self.new.rows ≡ rows_without conn header self.old.rows }
-        ensures bits { Gains (lit self.old.rows) (lit self.new.rows) out.old.bits.items
+        ensures bits { Gains (bit_of self.old.rows) (bit_of self.new.rows) out.old.bits.items
             out.new.bits.items }
         ensures mail { out.new.mail ≡ out.old.mail }
     {
@@ -225,7 +225,7 @@ impl Watch {
     pub fn turned(&mut self, header: u32, full: bool, out: &mut Effects)
         requires { length self.old.rows ≤ out.old.bits.room }
         ensures rows { self.new.rows ≡ rows_turned header full self.old.rows }
-        ensures bits { Gains (lit self.old.rows) (lit self.new.rows) out.old.bits.items
+        ensures bits { Gains (bit_of self.old.rows) (bit_of self.new.rows) out.old.bits.items
             out.new.bits.items }
         ensures mail { out.new.mail ≡ out.old.mail }
         ensures room { out.old.bits.room ≤ out.new.bits.room + length self.old.rows }
@@ -246,7 +246,7 @@ impl Watch {
     pub fn drop_conn(&mut self, conn: ConnId, out: &mut Effects)
         requires { length self.old.rows ≤ out.old.bits.room }
         ensures rows { self.new.rows ≡ rows_of_others conn self.old.rows }
-        ensures bits { Gains (lit self.old.rows) (lit self.new.rows) out.old.bits.items
+        ensures bits { Gains (bit_of self.old.rows) (bit_of self.new.rows) out.old.bits.items
             out.new.bits.items }
         ensures mail { out.new.mail ≡ out.old.mail }
     {

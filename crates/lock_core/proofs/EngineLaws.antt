@@ -7,7 +7,7 @@ use Rattle.cf_types.specs.declared.lock_commands.LockCmd.{LockCmd}
 use Rattle.lock_queue.specs.declared.waiters.Waiter.{Waiter}
 use Rattle.lock_model.specs.Interests.{Interest}
 use Rattle.lock_model.specs.Contents.{Content, IsContent, records_in, items, need_of, content_with, content_without_last}
-use Rattle.lock_model.specs.Departures.{returned, with_retained}
+use Rattle.lock_model.specs.Departures.{with_returned, with_retained}
 use Rattle.lock_model.specs.Step.{cause}
 use Rattle.lock_model.proofs.ContentLaws.{items_in}
 use Rattle.lock_model.proofs.EngineLaws.{elements-items, entries-items}
@@ -17,7 +17,7 @@ use Rattle.lock_model.specs.declared.items.LockItem.{LockItem}
 use Rattle.lock_model.specs.declared.items.LockItem.TheVariants.{Owner, Waits}
 use Rattle.lock_model.proofs.ItemLaws.{owner-next, waiter-next}
 use Rattle.lock_core.specs.Stock.{content_placed}
-use Rattle.lock_core.specs.Seen.{IsCounted}
+use Rattle.lock_core.specs.EngineView.{IsCounted}
 
 -- the need of a content is the number of its items, and of its record data
 pub need-content : (content : Content)
@@ -37,7 +37,7 @@ last_counted interests (w ∷ ws) h = omega (arith, h, length-take (length (w �
 pub counted-last : (content : Content) → IsCounted content → IsCounted (content_without_last content)
 counted-last content h = last_counted content.interests content.waiters h
 
-pub counted-returned : (conn : ConnId) (content : Content) → IsCounted content → IsCounted (returned conn content)
+pub counted-returned : (conn : ConnId) (content : Content) → IsCounted content → IsCounted (with_returned conn content)
 counted-returned conn content h = omega (arith, h, length-map content.interests (with_retained conn false))
 
 -- what was taken is what was there

@@ -11,9 +11,9 @@ use Rattle.lock_queue.specs.declared.waiters.Waiter.{Waiter}
 use Rattle.lock_queue.specs.Waiters.{IsQueue, is_by, waiters_without_conn, is_on, is_waiter, waiter_of, first_of, waiters_without}
 use Rattle.lock_model.specs.Interests.{may_own}
 use Rattle.lock_model.specs.Contents.{Content, records_of, records_waiting}
-use Rattle.lock_model.specs.Grants.{left_so, sent_before, grants, grant, held_by, content_granted, granted_letter}
+use Rattle.lock_model.specs.Grants.{settlement_of, with_letters_before, grants, grant, held_by, content_granted, granted_letter}
 use Rattle.lock_model.proofs.ItemLaws.{waiters_of-first}
-use Rattle.lock_core.specs.Stock.{grantable, next_of}
+use Rattle.lock_core.specs.Stock.{if_grantable, next_of}
 
 abbrev part_of : Waiter → Part
 part_of w = (w.r, w.conn)
@@ -65,7 +65,7 @@ pub record IsNext (r : Resource) (content : Content) (w : Waiter) : Type 0 where
 
 next_step : (content : Content) (r : Resource) (w : Waiter) (o : Option Waiter) (b : Bool)
     → first_of r content.waiters ≡ o
-    → grantable content.interests o ≡ Some w → IsNext r content w
+    → if_grantable content.interests o ≡ Some w → IsNext r content w
 next_step content r w None b e h = absurd (cc)
 next_step content r w (Some v) b e h = go (may_own (held_by v) content.interests) refl h
   where
@@ -92,35 +92,35 @@ next-waits content r w is h =
     (keys.found_filter part_of same_part same_part-eq same_part-refl (is_on r) content.waiters is.one_each)).0
 
 grants_step : (w : Waiter) (rest : List Waiter) (content : Content) → may_own (held_by w) content.interests ≡ true
-    → grants (w ∷ rest) content ≡ sent_before (granted_letter w ∷ []) (grants rest (content_granted w content))
+    → grants (w ∷ rest) content ≡ with_letters_before (granted_letter w ∷ []) (grants rest (content_granted w content))
 grants_step w rest content h = rw h refl
 
 -- it is granted, and then the others are
 pub grant-next : (content : Content) (r : Resource) (w : Waiter) → IsQueue content.waiters
     → next_of r content ≡ Some w
-    → grant r content ≡ sent_before (granted_letter w ∷ []) (grant r (content_granted w content))
+    → grant r content ≡ with_letters_before (granted_letter w ∷ []) (grant r (content_granted w content))
 grant-next content r w is h =
     let next = next-is content r w h in
     let head = head_of (is_on r) content.waiters w next.first in
     ap (λ (l : List Waiter). grants l content) head.is
     ∙ grants_step w head.rest content next.may
-    ∙ ap (λ (l : List Waiter). sent_before (granted_letter w ∷ []) (grants l (content_granted w content)))
+    ∙ ap (λ (l : List Waiter). with_letters_before (granted_letter w ∷ []) (grants l (content_granted w content)))
     (sym (waiters_of-first r w content.waiters head.rest is head.is))
 
 none_step : (content : Content) (r : Resource) (o : Option Waiter) → first_of r content.waiters ≡ o
-    → grantable content.interests o ≡ None → grant r content ≡ left_so content
+    → if_grantable content.interests o ≡ None → grant r content ≡ settlement_of content
 none_step content r None e h = ap (λ (l : List Waiter). grants l content) (nil_of (is_on r) content.waiters e)
 none_step content r (Some v) e h = go (may_own (held_by v) content.interests) refl h
   where
     go : (t : Bool) → may_own (held_by v) content.interests ≡ t → cond t (Some v) None ≡ None
-        → grant r content ≡ left_so content
+        → grant r content ≡ settlement_of content
     go true f g = absurd (cc)
     go false f g =
         let head = head_of (is_on r) content.waiters v e in
         ap (λ (l : List Waiter). grants l content) head.is ∙ rw f refl
 
 -- none is granted any more
-pub grant-none : (content : Content) (r : Resource) → next_of r content ≡ None → grant r content ≡ left_so content
+pub grant-none : (content : Content) (r : Resource) → next_of r content ≡ None → grant r content ≡ settlement_of content
 grant-none content r h = none_step content r (first_of r content.waiters) refl h
 
 -- ---- those that are left are no more

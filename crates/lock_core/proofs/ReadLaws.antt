@@ -15,7 +15,7 @@ use Rattle.lock_model.specs.Interests.{Interest, is_by}
 use Rattle.lock_model.specs.Contents.{records_of, records_waiting}
 use Rattle.lock_model.specs.Refusals.{record_refusal}
 use Rattle.cf_types.specs.declared.refusals.Refusal.TheVariants.{NoRecord}
-use Rattle.lock_interests.specs.Owned.{joined}
+use Rattle.lock_interests.specs.InterestsView.{interests_of}
 use Rattle.lock_interests.proofs.ReadLaws.{one_step}
 
 -- ---- waiters with record data
@@ -76,9 +76,9 @@ resource_step false x rec xs is e = e
 
 pub owned-joined : (conn : ConnId) (owners : List Held) (records : List Record)
     → map (λ (held : Held). held.r) (filter (λ held. held.conn.0 == conn.0) owners)
-    ≡ map (λ (i : Interest). i.held.r) (filter (is_by conn) (joined owners records))
+    ≡ map (λ (i : Interest). i.held.r) (filter (is_by conn) (interests_of owners records))
 owned-joined conn [] records = refl
 owned-joined conn (x ∷ xs) records =
     resource_step (x.conn.0 == conn.0) x (record_of x.r x.conn records) (filter (λ held. held.conn.0 == conn.0) xs)
-    (filter (is_by conn) (joined xs records))
+    (filter (is_by conn) (interests_of xs records))
     (owned-joined conn xs records)

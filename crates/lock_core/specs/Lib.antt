@@ -1,3 +1,3 @@
 pub mod Stock
 pub mod Plans
-pub mod Seen
+pub mod EngineView

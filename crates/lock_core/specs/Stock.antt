@@ -37,12 +37,12 @@ pub record HasRoom (extra : ℕ) (stock : Stock) (out : Effects) : Type 0 where
   pub letters : length stock.content.waiters + extra ≤ out.mail.room
 
 -- the first of those that wait for a resource, where it may own it
-abbrev pub grantable : List Interest → Option Waiter → Option Waiter
-grantable interests None = None
-grantable interests (Some w) = if may_own (held_by w) interests then Some w else None
+abbrev pub if_grantable : List Interest → Option Waiter → Option Waiter
+if_grantable interests None = None
+if_grantable interests (Some w) = if may_own (held_by w) interests then Some w else None
 
 abbrev pub next_of : Resource → Content → Option Waiter
-next_of r content = grantable content.interests (first_of r content.waiters)
+next_of r content = if_grantable content.interests (first_of r content.waiters)
 
 -- an item more, in its place
 abbrev pub content_placed : Content → LockItem → Content

@@ -15,11 +15,11 @@ use std::marker::Model;
 pub struct LockContent {}
 
 impl Model for LockContent {
-    ghost use Rattle.lock_model.specs.Contents.{Content, nothing};
+    ghost use Rattle.lock_model.specs.Contents.{Content, no_content};
 
     ghost Value = { Content };
 
-    ghost view = { λ _. nothing };
+    ghost view = { λ _. no_content };
 }
 
 /// A lock structure (IXLLOCK, IXLRT): its interests with their record data, and its waiters.
@@ -34,11 +34,11 @@ pub struct LockEngine {
 }
 
 impl Model for LockEngine {
-    ghost use Rattle.lock_core.specs.Seen.{Seen, seen, IsKept};
+    ghost use Rattle.lock_core.specs.EngineView.{EngineView, view_of, IsKept};
 
-    ghost Value = { Seen };
+    ghost Value = { EngineView };
 
-    ghost view = { seen };
+    ghost view = { view_of };
 
     ghost invariant = { IsKept };
 }
@@ -46,7 +46,7 @@ impl Model for LockEngine {
 impl Engine for LockEngine {
     ghost use Rattle.std.specs.Prelude.{refl};
     ghost use Rattle.cf_types.specs.Forms.{is_lock};
-    ghost use Rattle.lock_core.specs.Seen.{IsReady};
+    ghost use Rattle.lock_core.specs.EngineView.{IsReady};
     ghost use Rattle.lock_model.specs.Contents.{IsContent};
     ghost use Rattle.lock_model.specs.Meaning.{lock_meaning};
     ghost use Rattle.lock_model.proofs.EngineLaws.{content-nothing, step-content, leave-content, content-moved, back-content, made-items, items-place, unplace-place, need-front, need-leave, need-same};
@@ -196,7 +196,7 @@ impl Engine for LockEngine {
     ghost content_moved = { λ shape caps other content kind is fits. content-moved shape caps other
         content is fits };
 
-    ghost items_place = { λ shape caps content item next. items-place shape caps content item next };
+    ghost items_place = { items-place };
 
     ghost unplace_place = { λ shape caps content item next. unplace-place shape caps content item
         next };

@@ -32,7 +32,7 @@ impl Model for Locks {
 
 // Whether a waiter may own its resource.
 fn where_grantable(interests: &Interests, first: Option<&Waiter>) -> Option<Waiter>
-    ensures { result ≡ grantable interests.now.interests (option_map (λ w. w.now) first.entry) }
+    ensures { result ≡ if_grantable interests.now.interests (option_map (λ w. w.now) first.entry) }
 {
     match first {
         Some(w) => {
@@ -50,14 +50,14 @@ ghost use Rattle.std.specs.Prelude.{◌&&◌, Option, Some, None, true, false, n
 ghost use Rattle.cf_types.specs.declared.effects.Effects.{Effects};
 ghost use Rattle.lock_queue.specs.Waiters.{is_waiter, waiters_without_conn};
 ghost use Rattle.lock_model.specs.Interests.{interests_without};
-ghost use Rattle.lock_model.specs.Departures.{interests_left, returned};
+ghost use Rattle.lock_model.specs.Departures.{interests_left, with_returned};
 ghost use Rattle.lock_model.specs.Commands.Decide as decide;
 ghost use Rattle.lock_model.specs.Commands.RtDelete as rt_delete;
 ghost use Rattle.std.specs.Prelude.{OnErr, IfErr, slice_get};
 ghost use Rattle.lock_model.specs.declared.items.LockItem.TheVariants.{Waits};
 ghost use Rattle.lock_model.specs.Interests.{AreInterests, interests_with};
 ghost use Rattle.lock_model.specs.Contents.{items, without_last, content_without_last};
-ghost use Rattle.lock_core.specs.Stock.{grantable, content_placed};
+ghost use Rattle.lock_core.specs.Stock.{if_grantable, content_placed};
 
 // The manager, if there is one, is told of one that waits.
 fn tell_contention(manager: Option<ConnId>, w: &Waiter, out: &mut Effects)
@@ -355,7 +355,7 @@ impl Locks {
 
     /// A connector's interests are retained no more.
     pub(crate) fn back(&mut self, conn: ConnId)
-        ensures content { self.new.content ≡ returned conn self.old.content }
+        ensures content { self.new.content ≡ with_returned conn self.old.content }
         ensures limit { self.new.limit ≡ self.old.limit }
     {
         self.interests.back(conn);

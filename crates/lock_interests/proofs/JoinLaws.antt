@@ -16,11 +16,11 @@ use Rattle.lock_record.specs.declared.recorded.Record.{Record}
 use Rattle.lock_record.specs.Recorded.{is_record, is_of, record_of, records_with, records_without, records_without_conn}
 use Rattle.lock_model.specs.Interests as interests
 use Rattle.lock_model.specs.Interests.{Interest, interests_with, interests_without, interests_changed}
-use Rattle.lock_model.specs.Grants.{altered}
+use Rattle.lock_model.specs.Grants.{with_alteration}
 use Rattle.lock_model.specs.Departures.{stays, with_retained, interests_left}
 use Rattle.lock_model.specs.Commands.RtDelete.{without_record}
-use Rattle.lock_interests.specs.Owned.{with_record, joined, records_put, records_given}
-use Rattle.lock_interests.proofs.MapLaws.{map-filtered, map-insertion, map-either, map-both}
+use Rattle.lock_interests.specs.InterestsView.{with_record, interests_of, records_put, records_given}
+use Rattle.list_laws.proofs.ImageLaws.{map-filtered, map-insertion, map-either, map-both}
 
 -- ---- record data of one part, and of others
 
@@ -91,7 +91,7 @@ interest held rec = record { held = held; rec = rec }
 without_others : (r : Resource) (conn : ConnId) (owners : List Held) (records others : List Record)
     → ((held : Held) → is_interest r conn held ≡ false → record_of held.r held.conn others ≡ record_of held.r
     held.conn records)
-    → joined (owners_without r conn owners) others ≡ interests_without r conn (joined owners records)
+    → interests_of (owners_without r conn owners) others ≡ interests_without r conn (interests_of owners records)
 without_others r conn owners records others h =
     map-filtered (with_record others) (with_record records) (λ held. not (is_interest r conn held))
     (λ i. not (interests.is_of r conn i))
@@ -102,22 +102,23 @@ without_others r conn owners records others h =
     from_not false e = refl
 
 pub joined-without : (r : Resource) (conn : ConnId) (owners : List Held) (records : List Record)
-    → joined (owners_without r conn owners) (records_without r conn records) ≡ interests_without r conn
-    (joined owners records)
+    → interests_of (owners_without r conn owners) (records_without r conn records) ≡ interests_without r conn
+    (interests_of owners records)
 joined-without r conn owners records =
     without_others r conn owners records (records_without r conn records) (λ held h. other_without r conn held records
     h)
 
 -- one interest more
 pub joined-with : (held : Held) (rec : Option (List ℕ)) (owners : List Held) (records : List Record)
-    → joined (owners_with held owners) (records_put held.r held.conn rec records) ≡ interests_with (interest held rec)
-    (joined owners records)
+    → interests_of (owners_with held owners) (records_put held.r held.conn rec records)
+    ≡ interests_with (interest held rec)
+    (interests_of owners records)
 joined-with held rec owners records =
     let others = records_put held.r held.conn rec records in
     let ahead : Interest → Bool = λ other. resource_up_to other.held.r held.r in
     map-insertion (with_record others) (λ other. resource_up_to other.r held.r) ahead held (λ y. refl)
     (owners_without held.r held.conn owners)
-    ∙ ap (λ i. insertion ahead i (joined (owners_without held.r held.conn owners) others))
+    ∙ ap (λ i. insertion ahead i (interests_of (owners_without held.r held.conn owners) others))
     (ap (interest held) (own_put held.r held.conn rec records))
     ∙ ap (insertion ahead (interest held rec))
     (without_others held.r held.conn owners records others (λ other h. other_put held.r held.conn rec other records
@@ -126,7 +127,7 @@ joined-with held rec owners records =
 changed_step : (b : Bool) (w : Waiter) (held : Held) (records : List Record) → is_interest w.r w.conn held ≡ b
     → interest (record held { excl = cond b w.excl held.excl })
     (record_of held.r held.conn (records_given w.r w.conn w.rec records))
-    ≡ cond b (altered w (with_record records held)) (with_record records held)
+    ≡ cond b (with_alteration w (with_record records held)) (with_record records held)
 changed_step true w held records h =
     let part : same_part (held.r, held.conn) (w.r, w.conn) ≡ true = h in
     let given : record_of held.r held.conn (records_given w.r w.conn w.rec records) ≡ option_or w.rec
@@ -139,12 +140,12 @@ changed_step false w held records h = ap (interest held) (other_given w.r w.conn
 
 -- an interest takes a state, and record data where they are given
 pub joined-changed : (w : Waiter) (owners : List Held) (records : List Record)
-    → joined (map (in_state w.r w.conn w.excl) owners) (records_given w.r w.conn w.rec records)
-    ≡ interests_changed w.r w.conn (altered w) (joined owners records)
+    → interests_of (map (in_state w.r w.conn w.excl) owners) (records_given w.r w.conn w.rec records)
+    ≡ interests_changed w.r w.conn (with_alteration w) (interests_of owners records)
 joined-changed w owners records =
     map-either (with_record (records_given w.r w.conn w.rec records)) (with_record records)
     (in_state w.r w.conn w.excl)
-    (λ i. cond (interests.is_of w.r w.conn i) (altered w i) i)
+    (λ i. cond (interests.is_of w.r w.conn i) (with_alteration w i) i)
     (λ held. changed_step (is_interest w.r w.conn held) w held records refl) owners
 
 unrecorded_step : (b : Bool) (r : Resource) (conn : ConnId) (held : Held) (records : List Record)
@@ -160,7 +161,8 @@ unrecorded_step false r conn held records h = ap (interest held) (other_without 
 
 -- the record data of an interest go
 pub joined-unrecorded : (r : Resource) (conn : ConnId) (owners : List Held) (records : List Record)
-    → joined owners (records_without r conn records) ≡ interests_changed r conn without_record (joined owners records)
+    → interests_of owners (records_without r conn records)
+    ≡ interests_changed r conn without_record (interests_of owners records)
 joined-unrecorded r conn owners records =
     map-both (with_record (records_without r conn records)) (with_record records)
     (λ i. cond (interests.is_of r conn i) (without_record i) i)
@@ -168,8 +170,8 @@ joined-unrecorded r conn owners records =
 
 -- a connector's interests are retained or not
 pub joined-retained : (conn : ConnId) (retained : Bool) (owners : List Held) (records : List Record)
-    → joined (map (in_retention_of conn retained) owners) records ≡ map (with_retained conn retained)
-    (joined owners records)
+    → interests_of (map (in_retention_of conn retained) owners) records ≡ map (with_retained conn retained)
+    (interests_of owners records)
 joined-retained conn retained owners records =
     map-either (with_record records) (with_record records) (in_retention_of conn retained)
     (with_retained conn retained)
@@ -177,9 +179,10 @@ joined-retained conn retained owners records =
 
 -- a connector departs, and its interests with record data stay
 pub joined-kept : (conn : ConnId) (keep : Bool) (owners : List Held) (records : List Record)
-    → joined (map (in_retention_of conn true) (filter (λ held. stays conn keep (with_record records held)) owners))
+    → interests_of (map (in_retention_of conn true) (filter (λ held. stays conn keep (with_record records held))
+    owners))
     records
-    ≡ interests_left conn keep (joined owners records)
+    ≡ interests_left conn keep (interests_of owners records)
 joined-kept conn keep owners records =
     joined-retained conn true (filter (λ held. stays conn keep (with_record records held)) owners) records
     ∙ ap (map (with_retained conn true))
@@ -203,9 +206,10 @@ other_conn conn held records h =
 
 -- a connector departs, and nothing of it stays
 pub joined-gone : (conn : ConnId) (owners : List Held) (records : List Record)
-    → joined (map (in_retention_of conn true) (filter (λ held. stays conn false (with_record records held)) owners))
+    → interests_of (map (in_retention_of conn true) (filter (λ held. stays conn false (with_record records held))
+    owners))
     (records_without_conn conn records)
-    ≡ interests_left conn false (joined owners records)
+    ≡ interests_left conn false (interests_of owners records)
 joined-gone conn owners records =
     let others = records_without_conn conn records in
     joined-retained conn true (filter (λ held. stays conn false (with_record records held)) owners) others

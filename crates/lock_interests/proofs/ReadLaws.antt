@@ -18,15 +18,15 @@ use Rattle.lock_queue.specs.declared.waiters.Waiter.{Waiter}
 use Rattle.lock_record.specs.declared.recorded.Record.{Record}
 use Rattle.lock_record.specs.Recorded.{record_of}
 use Rattle.lock_model.specs.Interests as interests
-use Rattle.lock_model.specs.Interests.{Interest, compatible, is_by, may_own, is_managing, manager_of, interest_of, interests_with, interests_without, interests_changed}
+use Rattle.lock_model.specs.Interests.{Interest, are_compatible, is_by, may_own, is_managing, manager_of, interest_of, interests_with, interests_without, interests_changed}
 use Rattle.lock_model.specs.Contents.{records_of, records_owned}
-use Rattle.lock_model.specs.Grants.{held_by, altered}
+use Rattle.lock_model.specs.Grants.{held_by, with_alteration}
 use Rattle.lock_model.specs.Commands.RtRead as rt_read
 use Rattle.lock_model.specs.Commands.RtDelete as rt_delete
 use Rattle.lock_model.specs.Commands.Decide as decide
 use Rattle.cf_types.specs.declared.events.Event.TheVariants as events
 use Rattle.cf_types.specs.declared.events.Letter.{Letter}
-use Rattle.lock_interests.specs.Owned.{with_record, joined, letters_told, record_read, records_read}
+use Rattle.lock_interests.specs.InterestsView.{with_record, interests_of, letters_told, record_read, records_read}
 
 all_step : (p : Held → Bool) (b : Bool) (x : Held) (xs : List Held) (c : Bool) → list_all p xs ≡ c
     → list_all p (cond b (x ∷ xs) xs) ≡ (not b || p x) && c
@@ -35,12 +35,14 @@ all_step p false x xs c e = e
 
 -- compatible with all other owners of the resource
 pub may_own-joined : (held : Held) (owners : List Held) (records : List Record)
-    → list_all (compatible held) (owners_of held.r owners) ≡ may_own held (joined owners records)
+    → list_all (are_compatible held) (owners_of held.r owners) ≡ may_own held (interests_of owners records)
 may_own-joined held [] records = refl
 may_own-joined held (x ∷ xs) records =
-    all_step (compatible held) (same_resource x.r held.r) x (owners_of held.r xs) (may_own held (joined xs records))
+    all_step (are_compatible held) (same_resource x.r held.r) x (owners_of held.r xs)
+    (may_own held (interests_of xs records))
     (may_own-joined held xs records)
-    ∙ ap (λ b. (not b || compatible held x) && may_own held (joined xs records)) (same_resource_comm x.r held.r)
+    ∙ ap (λ b. (not b || are_compatible held x) && may_own held (interests_of xs records))
+    (same_resource_comm x.r held.r)
 
 manager_step : (a b : Bool) (x : Held) (xs : List Held) (o : Option ConnId) (i : Interest) (is : Option Interest)
     → x.retained ≡ b
@@ -56,11 +58,11 @@ manager_step false b x xs o i is h c e = e
 -- the first owner that isn't retained
 pub manager-joined : (r : Resource) (owners : List Held) (records : List Record)
     → option_map (λ (held : Held). held.conn) (find (λ (held : Held). not held.retained) (owners_of r owners)) ≡
-    manager_of r (joined owners records)
+    manager_of r (interests_of owners records)
 manager-joined r [] records = refl
 manager-joined r (x ∷ xs) records =
     manager_step (is_on r x) x.retained x (owners_of r xs) None (with_record records x)
-    (find (is_managing r) (joined xs records)) refl refl
+    (find (is_managing r) (interests_of xs records)) refl refl
     (manager-joined r xs records)
 
 found_step : (b : Bool) (x : Held) (rec : Option (List ℕ)) (o : Option Held) (i : Option Interest)
@@ -71,32 +73,33 @@ found_step false x rec o i e = e
 
 pub part-joined : (r : Resource) (conn : ConnId) (owners : List Held) (records : List Record)
     → find (is_interest r conn) owners ≡ option_map (λ (i : Interest). i.held)
-    (interest_of r conn (joined owners records))
+    (interest_of r conn (interests_of owners records))
 part-joined r conn [] records = refl
 part-joined r conn (x ∷ xs) records =
     found_step (is_interest r conn x) x (record_of x.r x.conn records) (find (is_interest r conn) xs)
-    (interest_of r conn (joined xs records))
+    (interest_of r conn (interests_of xs records))
     (part-joined r conn xs records)
 
 pub any_recorded-joined : (conn : ConnId) (owners : List Held) (records : List Record)
     → list_any (λ held. (held.conn.0 == conn.0) && is_some (record_of held.r held.conn records)) owners
-    ≡ list_any (rt_read.is_recorded conn) (joined owners records)
+    ≡ list_any (rt_read.is_recorded conn) (interests_of owners records)
 any_recorded-joined conn owners records = sym (list_any-map (rt_read.is_recorded conn) (with_record records) owners)
 
 pub recorded-joined : (r : Resource) (conn : ConnId) (owners : List Held) (records : List Record)
     → list_any (λ held. is_interest r conn held && is_some (record_of held.r held.conn records)) owners
-    ≡ list_any (rt_delete.is_recorded r conn) (joined owners records)
+    ≡ list_any (rt_delete.is_recorded r conn) (interests_of owners records)
 recorded-joined r conn owners records = sym (list_any-map (rt_delete.is_recorded r conn) (with_record records) owners)
 
 pub retained-joined : (r : Resource) (conn : ConnId) (owners : List Held) (records : List Record)
     → list_any (λ held. is_interest r conn held && held.retained) owners ≡ rt_delete.is_retained r conn
-    (joined owners records)
+    (interests_of owners records)
 retained-joined r conn owners records =
     sym (list_any-map (λ (i : Interest). interests.is_of r conn i && i.held.retained) (with_record records) owners)
 
 -- ---- how many have record data
 
-pub one_step : {X : Type 0} (b : Bool) (o : Option (List ℕ)) (x : X) (xs : List X) (n : ℕ) → b ≡ is_some o → length xs ≡ n
+pub one_step : {X : Type 0} (b : Bool) (o : Option (List ℕ)) (x : X) (xs : List X) (n : ℕ) → b ≡ is_some o
+    → length xs ≡ n
     → length (cond b (x ∷ xs) xs) ≡ records_of o + n
 one_step true None x xs n h e = absurd (false≢true (sym h))
 one_step true (Some rec) x xs n h e = omega (arith, e)
@@ -119,7 +122,7 @@ counted f g h (x ∷ xs) =
 
 pub records-joined : (owners : List Held) (records : List Record)
     → length (filter (λ held. is_some (record_of held.r held.conn records)) owners) ≡ records_owned
-    (joined owners records)
+    (interests_of owners records)
 records-joined owners records =
     counted (λ held. record_of held.r held.conn records) (with_record records) (λ x. refl) owners
 
@@ -132,16 +135,16 @@ other_step false b x xs i is h e =
 
 pub others-joined : (r : Resource) (conn : ConnId) (owners : List Held) (records : List Record)
     → length (filter (λ held. not (is_interest r conn held) && is_some (record_of held.r held.conn records)) owners)
-    ≡ records_owned (interests_without r conn (joined owners records))
+    ≡ records_owned (interests_without r conn (interests_of owners records))
 others-joined r conn [] records = refl
 others-joined r conn (x ∷ xs) records =
     other_step (is_interest r conn x) (is_some (record_of x.r x.conn records)) x
     (filter (λ held. not (is_interest r conn held) && is_some (record_of held.r held.conn records)) xs)
     (with_record records x)
-    (interests_without r conn (joined xs records)) refl (others-joined r conn xs records)
+    (interests_without r conn (interests_of xs records)) refl (others-joined r conn xs records)
 
 changed_rec : (a : Bool) (w : Waiter) (o : Option (List ℕ)) (x : Held)
-    → a && is_some w.rec || is_some o ≡ is_some (cond a (altered w (record { held = x; rec = o }))
+    → a && is_some w.rec || is_some o ≡ is_some (cond a (with_alteration w (record { held = x; rec = o }))
     (record { held = x; rec = o })).rec
 changed_rec false w o x = refl
 changed_rec true w o x = either w.rec o
@@ -153,29 +156,29 @@ changed_rec true w o x = either w.rec o
 changed_step : (a : Bool) (w : Waiter) (o : Option (List ℕ)) (x : Held) (xs : List Held) (is : List Interest)
     → length xs ≡ records_owned is
     → length (cond (a && is_some w.rec || is_some o) (x ∷ xs) xs)
-    ≡ records_owned (cond a (altered w (record { held = x; rec = o })) (record { held = x; rec = o }) ∷ is)
+    ≡ records_owned (cond a (with_alteration w (record { held = x; rec = o })) (record { held = x; rec = o }) ∷ is)
 changed_step a w o x xs is e =
-    let i : Interest = cond a (altered w (record { held = x; rec = o })) (record { held = x; rec = o }) in
+    let i : Interest = cond a (with_alteration w (record { held = x; rec = o })) (record { held = x; rec = o }) in
     one_step (a && is_some w.rec || is_some o) i.rec x xs (records_owned is) (changed_rec a w o x) e
     ∙ sym (sum_by-cons (λ (j : Interest). records_of j.rec) i is)
 
 pub altered-joined : (w : Waiter) (owners : List Held) (records : List Record)
     → length (filter (λ held. is_interest w.r w.conn held && is_some w.rec
     || is_some (record_of held.r held.conn records)) owners)
-    ≡ records_owned (interests_changed w.r w.conn (altered w) (joined owners records))
+    ≡ records_owned (interests_changed w.r w.conn (with_alteration w) (interests_of owners records))
 altered-joined w [] records = refl
 altered-joined w (x ∷ xs) records =
     changed_step (is_interest w.r w.conn x) w (record_of x.r x.conn records) x
     (filter (λ held. is_interest w.r w.conn held && is_some w.rec || is_some (record_of held.r held.conn records)) xs)
-    (interests_changed w.r w.conn (altered w) (joined xs records)) (altered-joined w xs records)
+    (interests_changed w.r w.conn (with_alteration w) (interests_of xs records)) (altered-joined w xs records)
 
 -- one that is granted, and what others have
 pub put-joined : (w : Waiter) (owners : List Held) (records : List Record)
     → length (filter (λ held. not (is_interest w.r w.conn held) && is_some (record_of held.r held.conn records))
     owners) + records_of w.rec
-    ≡ records_owned (interests_with (record { held = held_by w; rec = w.rec }) (joined owners records))
+    ≡ records_owned (interests_with (record { held = held_by w; rec = w.rec }) (interests_of owners records))
 put-joined w owners records =
-    let others = interests_without w.r w.conn (joined owners records) in
+    let others = interests_without w.r w.conn (interests_of owners records) in
     let i : Interest = record { held = held_by w; rec = w.rec } in
     omega (
       arith,
@@ -202,12 +205,12 @@ told_step r conn true x rec xs is e = ap (λ l. told r conn x ∷ l) e
 told_step r conn false x rec xs is e = e
 
 pub told-joined : (r : Resource) (conn : ConnId) (owners : List Held) (records : List Record)
-    → letters_told r conn owners ≡ decide.notify_letters r conn (joined owners records)
+    → letters_told r conn owners ≡ decide.notify_letters r conn (interests_of owners records)
 told-joined r conn [] records = refl
 told-joined r conn (x ∷ xs) records =
     told_step r conn ((is_on r x && not x.retained) && not (x.conn.0 == conn.0)) x (record_of x.r x.conn records)
     (filter (λ held. (is_on r held && not held.retained) && not (held.conn.0 == conn.0)) xs)
-    (filter (decide.is_told r conn) (joined xs records))
+    (filter (decide.is_told r conn) (interests_of xs records))
     (told-joined r conn xs records)
 
 read_step : (records : List Record) (b : Bool) (x : Held) (xs : List Held) (is : List Interest)
@@ -218,21 +221,22 @@ read_step records true x xs is e = ap (λ l. cons_option (record_read x (record_
 read_step records false x xs is e = e
 
 pub read-joined : (conn : ConnId) (records : List Record) (owners : List Held)
-    → records_read conn records owners ≡ filter_map rt_read.record_in (filter (is_by conn) (joined owners records))
+    → records_read conn records owners ≡ filter_map rt_read.record_in
+    (filter (is_by conn) (interests_of owners records))
 read-joined conn records [] = refl
 read-joined conn records (x ∷ xs) =
     read_step records (x.conn.0 == conn.0) x (filter (λ held. held.conn.0 == conn.0) xs)
-    (filter (is_by conn) (joined xs records))
+    (filter (is_by conn) (interests_of xs records))
     (read-joined conn records xs)
 
 -- the last interest is that of the last owner
-pub last-joined : (owners : List Held) (records : List Record) (d : Held) → 0 < length (joined owners records)
-    → slice_get (joined owners records) (length (joined owners records) - 1) ≡ Some
+pub last-joined : (owners : List Held) (records : List Record) (d : Held) → 0 < length (interests_of owners records)
+    → slice_get (interests_of owners records) (length (interests_of owners records) - 1) ≡ Some
     (with_record records (get_or owners (length owners - 1) d))
 last-joined owners records d some =
-    let same : length (joined owners records) ≡ length owners = length-map owners (with_record records) in
+    let same : length (interests_of owners records) ≡ length owners = length-map owners (with_record records) in
     let within : length owners - 1 < length owners = omega (arith, some, same) in
-    ap (λ (n : ℕ). slice_get (joined owners records) (n - 1)) same
+    ap (λ (n : ℕ). slice_get (interests_of owners records) (n - 1)) same
     ∙ slice_get-map (with_record records) owners (length owners - 1)
     ∙ ap (λ (o : Option Held). option_map (with_record records) o) (slice_get-get_or owners (length owners - 1) d
     within)

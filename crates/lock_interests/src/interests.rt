@@ -7,12 +7,12 @@ ghost use Rattle.cf_types.specs.declared.resources.Resource.{Resource};
 ghost use Rattle.lock_record.specs.declared.recorded.Record.{Record};
 ghost use Rattle.lock_record.specs.Recorded.{record_of};
 ghost use Rattle.lock_table.specs.Holdings.{is_interest};
-ghost use Rattle.lock_model.specs.Interests.{Interest, compatible, may_own, manager_of, interest_of, interests_with, interests_without, interests_changed};
+ghost use Rattle.lock_model.specs.Interests.{Interest, are_compatible, may_own, manager_of, interest_of, interests_with, interests_without, interests_changed};
 ghost use Rattle.lock_model.specs.Contents.{records_of, records_owned};
 ghost use Rattle.lock_model.specs.Commands.RtRead as rt_read;
 ghost use Rattle.lock_model.specs.Commands.RtDelete as rt_delete;
 ghost use Rattle.lock_model.specs.Grants.{held_by, interests_granted};
-ghost use Rattle.lock_interests.specs.Owned.{records_put, records_given};
+ghost use Rattle.lock_interests.specs.InterestsView.{records_put, records_given};
 
 use cf_types::{Adjunct, ConnId, Effects, Event, Letter, Listing, NoMemory, Resource};
 use lock_model::LockItem;
@@ -33,11 +33,11 @@ pub struct Interests {
 }
 
 impl Model for Interests {
-    ghost use Rattle.lock_interests.specs.Owned.{Owned, owned};
+    ghost use Rattle.lock_interests.specs.InterestsView.{InterestsView, interests_view};
 
-    ghost Value = { Owned };
+    ghost Value = { InterestsView };
 
-    ghost view = { owned };
+    ghost view = { interests_view };
 }
 
 // Puts a connector's record data for a resource, or takes them away where none are given.
@@ -91,7 +91,7 @@ impl Interests {
 
     /// The owners without their record data, by resource and then in standing order.
     pub fn owners(&self) -> &[Held]
-        ensures { (records : List Record) × (joined result.now records ≡ self.now.interests) }
+        ensures { (records : List Record) × (interests_of result.now records ≡ self.now.interests) }
     {
         self.owners.items()
     }
@@ -244,7 +244,7 @@ impl Interests {
     fn change(&mut self, w: &Waiter)
         requires { records_of w.now.rec ≤ self.old.record_room }
         ensures interests { self.new.interests ≡ interests_changed w.now.r w.now.conn
-            (altered w.now) self.old.interests }
+            (with_alteration w.now) self.old.interests }
         ensures limit { self.new.limit ≡ self.old.limit }
         ensures owner_room { self.old.owner_room ≤ self.new.owner_room }
         ensures record_room { self.old.record_room ≤ self.new.record_room + records_of w.now.rec }
@@ -334,10 +334,10 @@ impl Interests {
 }
 
 ghost use Rattle.std.specs.Prelude.{false};
-ghost use Rattle.lock_model.specs.Grants.{altered};
+ghost use Rattle.lock_model.specs.Grants.{with_alteration};
 ghost use Rattle.lock_model.specs.Departures.{stays, with_retained, interests_left};
 ghost use Rattle.lock_model.specs.Commands.RtDelete.{without_record};
-ghost use Rattle.lock_interests.specs.Owned.{with_record, joined, letters_told, record_read, records_read};
+ghost use Rattle.lock_interests.specs.InterestsView.{with_record, interests_of, letters_told, record_read, records_read};
 ghost use Rattle.std.specs.Prelude.{◌<◌, ◌++◌, List, option_to_list, slice_get};
 ghost use Rattle.std.specs.List.{filter_map};
 ghost use Rattle.lock_table.specs.Holdings.{is_on};
@@ -354,7 +354,7 @@ fn is_part(held: &Held, r: &Resource, conn: ConnId) -> bool
 
 // Whether two may own a resource together.
 fn are_compatible(held: &Held, other: &Held) -> bool
-    ensures { result ≡ compatible held.now other.now }
+    ensures { result ≡ are_compatible held.now other.now }
 {
     !held.excl && !other.excl || held.conn == other.conn
 }
@@ -378,7 +378,7 @@ pub fn records_of(rec: &Option<Adjunct>) -> usize
 
 // Whether one may own a resource beside each of these.
 fn are_all_compatible(owners: Owners<'_>, held: &Held) -> bool
-    ensures { result ≡ list_all (compatible held.now) (iter_rest owners.entry) }
+    ensures { result ≡ list_all (are_compatible held.now) (iter_rest owners.entry) }
 {
     let mut others = owners;
     others.all(|other| are_compatible(held, other))

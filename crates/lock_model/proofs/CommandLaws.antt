@@ -22,9 +22,9 @@ use Rattle.lock_queue.specs.Waiters.{is_waiter, waits, waiters_without, stands_b
 use Rattle.lock_model.specs.Interests.{Interest, is_of, interest_of, has_interest, interests_with, interests_without, interests_changed, may_own}
 use Rattle.lock_model.specs.Contents.{Content, IsContent, is_due, records_of, records_in}
 use Rattle.lock_model.specs.Grants as grants
-use Rattle.lock_model.specs.Grants.{left_so, held_by, interests_granted, grant}
+use Rattle.lock_model.specs.Grants.{settlement_of, held_by, interests_granted, grant}
 use Rattle.lock_model.specs.Refusals.{interested_refusal, interest_refusal, records_refusal}
-use Rattle.lock_model.specs.Requests.{content_asked, waiting}
+use Rattle.lock_model.specs.Requests.{content_asked, wait_settlement}
 use Rattle.lock_model.specs.Commands.Obtain as obtain
 use Rattle.lock_model.specs.Commands.Alter as alter
 use Rattle.lock_model.specs.Commands.Release as release
@@ -104,7 +104,7 @@ obtained : (caps : Caps) (w : Waiter) (content : Content) → IsContent caps con
     → waits w.r w.conn content.waiters ≡ false
     → is_due content.interests w ≡ true → (b : Bool) → obtain.at_once w content ≡ b
     → records_refusal caps (content_asked b w content) ≡ None
-    → IsContent caps (cond b (left_so (content_asked true w content)) (waiting w content)).content
+    → IsContent caps (cond b (settlement_of (content_asked true w content)) (wait_settlement w content)).content
 obtained caps w content is out due true e few =
     content-at_once caps w content is out
     (and_parts (not (obtain.is_awaited w.r content.waiters)) (may_own (held_by w) content.interests) e).1 few
@@ -126,7 +126,7 @@ altered : (caps : Caps) (w : Waiter) (content : Content) → IsContent caps cont
     → waits w.r w.conn content.waiters ≡ false
     → is_due content.interests w ≡ true → (b : Bool) → alter.at_once w content ≡ b
     → records_refusal caps (content_asked b w content) ≡ None
-    → IsContent caps (cond b (grant w.r (content_asked true w content)) (waiting w content)).content
+    → IsContent caps (cond b (grant w.r (content_asked true w content)) (wait_settlement w content)).content
 altered caps w content is out due true e few =
     (led_grant caps w.r (content_asked true w content) (content-at_once caps w content is out e few)).content
 altered caps w content is out due false e few = content-waiting caps w content is due few
@@ -264,7 +264,7 @@ content-unowned caps r conn content is =
 
 deleted : (caps : Caps) (r : Resource) (conn : ConnId) (content : Content) → IsContent caps content → (b : Bool)
     → IsContent caps (cond b (grant r (rt_delete.content_unowned r conn content))
-    (left_so (rt_delete.content_unrecorded r conn content))).content
+    (settlement_of (rt_delete.content_unrecorded r conn content))).content
 deleted caps r conn content is true =
     (led_grant caps r (rt_delete.content_unowned r conn content) (content-unowned caps r conn content is)).content
 deleted caps r conn content is false = content-unrecorded caps r conn content is
@@ -300,10 +300,10 @@ content-step caps content by cmd is =
 -- ---- a command makes one item more at most
 
 granted_items : (b : Bool) (w : Waiter) (interests : List Interest)
-    → length (cond b (interests_changed w.r w.conn (grants.altered w) interests)
+    → length (cond b (interests_changed w.r w.conn (grants.with_alteration w) interests)
     (interests_with (record { held = held_by w; rec = w.rec }) interests)) ≤ length interests + 1
 granted_items true w interests =
-    omega (arith, length-map interests (λ x. cond (is_of w.r w.conn x) (grants.altered w x) x))
+    omega (arith, length-map interests (λ x. cond (is_of w.r w.conn x) (grants.with_alteration w x) x))
 granted_items false w interests = length-with (record { held = held_by w; rec = w.rec }) interests
 
 asked_items : (b : Bool) (w : Waiter) (content : Content) → items_in (content_asked b w content) ≤ items_in content +
@@ -318,14 +318,16 @@ asked_items false w content =
     )
 
 obtained_items : (w : Waiter) (content : Content) (b : Bool)
-    → items_in (cond b (left_so (content_asked true w content)) (waiting w content)).content ≤ items_in content + 1
+    → items_in (cond b (settlement_of (content_asked true w content)) (wait_settlement w content)).content ≤ items_in
+    content + 1
 obtained_items w content true = asked_items true w content
 obtained_items w content false = asked_items false w content
 
 altered_items : (caps : Caps) (w : Waiter) (content : Content) → IsContent caps content
     → waits w.r w.conn content.waiters ≡ false → (b : Bool) → alter.at_once w content ≡ b
     → records_refusal caps (content_asked b w content) ≡ None
-    → items_in (cond b (grant w.r (content_asked true w content)) (waiting w content)).content ≤ items_in content + 1
+    → items_in (cond b (grant w.r (content_asked true w content)) (wait_settlement w content)).content ≤ items_in
+    content + 1
 altered_items caps w content is out true e few =
     omega (
       arith,
@@ -336,7 +338,7 @@ altered_items caps w content is out false e few = asked_items false w content
 
 deleted_items : (caps : Caps) (r : Resource) (conn : ConnId) (content : Content) → IsContent caps content → (b : Bool)
     → items_in (cond b (grant r (rt_delete.content_unowned r conn content))
-    (left_so (rt_delete.content_unrecorded r conn content))).content ≤ items_in content + 1
+    (settlement_of (rt_delete.content_unrecorded r conn content))).content ≤ items_in content + 1
 deleted_items caps r conn content is true =
     omega (
       arith,

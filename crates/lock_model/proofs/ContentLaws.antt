@@ -13,10 +13,10 @@ use Rattle.list_laws.proofs.FilterLaws.{list_all-filter, list_all-filter_same, l
 use Rattle.list_laws.proofs.PairwiseLaws.{pairwise-filter}
 use Rattle.list_laws.proofs.KeyLaws as keys
 use Rattle.lock_queue.specs.declared.waiters.Waiter.{Waiter}
-use Rattle.lock_queue.specs.Waiters.{is_on, is_waiter, waiters_of, waiters_without, apart}
+use Rattle.lock_queue.specs.Waiters.{is_on, is_waiter, waiters_of, waiters_without, are_apart}
 use Rattle.lock_model.specs.Interests.{Interest, AreInterests, has_interest, interests_with, interests_changed, may_own, parts_apart}
 use Rattle.lock_model.specs.Contents.{Content, IsContent, is_due, records_of, records_owned, records_in}
-use Rattle.lock_model.specs.Grants.{held_by, altered, interests_granted, content_granted, granted_letter, Left, left_so, sent_before, grants, grant, grant_each}
+use Rattle.lock_model.specs.Grants.{held_by, with_alteration, interests_granted, content_granted, granted_letter, Settlement, settlement_of, with_letters_before, grants, grant, grant_each}
 use Rattle.lock_model.proofs.InterestLaws.{has-map, has-with, interests-with, records-with, length-with}
 use Rattle.lock_queue.proofs.WaiterLaws.{queue-filter}
 use Rattle.lock_model.proofs.GrantLaws.{waiter_part as part_of, alteration, alteration-keeps, interests-altered, records-altered}
@@ -60,7 +60,7 @@ due_all old new q waiters h due all =
 
 abbrev pub granted_as : Bool → Waiter → List Interest → List Interest
 granted_as alter w interests =
-    cond alter (interests_changed w.r w.conn (altered w) interests)
+    cond alter (interests_changed w.r w.conn (with_alteration w) interests)
     (interests_with (record { held = held_by w; rec = w.rec }) interests)
 
 pub owners-granted : (alter : Bool) (w : Waiter) (interests : List Interest) → AreInterests interests
@@ -119,18 +119,19 @@ led_granted caps w content is found may =
 abbrev pub AreWaiting : List Waiter → Content → Type 0
 AreWaiting waiters content = keys.AllFound part_of same_part same_part-eq same_part-refl waiters content.waiters
 
-led_step : (caps : Caps) (b : Bool) (content : Content) (letters : List Letter) (next : Left) → IsContent caps content
+led_step : (caps : Caps) (b : Bool) (content : Content) (letters : List Letter) (next : Settlement)
+    → IsContent caps content
     → (b ≡ true → Led caps content next.content)
-    → Led caps content (cond b (sent_before letters next) (left_so content)).content
+    → Led caps content (cond b (with_letters_before letters next) (settlement_of content)).content
 led_step caps true content letters next is h = h refl
 led_step caps false content letters next is h = led_nowhere caps content is
 
 pub led_grants : (caps : Caps) (waiters : List Waiter) (content : Content) → IsContent caps content
     → AreWaiting waiters content
-    → pairwise apart waiters ≡ true → Led caps content (grants waiters content).content
+    → pairwise are_apart waiters ≡ true → Led caps content (grants waiters content).content
 led_grants caps [] content is found u = led_nowhere caps content is
 led_grants caps (w ∷ ws) content is found u =
-    let later = and_parts (list_all (apart w) ws) (pairwise apart ws) u in
+    let later = and_parts (list_all (are_apart w) ws) (pairwise are_apart ws) u in
     led_step caps (may_own (held_by w) content.interests) content (granted_letter w ∷ [])
     (grants ws (content_granted w content)) is
     (λ may. let one = led_granted caps w content is found.0 may in
@@ -143,7 +144,7 @@ pub led_grant : (caps : Caps) (r : Resource) (content : Content) → IsContent c
 led_grant caps r content is =
     led_grants caps (waiters_of r content.waiters) content is
     (keys.found_filter part_of same_part same_part-eq same_part-refl (is_on r) content.waiters is.queue.one_each)
-    (pairwise-filter apart (is_on r) content.waiters is.queue.one_each)
+    (pairwise-filter are_apart (is_on r) content.waiters is.queue.one_each)
 
 pub led_grant_each : (caps : Caps) (rs : List Resource) (content : Content) → IsContent caps content
     → Led caps content (grant_each rs content).content

@@ -11,7 +11,7 @@ use Rattle.lock_queue.specs.declared.waiters.Waiter.{Waiter}
 use Rattle.lock_model.specs.Interests.{Interest, is_of, is_by}
 use Rattle.lock_model.specs.Contents.{Content, IsContent, is_due, records_of, records_in}
 use Rattle.lock_model.specs.Grants.{grant_each}
-use Rattle.lock_model.specs.Departures.{stays, with_retained, interests_left, resources_of, departed, returned}
+use Rattle.lock_model.specs.Departures.{stays, with_retained, interests_left, resources_of, departure_of, with_returned}
 use Rattle.lock_model.proofs.InterestLaws.{KeepsState, has-filter, has-map, interests-filter, interests-same, records-map}
 use Rattle.lock_queue.proofs.WaiterLaws.{queue-filter}
 use Rattle.lock_queue.specs.Waiters.{is_by as is_by_waiter, waiters_without_conn}
@@ -29,7 +29,7 @@ records-retained : (conn : ConnId) (retained : Bool) (interests : List Interest)
 records-retained conn retained interests = records-map (with_retained conn retained) (λ x. omega arith) interests
 
 pub content-returned : (caps : Caps) (conn : ConnId) (content : Content) → IsContent caps content
-    → IsContent caps (returned conn content)
+    → IsContent caps (with_returned conn content)
 content-returned caps conn content is =
     let keeps = retained-keeps conn false in
     record {
@@ -96,7 +96,7 @@ led_left caps conn keep content is =
     }
 
 pub led_departed : (caps : Caps) (conn : ConnId) (keep : Bool) (content : Content) → IsContent caps content
-    → Led caps content (departed conn keep content).content
+    → Led caps content (departure_of conn keep content).content
 led_departed caps conn keep content is =
     let rs = resources_of conn content in
     let one = led_left caps conn keep content is in

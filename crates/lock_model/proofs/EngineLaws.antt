@@ -11,20 +11,20 @@ use Rattle.cf_types.specs.declared.forms.Kind.TheVariants as kind
 use Rattle.cf_types.specs.declared.numbers.ConnId.{ConnId}
 use Rattle.cf_types.specs.declared.lock_commands.LockCmd.{LockCmd}
 use Rattle.engine_api.specs.declared.shapes.Shape.{Shape}
-use Rattle.engine_api.specs.Meaning.{stepped}
+use Rattle.engine_api.specs.Meaning.{step_result}
 use Rattle.engine_api.specs.Items.{Fits, IsNoMore, IsNoMoreOf, IsNextItem}
 use Rattle.lock_queue.specs.declared.waiters.Waiter.{Waiter}
 use Rattle.lock_model.specs.declared.items.LockItem.{LockItem}
 use Rattle.lock_model.specs.declared.items.LockItem.TheVariants.{Owner, Waits}
 use Rattle.lock_model.specs.Interests.{Interest}
-use Rattle.lock_model.specs.Contents.{Content, IsContent, nothing, records_of, records_in, owner, items, content_with, content_without_last, without_last, records_of_item, need_of}
-use Rattle.lock_model.specs.Departures.{returned}
+use Rattle.lock_model.specs.Contents.{Content, IsContent, no_content, records_of, records_in, owner, items, content_with, content_without_last, without_last, records_of_item, need_of}
+use Rattle.lock_model.specs.Departures.{with_returned}
 use Rattle.lock_model.specs.Meaning.{lock_meaning}
 use Rattle.lock_model.proofs.ContentLaws.{items_in}
 use Rattle.lock_model.proofs.CommandLaws as commands
 use Rattle.lock_model.proofs.DepartureLaws as departures
 
-pub content-nothing : (caps : Caps) → IsContent caps nothing
+pub content-nothing : (caps : Caps) → IsContent caps no_content
 content-nothing caps =
     record {
       owners = record { ordered = refl; one_each = refl; compatible = refl };
@@ -35,7 +35,7 @@ content-nothing caps =
 
 pub step-content : (shape : Shape) (caps : Caps) (content : Content) (by : ConnId) (cmd : LockCmd)
     → IsContent caps content
-    → IsContent caps (stepped lock_meaning (record { shape = shape; caps = caps; state = content }) by cmd).state
+    → IsContent caps (step_result lock_meaning (record { shape = shape; caps = caps; state = content }) by cmd).state
 step-content shape caps content by cmd is = commands.content-step caps content by cmd is
 
 pub leave-content : (shape : Shape) (caps : Caps) (content : Content) (conn : ConnId) (keep : Bool)
@@ -44,7 +44,7 @@ pub leave-content : (shape : Shape) (caps : Caps) (content : Content) (conn : Co
 leave-content shape caps content conn keep is = (departures.led_departed caps conn keep content is).content
 
 pub back-content : (caps : Caps) (content : Content) (conn : ConnId) → IsContent caps content
-    → IsContent caps (returned conn content)
+    → IsContent caps (with_returned conn content)
 back-content caps content conn is = departures.content-returned caps conn content is
 
 -- ---- items
@@ -69,10 +69,11 @@ made-append : (content : Content) (xs ys : List LockItem)
 made-append content [] ys = refl
 made-append content (x ∷ xs) ys = made-append (content_with content x) xs ys
 
-pub made-items : (content : Content) → fold content_with nothing (items content) ≡ content
+pub made-items : (content : Content) → fold content_with no_content (items content) ≡ content
 made-items content =
-    made-append nothing (map owner content.interests) (map Waits content.waiters)
-    ∙ ap (λ (c : Content). fold content_with c (map Waits content.waiters)) (made-interests nothing content.interests)
+    made-append no_content (map owner content.interests) (map Waits content.waiters)
+    ∙ ap (λ (c : Content). fold content_with c (map Waits content.waiters))
+    (made-interests no_content content.interests)
     ∙ made-waiters (record { interests = content.interests; waiters = [] }) content.waiters
 
 -- ---- an owner doesn't come behind a waiter

@@ -11,9 +11,9 @@ use Rattle.list_laws.specs.Pairwise.{pairwise}
 use Rattle.list_laws.proofs.KeyLaws as keys
 use Rattle.lock_table.specs.declared.holdings.Held.{Held}
 use Rattle.lock_queue.specs.declared.waiters.Waiter.{Waiter}
-use Rattle.lock_model.specs.Interests.{Interest, AreInterests, is_of, has_interest, interests_changed, agree, may_own, parts_apart, owners_agree}
+use Rattle.lock_model.specs.Interests.{Interest, AreInterests, is_of, has_interest, interests_changed, may_coexist, may_own, parts_apart, owners_agree}
 use Rattle.lock_model.specs.Contents.{records_of, records_owned}
-use Rattle.lock_model.specs.Grants.{held_by, altered}
+use Rattle.lock_model.specs.Grants.{held_by, with_alteration}
 use Rattle.lock_model.proofs.InterestLaws.{part_of, KeepsPart, interests-map, agree_same, agree_sym}
 
 -- the resource and the connector
@@ -23,13 +23,13 @@ waiter_part w = (w.r, w.conn)
 -- ---- an interest is altered
 
 abbrev pub alteration : Waiter → Interest → Interest
-alteration w x = cond (is_of w.r w.conn x) (altered w x) x
+alteration w x = cond (is_of w.r w.conn x) (with_alteration w x) x
 
-altered_r : (w : Waiter) (b : Bool) (x : Interest) → (cond b (altered w x) x).held.r ≡ x.held.r
+altered_r : (w : Waiter) (b : Bool) (x : Interest) → (cond b (with_alteration w x) x).held.r ≡ x.held.r
 altered_r w true x = refl
 altered_r w false x = refl
 
-altered_conn : (w : Waiter) (b : Bool) (x : Interest) → (cond b (altered w x) x).held.conn ≡ x.held.conn
+altered_conn : (w : Waiter) (b : Bool) (x : Interest) → (cond b (with_alteration w x) x).held.conn ≡ x.held.conn
 altered_conn w true x = refl
 altered_conn w false x = refl
 
@@ -42,33 +42,33 @@ its_part : (w : Waiter) (x : Interest) → is_of w.r w.conn x ≡ true → part_
 its_part w x h = same_part-eq (part_of x) (waiter_part w) h
 
 altered_agrees : (w : Waiter) (x : Interest) (other : Held) → is_of w.r w.conn x ≡ true
-    → agree (held_by w) other ≡ true → agree (altered w x).held other ≡ true
+    → may_coexist (held_by w) other ≡ true → may_coexist (with_alteration w x).held other ≡ true
 altered_agrees w x other h may =
-    agree_same (altered w x).held (held_by w) other (ap (λ (p : Part). p.0) (its_part w x h))
+    agree_same (with_alteration w x).held (held_by w) other (ap (λ (p : Part). p.0) (its_part w x h))
     (ap (λ (p : Part). p.1) (its_part w x h)) refl ∙ may
 
-one_connector : (a b : Held) → a.conn ≡ b.conn → agree a b ≡ true
+one_connector : (a b : Held) → a.conn ≡ b.conn → may_coexist a b ≡ true
 one_connector a b e =
     or_right (not (same_resource a.r b.r)) (not a.excl && not b.excl || (a.conn.0 == b.conn.0))
     (or_right (not a.excl && not b.excl) (a.conn.0 == b.conn.0)
     (eq-eqb a.conn.0 b.conn.0 (ap (λ (conn : ConnId). conn.0) e)))
 
 alteration_agrees : (w : Waiter) (a b : Bool) (x y : Interest) → is_of w.r w.conn x ≡ a → is_of w.r w.conn y ≡ b
-    → agree (held_by w) x.held ≡ true → agree (held_by w) y.held ≡ true → owners_agree x y ≡ true
-    → owners_agree (cond a (altered w x) x) (cond b (altered w y) y) ≡ true
+    → may_coexist (held_by w) x.held ≡ true → may_coexist (held_by w) y.held ≡ true → owners_agree x y ≡ true
+    → owners_agree (cond a (with_alteration w x) x) (cond b (with_alteration w y) y) ≡ true
 alteration_agrees w true true x y ex ey gx gy h =
-    one_connector (altered w x).held (altered w y).held
+    one_connector (with_alteration w x).held (with_alteration w y).held
     (ap (λ (p : Part). p.1) (its_part w x ex) ∙ sym (ap (λ (p : Part). p.1) (its_part w y ey)))
 alteration_agrees w true false x y ex ey gx gy h = altered_agrees w x y.held ex gy
 alteration_agrees w false true x y ex ey gx gy h =
-    agree_sym x.held (altered w y).held ∙ altered_agrees w y x.held ey gx
+    agree_sym x.held (with_alteration w y).held ∙ altered_agrees w y x.held ey gx
 alteration_agrees w false false x y ex ey gx gy h = h
 
 pub interests-altered : (w : Waiter) (interests : List Interest) → AreInterests interests
     → may_own (held_by w) interests ≡ true
-    → AreInterests (interests_changed w.r w.conn (altered w) interests)
+    → AreInterests (interests_changed w.r w.conn (with_alteration w) interests)
 interests-altered w interests are may =
-    interests-map (alteration w) (alteration-keeps w) (λ x. agree (held_by w) x.held)
+    interests-map (alteration w) (alteration-keeps w) (λ x. may_coexist (held_by w) x.held)
     (λ x y gx gy h. alteration_agrees w (is_of w.r w.conn x) (is_of w.r w.conn y) x y refl refl gx gy h) interests may
     are
 
@@ -84,7 +84,7 @@ none_altered w (x ∷ xs) h =
     let parts = or_parts (is_of w.r w.conn x) (has_interest w.r w.conn xs) h in
     first (is_of w.r w.conn x) parts.0 (none_altered w xs parts.1)
   where
-    first : (b : Bool) → b ≡ false → {ys : List Interest} → ys ≡ xs → cond b (altered w x) x ∷ ys ≡ x ∷ xs
+    first : (b : Bool) → b ≡ false → {ys : List Interest} → ys ≡ xs → cond b (with_alteration w x) x ∷ ys ≡ x ∷ xs
     first true e ih = absurd (false≢true (sym e))
     first false e ih = ap (λ (l : List Interest). x ∷ l) ih
 
@@ -93,10 +93,10 @@ its_records x = records_of x.rec
 
 alteration_step : (w : Waiter) (b : Bool) (x : Interest) (xs ys : List Interest)
     → (b ≡ true → ys ≡ xs) → records_owned ys ≤ records_owned xs + records_of w.rec
-    → records_owned (cond b (altered w x) x ∷ ys) ≤ records_owned (x ∷ xs) + records_of w.rec
+    → records_owned (cond b (with_alteration w x) x ∷ ys) ≤ records_owned (x ∷ xs) + records_of w.rec
 alteration_step w true x xs ys same le =
     let it : records_owned ys ≡ records_owned xs = ap (λ (l : List Interest). records_owned l) (same refl) in
-    omega (arith, it, given w.rec x.rec, sum_by-cons its_records (altered w x) ys, sum_by-cons its_records x xs)
+    omega (arith, it, given w.rec x.rec, sum_by-cons its_records (with_alteration w x) ys, sum_by-cons its_records x xs)
 alteration_step w false x xs ys same le =
     omega (arith, le, sum_by-cons its_records x ys, sum_by-cons its_records x xs)
 
@@ -108,7 +108,8 @@ none_behind w x xs u h =
     (keys.none_later part_of same_part same_part-eq same_part-refl x xs u)
 
 pub records-altered : (w : Waiter) (interests : List Interest) → pairwise parts_apart interests ≡ true
-    → records_owned (interests_changed w.r w.conn (altered w) interests) ≤ records_owned interests + records_of w.rec
+    → records_owned (interests_changed w.r w.conn (with_alteration w)
+    interests) ≤ records_owned interests + records_of w.rec
 records-altered w [] u = omega arith
 records-altered w (x ∷ xs) u =
     let later = and_parts (list_all (parts_apart x) xs) (pairwise parts_apart xs) u in

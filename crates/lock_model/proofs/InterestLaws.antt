@@ -16,7 +16,7 @@ use Rattle.list_laws.proofs.FilterLaws.{list_all-filter, list_all-filter_same, l
 use Rattle.list_laws.proofs.InsertionLaws.{list_any-insertion, sum_by-insertion, length-insertion}
 use Rattle.list_laws.proofs.PairwiseLaws.{FindsPlace, pairwise-filter, pairwise-insertion, pairwise-insertion_any, pairwise-map}
 use Rattle.lock_table.specs.declared.holdings.Held.{Held}
-use Rattle.lock_model.specs.Interests.{Interest, AreInterests, is_of, has_interest, interests_without, interests_with, agree, may_own, stands_up_to, parts_apart, owners_agree}
+use Rattle.lock_model.specs.Interests.{Interest, AreInterests, is_of, has_interest, interests_without, interests_with, may_coexist, may_own, stands_up_to, parts_apart, owners_agree}
 use Rattle.lock_model.specs.Contents.{records_of, records_owned}
 
 -- ---- two interests
@@ -36,7 +36,7 @@ swapped false false = refl
 agree_parts : (p q x y m n : Bool) → p ≡ q → x ≡ y → m ≡ n → not p || (x || m) ≡ not q || (y || n)
 agree_parts p q x y m n e f g = rw (e, f, g) refl
 
-pub agree_sym : (a b : Held) → agree a b ≡ agree b a
+pub agree_sym : (a b : Held) → may_coexist a b ≡ may_coexist b a
 agree_sym a b =
     agree_parts (same_resource a.r b.r) (same_resource b.r a.r) (not a.excl && not b.excl) (not b.excl && not a.excl)
     (a.conn.0 == b.conn.0) (b.conn.0 == a.conn.0)
@@ -84,9 +84,9 @@ interests-with x interests are may =
           (λ y h. and_from (parts_apart x y) (parts_apart y x) (apart_sym x y ∙ h) h) rest
           (list_all-filter_same (λ other. not (is_of x.held.r x.held.conn other)) interests));
       compatible = pairwise-insertion_any owners_agree before x rest few.compatible
-          (list_all_weaker (λ y. agree x.held y.held) (λ y. owners_agree x y && owners_agree y x)
+          (list_all_weaker (λ y. may_coexist x.held y.held) (λ y. owners_agree x y && owners_agree y x)
           (λ y h. both (owners_agree x y) (owners_agree y x) h (agree_sym y.held x.held)) rest
-          (list_all-filter (λ y. agree x.held y.held) (λ other. not (is_of x.held.r x.held.conn other)) interests
+          (list_all-filter (λ y. may_coexist x.held y.held) (λ other. not (is_of x.held.r x.held.conn other)) interests
           may));
     }
 
@@ -198,7 +198,7 @@ interests-map f keeps good h interests g are =
     }
 
 -- who agrees goes by the resource, the connector and the state alone
-pub agree_same : (a b c : Held) → a.r ≡ b.r → a.conn ≡ b.conn → a.excl ≡ b.excl → agree a c ≡ agree b c
+pub agree_same : (a b c : Held) → a.r ≡ b.r → a.conn ≡ b.conn → a.excl ≡ b.excl → may_coexist a c ≡ may_coexist b c
 agree_same a b c e f g =
     agree_parts (same_resource a.r c.r) (same_resource b.r c.r) (not a.excl && not c.excl) (not b.excl && not c.excl)
     (a.conn.0 == c.conn.0) (b.conn.0 == c.conn.0)

@@ -18,7 +18,7 @@ use Rattle.list_laws.proofs.FilterLaws.{filter_all, filter_swap, all_from_none}
 use Rattle.list_laws.proofs.PairwiseLaws.{pairwise-filter, pairwise_front}
 use Rattle.list_laws.proofs.KeyLaws as keys
 use Rattle.lock_queue.specs.declared.waiters.Waiter.{Waiter}
-use Rattle.lock_queue.specs.Waiters.{is_on, is_waiter, waiters_of, waiters_without, waiters_with, stands_before, apart, IsQueue}
+use Rattle.lock_queue.specs.Waiters.{is_on, is_waiter, waiters_of, waiters_without, waiters_with, stands_before, are_apart, IsQueue}
 use Rattle.lock_model.specs.declared.items.LockItem.{LockItem}
 use Rattle.lock_model.specs.declared.items.LockItem.TheVariants.{Owner, Waits}
 use Rattle.lock_model.specs.Interests.{Interest, AreInterests, is_of, interests_with, interests_without, stands_up_to, parts_apart, owners_agree}
@@ -33,7 +33,7 @@ pub front-interests : (caps : Caps) (whole : Content) (interests more : List Int
     → whole.interests ≡ interests ++ more → IsContent caps (record { interests = interests; waiters = [] })
 front-interests caps whole interests more is e =
     let ordered : pairwise stands_up_to (interests ++ more) ≡ true = rw e at is.owners.ordered in
-    let apart : pairwise parts_apart (interests ++ more) ≡ true = rw e at is.owners.one_each in
+    let separate : pairwise parts_apart (interests ++ more) ≡ true = rw e at is.owners.one_each in
     let agree : pairwise owners_agree (interests ++ more) ≡ true = rw e at is.owners.compatible in
     let all : sum_by (λ (x : Interest). records_of x.rec) whole.interests ≡ sum_by
     (λ (x : Interest). records_of x.rec) (interests ++ more) =
@@ -41,7 +41,7 @@ front-interests caps whole interests more is e =
     record {
       owners = record {
         ordered = pairwise_front stands_up_to interests more ordered;
-        one_each = pairwise_front parts_apart interests more apart;
+        one_each = pairwise_front parts_apart interests more separate;
         compatible = pairwise_front owners_agree interests more agree;
       };
       queue = record { ordered = refl; one_each = refl };
@@ -53,7 +53,7 @@ pub front-waiters : (caps : Caps) (whole : Content) (waiters more : List Waiter)
     → whole.waiters ≡ waiters ++ more → IsContent caps (record { interests = whole.interests; waiters = waiters })
 front-waiters caps whole waiters more is e =
     let ordered : pairwise stands_before (waiters ++ more) ≡ true = rw e at is.queue.ordered in
-    let apart' : pairwise apart (waiters ++ more) ≡ true = rw e at is.queue.one_each in
+    let apart' : pairwise are_apart (waiters ++ more) ≡ true = rw e at is.queue.one_each in
     let due : list_all (is_due whole.interests) (waiters ++ more) ≡ true = rw e at is.due in
     let all : sum_by (λ (w : Waiter). records_of w.rec) whole.waiters ≡ sum_by (λ (w : Waiter). records_of w.rec)
     (waiters ++ more) =
@@ -62,7 +62,7 @@ front-waiters caps whole waiters more is e =
       owners = is.owners;
       queue = record {
         ordered = pairwise_front stands_before waiters more ordered;
-        one_each = pairwise_front apart waiters more apart';
+        one_each = pairwise_front are_apart waiters more apart';
       };
       due = (and_parts (list_all (is_due whole.interests) waiters) (list_all (is_due whole.interests) more)
           (sym (list_all-append (is_due whole.interests) waiters more) ∙ due)).0;
@@ -239,7 +239,7 @@ pub waiters_with-next : (waiters more : List Waiter) (w : Waiter) → IsQueue (w
     → waiters_with w waiters ≡ waiters ++ w ∷ []
 waiters_with-next waiters more w is =
     let same : waiters_without w.r w.conn waiters ≡ waiters =
-    filter_all (λ v. not (is_waiter w.r w.conn v)) waiters (before_next apart waiters more w is.one_each) in
+    filter_all (λ v. not (is_waiter w.r w.conn v)) waiters (before_next are_apart waiters more w is.one_each) in
     ap (λ (l : List Waiter). insertion (λ other. stands_before other w) w l) same
     ∙ insertion_last (λ other. stands_before other w) w waiters (before_next stands_before waiters more w is.ordered)
 
@@ -294,8 +294,8 @@ pub waiters_without-last : (waiters : List Waiter) (w : Waiter) → IsQueue wait
     → waiters_without w.r w.conn waiters ≡ without_last waiters
 waiters_without-last waiters w is h =
     let e = last_behind waiters w h in
-    let u : pairwise apart (without_last waiters ++ w ∷ []) ≡ true = subst
-    (λ (l : List Waiter). pairwise apart l ≡ true) e is.one_each in
+    let u : pairwise are_apart (without_last waiters ++ w ∷ []) ≡ true = subst
+    (λ (l : List Waiter). pairwise are_apart l ≡ true) e is.one_each in
     ap (λ (l : List Waiter). waiters_without w.r w.conn l) e
     ∙ without_keyed_last waiter_part same_part same_part-refl (without_last waiters) w u
 
@@ -316,8 +316,9 @@ pub waiters_of-first : (r : Resource) (w : Waiter) (waiters rest : List Waiter) 
     → waiters_of r (waiters_without w.r w.conn waiters) ≡ rest
 waiters_of-first r w waiters rest is e =
     let q : Waiter → Bool = λ v. not (is_waiter w.r w.conn v) in
-    let u : pairwise apart (w ∷ rest) ≡ true =
-    subst (λ (l : List Waiter). pairwise apart l ≡ true) e (pairwise-filter apart (is_on r) waiters is.one_each) in
+    let u : pairwise are_apart (w ∷ rest) ≡ true =
+    subst (λ (l : List Waiter). pairwise are_apart l ≡ true) e
+    (pairwise-filter are_apart (is_on r) waiters is.one_each) in
     let none = keys.none_later waiter_part same_part same_part-eq same_part-refl w rest u in
     filter_swap (is_on r) q waiters ∙ ap (λ (l : List Waiter). filter q l) e
     ∙ ap (λ (b : Bool). cond (not b) (w ∷ filter q rest) (filter q rest)) (same_part-refl (waiter_part w))

@@ -8,7 +8,7 @@ use Rattle.cf_types.specs.declared.forms.Caps.{Caps}
 use Rattle.cf_types.specs.Resources.{same_resource}
 use Rattle.list_laws.specs.Pairwise.{pairwise}
 use Rattle.list_laws.proofs.FilterLaws.{list_all_weaker, list_all_both}
-use Rattle.lock_model.specs.Interests.{Interest, compatible, owners_agree}
+use Rattle.lock_model.specs.Interests.{Interest, are_compatible, owners_agree}
 use Rattle.lock_model.specs.Contents.{Content, IsContent, OwnersAreCompatible}
 use Rattle.lock_model.proofs.InterestLaws.{agree_sym}
 
@@ -27,7 +27,7 @@ each_with_each relation turn own (x ∷ xs) h =
 
 agrees_itself : (x : Interest) → owners_agree x x ≡ true
 agrees_itself x =
-    or_right (not (same_resource x.held.r x.held.r)) (compatible x.held x.held)
+    or_right (not (same_resource x.held.r x.held.r)) (are_compatible x.held x.held)
     (or_right (not x.held.excl && not x.held.excl) (x.held.conn.0 == x.held.conn.0)
     (eq-eqb x.held.conn.0 x.held.conn.0 refl))
 
@@ -43,5 +43,5 @@ compatible-interests caps content is x y left right same =
     let each = each_with_each owners_agree (λ a b h. agree_sym b.held a.held ∙ h) agrees_itself content.interests
     is.owners.compatible in
     let all = all_contained (λ a. list_all (owners_agree a) content.interests) content.interests x each left in
-    same_then (same_resource x.held.r y.held.r) (compatible x.held y.held)
+    same_then (same_resource x.held.r y.held.r) (are_compatible x.held y.held)
     (all_contained (owners_agree x) content.interests y all right) same

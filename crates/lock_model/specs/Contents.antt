@@ -7,14 +7,14 @@ use Rattle.lock_queue.specs.declared.waiters.Waiter.{Waiter}
 use Rattle.lock_queue.specs.Waiters.{IsQueue}
 use Rattle.lock_model.specs.declared.items.LockItem.{LockItem}
 use Rattle.lock_model.specs.declared.items.LockItem.TheVariants.{Owner, Waits}
-use Rattle.lock_model.specs.Interests.{Interest, AreInterests, has_interest, compatible}
+use Rattle.lock_model.specs.Interests.{Interest, AreInterests, has_interest, are_compatible}
 
 pub record Content : Type 0 where
   pub interests : List Interest
   pub waiters : List Waiter
 
-abbrev pub nothing : Content
-nothing = record { interests = []; waiters = [] }
+abbrev pub no_content : Content
+no_content = record { interests = []; waiters = [] }
 
 -- record data, of interests and waiters
 abbrev pub records_of : Option (List ℕ) → ℕ
@@ -45,7 +45,7 @@ pub record IsContent (caps : Caps) (content : Content) : Type 0 where
 abbrev pub OwnersAreCompatible : Content → Type 0
 OwnersAreCompatible content =
     (x y : Interest) → Contains content.interests x → Contains content.interests y
-    → IsTrue (same_resource x.held.r y.held.r) → IsTrue (compatible x.held y.held)
+    → IsTrue (same_resource x.held.r y.held.r) → IsTrue (are_compatible x.held y.held)
 
 -- ---- items: the interests, then the waiters
 

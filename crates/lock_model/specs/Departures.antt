@@ -10,7 +10,7 @@ use Rattle.lock_queue.specs.Waiters as queue
 use Rattle.lock_queue.specs.Waiters.{waiters_without_conn}
 use Rattle.lock_model.specs.Interests.{Interest, is_by}
 use Rattle.lock_model.specs.Contents.{Content}
-use Rattle.lock_model.specs.Grants.{Left, grant_each}
+use Rattle.lock_model.specs.Grants.{Settlement, grant_each}
 
 -- interests of others stay; with `keep` the connector's own stay that have record data
 abbrev pub stays : ConnId → Bool → Interest → Bool
@@ -37,13 +37,13 @@ resources_of conn content =
     ++ map (λ w. w.r) (filter (queue.is_by conn) content.waiters))
 
 -- the connector's part goes, or is retained; then the grant rule runs for each resource of it
-abbrev pub departed : ConnId → Bool → Content → Left
-departed conn keep content =
+abbrev pub departure_of : ConnId → Bool → Content → Settlement
+departure_of conn keep content =
     grant_each (resources_of conn content) (record {
       interests = interests_left conn keep content.interests;
       waiters = waiters_without_conn conn content.waiters;
     })
 
-abbrev pub returned : ConnId → Content → Content
-returned conn content =
+abbrev pub with_returned : ConnId → Content → Content
+with_returned conn content =
     record content { interests = map (with_retained conn false) content.interests }

@@ -15,14 +15,14 @@ abbrev pub held_by : Waiter → Held
 held_by w = record { r = w.r; conn = w.conn; excl = w.excl; retained = false }
 
 -- an interest that is altered takes the state, and the record data where they are given
-abbrev pub altered : Waiter → Interest → Interest
-altered w interest =
+abbrev pub with_alteration : Waiter → Interest → Interest
+with_alteration w interest =
     record { held = record interest.held { excl = w.excl }; rec = option_or w.rec interest.rec }
 
 -- one that alters has its interest altered, another one becomes the last owner
 abbrev pub interests_granted : Waiter → List Interest → List Interest
 interests_granted w interests =
-    if w.alter then interests_changed w.r w.conn (altered w) interests
+    if w.alter then interests_changed w.r w.conn (with_alteration w) interests
     else interests_with (record { held = held_by w; rec = w.rec }) interests
 
 -- a waiter is granted, and waits no more
@@ -37,30 +37,30 @@ abbrev pub granted_letter : Waiter → Letter
 granted_letter w = record { to = w.conn; event = events.Granted w.r w.excl }
 
 -- what is left, and the letters that are sent
-pub record Left : Type 0 where
+pub record Settlement : Type 0 where
   pub content : Content
   pub letters : List Letter
 
-abbrev pub left_so : Content → Left
-left_so content = record { content = content; letters = [] }
+abbrev pub settlement_of : Content → Settlement
+settlement_of content = record { content = content; letters = [] }
 
 -- these letters are sent before
-abbrev pub sent_before : List Letter → Left → Left
-sent_before letters left = record left { letters = letters ++ left.letters }
+abbrev pub with_letters_before : List Letter → Settlement → Settlement
+with_letters_before letters left = record left { letters = letters ++ left.letters }
 
 -- of these waiters the first are granted, as long as they are compatible with all other owners
-abbrev pub grants : List Waiter → Content → Left
-grants [] content = left_so content
+abbrev pub grants : List Waiter → Content → Settlement
+grants [] content = settlement_of content
 grants (w ∷ waiters) content =
     if may_own (held_by w) content.interests
-    then sent_before (granted_letter w ∷ []) (grants waiters (content_granted w content))
-    else left_so content
+    then with_letters_before (granted_letter w ∷ []) (grants waiters (content_granted w content))
+    else settlement_of content
 
 -- the grant rule for a resource; for several, one after another
-abbrev pub grant : Resource → Content → Left
+abbrev pub grant : Resource → Content → Settlement
 grant r content = grants (waiters_of r content.waiters) content
 
-abbrev pub grant_each : List Resource → Content → Left
-grant_each [] content = left_so content
+abbrev pub grant_each : List Resource → Content → Settlement
+grant_each [] content = settlement_of content
 grant_each (r ∷ rs) content =
-    let first = grant r content in sent_before first.letters (grant_each rs first.content)
+    let first = grant r content in with_letters_before first.letters (grant_each rs first.content)

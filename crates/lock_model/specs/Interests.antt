@@ -8,7 +8,7 @@ use Rattle.cf_types.specs.Resources.{same_resource, resource_up_to}
 use Rattle.list_laws.specs.Pairwise.{pairwise}
 use Rattle.list_laws.specs.Insertions.{insertion}
 use Rattle.lock_table.specs.declared.holdings.Held.{Held}
-use Rattle.lock_table.specs.Holdings.{is_on, is_interest, in_order, apart}
+use Rattle.lock_table.specs.Holdings.{is_on, is_interest, in_order, are_apart}
 
 pub record Interest : Type 0 where
   pub held : Held
@@ -54,16 +54,16 @@ manager_of r interests =
 -- ---- who may own a resource together
 
 -- both share it, or they are one connector
-abbrev pub compatible : Held → Held → Bool
-compatible held other = not held.excl && not other.excl || (held.conn.0 == other.conn.0)
+abbrev pub are_compatible : Held → Held → Bool
+are_compatible held other = not held.excl && not other.excl || (held.conn.0 == other.conn.0)
 
 -- compatible if it is one resource
-abbrev pub agree : Held → Held → Bool
-agree held other = not (same_resource held.r other.r) || compatible held other
+abbrev pub may_coexist : Held → Held → Bool
+may_coexist held other = not (same_resource held.r other.r) || are_compatible held other
 
 -- compatible with all other owners of the resource
 abbrev pub may_own : Held → List Interest → Bool
-may_own held interests = list_all (λ interest. agree held interest.held) interests
+may_own held interests = list_all (λ interest. may_coexist held interest.held) interests
 
 -- ---- what all interests keep
 
@@ -71,10 +71,10 @@ abbrev pub stands_up_to : Interest → Interest → Bool
 stands_up_to interest other = in_order interest.held other.held
 
 abbrev pub parts_apart : Interest → Interest → Bool
-parts_apart interest other = apart interest.held other.held
+parts_apart interest other = are_apart interest.held other.held
 
 abbrev pub owners_agree : Interest → Interest → Bool
-owners_agree interest other = agree interest.held other.held
+owners_agree interest other = may_coexist interest.held other.held
 
 -- by resource; of one connector one at most in a resource; any two of one resource are compatible
 pub record AreInterests (interests : List Interest) : Type 0 where

@@ -9,7 +9,7 @@ use Rattle.lock_queue.specs.declared.waiters.Waiter.{Waiter}
 use Rattle.lock_model.specs.Interests.{manager_of}
 use Rattle.lock_queue.specs.Waiters.{waiters_with, place_of}
 use Rattle.lock_model.specs.Contents.{Content}
-use Rattle.lock_model.specs.Grants.{Left, interests_granted}
+use Rattle.lock_model.specs.Grants.{Settlement, interests_granted}
 
 abbrev pub content_asked : Bool → Waiter → Content → Content
 content_asked true w content = record content { interests = interests_granted w content.interests }
@@ -28,6 +28,6 @@ abbrev pub contention_letters : Waiter → Content → List Letter
 contention_letters w content = contention w (manager_of w.r content.interests)
 
 -- one waits
-abbrev pub waiting : Waiter → Content → Left
-waiting w content =
+abbrev pub wait_settlement : Waiter → Content → Settlement
+wait_settlement w content =
     record { content = content_asked false w content; letters = contention_letters w content }

@@ -10,7 +10,7 @@ use Rattle.cf_types.specs.declared.lock_commands.LockReply.{LockReply}
 use Rattle.cf_types.specs.declared.lock_commands.LockReply.TheVariants as replies
 use Rattle.engine_api.specs.Meaning.{Outcome, first_refusal}
 use Rattle.lock_model.specs.Contents.{Content}
-use Rattle.lock_model.specs.Grants.{Left, left_so}
+use Rattle.lock_model.specs.Grants.{Settlement, settlement_of}
 use Rattle.lock_model.specs.Commands.Obtain as obtain
 use Rattle.lock_model.specs.Commands.Alter as alter
 use Rattle.lock_model.specs.Commands.Release as release
@@ -41,12 +41,12 @@ reply content by (RtRead conn) = rt_read.reply conn content.interests
 reply content by (RtDelete conn r) = replies.Ok
 
 -- the content that a command leaves, and its letters
-abbrev pub after : Content → ConnId → LockCmd → Left
+abbrev pub after : Content → ConnId → LockCmd → Settlement
 after content by (Obtain r excl rec) = obtain.after (obtain.request by r excl rec) content
 after content by (Alter r excl rec) = alter.after (alter.request by r excl rec) content
 after content by (Release r) = release.after by r content
 after content by (Decide r conn how) = decide.after how r conn content
-after content by (RtRead conn) = left_so content
+after content by (RtRead conn) = settlement_of content
 after content by (RtDelete conn r) = rt_delete.after r conn content
 
 -- what a command does where no refusal holds

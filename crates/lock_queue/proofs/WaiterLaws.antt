@@ -10,13 +10,13 @@ use Rattle.cf_types.proofs.ResourceLaws.{resource_cmp_total, same_part_comm}
 use Rattle.list_laws.proofs.FilterLaws.{list_all_weaker, list_all-filter_same, list_all_always, length-filter-le}
 use Rattle.list_laws.proofs.PairwiseLaws.{FindsPlace, pairwise-filter, pairwise-insertion, pairwise-insertion_any}
 use Rattle.lock_queue.specs.declared.waiters.Waiter.{Waiter}
-use Rattle.lock_queue.specs.Waiters.{is_on, is_waiter, waiters_with, waiters_without, stands_before, place_of, apart, IsQueue}
+use Rattle.lock_queue.specs.Waiters.{is_on, is_waiter, waiters_with, waiters_without, stands_before, place_of, are_apart, IsQueue}
 
 pub queue-filter : (q : Waiter → Bool) (waiters : List Waiter) → IsQueue waiters → IsQueue (filter q waiters)
 queue-filter q waiters is =
     record {
       ordered = pairwise-filter stands_before q waiters is.ordered;
-      one_each = pairwise-filter apart q waiters is.one_each;
+      one_each = pairwise-filter are_apart q waiters is.one_each;
     }
 
 -- ---- the order
@@ -88,9 +88,9 @@ finds_place waiter =
     }
 
 apart_both : (waiter other : Waiter) → not (is_waiter waiter.r waiter.conn other) ≡ true
-    → apart waiter other && apart other waiter ≡ true
+    → are_apart waiter other && are_apart other waiter ≡ true
 apart_both waiter other h =
-    and_from (apart waiter other) (apart other waiter)
+    and_from (are_apart waiter other) (are_apart other waiter)
     (ap not (same_part_comm (waiter.r, waiter.conn) (other.r, other.conn)) ∙ h) h
 
 pub queue-with : (waiter : Waiter) (waiters : List Waiter) → IsQueue waiters → IsQueue (waiters_with waiter waiters)
@@ -103,9 +103,9 @@ queue-with waiter waiters is =
           (finds_place waiter)
           (list_all_always (λ (other : Waiter). true) (λ other. refl) others) kept.ordered;
       one_each =
-          pairwise-insertion_any apart (λ other. stands_before other waiter) waiter others kept.one_each
-          (list_all_weaker (λ other. not (is_waiter waiter.r waiter.conn other)) (λ other. apart waiter other
-          && apart other waiter)
+          pairwise-insertion_any are_apart (λ other. stands_before other waiter) waiter others kept.one_each
+          (list_all_weaker (λ other. not (is_waiter waiter.r waiter.conn other)) (λ other. are_apart waiter other
+          && are_apart other waiter)
           (apart_both waiter) others (list_all-filter_same (λ other. not (is_waiter waiter.r waiter.conn other))
           waiters));
     }

@@ -1,2 +1,2 @@
 pub mod Waiters
-pub mod Waiting
+pub mod QueueView

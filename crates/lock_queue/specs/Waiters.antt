@@ -59,11 +59,11 @@ place_of waiter waiters =
     (waiters_without waiter.r waiter.conn waiters)) + 1
 
 -- they aren't of one connector for one resource
-abbrev pub apart : Waiter → Waiter → Bool
-apart waiter other = not (is_waiter other.r other.conn waiter)
+abbrev pub are_apart : Waiter → Waiter → Bool
+are_apart waiter other = not (is_waiter other.r other.conn waiter)
 
 -- by resource, those of one resource that alter first; and of one connector one at most for a
 -- resource
 pub record IsQueue (waiters : List Waiter) : Type 0 where
   pub ordered : IsTrue (pairwise stands_before waiters)
-  pub one_each : IsTrue (pairwise apart waiters)
+  pub one_each : IsTrue (pairwise are_apart waiters)

@@ -18,11 +18,11 @@ pub struct Queue {
 }
 
 impl Model for Queue {
-    ghost use Rattle.lock_queue.specs.Waiting.{Waiting, waiting, IsKept};
+    ghost use Rattle.lock_queue.specs.QueueView.{QueueView, queue_view, IsKept};
 
-    ghost Value = { Waiting };
+    ghost Value = { QueueView };
 
-    ghost view = { waiting };
+    ghost view = { queue_view };
 
     ghost invariant = { IsKept };
 }

@@ -46,10 +46,10 @@ abbrev pub in_order : Record → Record → Bool
 in_order recorded other = resource_up_to recorded.r other.r
 
 -- they aren't of one connector for one resource
-abbrev pub apart : Record → Record → Bool
-apart recorded other = not (is_record other.r other.conn recorded)
+abbrev pub are_apart : Record → Record → Bool
+are_apart recorded other = not (is_record other.r other.conn recorded)
 
 -- by resource, and of one connector one at most for a resource
 pub record AreRecords (records : List Record) : Type 0 where
   pub ordered : IsTrue (pairwise in_order records)
-  pub one_each : IsTrue (pairwise apart records)
+  pub one_each : IsTrue (pairwise are_apart records)

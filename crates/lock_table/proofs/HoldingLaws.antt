@@ -13,14 +13,14 @@ use Rattle.list_laws.specs.Pairwise.{pairwise}
 use Rattle.list_laws.proofs.FilterLaws.{list_all_weaker, list_all-filter_same, list_all_always}
 use Rattle.list_laws.proofs.PairwiseLaws.{FindsPlace, pairwise-filter, pairwise-insertion, pairwise-insertion_any, pairwise-map}
 use Rattle.lock_table.specs.declared.holdings.Held.{Held}
-use Rattle.lock_table.specs.Holdings.{is_on, is_interest, owners_with, owners_without, in_state, in_retention, in_retention_of, in_order, apart, IsOwners}
+use Rattle.lock_table.specs.Holdings.{is_on, is_interest, owners_with, owners_without, in_state, in_retention, in_retention_of, in_order, are_apart, IsOwners}
 use Rattle.lock_table.proofs.RunLaws.{IsRun}
 
 pub owners-filter : (q : Held → Bool) (owners : List Held) → IsOwners owners → IsOwners (filter q owners)
 owners-filter q owners is =
     record {
       ordered = pairwise-filter in_order q owners is.ordered;
-      one_each = pairwise-filter apart q owners is.one_each;
+      one_each = pairwise-filter are_apart q owners is.one_each;
     }
 
 finds_place : (held : Held) → FindsPlace in_order (λ other. resource_up_to other.r held.r) (λ other. true) held
@@ -31,10 +31,10 @@ finds_place held =
       follows = λ y z h e. resource_up_to-trans held.r y.r z.r h e;
     }
 
-apart_both : (held other : Held) → not (is_interest held.r held.conn other) ≡ true → apart held other
-    && apart other held ≡ true
+apart_both : (held other : Held) → not (is_interest held.r held.conn other) ≡ true → are_apart held other
+    && are_apart other held ≡ true
 apart_both held other h =
-    and_from (apart held other) (apart other held)
+    and_from (are_apart held other) (are_apart other held)
     (ap not (same_part_comm (held.r, held.conn) (other.r, other.conn)) ∙ h) h
 
 pub owners-with : (held : Held) (owners : List Held) → IsOwners owners → IsOwners (owners_with held owners)
@@ -47,9 +47,9 @@ owners-with held owners is =
           (finds_place held)
           (list_all_always (λ (other : Held). true) (λ other. refl) others) kept.ordered;
       one_each =
-          pairwise-insertion_any apart (λ other. resource_up_to other.r held.r) held others kept.one_each
-          (list_all_weaker (λ other. not (is_interest held.r held.conn other)) (λ other. apart held other
-          && apart other held)
+          pairwise-insertion_any are_apart (λ other. resource_up_to other.r held.r) held others kept.one_each
+          (list_all_weaker (λ other. not (is_interest held.r held.conn other)) (λ other. are_apart held other
+          && are_apart other held)
           (apart_both held) others (list_all-filter_same (λ other. not (is_interest held.r held.conn other)) owners));
     }
 
@@ -58,7 +58,7 @@ pub owners-in_state : (r : Resource) (conn : ConnId) (excl : Bool) (owners : Lis
 owners-in_state r conn excl owners is =
     record {
       ordered = pairwise-map in_order (in_state r conn excl) (λ x y. refl) owners ∙ is.ordered;
-      one_each = pairwise-map apart (in_state r conn excl) (λ x y. refl) owners ∙ is.one_each;
+      one_each = pairwise-map are_apart (in_state r conn excl) (λ x y. refl) owners ∙ is.one_each;
     }
 
 pub owners-in_retention : (r : Resource) (conn : ConnId) (retained : Bool) (owners : List Held) → IsOwners owners
@@ -66,7 +66,7 @@ pub owners-in_retention : (r : Resource) (conn : ConnId) (retained : Bool) (owne
 owners-in_retention r conn retained owners is =
     record {
       ordered = pairwise-map in_order (in_retention r conn retained) (λ x y. refl) owners ∙ is.ordered;
-      one_each = pairwise-map apart (in_retention r conn retained) (λ x y. refl) owners ∙ is.one_each;
+      one_each = pairwise-map are_apart (in_retention r conn retained) (λ x y. refl) owners ∙ is.one_each;
     }
 
 pub owners-in_retention_of : (conn : ConnId) (retained : Bool) (owners : List Held) → IsOwners owners
@@ -74,7 +74,7 @@ pub owners-in_retention_of : (conn : ConnId) (retained : Bool) (owners : List He
 owners-in_retention_of conn retained owners is =
     record {
       ordered = pairwise-map in_order (in_retention_of conn retained) (λ x y. refl) owners ∙ is.ordered;
-      one_each = pairwise-map apart (in_retention_of conn retained) (λ x y. refl) owners ∙ is.one_each;
+      one_each = pairwise-map are_apart (in_retention_of conn retained) (λ x y. refl) owners ∙ is.one_each;
     }
 
 all_kept : (p : Held → Bool) (bs : List Bool) (xs : List Held) → list_all p xs ≡ true
@@ -102,7 +102,7 @@ pub owners-kept : (bs : List Bool) (owners : List Held) → IsOwners owners → 
 owners-kept bs owners is =
     record {
       ordered = pairs_kept in_order bs owners is.ordered;
-      one_each = pairs_kept apart bs owners is.one_each;
+      one_each = pairs_kept are_apart bs owners is.one_each;
     }
 
 -- ---- the owners of a resource stand together

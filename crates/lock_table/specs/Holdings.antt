@@ -64,10 +64,10 @@ abbrev pub in_order : Held → Held → Bool
 in_order held other = resource_up_to held.r other.r
 
 -- they aren't of one connector in one resource
-abbrev pub apart : Held → Held → Bool
-apart held other = not (is_interest other.r other.conn held)
+abbrev pub are_apart : Held → Held → Bool
+are_apart held other = not (is_interest other.r other.conn held)
 
 -- by resource, and of one connector one at most in a resource
 pub record IsOwners (owners : List Held) : Type 0 where
   pub ordered : IsTrue (pairwise in_order owners)
-  pub one_each : IsTrue (pairwise apart owners)
+  pub one_each : IsTrue (pairwise are_apart owners)

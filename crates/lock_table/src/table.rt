@@ -27,11 +27,11 @@ pub struct Table {
 }
 
 impl Model for Table {
-    ghost use Rattle.lock_table.specs.Standing.{Standing, standing, IsKept};
+    ghost use Rattle.lock_table.specs.TableView.{TableView, table_view, IsKept};
 
-    ghost Value = { Standing };
+    ghost Value = { TableView };
 
-    ghost view = { standing };
+    ghost view = { table_view };
 
     ghost invariant = { IsKept };
 }

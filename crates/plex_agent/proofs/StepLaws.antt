@@ -11,7 +11,7 @@ use Rattle.engine_api.specs.Shell.{is_built}
 use Rattle.plex_script.specs.declared.agents.Step.{Step}
 use Rattle.plex_script.specs.declared.agents.Step.TheVariants as step
 use Rattle.plex_script.specs.declared.scripts.AnyAsk.{AnyAsk}
-use Rattle.plex_script.specs.Agent.{asked_by, common}
+use Rattle.plex_script.specs.Agent.{asked_by, shell_ask}
 use Rattle.any_model.specs.Types.{type_of_kind}
 use Rattle.any_model.specs.Kinds.{MayAskAny}
 use Rattle.any_cell.specs.Cells.{CellShown, IsAskOf}
@@ -20,13 +20,13 @@ use Rattle.plex_agent.specs.Calls.{IsAskable}
 -- ---- what may be asked
 
 pub common_ask : {L : Type 0} (cell : CellShown L) (kind : Kind) (command : ShellCmd)
-    → cell.str_type ≡ type_of_kind kind → IsAskOf cell (common kind command)
+    → cell.str_type ≡ type_of_kind kind → IsAskOf cell (shell_ask kind command)
 common_ask cell kind.Cache command type_is = sym type_is
 common_ask cell (kind.List headers locks refs) command type_is = sym type_is
 common_ask cell kind.Lock command type_is = sym type_is
 
 pub common_may : (kind : Kind) (by : ConnId) (command : ShellCmd) → MayCommand by command → IsTrue (is_built command)
-    → MayAskAny by (common kind command)
+    → MayAskAny by (shell_ask kind command)
 common_may kind.Cache by command may built = (may, built)
 common_may (kind.List headers locks refs) by command may built = (may, built)
 common_may kind.Lock by command may built = (may, built)
@@ -40,11 +40,11 @@ may_ask cell kind None by (step.Call asks) asked type_is may asks' = absurd cc
 may_ask cell kind (Some call) by (step.Call asks) asked type_is may asks' =
     let here : call ≡ asked = cc in subst (λ ask. IsAskOf cell ask × MayAskAny by ask) here may.call
 may_ask cell kind line by (step.Next left behind) asked type_is may asks' =
-    let here : common kind cmd.Next ≡ asked = cc in
+    let here : shell_ask kind cmd.Next ≡ asked = cc in
     subst (λ ask. IsAskOf cell ask × MayAskAny by ask) here
     (common_ask cell kind cmd.Next type_is, common_may kind by cmd.Next may.caller refl)
 may_ask cell kind line by (step.Respond left behind) asked type_is may asks' =
-    let here : common kind cmd.Respond ≡ asked = cc in
+    let here : shell_ask kind cmd.Respond ≡ asked = cc in
     subst (λ ask. IsAskOf cell ask × MayAskAny by ask) here
     (common_ask cell kind cmd.Respond type_is, common_may kind by cmd.Respond may.caller refl)
 may_ask cell kind line by step.Rest asked type_is may asks' = absurd cc

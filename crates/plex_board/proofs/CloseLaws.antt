@@ -8,7 +8,7 @@ use Rattle.plex_script.specs.declared.asks.AnyHistory.{AnyHistory}
 use Rattle.desk_model.specs.Desks.{DeskShown, no_pass}
 use Rattle.desk_model.specs.Boards.{BoardShown, IsDeskOf, AreClosed}
 use Rattle.plex_board.specs.declared.rest.Rest.{Rest}
-use Rattle.plex_board.specs.Rests.{HomeShown, homes_shown, AllFit, gathered, AreHomes, AreEmpty, AreEnded, IsReady}
+use Rattle.plex_board.specs.Rests.{HomeShown, homes_shown, AllFit, homes_gathered, AreHomes, AreEmpty, AreEnded, IsReady}
 use Rattle.plex_board.proofs.HomeLaws.{desks-fit, homes-gathered, accounts-at, count-of-homes, count-of-histories}
 use Rattle.plex_board.proofs.OpenLaws.{homes-fewer}
 
@@ -26,14 +26,14 @@ module _ {L : Type 0} (board : BoardShown L) (desks : List DeskShown) (homes : L
   pub close-fits : AllFit desks homes
   close-fits = desks-fit board.cells desks homes roomy of
 
-  pub close-homes : AreHomes 0 board.cells (gathered desks homes)
+  pub close-homes : AreHomes 0 board.cells (homes_gathered desks homes)
   close-homes = homes-gathered board.cells desks homes roomy of
 
   pub close-says : AreEmpty homes → (histories : List AnyHistory)
-      → AreEnded board.cells (gathered desks homes) histories
+      → AreEnded board.cells (homes_gathered desks homes) histories
       → AreClosed board desks histories
   close-says empty histories ended = record {
-    structures = count-of-histories board.cells (gathered desks homes) histories ended;
+    structures = count-of-histories board.cells (homes_gathered desks homes) histories ended;
     closed = λ on cell entries at its.
         accounts-at board.cells desks homes histories on.0 cell entries no_pass
         (count-of-homes (board.callers + 1) board.cells homes are) empty of ended at its;

@@ -11,7 +11,7 @@ use Rattle.any_cell.specs.Passes.{PassShown}
 use Rattle.any_cell.specs.Cells.{CellShown, IsPassOf}
 use Rattle.desk_model.specs.Desks.{DeskShown, fixed_of}
 use Rattle.desk_model.specs.Boards.{IsClosed, IsAccount, fixed_at}
-use Rattle.plex_board.specs.Rests.{each_with, HomeShown, home_with, Fits, gathered, AllFit, IsHomeOf, AreHomes, AreEnded, ArePasses}
+use Rattle.plex_board.specs.Rests.{each_with, HomeShown, home_with, Fits, homes_gathered, AllFit, IsHomeOf, AreHomes, AreEnded, ArePasses}
 use Rattle.plex_board.proofs.RowLaws.{each_with-length}
 
 -- a home has what it had, and then each desk's pass
@@ -109,7 +109,7 @@ module _ {L : Type 0} where
   pub homes-gathered : (cells : List (CellShown L)) (desks : List DeskShown) (homes : List HomeShown)
       → AreHomes (length desks) cells homes
       → All (λ (desk : DeskShown). map fixed_of desk.passes ≡ map (λ cell. fixed_at cell desk.owner) cells) desks
-      → AreHomes 0 cells (gathered desks homes)
+      → AreHomes 0 cells (homes_gathered desks homes)
   homes-gathered cells [] homes are of = are
   homes-gathered cells (desk ∷ desks) homes are of =
       let P : DeskShown → Type 0 =
@@ -123,7 +123,7 @@ module _ {L : Type 0} where
       (p : PassShown) (d : HomeShown)
       → x < length cells → length homes ≡ length cells
       → All (λ (desk : DeskShown). map fixed_of desk.passes ≡ map (λ cell. fixed_at cell desk.owner) cells) desks
-      → (get_or (gathered desks homes) x d).passes
+      → (get_or (homes_gathered desks homes) x d).passes
       ≡ (get_or homes x d).passes ++ map (λ (desk : DeskShown). get_or desk.passes x p) desks
   gathered-at cells [] homes x p d below same of = sym (append-nil _)
   gathered-at cells (desk ∷ desks) homes x p d below same of =
@@ -174,7 +174,7 @@ module _ {L : Type 0} where
       (histories : List AnyHistory) (x : ℕ) (cell : CellShown L) (entries : AnyHistory) (p : PassShown)
       → length homes ≡ length cells → All (λ (home : HomeShown). home.passes ≡ []) homes
       → All (λ (desk : DeskShown). map fixed_of desk.passes ≡ map (λ cell. fixed_at cell desk.owner) cells) desks
-      → AreEnded cells (gathered desks homes) histories
+      → AreEnded cells (homes_gathered desks homes) histories
       → slice_get cells x ≡ Some cell → slice_get histories x ≡ Some entries
       → IsClosed cell entries × All (λ (desk : DeskShown). IsAccount cell entries (get_or desk.passes x p)) desks
   accounts-at cells desks homes histories x cell entries p same empty of are at its =
@@ -182,12 +182,12 @@ module _ {L : Type 0} where
       let below : x < length cells = slice_get_within cells x cell at in
       let lower : x < length homes = omega (arith, same, below) in
       let none : (get_or homes x d).passes ≡ [] = empty x d lower in
-      let here : (get_or (gathered desks homes) x d).passes
+      let here : (get_or (homes_gathered desks homes) x d).passes
       ≡ map (λ (desk : DeskShown). get_or desk.passes x p) desks =
       gathered-at cells desks homes x p d below same of
       ∙ ap (λ front. front ++ map (λ (desk : DeskShown). get_or desk.passes x p) desks) none in
-      let said : IsClosed cell entries × All (IsAccount cell entries) (get_or (gathered desks homes) x d).passes =
-      ended-at cells (gathered desks homes) histories x cell entries d are at its in (
+      let said : IsClosed cell entries × All (IsAccount cell entries) (get_or (homes_gathered desks homes) x d).passes =
+      ended-at cells (homes_gathered desks homes) histories x cell entries d are at its in (
         said.0,
         each-of-map (IsAccount cell entries) (λ (desk : DeskShown). get_or desk.passes x p) desks
             (subst (All (IsAccount cell entries)) here said.1),

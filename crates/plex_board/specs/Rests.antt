@@ -41,9 +41,9 @@ Fits (pass ∷ passes) (home ∷ homes) =
     (pass.str_type ≡ home.str_type) × (length home.passes < home.room) × Fits passes homes
 
 -- the homes once the passes of these desks are there too
-abbrev pub gathered : List DeskShown → List HomeShown → List HomeShown
-gathered [] homes = homes
-gathered (desk ∷ desks) homes = gathered desks (each_with home_with desk.passes homes)
+abbrev pub homes_gathered : List DeskShown → List HomeShown → List HomeShown
+homes_gathered [] homes = homes
+homes_gathered (desk ∷ desks) homes = homes_gathered desks (each_with home_with desk.passes homes)
 
 abbrev pub AllFit : List DeskShown → List HomeShown → Type 0
 AllFit [] homes = Unit {0}

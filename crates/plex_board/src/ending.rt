@@ -4,7 +4,7 @@ ghost use Rattle.std.specs.List.{flat_map};
 ghost use Rattle.std.specs.Vec.{vec_len, vec_capacity};
 ghost use Rattle.std.specs.Vec.Iter.{into_iter_items, into_iter_len};
 ghost use Rattle.desk_model.specs.Boards.{four_of};
-ghost use Rattle.plex_board.specs.Rests.{each_with, home_with, homes_shown, Fits, AllFit, gathered, AreHomes, AreEnded, IsRoomy};
+ghost use Rattle.plex_board.specs.Rests.{each_with, home_with, homes_shown, Fits, AllFit, homes_gathered, AreHomes, AreEnded, IsRoomy};
 
 use crate::desk::Desk;
 use crate::rest::Rest;
@@ -31,7 +31,7 @@ fn bring_home(homes: &mut Vec<AnyPasses>, places: Vec<Place>)
 pub(crate) fn gather(homes: &mut Vec<AnyPasses>, desks: Vec<Desk>)
     requires { AllFit desks.items (homes_shown homes.old.items) }
     ensures { homes_shown homes.new.items
-        ≡ gathered desks.items (homes_shown homes.old.items) }
+        ≡ homes_gathered desks.items (homes_shown homes.old.items) }
 {
     for desk in desks {
         let Desk { places, .. } = desk;

@@ -20,7 +20,7 @@ use Rattle.plex_script.specs.declared.scripts.Line.{Line}
 use Rattle.plex_script.specs.declared.scripts.Script.{Script}
 use Rattle.plex_script.specs.declared.transcripts.Shown.{Shown}
 use Rattle.plex_script.specs.declared.transcripts.Shown.TheVariants as shown
-use Rattle.plex_script.specs.Agent.{first_step, step_after, most_asks, asked_by, call_of, common}
+use Rattle.plex_script.specs.Agent.{first_step, step_after, most_asks, asked_by, call_of, shell_ask}
 use Rattle.plex_script.specs.Heard.{AnyCall}
 use Rattle.plex_script.specs.Follows.{IsHeard, Runs, RunsUpTo, ShowsAct, ShowsLines, ShowsClosing, ShowsClosings, Follows, StopsInLine, StopsInClosing, is_linked_by, lines_of, number_on, numbers_on}
 use Rattle.plex_script.proofs.StepLaws.{fewer_asks}
@@ -123,10 +123,10 @@ closing_few : (form : StrForm) (calls : List AnyCall) (conn : ConnId) (on at : S
 closing_few form calls conn on at before items shows = by_link (is_linked_by calls conn at before) shows
   where
     by_link : (b : Bool)
-        → MatchBool b (Runs form.kind (Some (common form.kind cmd.Disconnect)) calls conn at (step.Call 0) items)
+        → MatchBool b (Runs form.kind (Some (shell_ask form.kind cmd.Disconnect)) calls conn at (step.Call 0) items)
         (items ≡ []) → calls_shown on items ≤ cond (at.0 == on.0) 1 0
     by_link true runs =
-        runs_few form.kind (Some (common form.kind cmd.Disconnect)) calls conn on at (at.0 == on.0) refl
+        runs_few form.kind (Some (shell_ask form.kind cmd.Disconnect)) calls conn on at (at.0 == on.0) refl
         (step.Call 0) items runs
     by_link false none = shown_none on items _ (ap (numbers_on on) none)
 

@@ -24,7 +24,7 @@ use Rattle.plex_floor.specs.declared.runs.Finished.{Finished}
 use Rattle.plex_floor.specs.Standing.{IsPlayable}
 use Rattle.plex_floor.specs.Played.{IsBoardOf}
 use Rattle.plex_floor.proofs.RunLaws.{lines_playable}
-use Rattle.plex_crew.specs.Crews.{IsIdle, WorkEach, idle, crew_of}
+use Rattle.plex_crew.specs.Crews.{IsIdle, WorkEach, idle_worker, crew_of}
 
 abbrev desk_of : AtWork → DeskShown
 desk_of worker = worker.desk
@@ -60,17 +60,17 @@ module _ {L : Type 0} (board : BoardShown L) where
         in_order first zero = refl
         in_order first (suc n) = ap (λ owners. first ∷ owners) (in_order (first + 1) n)
 
-    pub new_crew : (crew : List AtWork) → crew ≡ map idle desks → crew ≡ crew_of board
+    pub new_crew : (crew : List AtWork) → crew ≡ map idle_worker desks → crew ≡ crew_of board
     new_crew crew idlers =
-        idlers ∙ ap (map idle) new ∙ map-map idle (new_desk board) (range_with_len 0 (callers + 1))
-        ∙ ap (λ n. map (λ owner. idle (new_desk board owner)) (range_with_len 0 (n + 1))) (sym counted)
+        idlers ∙ ap (map idle_worker) new ∙ map-map idle_worker (new_desk board) (range_with_len 0 (callers + 1))
+        ∙ ap (λ n. map (λ owner. idle_worker (new_desk board owner)) (range_with_len 0 (n + 1))) (sym counted)
 
   -- the callers have desks of the board
   pub crew_is_idle : (crew : List AtWork) → crew ≡ crew_of board → board.callers ≤ 32 → All (IsIdle board) crew
   crew_is_idle crew new few =
       let n = board.callers + 1 in
       All-same (IsIdle board) crew (crew_of board) new
-      (All-map (IsIdle board) (λ owner. idle (new_desk board owner)) (range_with_len 0 n)
+      (All-map (IsIdle board) (λ owner. idle_worker (new_desk board owner)) (range_with_len 0 n)
       (λ k d lt. (new_desk-of_board board (get_or (range_with_len 0 n) k d), within k d lt)))
     where
       within : (k d : ℕ) → k < length (range_with_len 0 (board.callers + 1))
@@ -81,12 +81,13 @@ module _ {L : Type 0} (board : BoardShown L) where
           omega (arith, get_or-range_with_len 0 n k d inside, inside, few)
 
   length-crew_of : length (crew_of board) ≡ board.callers + 1
-  length-crew_of = length-map-range_with_len (λ owner. idle (new_desk board owner)) 0 (board.callers + 1)
+  length-crew_of = length-map-range_with_len (λ owner. idle_worker (new_desk board owner)) 0 (board.callers + 1)
 
-  crew_at : (c : ℕ) (worker : AtWork) → slice_get (crew_of board) c ≡ Some worker → worker ≡ idle (new_desk board c)
+  crew_at : (c : ℕ) (worker : AtWork) → slice_get (crew_of board) c ≡ Some worker
+      → worker ≡ idle_worker (new_desk board c)
   crew_at c worker there =
       sym (get_or_from_slice_get (crew_of board) c worker worker there)
-      ∙ get_or-map-range_with_len (λ owner. idle (new_desk board owner)) 0 (board.callers + 1) c c worker
+      ∙ get_or-map-range_with_len (λ owner. idle_worker (new_desk board owner)) 0 (board.callers + 1) c c worker
       (omega (arith, slice_get_within (crew_of board) c worker there, length-crew_of)) (omega arith)
 
 -- the lines of a script that may be run are lines for its board
@@ -117,7 +118,7 @@ module _ {L : Type 0} (board : BoardShown L) (lines : List Line) (crew workers :
   length-worked : length workers ≡ board.callers + 1
   length-worked = worked.callers ∙ ap length new ∙ length-crew_of board
 
-  idler_at : (c : ℕ) (worker : AtWork) → slice_get crew c ≡ Some worker → worker ≡ idle (new_desk board c)
+  idler_at : (c : ℕ) (worker : AtWork) → slice_get crew c ≡ Some worker → worker ≡ idle_worker (new_desk board c)
   idler_at c worker there =
       crew_at board c worker (subst (λ (crew : List AtWork). slice_get crew c ≡ Some worker) new there)
 
@@ -125,7 +126,7 @@ module _ {L : Type 0} (board : BoardShown L) (lines : List Line) (crew workers :
       → Serves board lines (record { desk = new_desk board c; shown = no_items }) worker
   serves c worker there =
       let (idler, at, works) = worked.each c worker there in
-      subst (λ (it : AtWork). Serves board lines (idle it.desk) worker) (idler_at c idler at) works.serves
+      subst (λ (it : AtWork). Serves board lines (idle_worker it.desk) worker) (idler_at c idler at) works.serves
 
   own : (c : ℕ) (worker : AtWork) → slice_get workers c ≡ Some worker → worker.desk.owner.0 ≡ 0 + c
   own c worker there =

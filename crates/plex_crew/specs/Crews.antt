@@ -9,12 +9,12 @@ use Rattle.desk_model.specs.Turns.{AtWork}
 use Rattle.desk_model.specs.Callers.{Serves, no_items}
 
 -- a caller that was shown nothing yet
-abbrev pub idle : DeskShown → AtWork
-idle desk = record { desk = desk; shown = no_items }
+abbrev pub idle_worker : DeskShown → AtWork
+idle_worker desk = record { desk = desk; shown = no_items }
 
 -- the callers of a board, from the operator on, none of which has done anything
 abbrev pub crew_of : {L : Type 0} → BoardShown L → List AtWork
-crew_of board = map (λ owner. idle (new_desk board owner)) (range_with_len 0 (board.callers + 1))
+crew_of board = map (λ owner. idle_worker (new_desk board owner)) (range_with_len 0 (board.callers + 1))
 
 -- a caller at a desk of this board
 abbrev pub IsIdle : {L : Type 0} → BoardShown L → AtWork → Type 0
@@ -22,7 +22,7 @@ IsIdle board worker = IsDeskOf board worker.desk × IsCaller worker.desk.owner
 
 -- a caller does its whole work at its desk, which stays its own
 pub record Works {L : Type 0} (board : BoardShown L) (lines : List Line) (before after : AtWork) : Type 0 where
-  pub serves : Serves board lines (idle before.desk) after
+  pub serves : Serves board lines (idle_worker before.desk) after
   pub of_board : IsDeskOf board after.desk
   pub owner : after.desk.owner ≡ before.desk.owner
 

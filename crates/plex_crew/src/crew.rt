@@ -1,7 +1,7 @@
 //! The callers of a script, each of which can work on a thread of its own.
 ghost use Rattle.std.specs.Prelude.{◌≡◌, ◌<◌, IfOk, IfErr, All, map, length};
 ghost use Rattle.desk_model.specs.Callers.{IsLineFor};
-ghost use Rattle.plex_crew.specs.Crews.{IsIdle, Works, WorkEach, idle};
+ghost use Rattle.plex_crew.specs.Crews.{IsIdle, Works, WorkEach, idle_worker};
 
 use cf_link::Link;
 use cf_types::Listing;
@@ -32,7 +32,7 @@ impl Model for Worker {
 impl Worker {
     // A caller that has done nothing yet. It takes no memory.
     fn new(alloc: Global, desk: Desk) -> Worker
-        ensures { result ≡ idle desk }
+        ensures { result ≡ idle_worker desk }
     {
         Worker {
             desk,
@@ -88,7 +88,7 @@ impl Crew {
     ///
     /// Where there is no memory the desks come back.
     pub(crate) fn new(alloc: Global, desks: Vec<Desk>) -> Result<Crew, Vec<Desk>>
-        ensures crew { IfOk result (λ crew. crew ≡ map idle desks.items) }
+        ensures crew { IfOk result (λ crew. crew ≡ map idle_worker desks.items) }
         ensures handed_back { IfErr result (λ back. back.items ≡ desks.items) }
     {
         let callers = desks.len();

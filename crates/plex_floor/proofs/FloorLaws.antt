@@ -14,7 +14,7 @@ use Rattle.desk_model.specs.Desks.{DeskShown}
 use Rattle.desk_model.specs.Boards.{BoardShown, IsDeskOf, IsTrayOf}
 use Rattle.desk_model.specs.Turns.{AtWork}
 use Rattle.desk_model.specs.Callers.{no_items}
-use Rattle.desk_model.specs.Floors.{Floor, no_worker, worker_of, with_worker, heard, heard_from, told_by}
+use Rattle.desk_model.specs.Floors.{Floor, no_worker, worker_of, with_worker, heard_from_last, heard_from, told_by}
 use Rattle.plex_floor.specs.Standing.{AreDesksOf, IsFloorOf, at_work, floor_of, desk_of}
 use Rattle.plex_floor.specs.Hearings.{told_desk, told_desks, heard_desks}
 use Rattle.plex_floor.proofs.DeskLaws.{own_desk, desks-set, slice_get-set}
@@ -185,7 +185,7 @@ module _ (floor : Floor) (desks : List DeskShown) (shown : List Transcript) (tra
       -- the caller before it acted on a structure
       pub heard_floor : (by : ConnId) (on : StrNo) (n : ℕ) (o : Option ConnId) (desks' : List DeskShown)
           → on.0 < length board.cells → n ≡ on.0 → o ≡ get_or last n o → desks' ≡ heard_desks by o on desks
-          → floor_of desks' shown tray last ≡ with_worker by (heard floor by (worker_of floor by) on) floor
+          → floor_of desks' shown tray last ≡ with_worker by (heard_from_last floor by (worker_of floor by) on) floor
       heard_floor by on n o desks' inside n_is o_is told =
           let many = fits.places in
           let many' : length last ≡ length floor.last = ap (λ (l : List (Option ConnId)). length l) last_is in

@@ -16,7 +16,7 @@ use Rattle.any_cell.specs.Cells.{CellShown}
 use Rattle.desk_model.specs.Boards.{BoardShown}
 use Rattle.desk_model.specs.Turns.{AtWork, Turns}
 use Rattle.desk_model.specs.Callers.{DepartsEach}
-use Rattle.desk_model.specs.Floors.{Floor, no_worker, worker_of, with_worker, heard, heard_from, heard_all, told_by, ready, last_after, is_counted, is_working, PlaysAct, PlaysLine, PlaysLines, ClosesOne, ClosesAll}
+use Rattle.desk_model.specs.Floors.{Floor, no_worker, worker_of, with_worker, heard_from_last, heard_from, heard_all, told_by, worker_ready, last_after, is_counted, is_working, PlaysAct, PlaysLine, PlaysLines, ClosesOne, ClosesAll}
 use Rattle.plex_floor.specs.Standing.{IsTurn, HasMemory, conns_from}
 use Rattle.plex_floor.specs.Hearings.{told_desk}
 
@@ -61,7 +61,7 @@ had_memory_of floor by inside had =
 -- a turn, with what the caller heard before it, and who acted last behind it
 pub plays_turn : {L : Type 0} (cell : CellShown L) (line : Line) (counted : Bool) (before told worked after : Floor)
     → IsTurn line.act → counted ≡ is_counted cell.form line.act → line.by.0 < length before.workers
-    → told ≡ with_worker line.by (if counted then heard before line.by (worker_of before line.by) line.on
+    → told ≡ with_worker line.by (if counted then heard_from_last before line.by (worker_of before line.by) line.on
     else worker_of before line.by) before
     → worked ≡ with_worker line.by (worker_of worked line.by) told
     → after ≡ record worked { last = if counted then slice_set worked.last line.on.0 (Some line.by) else worked.last }
@@ -74,22 +74,23 @@ plays_turn {L} cell line counted before told worked after is_turn counted_is ins
     worker : AtWork
     worker = worker_of worked line.by
 
-    told_is' : told ≡ with_worker line.by (ready cell.form line before) before
+    told_is' : told ≡ with_worker line.by (worker_ready cell.form line before) before
     told_is' =
         told_is ∙ ap (λ (b : Bool). with_worker line.by
-        (if b then heard before line.by (worker_of before line.by) line.on else worker_of before line.by) before)
+        (if b then heard_from_last before line.by (worker_of before line.by) line.on
+        else worker_of before line.by) before)
         counted_is
 
-    turned' : Turns cell.limit cell.form line (ready cell.form line before) worker
+    turned' : Turns cell.limit cell.form line (worker_ready cell.form line before) worker
     turned' =
         subst (λ (w : AtWork). Turns cell.limit cell.form line w worker)
         (ap (λ (f : Floor). worker_of f line.by) told_is'
-        ∙ worker_put before line.by (ready cell.form line before) inside) turned
+        ∙ worker_put before line.by (worker_ready cell.form line before) inside) turned
 
     worked_is' : worked ≡ with_worker line.by worker before
     worked_is' =
         worked_is ∙ ap (λ (f : Floor). with_worker line.by worker f) told_is'
-        ∙ put_twice before line.by (ready cell.form line before) worker
+        ∙ put_twice before line.by (worker_ready cell.form line before) worker
 
     after_is' : after ≡ record (with_worker line.by worker before) { last = last_after cell.form line before }
     after_is' =
@@ -101,7 +102,7 @@ plays_turn {L} cell line counted before told worked after is_turn counted_is ins
         } in it)) counted_is
 
     go : (a : Act) → IsTurn a
-        → (w : AtWork) × Turns cell.limit cell.form line (ready cell.form line before) w
+        → (w : AtWork) × Turns cell.limit cell.form line (worker_ready cell.form line before) w
         × (after ≡ record (with_worker line.by w before) { last = last_after cell.form line before })
         → PlaysAct cell line a before after
     go (act.Call asked) is all = all
@@ -115,7 +116,7 @@ plays_turn {L} cell line counted before told worked after is_turn counted_is ins
 
 -- what the others know doesn't change as a caller hears of them
 pub same_hearing : (floor : Floor) (by : ConnId) (other : AtWork) (worker : AtWork) (on : StrNo)
-    → heard (with_worker by other floor) by worker on ≡ heard floor by worker on
+    → heard_from_last (with_worker by other floor) by worker on ≡ heard_from_last floor by worker on
 same_hearing floor by changed worker on = from (slice_index_or floor.last on.0 None)
   where
     from : (o : Option ConnId) → heard_from (with_worker by changed floor) by on o worker
@@ -140,18 +141,18 @@ range_more k n below = let e : n - k ≡ suc (n - (k + 1)) = omega arith in ap (
 pub hears_more : (start now next : Floor) (by : ConnId) (k n : ℕ) (whole : AtWork) → k < n
     → by.0 < length start.workers
     → now ≡ with_worker by (worker_of now by) start
-    → fold (λ worker place. heard start by worker (record { 0 = place })) (worker_of now by)
+    → fold (λ worker place. heard_from_last start by worker (record { 0 = place })) (worker_of now by)
     (range_with_len k (n - k)) ≡ whole
-    → next ≡ with_worker by (heard now by (worker_of now by) (record { 0 = k })) now
+    → next ≡ with_worker by (heard_from_last now by (worker_of now by) (record { 0 = k })) now
     → (next ≡ with_worker by (worker_of next by) start)
-    × (fold (λ worker place. heard start by worker (record { 0 = place })) (worker_of next by)
+    × (fold (λ worker place. heard_from_last start by worker (record { 0 = place })) (worker_of next by)
     (range_with_len (k + 1) (n - (k + 1))) ≡ whole)
 hears_more start now next by k n whole below inside now_is rest next_is =
     let on : StrNo = record { 0 = k } in
-    let step : AtWork → ℕ → AtWork = λ worker place. heard start by worker (record { 0 = place }) in
-    let mine : AtWork = heard start by (worker_of now by) on in
-    let same : heard now by (worker_of now by) on ≡ mine =
-    ap (λ (f : Floor). heard f by (worker_of now by) on) now_is
+    let step : AtWork → ℕ → AtWork = λ worker place. heard_from_last start by worker (record { 0 = place }) in
+    let mine : AtWork = heard_from_last start by (worker_of now by) on in
+    let same : heard_from_last now by (worker_of now by) on ≡ mine =
+    ap (λ (f : Floor). heard_from_last f by (worker_of now by) on) now_is
     ∙ same_hearing start by (worker_of now by) (worker_of now by) on in
     let next_from : next ≡ with_worker by mine start =
     next_is ∙ ap (λ (w : AtWork). with_worker by w now) same ∙ ap (λ (f : Floor). with_worker by mine f) now_is

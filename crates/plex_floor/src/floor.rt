@@ -9,7 +9,7 @@ ghost use Rattle.desk_model.specs.Desks.{pass_at};
 ghost use Rattle.desk_model.specs.Boards.{new_desk, cell_on, note_in};
 ghost use Rattle.desk_model.specs.Turns.{Turns, Posts};
 ghost use Rattle.desk_model.specs.Callers.{IsLineFor, DepartsEach};
-ghost use Rattle.desk_model.specs.Floors.{PlaysAct, PlaysLine, PlaysLines, ClosesOne, ClosesAll, Plays, new_floor, with_worker, heard, heard_all, worker_of, is_working, taken};
+ghost use Rattle.desk_model.specs.Floors.{PlaysAct, PlaysLine, PlaysLines, ClosesOne, ClosesAll, Plays, new_floor, with_worker, heard_from_last, heard_all, worker_of, is_working, worker_after_take};
 ghost use Rattle.serial_model.specs.Serial.{connectors};
 ghost use Rattle.plex_floor.specs.Standing.{IsFloorOf, HasMemory, IsTurn, IsPlayable, conns_from};
 
@@ -67,7 +67,7 @@ impl Floor {
         requires by { by.0 ≤ board.now.callers }
         requires place { on.0 < length board.now.cells }
         ensures heard { self.new
-            ≡ with_worker by (heard self.old by (worker_of self.old by) on) self.old }
+            ≡ with_worker by (heard_from_last self.old by (worker_of self.old by) on) self.old }
         ensures of_board { IsFloorOf board.now self.new }
     {
         let last = self.last[usize::from(on.0)];
@@ -80,7 +80,7 @@ impl Floor {
         requires by { by.0 ≤ board.now.callers }
         requires place { on.0 < length board.now.cells }
         ensures heard { self.new ≡ with_worker by (if counted
-            then heard self.old by (worker_of self.old by) on
+            then heard_from_last self.old by (worker_of self.old by) on
             else worker_of self.old by) self.old }
         ensures of_board { IsFloorOf board.now self.new }
     {
@@ -186,7 +186,7 @@ impl Floor {
         requires by { by.0 ≤ board.now.callers }
         requires place { on.0 < length board.now.cells }
         ensures took { OnOk result (self.new ≡ with_worker by
-            (taken on (note_in self.old.tray on) (worker_of self.old by)) self.old) }
+            (worker_after_take on (note_in self.old.tray on) (worker_of self.old by)) self.old) }
         ensures of_board { IsFloorOf board.now self.new }
     {
         let at = usize::from(by.0);

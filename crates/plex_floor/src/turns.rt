@@ -8,7 +8,7 @@ ghost use Rattle.desk_model.specs.Desks.{pass_at};
 ghost use Rattle.desk_model.specs.Boards.{IsDeskOf, IsTrayOf, cell_on, note_in};
 ghost use Rattle.desk_model.specs.Turns.{Posts, Turns, is_done_as};
 ghost use Rattle.desk_model.specs.Callers.{IsLineFor, DepartsEach};
-ghost use Rattle.desk_model.specs.Floors.{is_counted, taken};
+ghost use Rattle.desk_model.specs.Floors.{is_counted, worker_after_take};
 
 use cf_link::Link;
 use cf_types::{NoMemory, StrNo};
@@ -129,7 +129,8 @@ pub(crate) fn take<L: Link>(
     requires tray { IsTrayOf board.now tray.old }
     requires place { on.0 < length board.now.cells }
     ensures taken { OnOk result (record { desk = desk.new; shown = shown.new }
-        ≡ taken on (note_in tray.old on) (record { desk = desk.old; shown = shown.old })) }
+        ≡ worker_after_take on (note_in tray.old on)
+        (record { desk = desk.old; shown = shown.old })) }
     ensures tray { tray.new ≡ tray.old }
     ensures of_board { IsDeskOf board.now desk.new }
     ensures owner { desk.new.owner ≡ desk.old.owner }

@@ -15,7 +15,7 @@ use Rattle.cf_types.specs.declared.list_commands.ListCmd.{ListCmd}
 use Rattle.cf_types.specs.declared.list_commands.ListCmd.TheVariants as list
 use Rattle.plex_spell.specs.Tokens.{Token, name_word}
 use Rattle.plex_spell.specs.Tokens.Token.{Literal, OnResource}
-use Rattle.plex_spell.specs.Fields.{joined, disposition, references, number, end, state, option_tokens, flag_tokens, name_tokens, key_tokens, short_tokens, data_tokens, number_tokens}
+use Rattle.plex_spell.specs.Fields.{all_tokens, disposition, references, number, end, state, option_tokens, flag_tokens, name_tokens, key_tokens, short_tokens, data_tokens, number_tokens}
 use Rattle.cf_types.specs.declared.forms.Kind.TheVariants as kind
 use Rattle.cf_types.specs.declared.forms.Refs.{Refs}
 use Rattle.cf_types.specs.declared.forms.Refs.TheVariants as refs
@@ -112,7 +112,7 @@ words_make connectors header head name key body adj cond =
     ) refl)
   where
     parts : List Token
-    parts = joined (option_tokens (codes "NAME") name_tokens name ∷ option_tokens (codes "KEY") key_tokens key
+    parts = all_tokens (option_tokens (codes "NAME") name_tokens name ∷ option_tokens (codes "KEY") key_tokens key
         ∷ option_tokens (codes "DATA") data_tokens body ∷ option_tokens
         (codes "ADJ") short_tokens adj ∷ cond_tokens cond ∷ [])
 
@@ -139,7 +139,7 @@ words_update connectors at body adj cond =
     refl)
 
 pub words_at : (connectors : List Name16) (verb : List ℕ) (at : At) (cond : Option Cond)
-    → plain_words [] connectors (Literal verb ∷ joined (at_tokens at ∷ cond_tokens cond ∷ []))
+    → plain_words [] connectors (Literal verb ∷ all_tokens (at_tokens at ∷ cond_tokens cond ∷ []))
     ≡ verb ∷ (plain_words [] connectors (at_tokens at) ++ (plain_words [] connectors (cond_tokens cond) ++ []))
 words_at connectors verb at cond =
     ap (λ words. verb ∷ words) (words_joined connectors (at_tokens at ∷ cond_tokens cond ∷ []))
@@ -160,12 +160,12 @@ words_move connectors at header head key cond =
 
 -- a request for a resource: the command's word, the resource, the state, and record data
 pub words_request : (connectors : List Name16) (verb : List ℕ) (r : Resource) (excl : Bool) (rec : Option (List ℕ))
-    → plain_words [] connectors (Literal verb ∷ OnResource r ∷ state excl ∷ joined
+    → plain_words [] connectors (Literal verb ∷ OnResource r ∷ state excl ∷ all_tokens
     (option_tokens (codes "REC") short_tokens rec ∷ []))
     ≡ verb ∷ resource_word r ∷ state_word excl ∷ (told_words (codes "REC") text_words rec ++ [])
 words_request connectors verb r excl rec =
     ap (λ word. verb ∷ resource_word r ∷ word ∷ plain_words [] connectors
-    (joined (option_tokens (codes "REC") short_tokens rec ∷ []))) (word_state connectors excl)
+    (all_tokens (option_tokens (codes "REC") short_tokens rec ∷ []))) (word_state connectors excl)
     ∙ ap (λ words. verb ∷ resource_word r ∷ state_word excl ∷ words)
     (words_joined connectors (option_tokens (codes "REC") short_tokens rec ∷ [])
     ∙ simp (words_option connectors (codes "REC") short_tokens rec) refl)
@@ -238,8 +238,8 @@ cache-same connectors (cache.Delete name) = refl
 cache-same connectors (cache.StgStats stg) = refl
 
 on-same : (connectors : List Name16) (verb : List ℕ) (ref : At) (cond : Option Cond)
-    → plain_words [] [] (Literal verb ∷ joined (at_tokens ref ∷ cond_tokens cond ∷ []))
-    ≡ plain_words [] connectors (Literal verb ∷ joined (at_tokens ref ∷ cond_tokens cond ∷ []))
+    → plain_words [] [] (Literal verb ∷ all_tokens (at_tokens ref ∷ cond_tokens cond ∷ []))
+    ≡ plain_words [] connectors (Literal verb ∷ all_tokens (at_tokens ref ∷ cond_tokens cond ∷ []))
 on-same connectors verb ref cond =
     words_at [] verb ref cond
     ∙ (sym (words_at connectors verb ref cond ∙ simp (at-same connectors ref, cond-same connectors cond) refl))

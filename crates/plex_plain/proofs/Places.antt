@@ -5,7 +5,7 @@ use Rattle.std.specs.Option.{option_map_or}
 use Rattle.std.proofs.lemmas.Bool.Decides.{nat_tests}
 use Rattle.std.proofs.lemmas.Option.{slice_get-get_or}
 use Rattle.cf_types.specs.declared.names.Name16.{Name16}
-use Rattle.cf_types.specs.Term.{padded}
+use Rattle.cf_types.specs.Term.{block_of}
 use Rattle.plex_spell.specs.Words.{same_word}
 use Rattle.plex_spell.specs.Tokens.{name_word}
 use Rattle.plex_spell.proofs.Choices.{same_word-refl, word-same}
@@ -35,7 +35,7 @@ position-first p xs i d low here before =
 
 same_bytes : (a b : Name16) → IsNamed a → IsNamed b → name_word a ≡ name_word b → a ≡ b
 same_bytes a b h k e =
-    let bytes : a.0 ≡ b.0 = h.0.1 ∙ ap padded e ∙ sym k.0.1 in
+    let bytes : a.0 ≡ b.0 = h.0.1 ∙ ap block_of e ∙ sym k.0.1 in
     ap (λ (bs : List ℕ). (let name : Name16 = record { 0 = bs } in name)) bytes
 
 pub apart_words : (a b : Name16) → IsNamed a → IsNamed b → a ≢ b → same_word (name_word a) (name_word b) ≡ false

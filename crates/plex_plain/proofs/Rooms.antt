@@ -8,8 +8,8 @@ use Rattle.std.proofs.lemmas.Fmt.{length-decimal-le, decimal_nonempty, digits_de
 use Rattle.cf_types.specs.declared.names.Name16.{Name16}
 use Rattle.cf_types.specs.declared.numbers.CfId.{CfId}
 use Rattle.cf_types.specs.declared.resources.Resource.{Resource}
-use Rattle.cf_types.specs.Term.{IsTerm, IsPadded, unpadded, term_byte}
-use Rattle.plex_spell.specs.Words.{is_nonempty, spaced}
+use Rattle.cf_types.specs.Term.{IsTerm, IsPadded, text_in_block, term_byte}
+use Rattle.plex_spell.specs.Words.{is_nonempty, tail_of}
 use Rattle.plex_spell.specs.Tokens.{Declared, Token, name_word}
 use Rattle.plex_spell.specs.Tokens.Token.{Literal, Number, Term, Short, Data, OnResource, Record, OfFacility, OfConnector, OfStructure, NewFacility, NewName}
 use Rattle.plex_spell.specs.Fields.{option_tokens, flag_tokens}
@@ -123,7 +123,7 @@ token-good : (declared : Declared) (token : Token) → AreNames declared.connect
 token-good declared (Literal text) names plain h = short-good text plain
 token-good declared (Number low high n) names plain h =
     wider 20 64 (decimal n) (omega arith) (number-good n (omega (arith, small_high high plain, h.1)))
-token-good declared (Term bytes) names plain h = text-good 16 64 (unpadded bytes) (omega arith) h.0
+token-good declared (Term bytes) names plain h = text-good 16 64 (text_in_block bytes) (omega arith) h.0
 token-good declared (Short text) names plain h = text-good 64 64 text (omega arith) h
 token-good declared (Data text) names plain h = text-good 4096 4096 text (omega arith) h
 token-good declared (OnResource r) names plain h = resource-good r h.0 h.1
@@ -145,7 +145,7 @@ rooms (token ∷ tokens) = room_of token + 1 + rooms tokens
 pub words-good : (declared : Declared) (tokens : List Token) → AreNames declared.connectors
     → list_all is_plain tokens ≡ true → AreWithin declared tokens
     → AreGood (plain_words [] declared.connectors tokens)
-    × (length (spaced (plain_words [] declared.connectors tokens)) ≤ rooms tokens)
+    × (length (tail_of (plain_words [] declared.connectors tokens)) ≤ rooms tokens)
 words-good declared [] names plain h = (tt, omega arith)
 words-good declared (token ∷ tokens) names plain h =
     let parts = and_parts (is_plain token) (list_all is_plain tokens) plain in
@@ -153,7 +153,7 @@ words-good declared (token ∷ tokens) names plain h =
     let rest = plain_words [] declared.connectors tokens in
     let good = token-good declared token names parts.0 h.0 in
     let more = words-good declared tokens names parts.1 h.1 in
-    ((good.some, good.solid_all, more.0), omega (arith, good.short, more.1, length-append (32 ∷ word) (spaced rest)))
+    ((good.some, good.solid_all, more.0), omega (arith, good.short, more.1, length-append (32 ∷ word) (tail_of rest)))
 
 -- tokens that commands are made of, whose words take so many bytes at most
 pub record IsRow (most : ℕ) (tokens : List Token) : Type 0 where

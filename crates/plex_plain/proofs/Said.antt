@@ -9,7 +9,7 @@ use Rattle.cf_types.specs.declared.numbers.CfId.{CfId}
 use Rattle.cf_types.specs.declared.numbers.ConnId.{ConnId}
 use Rattle.cf_types.specs.declared.resources.Resource.{Resource}
 use Rattle.cf_types.specs.Forms.{IsFacility}
-use Rattle.cf_types.specs.Term.{IsTerm, IsPadded, unpadded, term_byte}
+use Rattle.cf_types.specs.Term.{IsTerm, IsPadded, text_in_block, term_byte}
 use Rattle.plex_spell.specs.declared.rigour.Rigour.TheVariants.{Names}
 use Rattle.plex_spell.specs.Tokens.{Declared, Token, IsWord, IsText, IsNumber, IsName, IsResource, Spells, is_term, name_word, facility_of, connector_of}
 use Rattle.plex_spell.specs.Tokens.Token.{Literal, Number, Term, Short, Data, OnResource, Record, OfFacility, OfConnector, OfStructure, NewFacility, NewName}
@@ -21,8 +21,8 @@ use Rattle.plex_plain.specs.Ranges.{IsNamed, AreNames, IsWithin, AreWithin}
 use Rattle.plex_plain.proofs.Tests.{all-weaker}
 use Rattle.plex_plain.proofs.Places.{HaveNames, name-place, caller-word}
 
-pub term-said : (bytes : List ℕ) → IsPadded bytes → is_term (unpadded bytes) ≡ true
-term-said bytes h = term_from (unpadded bytes) h.0.nonempty h.0.characters
+pub term-said : (bytes : List ℕ) → IsPadded bytes → is_term (text_in_block bytes) ≡ true
+term-said bytes h = term_from (text_in_block bytes) h.0.nonempty h.0.characters
 
 text-said : (limit : ℕ) (text : List ℕ) → IsTerm limit text → IsText Names limit text text
 text-said limit text h = (term_from text h.nonempty h.characters, (h.short, refl))

@@ -5,7 +5,7 @@ use Rattle.std.proofs.lemmas.Bool.{and_parts}
 use Rattle.std.proofs.lemmas.Bool.Decides.{nat_tests}
 use Rattle.std.proofs.lemmas.List.{append-nil}
 use Rattle.std.proofs.lemmas.List.Splits.{slice_split_at, slice_split_none}
-use Rattle.plex_spell.specs.Words.{is_blank, is_nonempty, words_of, without_return, lines_in, lines_of, spaced, line_of, ended}
+use Rattle.plex_spell.specs.Words.{is_blank, is_nonempty, words_of, without_return, lines_in, lines_of, tail_of, line_of, line_text}
 use Rattle.plex_plain.proofs.Said.{solid}
 use Rattle.plex_plain.proofs.Tests.{all-append, all-weaker, all-fail}
 
@@ -53,15 +53,15 @@ words-back (word ∷ next ∷ words) h =
     let kept : filter is_nonempty (word ∷ slice_split is_blank rest) ≡ word ∷ words_of rest = rw h.0 refl in
     ap (filter is_nonempty) cut ∙ (kept ∙ ap (λ (ws : List (List ℕ)). word ∷ ws) more)
 
-spaced-clear : (words : List (List ℕ)) → AreGood words → list_all clear (spaced words) ≡ true
+spaced-clear : (words : List (List ℕ)) → AreGood words → list_all clear (tail_of words) ≡ true
 spaced-clear [] h = refl
 spaced-clear (word ∷ words) h =
-    all-append clear (32 ∷ word) (spaced words) (all-weaker solid clear solid_clear word h.1) (spaced-clear words h.2)
+    all-append clear (32 ∷ word) (tail_of words) (all-weaker solid clear solid_clear word h.1) (spaced-clear words h.2)
 
 pub line-clear : (words : List (List ℕ)) → AreGood words → list_all clear (line_of words) ≡ true
 line-clear [] h = refl
 line-clear (word ∷ words) h =
-    all-append clear word (spaced words) (all-weaker solid clear solid_clear word h.1) (spaced-clear words h.2)
+    all-append clear word (tail_of words) (all-weaker solid clear solid_clear word h.1) (spaced-clear words h.2)
 
 -- ---- lines of a text
 
@@ -83,11 +83,12 @@ abbrev is_feed : ℕ → Bool
 is_feed b = b == 10
 
 -- the parts of the text between line feeds
-parts-back : (lines : List (List ℕ)) → AreClear lines → slice_split is_feed (flat_map ended lines) ≡ lines ++ [] ∷ []
+parts-back : (lines : List (List ℕ)) → AreClear lines
+    → slice_split is_feed (flat_map line_text lines) ≡ lines ++ [] ∷ []
 parts-back [] h = refl
 parts-back (line ∷ lines) h =
-    let rest = flat_map ended lines in
-    let same : flat_map ended (line ∷ lines) ≡ line ++ 10 ∷ rest = append_assoc line (10 ∷ []) rest in
+    let rest = flat_map line_text lines in
+    let same : flat_map line_text (line ∷ lines) ≡ line ++ 10 ∷ rest = append_assoc line (10 ∷ []) rest in
     let cut = slice_split_at is_feed line 10 rest (all-fail clear is_feed not_feed line h.0) refl in
     ap (slice_split is_feed) same ∙ (cut ∙ ap (λ (ls : List (List ℕ)). line ∷ ls) (parts-back lines h.1))
 
@@ -99,5 +100,5 @@ ended-back (line ∷ next ∷ lines) h =
     ∙ ap (λ (ls : List (List ℕ)). line ∷ ls) (ended-back (next ∷ lines) h.1)
 
 -- the lines of a text are those that it was made of
-pub lines-back : (lines : List (List ℕ)) → AreClear lines → lines_of (flat_map ended lines) ≡ lines
+pub lines-back : (lines : List (List ℕ)) → AreClear lines → lines_of (flat_map line_text lines) ≡ lines
 lines-back lines h = ap lines_in (parts-back lines h) ∙ ended-back lines h

@@ -3,7 +3,7 @@ use Rattle.std.proofs.Common.{◌≡◌, ℕ, Bool, true, false, List, [], ◌�
 use Rattle.std.specs.Prelude.{if◌then◌else◌}
 use Rattle.std.proofs.lemmas.List.{map-append}
 use Rattle.plex_spell.specs.Tokens.{Token}
-use Rattle.plex_spell.specs.Fields.{joined, option_tokens, flag_tokens}
+use Rattle.plex_spell.specs.Fields.{all_tokens, option_tokens, flag_tokens}
 use Rattle.cf_types.specs.declared.names.Name16.{Name16}
 use Rattle.plex_plain.specs.PlainWords.{plain_word, plain_words, told_words}
 
@@ -24,8 +24,8 @@ joined_words connectors [] = []
 joined_words connectors (part ∷ parts) = plain_words [] connectors part ++ joined_words connectors parts
 
 pub words_joined : (connectors : List Name16) (parts : List (List Token))
-    → plain_words [] connectors (joined parts) ≡ joined_words connectors parts
+    → plain_words [] connectors (all_tokens parts) ≡ joined_words connectors parts
 words_joined connectors [] = refl
 words_joined connectors (part ∷ parts) =
-    map-append (plain_word [] connectors) part (joined parts)
+    map-append (plain_word [] connectors) part (all_tokens parts)
     ∙ ap (λ words. plain_words [] connectors part ++ words) (words_joined connectors parts)

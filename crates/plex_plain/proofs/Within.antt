@@ -12,7 +12,7 @@ use Rattle.cf_types.specs.declared.numbers.ConnId.{ConnId}
 use Rattle.cf_types.specs.declared.numbers.StrNo.{StrNo}
 use Rattle.cf_types.specs.declared.forms.StrForm.{StrForm}
 use Rattle.cf_types.specs.Forms.{IsFacility}
-use Rattle.cf_types.specs.Term.{IsTerm, IsPadded, padded, unpadded, term_byte}
+use Rattle.cf_types.specs.Term.{IsTerm, IsPadded, block_of, text_in_block, term_byte}
 use Rattle.plex_spell.specs.declared.rigour.Rigour.TheVariants.{Names}
 use Rattle.plex_spell.specs.Words.{same_word}
 use Rattle.plex_spell.specs.Tokens.{Declared, Token, IsWord, IsText, IsData, IsRecord, Spells, is_term, is_name, facility_of, connector_of, structure_of, name_word}
@@ -31,7 +31,7 @@ no_blank b = not (b == 32)
 not_blank : (b : ℕ) → term_byte b ≡ true → no_blank b ≡ true
 not_blank b h = grind (arith, nat_tests)
 
-word-front : (word : List ℕ) (n : ℕ) → list_all term_byte word ≡ true → unpadded (word ++ replicate n 32) ≡ word
+word-front : (word : List ℕ) (n : ℕ) → list_all term_byte word ≡ true → text_in_block (word ++ replicate n 32) ≡ word
 word-front [] zero h = refl
 word-front [] (suc n) h = take_while-cons no_blank 32 (replicate n 32)
 word-front (b ∷ word) n h =
@@ -40,15 +40,15 @@ word-front (b ∷ word) n h =
     take_while-cons no_blank b (word ++ replicate n 32)
     ∙ (rw here (ap (λ (w : List ℕ). b ∷ w) (word-front word n parts.1)))
 
-unpadded-is : (bytes word : List ℕ) → is_term word ≡ true → bytes ≡ padded word → unpadded bytes ≡ word
-unpadded-is bytes word term e = ap unpadded e ∙ word-front word (16 - length word) (characters-term word term)
+unpadded-is : (bytes word : List ℕ) → is_term word ≡ true → bytes ≡ block_of word → text_in_block bytes ≡ word
+unpadded-is bytes word term e = ap text_in_block e ∙ word-front word (16 - length word) (characters-term word term)
 
-term-within : (bytes word : List ℕ) → is_term word ≡ true → length word ≤ 16 → bytes ≡ padded word → IsPadded bytes
+term-within : (bytes word : List ℕ) → is_term word ≡ true → length word ≤ 16 → bytes ≡ block_of word → IsPadded bytes
 term-within bytes word term short e =
     let is = unpadded-is bytes word term e in
-    (subst (IsTerm 16) (sym is) (IsTerm-whole 16 word short term), e ∙ ap padded (sym is))
+    (subst (IsTerm 16) (sym is) (IsTerm-whole 16 word short term), e ∙ ap block_of (sym is))
 
-name-within : (name : Name16) (word : List ℕ) → is_name word ≡ true → length word ≤ 16 → name.0 ≡ padded word
+name-within : (name : Name16) (word : List ℕ) → is_name word ≡ true → length word ≤ 16 → name.0 ≡ block_of word
     → IsNamed name
 name-within name word named short e =
     let term = term-name word named in

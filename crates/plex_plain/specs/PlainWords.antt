@@ -6,7 +6,7 @@ use Rattle.cf_types.specs.declared.names.Key16.{Key16}
 use Rattle.cf_types.specs.declared.forms.Refs.{Refs}
 use Rattle.cf_types.specs.declared.forms.Refs.TheVariants as refs
 use Rattle.cf_types.specs.declared.forms.StrForm.{StrForm}
-use Rattle.cf_types.specs.Term.{unpadded}
+use Rattle.cf_types.specs.Term.{text_in_block}
 use Rattle.cf_types.specs.declared.shell_commands.ShellCmd.{ShellCmd}
 use Rattle.cf_types.specs.declared.cache_commands.CacheCmd.{CacheCmd}
 use Rattle.cf_types.specs.declared.cache_commands.CacheCmd.TheVariants.{Read, Write, CrossInval, RegList, Castout, Unlock, CoClass, CoStats, DirInfo, Delete, StgStats}
@@ -24,7 +24,7 @@ use Rattle.plex_plain.specs.Naming.{facility_word, record_word, resource_word, c
 abbrev pub plain_word : List StrForm → List Name16 → Token → List ℕ
 plain_word structures connectors (Literal text) = text
 plain_word structures connectors (Number low high n) = decimal n
-plain_word structures connectors (Term bytes) = unpadded bytes
+plain_word structures connectors (Term bytes) = text_in_block bytes
 plain_word structures connectors (Short text) = text
 plain_word structures connectors (Data text) = text
 plain_word structures connectors (OnResource r) = resource_word r
@@ -87,7 +87,7 @@ abbrev pub name_words : Name16 → List (List ℕ)
 name_words name = name_word name ∷ []
 
 abbrev pub key_words : Key16 → List (List ℕ)
-key_words key = unpadded key.0 ∷ []
+key_words key = text_in_block key.0 ∷ []
 
 abbrev pub keep_word : Bool → List ℕ
 keep_word true = codes "KEEP"

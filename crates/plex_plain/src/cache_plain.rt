@@ -3,7 +3,7 @@
 ghost use Rattle.std.specs.Prelude.{◌≡◌, ◌∷◌, ◌++◌, [], codes, if◌then◌else◌, OnOk};
 ghost use Rattle.std.specs.Fmt.{decimal};
 ghost use Rattle.plex_spell.specs.Tokens.{name_word};
-ghost use Rattle.plex_spell.specs.Words.{spaced};
+ghost use Rattle.plex_spell.specs.Words.{tail_of};
 ghost use Rattle.cf_types.specs.declared.cache_commands.CacheCmd.TheVariants as cmd;
 ghost use Rattle.plex_plain.specs.PlainWords.{class_told, castout_words, cache_words, told_words, name_words, number_words, text_words};
 
@@ -21,7 +21,7 @@ fn class_told(stg: u32) -> Option<u32>
 // A word, a name, and the index that it is registered for.
 fn put_use(line: &mut Vec<u8>, word: &[u8], name: &Name16, index: u32) -> Result<(), NoMemory>
     ensures { OnOk result (line.new.items ≡ line.old.items
-        ++ spaced (word.now ∷ name_word name.now ∷ decimal index ∷ [])) }
+        ++ tail_of (word.now ∷ name_word name.now ∷ decimal index ∷ [])) }
 {
     put_word(line, word)?;
     put_name(line, name)?;
@@ -31,7 +31,7 @@ fn put_use(line: &mut Vec<u8>, word: &[u8], name: &Name16, index: u32) -> Result
 // The name that is given up, and the storage class.
 fn put_old(line: &mut Vec<u8>, old: &Option<Name16>, stg: u32) -> Result<(), NoMemory>
     ensures { OnOk result (line.new.items ≡ line.old.items
-        ++ spaced (told_words (codes "OLD") name_words old.now
+        ++ tail_of (told_words (codes "OLD") name_words old.now
         ++ (told_words (codes "STG") number_words (class_told stg) ++ []))) }
 {
     put_option(line, b"OLD", old)?;
@@ -47,7 +47,7 @@ fn put_read(
     stg: u32,
 ) -> Result<(), NoMemory>
     ensures { OnOk result (line.new.items ≡ line.old.items
-        ++ spaced (cache_words (cmd.Read name.now index old.now stg))) }
+        ++ tail_of (cache_words (cmd.Read name.now index old.now stg))) }
 {
     put_use(line, b"READ", name, index)?;
     put_old(line, old, stg)
@@ -55,7 +55,7 @@ fn put_read(
 
 // Whether an entry is written as changed, and in which castout class.
 fn put_class(line: &mut Vec<u8>, class: Option<u32>) -> Result<(), NoMemory>
-    ensures { OnOk result (line.new.items ≡ line.old.items ++ spaced (castout_words class)) }
+    ensures { OnOk result (line.new.items ≡ line.old.items ++ tail_of (castout_words class)) }
 {
     match class {
         None => put_word(line, b"UNCHANGED"),
@@ -74,7 +74,7 @@ fn put_data(
     adj: &Option<Adjunct>,
 ) -> Result<(), NoMemory>
     ensures { OnOk result (line.new.items ≡ line.old.items
-        ++ spaced (body.now ∷ (castout_words class
+        ++ tail_of (body.now ∷ (castout_words class
         ++ told_words (codes "ADJ") text_words adj.now))) }
 {
     put_word(line, body.bytes())?;
@@ -90,7 +90,7 @@ fn put_options(
     when_reg: bool,
 ) -> Result<(), NoMemory>
     ensures { OnOk result (line.new.items ≡ line.old.items
-        ++ spaced (told_words (codes "OLD") name_words old.now
+        ++ tail_of (told_words (codes "OLD") name_words old.now
         ++ (told_words (codes "STG") number_words (class_told stg)
         ++ ((if when_reg then codes "WHENREG" ∷ [] else []) ++ [])))) }
 {
@@ -102,7 +102,7 @@ fn put_options(
 // A word and a name.
 fn put_one(line: &mut Vec<u8>, word: &[u8], name: &Name16) -> Result<(), NoMemory>
     ensures { OnOk result (line.new.items ≡ line.old.items
-        ++ spaced (word.now ∷ name_word name.now ∷ [])) }
+        ++ tail_of (word.now ∷ name_word name.now ∷ [])) }
 {
     put_word(line, word)?;
     put_name(line, name)
@@ -112,7 +112,7 @@ fn put_one(line: &mut Vec<u8>, word: &[u8], name: &Name16) -> Result<(), NoMemor
 /// there is no memory, the line is left in the middle of them.
 #[tactic(auto, using(crate::proofs::CommandLaws::words_write))]
 pub fn put_cache(line: &mut Vec<u8>, cmd: &CacheCmd) -> Result<(), NoMemory>
-    ensures { OnOk result (line.new.items ≡ line.old.items ++ spaced (cache_words cmd.now)) }
+    ensures { OnOk result (line.new.items ≡ line.old.items ++ tail_of (cache_words cmd.now)) }
 {
     match cmd {
         CacheCmd::Read {

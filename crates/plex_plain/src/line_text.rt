@@ -3,7 +3,7 @@
 ghost use Rattle.std.specs.Prelude.{◌≡◌, ◌∷◌, ◌++◌, [], codes, OnOk};
 ghost use Rattle.std.specs.Fmt.{decimal};
 ghost use Rattle.plex_spell.specs.Tokens.{name_word};
-ghost use Rattle.plex_spell.specs.Words.{spaced};
+ghost use Rattle.plex_spell.specs.Words.{tail_of};
 ghost use Rattle.plex_plain.specs.Naming.{facility_word, record_word, resource_word, caller_name, structure_name};
 ghost use Rattle.plex_plain.specs.PlainWords.{state_word, refs_word, keep_word, end_word};
 
@@ -29,7 +29,7 @@ pub fn put_digits(line: &mut Vec<u8>, number: u64) -> Result<(), NoMemory>
 
 /// Puts a blank and a word, or words with one blank between them, to a line.
 pub fn put_word(line: &mut Vec<u8>, word: &[u8]) -> Result<(), NoMemory>
-    ensures { OnOk result (line.new.items ≡ line.old.items ++ spaced (word.now ∷ [])) }
+    ensures { OnOk result (line.new.items ≡ line.old.items ++ tail_of (word.now ∷ [])) }
 {
     line.push(b' ')?;
     line.extend_from_slice(word)?;
@@ -38,7 +38,7 @@ pub fn put_word(line: &mut Vec<u8>, word: &[u8]) -> Result<(), NoMemory>
 
 /// Puts a blank and a number to a line.
 pub fn put_number(line: &mut Vec<u8>, number: u64) -> Result<(), NoMemory>
-    ensures { OnOk result (line.new.items ≡ line.old.items ++ spaced (decimal number ∷ [])) }
+    ensures { OnOk result (line.new.items ≡ line.old.items ++ tail_of (decimal number ∷ [])) }
 {
     let mut buffer = Buffer::new();
     put_word(line, buffer.format(number).as_bytes())
@@ -47,7 +47,7 @@ pub fn put_number(line: &mut Vec<u8>, number: u64) -> Result<(), NoMemory>
 /// Puts two numbers to a line, with a blank before each.
 pub fn put_numbers(line: &mut Vec<u8>, first: u32, second: u32) -> Result<(), NoMemory>
     ensures { OnOk result (line.new.items ≡ line.old.items
-        ++ spaced (decimal first ∷ decimal second ∷ [])) }
+        ++ tail_of (decimal first ∷ decimal second ∷ [])) }
 {
     put_number(line, u64::from(first))?;
     put_number(line, u64::from(second))
@@ -56,7 +56,7 @@ pub fn put_numbers(line: &mut Vec<u8>, first: u32, second: u32) -> Result<(), No
 /// Puts a word and a number to a line, with a blank before each.
 pub fn put_of(line: &mut Vec<u8>, word: &[u8], number: u32) -> Result<(), NoMemory>
     ensures { OnOk result (line.new.items ≡ line.old.items
-        ++ spaced (word.now ∷ decimal number ∷ [])) }
+        ++ tail_of (word.now ∷ decimal number ∷ [])) }
 {
     put_word(line, word)?;
     put_number(line, u64::from(number))
@@ -64,14 +64,14 @@ pub fn put_of(line: &mut Vec<u8>, word: &[u8], number: u32) -> Result<(), NoMemo
 
 /// Puts a blank and a name to a line.
 pub fn put_name(line: &mut Vec<u8>, name: &Name16) -> Result<(), NoMemory>
-    ensures { OnOk result (line.new.items ≡ line.old.items ++ spaced (name_word name.now ∷ [])) }
+    ensures { OnOk result (line.new.items ≡ line.old.items ++ tail_of (name_word name.now ∷ [])) }
 {
     put_word(line, name_text(name))
 }
 
 /// Puts a blank and a facility to a line.
 pub fn put_facility(line: &mut Vec<u8>, cf: CfId) -> Result<(), NoMemory>
-    ensures { OnOk result (line.new.items ≡ line.old.items ++ spaced (facility_word cf ∷ [])) }
+    ensures { OnOk result (line.new.items ≡ line.old.items ++ tail_of (facility_word cf ∷ [])) }
 {
     put_word(line, b"CF")?;
     put_digits(line, u64::from(cf.0))
@@ -79,7 +79,7 @@ pub fn put_facility(line: &mut Vec<u8>, cf: CfId) -> Result<(), NoMemory>
 
 /// Puts a blank and a list record to a line.
 pub fn put_record(line: &mut Vec<u8>, id: EntryId) -> Result<(), NoMemory>
-    ensures { OnOk result (line.new.items ≡ line.old.items ++ spaced (record_word id ∷ [])) }
+    ensures { OnOk result (line.new.items ≡ line.old.items ++ tail_of (record_word id ∷ [])) }
 {
     put_word(line, b"#")?;
     put_digits(line, id.0)
@@ -95,7 +95,7 @@ fn put_hash(line: &mut Vec<u8>, hash: u32) -> Result<(), NoMemory>
 
 /// Puts a blank and a resource to a line.
 pub fn put_resource(line: &mut Vec<u8>, r: Resource) -> Result<(), NoMemory>
-    ensures { OnOk result (line.new.items ≡ line.old.items ++ spaced (resource_word r ∷ [])) }
+    ensures { OnOk result (line.new.items ≡ line.old.items ++ tail_of (resource_word r ∷ [])) }
 {
     put_name(line, &r.name)?;
     put_hash(line, r.hash)
@@ -123,7 +123,7 @@ pub fn put_caller_name(
 /// Puts a blank and the name of the caller with this number to a line.
 pub fn put_caller(line: &mut Vec<u8>, connectors: &[Name16], number: usize) -> Result<(), NoMemory>
     ensures { OnOk result (line.new.items ≡ line.old.items
-        ++ spaced (caller_name connectors.now number ∷ [])) }
+        ++ tail_of (caller_name connectors.now number ∷ [])) }
 {
     put_word(line, b"")?;
     put_caller_name(line, connectors, number)

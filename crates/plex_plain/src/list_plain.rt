@@ -2,9 +2,9 @@
 
 ghost use Rattle.std.specs.Prelude.{◌≡◌, ◌∷◌, ◌++◌, [], codes, OnOk};
 ghost use Rattle.std.specs.Fmt.{decimal};
-ghost use Rattle.plex_spell.specs.Words.{spaced};
+ghost use Rattle.plex_spell.specs.Words.{tail_of};
 ghost use Rattle.plex_spell.specs.Tokens.Token.{Literal};
-ghost use Rattle.plex_spell.specs.Fields.{joined};
+ghost use Rattle.plex_spell.specs.Fields.{all_tokens};
 ghost use Rattle.plex_spell.specs.ListWords.{at_tokens, cond_tokens};
 ghost use Rattle.plex_plain.specs.PlainWords.{plain_words, end_word, list_words, told_words, name_words, key_words, text_words};
 
@@ -15,7 +15,7 @@ use cf_types::{Adjunct, At, Body, Cond, Key16, ListCmd, Name16, NoMemory};
 // Which record is meant.
 fn put_reference(line: &mut Vec<u8>, at: &At) -> Result<(), NoMemory>
     ensures { OnOk result (line.new.items ≡ line.old.items
-        ++ spaced (plain_words [] [] (at_tokens at.now))) }
+        ++ tail_of (plain_words [] [] (at_tokens at.now))) }
 {
     match at {
         At::Id(id) => put_record(line, *id),
@@ -35,7 +35,7 @@ fn put_reference(line: &mut Vec<u8>, at: &At) -> Result<(), NoMemory>
 // The condition on a list lock, where there is one.
 fn put_cond(line: &mut Vec<u8>, cond: &Option<Cond>) -> Result<(), NoMemory>
     ensures { OnOk result (line.new.items ≡ line.old.items
-        ++ spaced (plain_words [] [] (cond_tokens cond.now))) }
+        ++ tail_of (plain_words [] [] (cond_tokens cond.now))) }
 {
     match cond {
         None => Ok(()),
@@ -51,7 +51,7 @@ pub fn put_content(
     adj: &Option<Adjunct>,
 ) -> Result<(), NoMemory>
     ensures { OnOk result (line.new.items ≡ line.old.items
-        ++ spaced (told_words (codes "DATA") text_words body.now
+        ++ tail_of (told_words (codes "DATA") text_words body.now
         ++ told_words (codes "ADJ") text_words adj.now)) }
 {
     put_option(line, b"DATA", body)?;
@@ -65,7 +65,7 @@ pub fn put_label(
     key: &Option<Key16>,
 ) -> Result<(), NoMemory>
     ensures { OnOk result (line.new.items ≡ line.old.items
-        ++ spaced (told_words (codes "NAME") name_words name.now
+        ++ tail_of (told_words (codes "NAME") name_words name.now
         ++ told_words (codes "KEY") key_words key.now)) }
 {
     put_option(line, b"NAME", name)?;
@@ -75,7 +75,7 @@ pub fn put_label(
 // A header, and which end of it.
 fn put_place(line: &mut Vec<u8>, header: u32, head: bool) -> Result<(), NoMemory>
     ensures { OnOk result (line.new.items ≡ line.old.items
-        ++ spaced (decimal header ∷ end_word head ∷ [])) }
+        ++ tail_of (decimal header ∷ end_word head ∷ [])) }
 {
     put_number(line, u64::from(header))?;
     put_word(line, end_text(head))
@@ -85,8 +85,8 @@ fn put_place(line: &mut Vec<u8>, header: u32, head: bool) -> Result<(), NoMemory
 #[tactic(auto, using(crate::proofs::CommandLaws::words_at))]
 fn put_on(line: &mut Vec<u8>, verb: &[u8], at: &At, cond: &Option<Cond>) -> Result<(), NoMemory>
     ensures { OnOk result (line.new.items ≡ line.old.items
-        ++ spaced (plain_words [] [] (Literal verb.now
-        ∷ joined (at_tokens at.now ∷ cond_tokens cond.now ∷ [])))) }
+        ++ tail_of (plain_words [] [] (Literal verb.now
+        ∷ all_tokens (at_tokens at.now ∷ cond_tokens cond.now ∷ [])))) }
 {
     put_word(line, verb)?;
     put_reference(line, at)?;
@@ -96,7 +96,7 @@ fn put_on(line: &mut Vec<u8>, verb: &[u8], at: &At, cond: &Option<Cond>) -> Resu
 // A list lock, and what is done with it.
 fn put_use(line: &mut Vec<u8>, lock: u32, deed: &[u8]) -> Result<(), NoMemory>
     ensures { OnOk result (line.new.items ≡ line.old.items
-        ++ spaced (codes "LOCK" ∷ decimal lock ∷ deed.now ∷ [])) }
+        ++ tail_of (codes "LOCK" ∷ decimal lock ∷ deed.now ∷ [])) }
 {
     put_of(line, b"LOCK", lock)?;
     put_word(line, deed)
@@ -105,7 +105,7 @@ fn put_use(line: &mut Vec<u8>, lock: u32, deed: &[u8]) -> Result<(), NoMemory>
 // A word, a header and a number.
 fn put_header(line: &mut Vec<u8>, word: &[u8], header: u32, n: u32) -> Result<(), NoMemory>
     ensures { OnOk result (line.new.items ≡ line.old.items
-        ++ spaced (word.now ∷ decimal header ∷ decimal n ∷ [])) }
+        ++ tail_of (word.now ∷ decimal header ∷ decimal n ∷ [])) }
 {
     put_word(line, word)?;
     put_numbers(line, header, n)
@@ -115,7 +115,7 @@ fn put_header(line: &mut Vec<u8>, word: &[u8], header: u32, n: u32) -> Result<()
 /// is no memory, the line is left in the middle of them.
 #[tactic(auto, using(crate::proofs::CommandLaws::words_make, crate::proofs::CommandLaws::words_update, crate::proofs::CommandLaws::words_move))]
 pub fn put_list(line: &mut Vec<u8>, cmd: &ListCmd) -> Result<(), NoMemory>
-    ensures { OnOk result (line.new.items ≡ line.old.items ++ spaced (list_words cmd.now)) }
+    ensures { OnOk result (line.new.items ≡ line.old.items ++ tail_of (list_words cmd.now)) }
 {
     match cmd {
         ListCmd::Write {

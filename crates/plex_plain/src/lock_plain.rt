@@ -1,9 +1,9 @@
 //! The words of the commands of a lock structure.
 
 ghost use Rattle.std.specs.Prelude.{◌≡◌, ◌∷◌, ◌++◌, [], codes, OnOk};
-ghost use Rattle.plex_spell.specs.Words.{spaced};
+ghost use Rattle.plex_spell.specs.Words.{tail_of};
 ghost use Rattle.plex_spell.specs.Tokens.Token.{Literal, OnResource};
-ghost use Rattle.plex_spell.specs.Fields.{joined, state, option_tokens, short_tokens};
+ghost use Rattle.plex_spell.specs.Fields.{all_tokens, state, option_tokens, short_tokens};
 ghost use Rattle.plex_spell.specs.LockWords.{decision};
 ghost use Rattle.plex_plain.specs.Naming.{resource_word};
 ghost use Rattle.plex_plain.specs.PlainWords.{plain_word, plain_words, lock_words};
@@ -15,7 +15,7 @@ use cf_types::{Adjunct, Decision, LockCmd, Name16, NoMemory, Resource};
 // What a manager decides on a waiter.
 fn put_decision(line: &mut Vec<u8>, connectors: &[Name16], how: Decision) -> Result<(), NoMemory>
     ensures { OnOk result (line.new.items ≡ line.old.items
-        ++ spaced (plain_word [] connectors.now (decision how) ∷ [])) }
+        ++ tail_of (plain_word [] connectors.now (decision how) ∷ [])) }
 {
     match how {
         Decision::Keep => put_word(line, b"KEEP"),
@@ -27,7 +27,7 @@ fn put_decision(line: &mut Vec<u8>, connectors: &[Name16], how: Decision) -> Res
 // A word and a resource.
 fn put_about(line: &mut Vec<u8>, word: &[u8], r: Resource) -> Result<(), NoMemory>
     ensures { OnOk result (line.new.items ≡ line.old.items
-        ++ spaced (word.now ∷ resource_word r ∷ [])) }
+        ++ tail_of (word.now ∷ resource_word r ∷ [])) }
 {
     put_word(line, word)?;
     put_resource(line, r)
@@ -44,8 +44,8 @@ fn put_request(
     rec: &Option<Adjunct>,
 ) -> Result<(), NoMemory>
     ensures { OnOk result (line.new.items ≡ line.old.items
-        ++ spaced (plain_words [] connectors.now (Literal verb.now ∷ OnResource r ∷ state excl
-        ∷ joined (option_tokens (codes "REC") short_tokens rec.now ∷ [])))) }
+        ++ tail_of (plain_words [] connectors.now (Literal verb.now ∷ OnResource r ∷ state excl
+        ∷ all_tokens (option_tokens (codes "REC") short_tokens rec.now ∷ [])))) }
 {
     put_about(line, verb, r)?;
     put_word(line, state_text(excl))?;
@@ -56,7 +56,7 @@ fn put_request(
 /// is no memory, the line is left in the middle of them.
 pub fn put_lock(line: &mut Vec<u8>, connectors: &[Name16], cmd: &LockCmd) -> Result<(), NoMemory>
     ensures { OnOk result (line.new.items ≡ line.old.items
-        ++ spaced (lock_words connectors.now cmd.now)) }
+        ++ tail_of (lock_words connectors.now cmd.now)) }
 {
     match cmd {
         LockCmd::Obtain { r, excl, rec } => {

@@ -3,7 +3,7 @@
 ghost use Rattle.std.specs.Prelude.{◌≡◌, ◌∷◌, ◌++◌, [], OnOk};
 ghost use Rattle.std.specs.Fmt.{decimal};
 ghost use Rattle.plex_spell.specs.FormWords.{form_tokens};
-ghost use Rattle.plex_spell.specs.Words.{spaced};
+ghost use Rattle.plex_spell.specs.Words.{tail_of};
 ghost use Rattle.plex_plain.specs.PlainWords.{plain_words, keep_word};
 ghost use Rattle.plex_plain.specs.PolicyLines.{facility_line, form_line, pref_line, connector_line};
 
@@ -24,7 +24,7 @@ pub fn put_facility_line(text: &mut Vec<u8>, facility: &Pref) -> Result<(), NoMe
 // The kind of a structure, its capacity and how many connections it admits.
 fn put_caps(line: &mut Vec<u8>, kind: &[u8], form: &StrForm) -> Result<(), NoMemory>
     ensures { OnOk result (line.new.items ≡ line.old.items
-        ++ spaced (kind.now ∷ decimal form.now.caps.entries ∷ decimal form.now.caps.elements
+        ++ tail_of (kind.now ∷ decimal form.now.caps.entries ∷ decimal form.now.caps.elements
         ∷ decimal form.now.conns ∷ [])) }
 {
     put_word(line, kind)?;
@@ -35,7 +35,7 @@ fn put_caps(line: &mut Vec<u8>, kind: &[u8], form: &StrForm) -> Result<(), NoMem
 // The length of the vectors of a structure, and whether it stays.
 fn put_vector(line: &mut Vec<u8>, form: &StrForm) -> Result<(), NoMemory>
     ensures { OnOk result (line.new.items ≡ line.old.items
-        ++ spaced (decimal form.now.vector ∷ keep_word form.now.keep ∷ [])) }
+        ++ tail_of (decimal form.now.vector ∷ keep_word form.now.keep ∷ [])) }
 {
     put_number(line, u64::from(form.vector))?;
     put_word(line, keep_text(form.keep))
@@ -44,7 +44,7 @@ fn put_vector(line: &mut Vec<u8>, form: &StrForm) -> Result<(), NoMemory>
 #[tactic(auto, using(crate::proofs::CommandLaws::words_cache_form, crate::proofs::CommandLaws::words_list_form, crate::proofs::CommandLaws::words_lock_form))]
 fn put_form(line: &mut Vec<u8>, form: &StrForm) -> Result<(), NoMemory>
     ensures { OnOk result (line.new.items ≡ line.old.items
-        ++ spaced (plain_words [] [] (form_tokens form.now.kind form.now))) }
+        ++ tail_of (plain_words [] [] (form_tokens form.now.kind form.now))) }
 {
     match form.kind {
         Kind::Cache => {

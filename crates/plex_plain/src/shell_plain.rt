@@ -1,7 +1,7 @@
 //! The words of the commands that structures of every kind share.
 
 ghost use Rattle.std.specs.Prelude.{◌≡◌, ◌∷◌, ◌++◌, [], OnOk};
-ghost use Rattle.plex_spell.specs.Words.{spaced};
+ghost use Rattle.plex_spell.specs.Words.{tail_of};
 ghost use Rattle.plex_plain.specs.Naming.{caller_name, facility_word};
 ghost use Rattle.plex_plain.specs.PlainWords.{shell_words};
 
@@ -17,7 +17,7 @@ fn put_reach(
     cf: CfId,
 ) -> Result<(), NoMemory>
     ensures { OnOk result (line.new.items ≡ line.old.items
-        ++ spaced (word.now ∷ caller_name connectors.now conn.0 ∷ facility_word cf ∷ [])) }
+        ++ tail_of (word.now ∷ caller_name connectors.now conn.0 ∷ facility_word cf ∷ [])) }
 {
     put_word(line, word)?;
     put_caller(line, connectors, conn.0 as usize)?;
@@ -27,7 +27,7 @@ fn put_reach(
 /// Puts a word and a facility to a line, with a blank before each.
 pub fn put_at(line: &mut Vec<u8>, word: &[u8], cf: CfId) -> Result<(), NoMemory>
     ensures { OnOk result (line.new.items ≡ line.old.items
-        ++ spaced (word.now ∷ facility_word cf ∷ [])) }
+        ++ tail_of (word.now ∷ facility_word cf ∷ [])) }
 {
     put_word(line, word)?;
     put_facility(line, cf)
@@ -37,7 +37,7 @@ pub fn put_at(line: &mut Vec<u8>, word: &[u8], cf: CfId) -> Result<(), NoMemory>
 /// each. Where there is no memory, the line is left in the middle of them.
 pub fn put_shell(line: &mut Vec<u8>, connectors: &[Name16], cmd: &ShellCmd) -> Result<(), NoMemory>
     ensures { OnOk result (line.new.items ≡ line.old.items
-        ++ spaced (shell_words connectors.now cmd.now)) }
+        ++ tail_of (shell_words connectors.now cmd.now)) }
 {
     match cmd {
         ShellCmd::Connect { keep: true } => put_word(line, b"CONNECT KEEP"),

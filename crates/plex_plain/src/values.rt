@@ -2,9 +2,9 @@
 
 ghost use Rattle.std.specs.Prelude.{◌≡◌, ℕ, List, ◌∷◌, ◌++◌, [], if◌then◌else◌, OnOk};
 ghost use Rattle.std.specs.Fmt.{decimal};
-ghost use Rattle.cf_types.specs.Term.{unpadded};
+ghost use Rattle.cf_types.specs.Term.{text_in_block};
 ghost use Rattle.plex_spell.specs.Tokens.{name_word};
-ghost use Rattle.plex_spell.specs.Words.{spaced};
+ghost use Rattle.plex_spell.specs.Words.{tail_of};
 ghost use Rattle.plex_plain.specs.PlainWords.{told_words};
 
 use crate::line_text::{put_name, put_number, put_word};
@@ -17,7 +17,7 @@ pub trait Worded {
 
     /// Puts a blank and the word to a line.
     fn put(&self, line: &mut Vec<u8>) -> Result<(), NoMemory>
-        ensures { OnOk result (line.new.items ≡ line.old.items ++ spaced (word self.now ∷ [])) };
+        ensures { OnOk result (line.new.items ≡ line.old.items ++ tail_of (word self.now ∷ [])) };
 }
 
 impl Worded for u32 {
@@ -37,7 +37,7 @@ impl Worded for Name16 {
 }
 
 impl Worded for Key16 {
-    ghost word = { λ key. unpadded key.0 };
+    ghost word = { λ key. text_in_block key.0 };
 
     fn put(&self, line: &mut Vec<u8>) -> Result<(), NoMemory> {
         put_word(line, key_text(self))
@@ -67,7 +67,7 @@ pub fn put_option<T: Worded>(
     value: &Option<T>,
 ) -> Result<(), NoMemory>
     ensures { OnOk result (line.new.items ≡ line.old.items
-        ++ spaced (told_words word.now (λ x. T.word x ∷ []) value.now)) }
+        ++ tail_of (told_words word.now (λ x. T.word x ∷ []) value.now)) }
 {
     match value {
         None => Ok(()),
@@ -81,7 +81,7 @@ pub fn put_option<T: Worded>(
 /// Puts a word to a line, where it is to stand there.
 pub fn put_flag(line: &mut Vec<u8>, word: &[u8], flag: bool) -> Result<(), NoMemory>
     ensures { OnOk result (line.new.items ≡ line.old.items
-        ++ spaced (if flag then word.now ∷ [] else [])) }
+        ++ tail_of (if flag then word.now ∷ [] else [])) }
 {
     if flag { put_word(line, word) } else { Ok(()) }
 }

@@ -11,7 +11,7 @@ use Rattle.std.proofs.lemmas.Option.{slice_get-get_or, slice_get_within, get_or_
 use Rattle.cf_types.specs.declared.names.Name16.{Name16}
 use Rattle.cf_types.specs.declared.numbers.ConnId.{ConnId}
 use Rattle.cf_types.specs.declared.numbers.StrNo.{StrNo}
-use Rattle.cf_types.specs.Term.{padded, unpadded, term_byte}
+use Rattle.cf_types.specs.Term.{block_of, text_in_block, term_byte}
 use Rattle.engine_api.proofs.Pushed.{pushed_cases}
 use Rattle.plex_spell.specs.declared.rigour.Rigour.TheVariants.{Names}
 use Rattle.plex_spell.specs.Words.{same_word, words_of, lines_of}
@@ -36,20 +36,21 @@ free_passed : (x : ℕ) (xs : List ℕ) (b : Bool) → not (x == 32) ≡ b → i
 free_passed x xs true e h = and_from (not (x == 32)) (is_free 32 xs) e h
 free_passed x xs false e h = refl
 
-free_unpadded : (bytes : List ℕ) → is_free 32 (unpadded bytes) ≡ true
+free_unpadded : (bytes : List ℕ) → is_free 32 (text_in_block bytes) ≡ true
 free_unpadded [] = refl
 free_unpadded (x ∷ bytes) =
     rw (take_while-cons (λ b. not (b == 32)) x bytes)
-    (free_passed x (unpadded bytes) (not (x == 32)) refl (free_unpadded bytes))
+    (free_passed x (text_in_block bytes) (not (x == 32)) refl (free_unpadded bytes))
 
 term_above : (b : ℕ) → term_byte b ≡ true → 32 < b
 term_above b h = grind (arith, nat_tests)
 
-blanks : (n : ℕ) → unpadded (replicate n 32) ≡ []
+blanks : (n : ℕ) → text_in_block (replicate n 32) ≡ []
 blanks zero = refl
 blanks (suc n) = refl
 
-unpadded-append : (text : List ℕ) (n : ℕ) → list_all term_byte text ≡ true → unpadded (text ++ replicate n 32) ≡ text
+unpadded-append : (text : List ℕ) (n : ℕ) → list_all term_byte text ≡ true
+    → text_in_block (text ++ replicate n 32) ≡ text
 unpadded-append [] n h = blanks n
 unpadded-append (b ∷ text) n h =
     let parts = and_parts (term_byte b) (list_all term_byte text) h in
@@ -57,9 +58,9 @@ unpadded-append (b ∷ text) n h =
     let other : not (b == 32) ≡ true = grind (arith, nat_tests) in
     take_while-cons (λ c. not (c == 32)) b (text ++ replicate n 32) ∙ rw (other, unpadded-append text n parts.1) refl
 
-named_word : (name : Name16) (word : List ℕ) → is_name word ≡ true → name.0 ≡ padded word → name_word name ≡ word
+named_word : (name : Name16) (word : List ℕ) → is_name word ≡ true → name.0 ≡ block_of word → name_word name ≡ word
 named_word name word named is =
-    ap unpadded is ∙ unpadded-append word _ (characters-term word (term-name word named))
+    ap text_in_block is ∙ unpadded-append word _ (characters-term word (term-name word named))
 
 -- a name is no word of the script language
 no_operator : (word : List ℕ) → is_name word ≡ true → word ≢ codes "OP"

@@ -11,7 +11,7 @@ use Rattle.std.proofs.lemmas.List.{append_cancel_left}
 use Rattle.plex_spell.specs.Tokens.{is_numeral}
 use Rattle.plex_spell.proofs.NumberLaws.{numeral-decimal}
 use Rattle.plex_report.specs.Lines.{heading}
-use Rattle.plex_spell.specs.Words.{ended}
+use Rattle.plex_spell.specs.Words.{line_text}
 
 -- the byte doesn't stand in the text
 abbrev pub is_free : ℕ → List ℕ → Bool
@@ -68,10 +68,10 @@ same_number at m n xs ys low small_m small_n e =
 -- ---- lines
 
 abbrev pub text_of : List (List ℕ) → List ℕ
-text_of lines = flat_map ended lines
+text_of lines = flat_map line_text lines
 
 pub text-append : (xs ys : List (List ℕ)) → text_of (xs ++ ys) ≡ text_of xs ++ text_of ys
-text-append xs ys = flat_map-append ended xs ys
+text-append xs ys = flat_map-append line_text xs ys
 
 pub text-cons : (line : List ℕ) (lines : List (List ℕ)) → text_of (line ∷ lines) ≡ line ++ 10 ∷ text_of lines
 text-cons line lines = append_assoc line (10 ∷ []) (text_of lines)

@@ -10,7 +10,7 @@ use Rattle.engine_api.specs.declared.asks.What.TheVariants as what
 use Rattle.engine_api.specs.declared.histories.Entry.{Entry}
 use Rattle.engine_api.specs.Meaning.{Meaning}
 use Rattle.engine_api.specs.History.{next_entry, IsNextAs, Continues}
-use Rattle.plex_spell.specs.Words.{spaced, line_of}
+use Rattle.plex_spell.specs.Words.{tail_of, line_of}
 use Rattle.plex_script.specs.declared.scripts.AnyAsk.{AnyAsk}
 use Rattle.plex_script.specs.declared.scripts.Script.{Script}
 use Rattle.plex_report.specs.Naming.{caller_word}
@@ -23,11 +23,11 @@ use Rattle.plex_reading.proofs.Heard.{IsCallOf, next_is}
 -- words behind words begin with a blank
 record Blank (words : List (List ℕ)) : Type 0 where
   rest : List ℕ
-  is : spaced words ≡ 32 ∷ rest
+  is : tail_of words ≡ 32 ∷ rest
 
 blank_before : (words : List (List ℕ)) (word : List ℕ) (others : List (List ℕ)) → Blank (words ++ word ∷ others)
-blank_before [] word others = record { rest = word ++ spaced others; is = refl }
-blank_before (first ∷ words) word others = record { rest = first ++ spaced (words ++ word ∷ others); is = refl }
+blank_before [] word others = record { rest = word ++ tail_of others; is = refl }
+blank_before (first ∷ words) word others = record { rest = first ++ tail_of (words ++ word ∷ others); is = refl }
 
 module _ {C R I S : Type 0} (meaning : Meaning C R I S) (form : StrForm) (of : Ask C → AnyAsk)
     (one_ask : (a b : Ask C) → Some (of a) ≡ Some (of b) → a ≡ b)

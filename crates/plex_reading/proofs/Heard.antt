@@ -11,14 +11,14 @@ use Rattle.engine_api.specs.declared.asks.What.TheVariants as what
 use Rattle.engine_api.specs.declared.histories.Entry.{Entry}
 use Rattle.engine_api.specs.Meaning.{Meaning}
 use Rattle.engine_api.specs.History.{calls, numbers, IsNextAs, Continues}
-use Rattle.plex_script.specs.Heard.{AnyCall, heard}
+use Rattle.plex_script.specs.Heard.{AnyCall, call_numbered}
 use Rattle.any_model.specs.Kinds.{numbers_from}
 use Rattle.any_model.proofs.KindLaws.{numbers_from-suc}
 
 -- each of these is the call with its number
 abbrev pub AreHeard : List AnyCall → List AnyCall → Type 0
 AreHeard calls [] = Unit {0}
-AreHeard calls (call ∷ some) = (heard call.no calls ≡ Some call) × AreHeard calls some
+AreHeard calls (call ∷ some) = (call_numbered call.no calls ≡ Some call) × AreHeard calls some
 
 pub heard_own : (calls some : List AnyCall) (keep : AnyCall → Bool) → AreHeard calls some
     → AreHeard calls (filter keep some)
@@ -39,7 +39,7 @@ heard_back calls [] ys h = h
 heard_back calls (x ∷ xs) ys h = heard_back calls xs ys h.1
 
 unheard : (calls : List AnyCall) (first n number : ℕ) → map (λ call. call.no) calls ≡ numbers_from first n
-    → first + n ≤ number → heard number calls ≡ None
+    → first + n ≤ number → call_numbered number calls ≡ None
 unheard [] first n number counted past = refl
 unheard (call ∷ calls) first zero number counted past = absurd cc
 unheard (call ∷ calls) first (suc n) number counted past =
@@ -50,12 +50,13 @@ unheard (call ∷ calls) first (suc n) number counted past =
 
 pub heard_within : (calls : List AnyCall) (first n number : ℕ) (call : AnyCall)
     → map (λ call. call.no) calls ≡ numbers_from first n
-    → heard number calls ≡ Some call → number < first + n
+    → call_numbered number calls ≡ Some call → number < first + n
 heard_within calls first n number call counted found = by_test (nat_le (first + n) number) refl
   where
     by_test : (b : Bool) → nat_le (first + n) number ≡ b → number < first + n
     by_test true past =
-        let none : heard number calls ≡ None = unheard calls first n number counted (grind (arith, nat_tests)) in
+        let none : call_numbered number calls ≡ None = unheard calls first n number counted
+        (grind (arith, nat_tests)) in
         let wrong : None ≡ Some call = sym none ∙ found in absurd cc
     by_test false before = grind (arith, nat_tests)
 
@@ -75,7 +76,7 @@ heard_behind before (call ∷ some) first m (suc n) counted more = (
     itself : call.no == call.no ≡ true
     itself = grind (arith, nat_tests)
 
-    here : option_or (heard call.no before) (heard call.no (call ∷ some)) ≡ Some call
+    here : option_or (call_numbered call.no before) (call_numbered call.no (call ∷ some)) ≡ Some call
     here = rw (unheard before first m call.no counted (omega (arith, number)), itself) refl
 
     counted' : map (λ (c : AnyCall). c.no) (before ++ call ∷ []) ≡ numbers_from first (suc m)

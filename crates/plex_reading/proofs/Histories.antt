@@ -16,7 +16,7 @@ use Rattle.engine_api.specs.declared.asks.What.TheVariants as what
 use Rattle.engine_api.specs.declared.histories.Entry.{Entry}
 use Rattle.engine_api.specs.Meaning.{Meaning}
 use Rattle.engine_api.specs.History.{Call, calls, numbers, Continues, IsLegal, IsPoint}
-use Rattle.engine_api.specs.Told.{told}
+use Rattle.engine_api.specs.Told.{told_of}
 use Rattle.engine_api.proofs.HistoryLaws.{calls-append, continues_legal}
 use Rattle.cache_model.specs.Meaning.{cache_meaning}
 use Rattle.list_model.specs.Meaning.{list_meaning}
@@ -68,7 +68,7 @@ module _ {C R I S : Type 0} (meaning : Meaning C R I S) (form : StrForm) (of : A
     no = entry.no;
     by = entry.by;
     ask = of asked;
-    told = told entry.no asked
+    told = told_of entry.no asked
         entry.reply;
   }
 

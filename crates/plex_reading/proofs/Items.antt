@@ -23,9 +23,9 @@ use Rattle.plex_script.specs.declared.scripts.Line.{Line}
 use Rattle.plex_script.specs.declared.scripts.Script.{Script}
 use Rattle.plex_script.specs.declared.transcripts.Shown.{Shown}
 use Rattle.plex_script.specs.declared.transcripts.Shown.TheVariants as shown
-use Rattle.plex_script.specs.Agent.{first_step, step_after, asked_by, common}
+use Rattle.plex_script.specs.Agent.{first_step, step_after, asked_by, shell_ask}
 use Rattle.plex_script.specs.Causes.{kind_of}
-use Rattle.plex_script.specs.Heard.{AnyCall, heard, calls_on, length_on}
+use Rattle.plex_script.specs.Heard.{AnyCall, call_numbered, calls_on, length_on}
 use Rattle.plex_script.specs.Follows.{IsHeard, Runs, ShowsTest, ShowsWord, ShowsAct, ShowsLines, ShowsClosing, ShowsClosings, Follows, lines_of, is_linked_by}
 use Rattle.plex_report.specs.Naming.{structure_word}
 use Rattle.plex_report.specs.Lines.{shown_line, bit_word, binary_digits}
@@ -116,7 +116,7 @@ bounded_back [] ys h = h
 bounded_back (x ∷ xs) ys h = bounded_back xs ys h.1
 
 module _ (script : Script) (histories : List AnyHistory) (small : (on : StrNo) → length_on histories on < 2 ^ 64)
-    (within : (on : StrNo) (number : ℕ) (call : AnyCall) → heard number (calls_on histories on) ≡ Some call
+    (within : (on : StrNo) (number : ℕ) (call : AnyCall) → call_numbered number (calls_on histories on) ≡ Some call
     → number ≤ length_on histories on) where
   abbrev line : Shown → List ℕ
   line item = shown_line script item
@@ -425,10 +425,10 @@ module _ (script : Script) (histories : List AnyHistory) (small : (on : StrNo) �
     where
       by_link : (b : Bool)
           → MatchBool b
-          (Runs form.kind (Some (common form.kind cmd.Disconnect)) (calls_on histories on) conn on
+          (Runs form.kind (Some (shell_ask form.kind cmd.Disconnect)) (calls_on histories on) conn on
           (step.Call 0) items) (items ≡ [])
           → MatchBool b
-          (Runs form.kind (Some (common form.kind cmd.Disconnect)) (calls_on histories on) conn on
+          (Runs form.kind (Some (shell_ask form.kind cmd.Disconnect)) (calls_on histories on) conn on
           (step.Call 0) items') (items' ≡ [])
           → Same items items' xs ys
       by_link true runs runs' = runs_same form.kind _ conn on (step.Call 0) items items' xs ys runs runs' e

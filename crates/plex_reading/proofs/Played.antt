@@ -19,8 +19,8 @@ use Rattle.plex_script.specs.declared.scripts.Line.{Line}
 use Rattle.plex_script.specs.declared.scripts.Script.{Script}
 use Rattle.plex_script.specs.declared.transcripts.Shown.{Shown}
 use Rattle.plex_script.specs.declared.transcripts.Shown.TheVariants as shown
-use Rattle.plex_script.specs.Agent.{first_step, step_after, asked_by, common, call_of}
-use Rattle.plex_script.specs.Heard.{AnyCall, heard, calls_on}
+use Rattle.plex_script.specs.Agent.{first_step, step_after, asked_by, shell_ask, call_of}
+use Rattle.plex_script.specs.Heard.{AnyCall, call_numbered, calls_on}
 use Rattle.plex_script.specs.Follows.{IsHeard, Runs, ShowsAct, ShowsLines, ShowsClosing, ShowsClosings, Follows, lines_of, number_on, numbers_on, is_linked_by}
 use Rattle.plex_script.proofs.TestLaws.{test_numbers, word_numbers}
 use Rattle.serial_model.proofs.Closings.{runs_elsewhere}
@@ -31,12 +31,12 @@ use Rattle.plex_reading.proofs.Works.{Work, work_of, closing, works, Consumes, P
 
 -- what is heard under a call's number is the call
 heard_is : (calls : List AnyCall) (by : ConnId) (asked : Option AnyAsk) (number : ℕ) (told : Told) (call : AnyCall)
-    → IsHeard calls by asked number told → number ≡ call.no → heard call.no calls ≡ Some call
+    → IsHeard calls by asked number told → number ≡ call.no → call_numbered call.no calls ≡ Some call
     → (asked ≡ Some call.ask) × (told ≡ call.told)
 heard_is calls by None number told call is same found = absurd is
 heard_is calls by (Some asked) number told call is same found =
     let both : Some (record { no = number; by = by; ask = asked; told = told }) ≡ Some call =
-    sym is ∙ (ap (λ (n : ℕ). heard n calls) same ∙ found) in
+    sym is ∙ (ap (λ (n : ℕ). call_numbered n calls) same ∙ found) in
     (cc, cc)
 
 itself : (n : ℕ) → n == n ≡ true
@@ -182,7 +182,7 @@ module _ (forms : List StrForm) (histories : List AnyHistory) (on : StrNo) (form
     each,
   )
   lines_play (line ∷ lines) items own later (form', (first, (others, known', split, shows, more))) numbers each =
-      by_place (line.on.0 == on.0) refl (λ own' same heard. lines_play lines others own' later more same heard)
+      by_place (line.on.0 == on.0) refl (λ own' same hearing. lines_play lines others own' later more same hearing)
     where
       parted : numbers_on on first ++ (numbers_on on others ++ later) ≡ map (λ (call : AnyCall). call.no) own
       parted =
@@ -204,12 +204,12 @@ module _ (forms : List StrForm) (histories : List AnyHistory) (on : StrNo) (form
           let one : Some form' ≡ Some form = sym known' ∙ (ap (λ (n : ℕ). slice_get forms n) place ∙ known) in
           let same_form : form' ≡ form = cc in
           let parts = parts_of own (numbers_on on first) (numbers_on on others ++ later) parted in
-          let heard : AreHeard there (parts.front ++ parts.back) = subst (AreHeard there) parts.whole each in
+          let hearing : AreHeard there (parts.front ++ parts.back) = subst (AreHeard there) parts.whole each in
           let here : ShowsAct form there line.by on line.retry line.act first =
           subst (λ (f : StrForm). ShowsAct f there line.by on line.retry line.act first) same_form
           (subst (λ (o : StrNo). ShowsAct form'
           (calls_on histories o) line.by o line.retry line.act first) is shows) in
-          let behind = goes_on parts.back parts.second (heard_back there parts.front parts.back heard) in (
+          let behind = goes_on parts.back parts.second (heard_back there parts.front parts.back hearing) in (
             behind.0,
             (
               parts.front,
@@ -217,7 +217,7 @@ module _ (forms : List StrForm) (histories : List AnyHistory) (on : StrNo) (form
                 parts.back,
                 parts.whole,
                 act_consumes form there line.by on line.retry line.act first parts.front here parts.first
-                    (heard_front there parts.front parts.back heard),
+                    (heard_front there parts.front parts.back hearing),
                 behind.1,
               ),
             ),
@@ -238,7 +238,7 @@ closing_elsewhere : (form : StrForm) (calls : List AnyCall) (conn : ConnId) (on 
 closing_elsewhere form calls conn on other before items apart h = by_link (is_linked_by calls conn on before) h
   where
     by_link : (b : Bool)
-        → MatchBool b (Runs form.kind (Some (common form.kind cmd.Disconnect)) calls conn on (step.Call 0) items)
+        → MatchBool b (Runs form.kind (Some (shell_ask form.kind cmd.Disconnect)) calls conn on (step.Call 0) items)
         (items ≡ [])
         → numbers_on other items ≡ []
     by_link true runs = runs_elsewhere form.kind _ calls conn on other (step.Call 0) items apart runs
@@ -249,13 +249,13 @@ closing_here : (form : StrForm) (calls : List AnyCall) (conn : ConnId) (on : Str
     (mine : List AnyCall)
     → ShowsClosing form calls conn on before items → numbers_on on items ≡ map (λ call. call.no) mine
     → AreHeard calls mine
-    → (mine ≡ []) ⊎ Consumes form.kind (Some (common form.kind cmd.Disconnect)) (step.Call 0) mine
+    → (mine ≡ []) ⊎ Consumes form.kind (Some (shell_ask form.kind cmd.Disconnect)) (step.Call 0) mine
 closing_here form calls conn on before items mine h numbers each = by_link (is_linked_by calls conn on before) h
   where
     by_link : (b : Bool)
-        → MatchBool b (Runs form.kind (Some (common form.kind cmd.Disconnect)) calls conn on (step.Call 0) items)
+        → MatchBool b (Runs form.kind (Some (shell_ask form.kind cmd.Disconnect)) calls conn on (step.Call 0) items)
         (items ≡ [])
-        → (mine ≡ []) ⊎ Consumes form.kind (Some (common form.kind cmd.Disconnect)) (step.Call 0) mine
+        → (mine ≡ []) ⊎ Consumes form.kind (Some (shell_ask form.kind cmd.Disconnect)) (step.Call 0) mine
     by_link true runs = inr (runs_consume form.kind _ calls conn on (step.Call 0) items mine runs numbers each)
     by_link false none = inl (none_mine mine (numbers_on on items) (ap (numbers_on on) none) numbers)
 
@@ -280,13 +280,13 @@ closings_play : (histories : List AnyHistory) (conn : ConnId) (first : ℕ) (for
     (on : StrNo) (form : StrForm) (mine : List AnyCall) → ShowsClosings histories conn first forms before items
     → ((k : ℕ) (f : StrForm) → slice_get forms k ≡ Some f → first + k ≡ on.0 → f ≡ form)
     → numbers_on on items ≡ map (λ call. call.no) mine → AreHeard (calls_on histories on) mine
-    → (mine ≡ []) ⊎ Consumes form.kind (Some (common form.kind cmd.Disconnect)) (step.Call 0) mine
+    → (mine ≡ []) ⊎ Consumes form.kind (Some (shell_ask form.kind cmd.Disconnect)) (step.Call 0) mine
 closings_play histories conn first [] before items on form mine shows forms numbers each =
     inl (none_mine mine (numbers_on on items) (ap (numbers_on on) shows) numbers)
 closings_play histories conn first (f ∷ fs) before items on form mine
     (here, (others, split, shows, more)) forms numbers each =
     by_place (first == on.0) refl
-    (λ same heard. closings_play histories conn (first + 1) fs before others on form mine more later same heard)
+    (λ same hearing. closings_play histories conn (first + 1) fs before others on form mine more later same hearing)
   where
     at_first : StrNo
     at_first = record { 0 = first }
@@ -299,8 +299,8 @@ closings_play histories conn first (f ∷ fs) before items on form mine
 
     by_place : (b : Bool) → first == on.0 ≡ b
         → (numbers_on on others ≡ map (λ (call : AnyCall). call.no) mine → AreHeard (calls_on histories on) mine
-        → (mine ≡ []) ⊎ Consumes form.kind (Some (common form.kind cmd.Disconnect)) (step.Call 0) mine)
-        → (mine ≡ []) ⊎ Consumes form.kind (Some (common form.kind cmd.Disconnect)) (step.Call 0) mine
+        → (mine ≡ []) ⊎ Consumes form.kind (Some (shell_ask form.kind cmd.Disconnect)) (step.Call 0) mine)
+        → (mine ≡ []) ⊎ Consumes form.kind (Some (shell_ask form.kind cmd.Disconnect)) (step.Call 0) mine
     by_place true same goes_on =
         let place : first ≡ on.0 = grind (arith, nat_tests) in
         let is : at_first ≡ on = ap (λ (n : ℕ). (let it : StrNo = record { 0 = n } in it)) place in
@@ -321,7 +321,7 @@ closings_play histories conn first (f ∷ fs) before items on form mine
 -- ---- the whole
 
 last_plays : (kind : Kind) (rest : List AnyCall)
-    → (rest ≡ []) ⊎ Consumes kind (Some (common kind cmd.Disconnect)) (step.Call 0) rest
+    → (rest ≡ []) ⊎ Consumes kind (Some (shell_ask kind cmd.Disconnect)) (step.Call 0) rest
     → Plays kind (closing kind ∷ []) rest
 last_plays kind rest (inl none) = inl none
 last_plays kind rest (inr consumes) = inr (rest, ([], sym (append-nil rest), consumes, refl))
@@ -352,9 +352,9 @@ own_plays script histories conn items on form own follows known numbers each =
         → AreHeard (calls_on histories on) rest
         → MatchBool b (follows.after ≡ [])
         (ShowsClosings histories conn 0 script.structures follows.during follows.after)
-        → (rest ≡ []) ⊎ Consumes form.kind (Some (common form.kind cmd.Disconnect)) (step.Call 0) rest
-    by_caller true rest same heard none = inl
+        → (rest ≡ []) ⊎ Consumes form.kind (Some (shell_ask form.kind cmd.Disconnect)) (step.Call 0) rest
+    by_caller true rest same hearing none = inl
         (none_mine rest (numbers_on on follows.after) (ap (numbers_on on) none) same)
-    by_caller false rest same heard shows =
+    by_caller false rest same hearing shows =
         closings_play histories conn 0 script.structures follows.during follows.after on form rest shows forms same
-        heard
+        hearing

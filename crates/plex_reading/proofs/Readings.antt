@@ -11,7 +11,7 @@ use Rattle.plex_script.specs.declared.transcripts.AgentEnd.TheVariants as ended
 use Rattle.plex_script.specs.declared.transcripts.Shown.{Shown}
 use Rattle.plex_script.specs.declared.transcripts.Shown.TheVariants as shown
 use Rattle.plex_script.specs.declared.transcripts.Transcript.{Transcript}
-use Rattle.plex_script.specs.Heard.{AnyCall, any_calls, heard, own_calls, calls_on, length_on}
+use Rattle.plex_script.specs.Heard.{AnyCall, any_calls, call_numbered, own_calls, calls_on, length_on}
 use Rattle.plex_script.specs.Follows.{Follows, numbers_on}
 use Rattle.any_model.specs.Kinds.{numbers_from}
 use Rattle.plex_report.specs.Naming.{caller_name}
@@ -61,7 +61,7 @@ AreTold script histories c (transcript ∷ transcripts) =
     IsTold script histories c transcript × AreTold script histories (c + 1) transcripts
 
 module _ (script : Script) (histories : List AnyHistory) (small : (on : StrNo) → length_on histories on < 2 ^ 64)
-    (within : (on : StrNo) (number : ℕ) (call : AnyCall) → heard number (calls_on histories on) ≡ Some call
+    (within : (on : StrNo) (number : ℕ) (call : AnyCall) → call_numbered number (calls_on histories on) ≡ Some call
     → number ≤ length_on histories on) where
   transcripts_same : (c : ℕ) (one other : List Transcript) (xs ys : List (List ℕ)) → length one ≡ length other
       → AreTold script histories c one → AreTold script histories c other
@@ -116,7 +116,7 @@ module _ (script : Script) (reading : Reading) (is : IsReading script reading)
           let form = form_at on.0 entries e in
           rw e (any_counted form.0 entries (is.histories_right on.0 form.0 entries form.1 e).legal)
 
-  within_history : (on : StrNo) (number : ℕ) (call : AnyCall) → heard number (calls_on histories on) ≡ Some call
+  within_history : (on : StrNo) (number : ℕ) (call : AnyCall) → call_numbered number (calls_on histories on) ≡ Some call
       → number ≤ length_on histories on
   within_history on number call found =
       (let low : number < 1 + length_on histories on =

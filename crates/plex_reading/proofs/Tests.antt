@@ -22,7 +22,7 @@ use Rattle.plex_script.specs.declared.transcripts.AgentEnd.TheVariants as ended
 use Rattle.plex_script.specs.declared.transcripts.Shown.{Shown}
 use Rattle.plex_script.specs.declared.transcripts.Shown.TheVariants as shown
 use Rattle.plex_script.specs.declared.transcripts.Transcript.{Transcript}
-use Rattle.plex_script.specs.Agent.{first_step, step_after, common}
+use Rattle.plex_script.specs.Agent.{first_step, step_after, shell_ask}
 use Rattle.plex_script.specs.Heard.{AnyCall, any_length, calls_on}
 use Rattle.plex_script.specs.Follows.{Runs, ShowsTest, ShowsWord, ShowsAct, ShowsLines, ShowsClosing, ShowsClosings, Follows, lines_of, is_linked_by}
 use Rattle.any_model.proofs.WordLaws.{word_below}
@@ -128,10 +128,10 @@ module _ (forms : List StrForm) where
   closing_placed form calls conn on before items shows = by_link (is_linked_by calls conn on before) shows
     where
       by_link : (b : Bool)
-          → MatchBool b (Runs form.kind (Some (common form.kind cmd.Disconnect)) calls conn on (step.Call 0) items)
+          → MatchBool b (Runs form.kind (Some (shell_ask form.kind cmd.Disconnect)) calls conn on (step.Call 0) items)
           (items ≡ [])
           → ArePlaced forms items
-      by_link true runs = runs_placed form.kind (Some (common form.kind cmd.Disconnect)) calls conn on
+      by_link true runs = runs_placed form.kind (Some (shell_ask form.kind cmd.Disconnect)) calls conn on
           (step.Call 0) items runs
       by_link false none = subst (ArePlaced forms) (sym none) tt
 

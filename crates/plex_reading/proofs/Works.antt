@@ -5,7 +5,7 @@ use Rattle.cf_types.specs.declared.shell_commands.ShellCmd.TheVariants as cmd
 use Rattle.plex_script.specs.declared.agents.Step.{Step}
 use Rattle.plex_script.specs.declared.agents.Step.TheVariants as step
 use Rattle.plex_script.specs.declared.scripts.AnyAsk.{AnyAsk}
-use Rattle.plex_script.specs.Agent.{first_step, step_after, asked_by, common, call_of}
+use Rattle.plex_script.specs.Agent.{first_step, step_after, asked_by, shell_ask, call_of}
 use Rattle.plex_script.specs.Heard.{AnyCall}
 use Rattle.plex_script.specs.declared.scripts.Line.{Line}
 
@@ -19,7 +19,7 @@ work_of line = record { line = call_of line.act; first = first_step line.act lin
 
 -- a caller's last work at a structure: it departs
 abbrev pub closing : Kind → Work
-closing kind = record { line = Some (common kind cmd.Disconnect); first = step.Call 0 }
+closing kind = record { line = Some (shell_ask kind cmd.Disconnect); first = step.Call 0 }
 
 -- the works at a structure of a caller, the departure last
 abbrev pub works : Kind → List Line → List Work

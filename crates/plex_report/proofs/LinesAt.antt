@@ -5,7 +5,7 @@ use Rattle.std.specs.Option.{option_map_or}
 use Rattle.std.proofs.lemmas.List.Sums.{sum_by-cons}
 use Rattle.std.proofs.lemmas.List.{length-map}
 use Rattle.std.proofs.lemmas.Option.{slice_get-map, slice_get-get_or, slice_get_read}
-use Rattle.plex_spell.specs.Words.{ended}
+use Rattle.plex_spell.specs.Words.{line_text}
 use Rattle.plex_report.specs.Report.{lines_each}
 
 -- ---- lists
@@ -100,13 +100,14 @@ length-under f head xs = let len : length (map f xs) ≡ length xs = length-map 
 
 -- ---- the text
 
-pub text_more : (lines : List (List ℕ)) (k : ℕ) (line : List ℕ) → slice_get (map ended lines) k ≡ Some line
-    → flat_map ended (take (k + 1) lines) ≡ flat_map ended (take k lines) ++ line
+pub text_more : (lines : List (List ℕ)) (k : ℕ) (line : List ℕ) → slice_get (map line_text lines) k ≡ Some line
+    → flat_map line_text (take (k + 1) lines) ≡ flat_map line_text (take k lines) ++ line
 text_more lines k line h = rw add-one (one_more lines k line h)
   where
-    one_more : (lines : List (List ℕ)) (k : ℕ) (line : List ℕ) → slice_get (map ended lines) k ≡ Some line
-        → flat_map ended (take (suc k) lines) ≡ flat_map ended (take k lines) ++ line
+    one_more : (lines : List (List ℕ)) (k : ℕ) (line : List ℕ) → slice_get (map line_text lines) k ≡ Some line
+        → flat_map line_text (take (suc k) lines) ≡ flat_map line_text (take k lines) ++ line
     one_more [] k line h = cc
-    one_more (l ∷ ls) zero line h = append-nil (ended l) ∙ ap (λ o. unwrap_or o []) h
+    one_more (l ∷ ls) zero line h = append-nil (line_text l) ∙ ap (λ o. unwrap_or o []) h
     one_more (l ∷ ls) (suc k) line h =
-        ap (λ t. ended l ++ t) (one_more ls k line h) ∙ sym (append_assoc (ended l) (flat_map ended (take k ls)) line)
+        ap (λ t. line_text l ++ t) (one_more ls k line h) ∙ sym
+        (append_assoc (line_text l) (flat_map line_text (take k ls)) line)

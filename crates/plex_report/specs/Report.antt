@@ -8,7 +8,7 @@ use Rattle.cf_types.specs.declared.forms.Pref.{Pref}
 use Rattle.plex_script.specs.declared.asks.AnyHistory.{AnyHistory}
 use Rattle.plex_script.specs.declared.scripts.Script.{Script}
 use Rattle.plex_script.specs.declared.transcripts.Transcript.{Transcript}
-use Rattle.plex_spell.specs.Words.{ended}
+use Rattle.plex_spell.specs.Words.{line_text}
 use Rattle.plex_plain.specs.PolicyLines.{facility_line, structure_lines, connector_line}
 use Rattle.plex_report.specs.Lines.{history_lines, transcript_lines}
 
@@ -44,7 +44,7 @@ report_lines script histories transcripts =
 
 -- each line of the report, with its line feed
 abbrev pub report : Script → List AnyHistory → List Transcript → List ℕ
-report script histories transcripts = flat_map ended (report_lines script histories transcripts)
+report script histories transcripts = flat_map line_text (report_lines script histories transcripts)
 
 -- ---- places of lines
 

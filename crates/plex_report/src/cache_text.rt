@@ -2,7 +2,7 @@
 
 ghost use Rattle.std.specs.Prelude.{◌≡◌, ◌∷◌, ◌++◌, [], codes, OnOk};
 ghost use Rattle.std.specs.Fmt.{decimal};
-ghost use Rattle.plex_spell.specs.Words.{spaced};
+ghost use Rattle.plex_spell.specs.Words.{tail_of};
 ghost use Rattle.plex_plain.specs.PlainWords.{told_words, text_words};
 ghost use Rattle.plex_report.specs.CommandWords.{cache_words};
 ghost use Rattle.plex_report.specs.ReplyWords.{cache_reply_words, changed_word, class_words};
@@ -32,7 +32,7 @@ fn changed_text(changed: bool) -> &'static [u8]
 
 // The castout class that the directory tells.
 fn put_told_class(line: &mut Vec<u8>, class: Option<u32>) -> Result<(), NoMemory>
-    ensures { OnOk result (line.new.items ≡ line.old.items ++ spaced (class_words class)) }
+    ensures { OnOk result (line.new.items ≡ line.old.items ++ tail_of (class_words class)) }
 {
     match class {
         None => put_word(line, b"UNCHANGED NONE"),
@@ -49,7 +49,7 @@ fn put_directory(
     regs: u32,
 ) -> Result<(), NoMemory>
     ensures { OnOk result (line.new.items ≡ line.old.items
-        ++ spaced (codes "STG" ∷ decimal stg ∷ codes "LOCK" ∷ holder_word script.now holder
+        ++ tail_of (codes "STG" ∷ decimal stg ∷ codes "LOCK" ∷ holder_word script.now holder
         ∷ codes "REGS" ∷ decimal regs ∷ [])) }
 {
     put_of(line, b"STG", stg)?;
@@ -61,7 +61,7 @@ fn put_directory(
 // Data and adjunct of an entry.
 fn put_entry(line: &mut Vec<u8>, body: &Body, adj: &Option<Adjunct>) -> Result<(), NoMemory>
     ensures { OnOk result (line.new.items ≡ line.old.items
-        ++ spaced (codes "DATA" ∷ body.now ∷ told_words (codes "ADJ") text_words adj.now)) }
+        ++ tail_of (codes "DATA" ∷ body.now ∷ told_words (codes "ADJ") text_words adj.now)) }
 {
     put_word(line, b"DATA")?;
     put_word(line, body.bytes())?;

@@ -1,7 +1,7 @@
 //! The words of events.
 
 ghost use Rattle.std.specs.Prelude.{◌≡◌, ◌∷◌, ◌++◌, [], OnOk};
-ghost use Rattle.plex_spell.specs.Words.{spaced};
+ghost use Rattle.plex_spell.specs.Words.{tail_of};
 ghost use Rattle.plex_plain.specs.Naming.{resource_word};
 ghost use Rattle.plex_report.specs.Naming.{caller_word};
 ghost use Rattle.plex_report.specs.ReplyWords.{event_words};
@@ -14,7 +14,7 @@ use plex_script::Script;
 // A word and a connector.
 fn put_about(line: &mut Vec<u8>, script: &Script, word: &[u8], conn: ConnId) -> Result<(), NoMemory>
     ensures { OnOk result (line.new.items ≡ line.old.items
-        ++ spaced (word.now ∷ caller_word script.now conn ∷ [])) }
+        ++ tail_of (word.now ∷ caller_word script.now conn ∷ [])) }
 {
     put_word(line, word)?;
     put_caller(line, script, conn)
@@ -29,7 +29,7 @@ fn put_waiter(
     conn: ConnId,
 ) -> Result<(), NoMemory>
     ensures { OnOk result (line.new.items ≡ line.old.items
-        ++ spaced (word.now ∷ resource_word r ∷ caller_word script.now conn ∷ [])) }
+        ++ tail_of (word.now ∷ resource_word r ∷ caller_word script.now conn ∷ [])) }
 {
     put_word(line, word)?;
     put_resource(line, r)?;
@@ -39,7 +39,7 @@ fn put_waiter(
 /// Puts an event to a line.
 pub(crate) fn put_event(line: &mut Vec<u8>, script: &Script, event: &Event) -> Result<(), NoMemory>
     ensures { OnOk result (line.new.items ≡ line.old.items
-        ++ spaced (event_words script.now event.now)) }
+        ++ tail_of (event_words script.now event.now)) }
 {
     match event {
         Event::NewConn { conn } => put_about(line, script, b"NEWCONN", *conn),

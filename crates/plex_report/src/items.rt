@@ -3,7 +3,7 @@
 ghost use Rattle.std.specs.Prelude.{◌≡◌, ℕ, List, ◌∷◌, ◌++◌, [], codes, map, OnOk};
 ghost use Rattle.std.specs.Fmt.{decimal};
 ghost use Rattle.plex_spell.specs.Tokens.{name_word};
-ghost use Rattle.plex_spell.specs.Words.{spaced};
+ghost use Rattle.plex_spell.specs.Words.{tail_of};
 ghost use Rattle.plex_plain.specs.Naming.{record_word};
 ghost use Rattle.plex_report.specs.ReplyWords.{index_word, count_word, held_word, counted_words};
 
@@ -19,7 +19,7 @@ pub(crate) trait Item {
 
     /// Puts a blank and the item to a line.
     fn put(&self, line: &mut Vec<u8>) -> Result<(), NoMemory>
-        ensures { OnOk result (line.new.items ≡ line.old.items ++ spaced (word self.now ∷ [])) };
+        ensures { OnOk result (line.new.items ≡ line.old.items ++ tail_of (word self.now ∷ [])) };
 }
 
 impl Item for Name16 {
@@ -84,7 +84,7 @@ impl Item for (Resource, bool, Adjunct) {
 
 // Puts each of the items to a line, with a blank before it.
 fn put_all<T: Item>(line: &mut Vec<u8>, items: &[T]) -> Result<(), NoMemory>
-    ensures { OnOk result (line.new.items ≡ line.old.items ++ spaced (map T.word items.now)) }
+    ensures { OnOk result (line.new.items ≡ line.old.items ++ tail_of (map T.word items.now)) }
 {
     for item in items {
         item.put(line)?;
@@ -99,7 +99,7 @@ pub(crate) fn put_counted<T: Item>(
     items: &[T],
 ) -> Result<(), NoMemory>
     ensures { OnOk result (line.new.items ≡ line.old.items
-        ++ spaced (counted_words word.now T.word items.now)) }
+        ++ tail_of (counted_words word.now T.word items.now)) }
 {
     put_word(line, word)?;
     put_number(line, items.len() as u64)?;

@@ -3,7 +3,7 @@
 
 ghost use Rattle.std.specs.Prelude.{◌≡◌, ◌∷◌, ◌++◌, [], OnOk, IfOk};
 ghost use Rattle.std.specs.Fmt.{decimal};
-ghost use Rattle.plex_spell.specs.Words.{spaced};
+ghost use Rattle.plex_spell.specs.Words.{tail_of};
 ghost use Rattle.plex_report.specs.Naming.{caller_word, caller_name, structure_name, structure_word};
 ghost use Rattle.plex_report.specs.RefusalWords.{holder_word};
 
@@ -19,7 +19,7 @@ pub(crate) fn put_caller_name(
     number: usize,
 ) -> Result<(), NoMemory>
     ensures { OnOk result (line.new.items ≡ line.old.items
-        ++ spaced (caller_name script.now number ∷ [])) }
+        ++ tail_of (caller_name script.now number ∷ [])) }
 {
     plex_plain::put_caller(line, script.connectors.items(), number)
 }
@@ -27,7 +27,7 @@ pub(crate) fn put_caller_name(
 /// Puts a blank and a caller to a line.
 pub(crate) fn put_caller(line: &mut Vec<u8>, script: &Script, by: ConnId) -> Result<(), NoMemory>
     ensures { OnOk result (line.new.items ≡ line.old.items
-        ++ spaced (caller_word script.now by ∷ [])) }
+        ++ tail_of (caller_word script.now by ∷ [])) }
 {
     put_caller_name(line, script, by.0 as usize)
 }
@@ -39,7 +39,7 @@ pub(crate) fn put_holder(
     holder: Option<ConnId>,
 ) -> Result<(), NoMemory>
     ensures { OnOk result (line.new.items ≡ line.old.items
-        ++ spaced (holder_word script.now holder ∷ [])) }
+        ++ tail_of (holder_word script.now holder ∷ [])) }
 {
     match holder {
         None => put_word(line, b"NONE"),

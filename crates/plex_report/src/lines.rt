@@ -2,7 +2,7 @@
 
 ghost use Rattle.std.specs.Prelude.{◌≡◌, ◌∷◌, ◌++◌, [], codes, length, IfOk, OnOk};
 ghost use Rattle.std.specs.Fmt.{decimal};
-ghost use Rattle.plex_spell.specs.Words.{spaced};
+ghost use Rattle.plex_spell.specs.Words.{tail_of};
 ghost use Rattle.plex_plain.specs.PolicyLines.{facility_line, form_line, pref_line, connector_line};
 ghost use Rattle.plex_script.specs.Causes.{kind_of};
 ghost use Rattle.plex_report.specs.Naming.{caller_name, structure_name};
@@ -112,7 +112,7 @@ fn is_of_vary<C>(what: &What<C>) -> bool
 
 // OK, where a reply is a loss.
 fn put_ok(line: &mut Vec<u8>, answer: &ShellReply) -> Result<(), NoMemory>
-    ensures { OnOk result (line.new.items ≡ line.old.items ++ spaced (vary_words answer.now)) }
+    ensures { OnOk result (line.new.items ≡ line.old.items ++ tail_of (vary_words answer.now)) }
 {
     match answer {
         ShellReply::Simplex { .. } => put_word(line, b"OK"),
@@ -130,7 +130,7 @@ fn put_outcome(
     answer: &ShellReply,
 ) -> Result<(), NoMemory>
     ensures { OnOk result (line.new.items ≡ line.old.items
-        ++ spaced (ok_words vary answer.now ++ shell_reply_words script.now answer.now)) }
+        ++ tail_of (ok_words vary answer.now ++ shell_reply_words script.now answer.now)) }
 {
     if vary {
         put_ok(line, answer)?;
@@ -145,7 +145,7 @@ fn put_reply<R: Spelled>(
     reply: &Reply<R>,
 ) -> Result<(), NoMemory>
     ensures { OnOk result (line.new.items ≡ line.old.items
-        ++ spaced (reply_words R.words script.now vary reply.now)) }
+        ++ tail_of (reply_words R.words script.now vary reply.now)) }
 {
     match reply {
         Reply::Shell(answer) => put_outcome(line, script, vary, answer),
@@ -159,7 +159,7 @@ fn put_reply<R: Spelled>(
 
 fn put_ask<C: Spelled>(line: &mut Vec<u8>, script: &Script, ask: &Ask<C>) -> Result<(), NoMemory>
     ensures { OnOk result (line.new.items ≡ line.old.items
-        ++ spaced (ask_words C.words script.now ask.now)) }
+        ++ tail_of (ask_words C.words script.now ask.now)) }
 {
     match ask {
         Ask::Shell(cmd) => cmd.put(line, script),
@@ -174,7 +174,7 @@ fn put_what<C: Spelled>(
     what: &What<C>,
 ) -> Result<(), NoMemory>
     ensures { OnOk result (line.new.items ≡ line.old.items
-        ++ spaced (what_words C.words script.now by what.now)) }
+        ++ tail_of (what_words C.words script.now by what.now)) }
 {
     match what {
         What::Call(ask) => {
@@ -228,7 +228,7 @@ fn bit_text(kind: Kind, bit: bool) -> &'static [u8]
 #[tactic(auto, using(crate::proofs::Digits::line_more, crate::proofs::Digits::digits_end))]
 fn put_bits(line: &mut Vec<u8>, bits: u32) -> Result<(), NoMemory>
     ensures { OnOk result (line.new.items ≡ line.old.items
-        ++ spaced (binary_digits 32 bits ∷ [])) }
+        ++ tail_of (binary_digits 32 bits ∷ [])) }
 {
     put_word(line, b"")?;
     let mut left = bits;
@@ -242,7 +242,7 @@ fn put_bits(line: &mut Vec<u8>, bits: u32) -> Result<(), NoMemory>
 // A test of a bit.
 fn put_test(line: &mut Vec<u8>, index: u32, bit: &[u8], at: u32) -> Result<(), NoMemory>
     ensures { OnOk result (line.new.items ≡ line.old.items
-        ++ spaced (codes "TEST" ∷ decimal index ∷ bit.now ∷ decimal at ∷ [])) }
+        ++ tail_of (codes "TEST" ∷ decimal index ∷ bit.now ∷ decimal at ∷ [])) }
 {
     put_of(line, b"TEST", index)?;
     put_of(line, bit, at)
@@ -251,7 +251,7 @@ fn put_test(line: &mut Vec<u8>, index: u32, bit: &[u8], at: u32) -> Result<(), N
 // A test of a word.
 fn put_word_test(line: &mut Vec<u8>, word: u32, bits: u32, at: u32) -> Result<(), NoMemory>
     ensures { OnOk result (line.new.items ≡ line.old.items
-        ++ spaced (codes "TESTWORD" ∷ decimal word ∷ binary_digits 32 bits ∷ decimal at ∷ [])) }
+        ++ tail_of (codes "TESTWORD" ∷ decimal word ∷ binary_digits 32 bits ∷ decimal at ∷ [])) }
 {
     put_of(line, b"TESTWORD", word)?;
     put_bits(line, bits)?;
@@ -268,7 +268,7 @@ fn test_text(word: bool) -> &'static [u8]
 // A test past the vector.
 fn put_bad_index(line: &mut Vec<u8>, index: u32, word: bool, len: u32) -> Result<(), NoMemory>
     ensures { OnOk result (line.new.items ≡ line.old.items
-        ++ spaced (test_word word ∷ decimal index ∷ codes "BADINDEX" ∷ decimal len ∷ [])) }
+        ++ tail_of (test_word word ∷ decimal index ∷ codes "BADINDEX" ∷ decimal len ∷ [])) }
 {
     put_of(line, test_text(word), index)?;
     put_of(line, b"BADINDEX", len)

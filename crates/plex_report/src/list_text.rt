@@ -2,7 +2,7 @@
 
 ghost use Rattle.std.specs.Prelude.{◌≡◌, ◌∷◌, ◌++◌, [], codes, OnOk};
 ghost use Rattle.std.specs.Fmt.{decimal};
-ghost use Rattle.plex_spell.specs.Words.{spaced};
+ghost use Rattle.plex_spell.specs.Words.{tail_of};
 ghost use Rattle.plex_plain.specs.Naming.{record_word};
 ghost use Rattle.plex_report.specs.CommandWords.{list_words};
 ghost use Rattle.plex_report.specs.ReplyWords.{list_reply_words};
@@ -27,7 +27,7 @@ impl Spelled for ListCmd {
 // A record's id and header.
 fn put_entry(line: &mut Vec<u8>, id: EntryId, header: u32) -> Result<(), NoMemory>
     ensures { OnOk result (line.new.items ≡ line.old.items
-        ++ spaced (codes "ENTRY" ∷ record_word id ∷ decimal header ∷ [])) }
+        ++ tail_of (codes "ENTRY" ∷ record_word id ∷ decimal header ∷ [])) }
 {
     put_word(line, b"ENTRY")?;
     put_record(line, id)?;

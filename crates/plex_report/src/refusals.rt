@@ -1,7 +1,7 @@
 //! The words of refusals.
 
 ghost use Rattle.std.specs.Prelude.{◌≡◌, ◌∷◌, ◌++◌, [], OnOk};
-ghost use Rattle.plex_spell.specs.Words.{spaced};
+ghost use Rattle.plex_spell.specs.Words.{tail_of};
 ghost use Rattle.plex_report.specs.RefusalWords.{connection_word, stage_word, refusal_number, refusal_word, refusal_fields, refusal_words};
 
 use crate::line_text::{put_caller, put_holder};
@@ -156,7 +156,7 @@ fn put_refusal_fields(
     refusal: &Refusal,
 ) -> Result<(), NoMemory>
     ensures { OnOk result (line.new.items ≡ line.old.items
-        ++ spaced (refusal_fields script.now refusal.now)) }
+        ++ tail_of (refusal_fields script.now refusal.now)) }
 {
     match refusal {
         Refusal::NotRegistered => Ok(()),
@@ -218,7 +218,7 @@ pub(crate) fn put_refusal(
     refusal: &Refusal,
 ) -> Result<(), NoMemory>
     ensures { OnOk result (line.new.items ≡ line.old.items
-        ++ spaced (refusal_words script.now refusal.now)) }
+        ++ tail_of (refusal_words script.now refusal.now)) }
 {
     put_number(line, u64::from(refusal_number(refusal)))?;
     put_word(line, refusal_text(refusal))?;

@@ -1,7 +1,7 @@
 //! The report, line by line and whole.
 
 ghost use Rattle.std.specs.Prelude.{◌≡◌, ℕ, ◌∷◌, ◌++◌, [], ◌==◌, codes, map, option_map, slice_get, IfOk, OnOk};
-ghost use Rattle.plex_spell.specs.Words.{ended};
+ghost use Rattle.plex_spell.specs.Words.{line_text};
 ghost use Rattle.plex_plain.specs.PolicyLines.{connector_line, structure_lines};
 ghost use Rattle.plex_report.specs.Lines.{entry_lines, history_lines, transcript_lines};
 ghost use Rattle.plex_report.specs.Report.{with_number, by_number, structures_lines, histories_lines, transcripts_lines, report_lines, report};
@@ -227,7 +227,7 @@ fn ended_line(
     k: usize,
 ) -> Result<Option<Vec<u8>>, NoMemory>
     ensures { IfOk result (λ line. option_map (λ v. v.items) line
-        ≡ slice_get (map ended (report_lines script.now histories.now transcripts.now)) k) }
+        ≡ slice_get (map line_text (report_lines script.now histories.now transcripts.now)) k) }
 {
     match bare_line(alloc, script, histories, transcripts, k)? {
         None => Ok(None),
@@ -253,7 +253,7 @@ pub fn line(
     k: u32,
 ) -> Result<Option<Vec<u8>>, NoMemory>
     ensures { IfOk result (λ line. option_map (λ v. v.items) line
-        ≡ slice_get (map ended (report_lines script.now histories.now transcripts.now)) k) }
+        ≡ slice_get (map line_text (report_lines script.now histories.now transcripts.now)) k) }
 {
     ended_line(alloc, script, histories, transcripts, k as usize)
 }

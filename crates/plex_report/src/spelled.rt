@@ -1,7 +1,7 @@
 //! What is spelled by words of a line: commands and replies.
 
 ghost use Rattle.std.specs.Prelude.{◌≡◌, ℕ, List, ◌++◌, OnOk};
-ghost use Rattle.plex_spell.specs.Words.{spaced};
+ghost use Rattle.plex_spell.specs.Words.{tail_of};
 ghost use Rattle.plex_script.specs.declared.scripts.Script.{Script};
 
 use cf_types::NoMemory;
@@ -14,5 +14,5 @@ pub(crate) trait Spelled {
     /// Puts the words to a line, with a blank before each.
     fn put(&self, line: &mut Vec<u8>, script: &Script) -> Result<(), NoMemory>
         ensures { OnOk result (line.new.items ≡ line.old.items
-            ++ spaced (words script.now self.now)) };
+            ++ tail_of (words script.now self.now)) };
 }

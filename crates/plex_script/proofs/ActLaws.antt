@@ -7,8 +7,8 @@ use Rattle.plex_spell.specs.declared.rigour.Rigour.{Rigour}
 use Rattle.plex_spell.specs.declared.rigour.Rigour.TheVariants.{Form, Limits, Names}
 use Rattle.std.specs.Str.Parse.{digits_value}
 use Rattle.std.proofs.lemmas.Bool.{and_parts}
-use Rattle.plex_spell.specs.Places.{kept}
-use Rattle.plex_spell.specs.Words.{same_word, begins_with, behind}
+use Rattle.plex_spell.specs.Places.{within_limits}
+use Rattle.plex_spell.specs.Words.{same_word, begins_with, words_behind}
 use Rattle.plex_spell.specs.Tokens.{Declared, Spells}
 use Rattle.plex_spell.specs.Tokens.Token.{Literal, Number}
 use Rattle.plex_spell.specs.Places.{is_names, on_first, number_of}
@@ -25,7 +25,7 @@ use Rattle.plex_script.specs.declared.scripts.AnyAsk.{AnyAsk}
 use Rattle.plex_script.specs.declared.scripts.Act.{Act}
 use Rattle.plex_script.specs.declared.scripts.Act.TheVariants.{Call, Test, TestWord, Post, Take, Events}
 use Rattle.plex_script.specs.LineWords.{ask_tokens, act_tokens, retry_tokens, MayAsk, MayDo, is_ask_of, has_vectors, SaysDone}
-use Rattle.plex_script.specs.LineReading.{any_ask_at, retry_at, call_at, own_at, done_at, act_at, ended}
+use Rattle.plex_script.specs.LineReading.{any_ask_at, retry_at, call_at, own_at, done_at, act_at, whole_read}
 use Rattle.plex_script.proofs.AskLaws.{any_ask-sound, any_ask-complete, ask-not_own, not_operator, operator_not}
 use Rattle.plex_spell.specs.Patterns.{tokens_at}
 
@@ -45,7 +45,7 @@ retry_number rigour w n h =
     (λ _ k. not_some n k)
   where
     at_test : (b : Bool) (r : Rigour) → (nat_le 1 (digits_value 10 w) && nat_le (digits_value 10 w) 1000) ≡ b
-        → kept r b (digits_value 10 w) 1 ≡ Some n → 0 < n
+        → within_limits r b (digits_value 10 w) 1 ≡ Some n → 0 < n
     at_test true r e k =
         let same : digits_value 10 w ≡ n = cc in
         let low = (and_parts (nat_le 1 (digits_value 10 w)) (nat_le (digits_value 10 w) 1000) e).0 in
@@ -82,10 +82,10 @@ retry-sound rigour declared ws rest o h =
         let some : 0 < n =
         pick k (λ _ m.
         let f : ℕ × Words → Option ℕ × Words = λ read. (Some read.0, read.1) in
-        let p = mapped f (on_first (number_of rigour 1 1000) (behind ws)) (Some n, rest) m in
+        let p = mapped f (on_first (number_of rigour 1 1000) (words_behind ws)) (Some n, rest) m in
         let v : Some p.value.0 ≡ Some n = ap (λ (q : Option ℕ × Words). q.0) p.made in
         let is : p.value.0 ≡ n = ap (λ (x : Option ℕ). unwrap_or x 0) v in
-        let w = first_read (number_of rigour 1 1000) (behind ws) p.value.1 n
+        let w = first_read (number_of rigour 1 1000) (words_behind ws) p.value.1 n
         (p.read ∙ ap (λ (x : ℕ). (let q : ℕ × Words = (x, p.value.1) in Some q)) is) in
         retry_number rigour w.0 n w.1)
         (λ _ m. nothing_there ws rest n m) in
@@ -180,25 +180,25 @@ own-sound rigour declared by kind ws rest told other h =
         → DoneTold rigour declared by kind ws rest (made n, 0))
         → begins_with word ws ≡ true
         → option_map (λ (read : ℕ × Words). (let p : (Act × ℕ) × Words = ((made read.0, 0), read.1) in p))
-        (number_at rigour (behind ws)) ≡ Some (told, rest)
+        (number_at rigour (words_behind ws)) ≡ Some (told, rest)
         → DoneTold rigour declared by kind ws rest told
     numbered word made f b k =
         let m = mapped (λ (read : ℕ × Words). (let p : (Act × ℕ) × Words = ((made read.0, 0), read.1) in p))
-        (number_at rigour (behind ws)) (told, rest) k in
+        (number_at rigour (words_behind ws)) (told, rest) k in
         let is : (let p : Act × ℕ = (made m.value.0, 0) in p) ≡ told = ap (λ (p : (Act × ℕ) × Words). p.0) m.made in
         let left : m.value.1 ≡ rest = ap (λ (p : (Act × ℕ) × Words). p.1) m.made in
-        let n = number_at-sound rigour declared (behind ws) rest m.value.0
+        let n = number_at-sound rigour declared (words_behind ws) rest m.value.0
         (m.read ∙ ap (λ (r : Words). (let p : ℕ × Words = (m.value.0, r) in Some p)) left) in
         rw (← is) (f m.value.0 (led rigour declared word (Number 0 4294967295 m.value.0 ∷ []) ws rest b n))
 
     alone : (word : List ℕ) (made : Act) → (Spells rigour declared (Literal word ∷ []) ws rest
         → DoneTold rigour declared by kind ws rest (made, 0))
-        → begins_with word ws ≡ true → (let p : (Act × ℕ) × Words = ((made, 0), behind ws) in Some p) ≡ Some
+        → begins_with word ws ≡ true → (let p : (Act × ℕ) × Words = ((made, 0), words_behind ws) in Some p) ≡ Some
         (told, rest) → DoneTold rigour declared by kind ws rest told
     alone word made f b k =
-        let same : (let p : (Act × ℕ) × Words = ((made, 0), behind ws) in p) ≡ (told, rest) = cc in
+        let same : (let p : (Act × ℕ) × Words = ((made, 0), words_behind ws) in p) ≡ (told, rest) = cc in
         let is : (let p : Act × ℕ = (made, 0) in p) ≡ told = ap (λ (p : (Act × ℕ) × Words). p.0) same in
-        let left : behind ws ≡ rest = ap (λ (p : (Act × ℕ) × Words). p.1) same in
+        let left : words_behind ws ≡ rest = ap (λ (p : (Act × ℕ) × Words). p.1) same in
         rw (← is) (f (led rigour declared word [] ws rest b left))
 
 done-sound : (rigour : Rigour) (declared : Declared) (by : ConnId) (kind : Kind) (ws rest : Words) (told : Act × ℕ)
@@ -208,14 +208,14 @@ done-sound rigour declared by kind ws rest told h =
     (λ other m. own-sound rigour declared by kind ws rest told other m))
     (λ _ k. call-sound rigour declared by kind ws rest told k)
 
-pub ended-is : {V : Type 0} (value : V) (ws : Words) (v : V) → ended (value, ws) ≡ Some v → (value ≡ v) × (ws ≡ [])
+pub ended-is : {V : Type 0} (value : V) (ws : Words) (v : V) → whole_read (value, ws) ≡ Some v → (value ≡ v) × (ws ≡ [])
 ended-is value [] v h = (cc, refl)
 ended-is value (w ∷ ws) v h = absurd (cc)
 
 pub act-sound : (rigour : Rigour) (declared : Declared) (by : ConnId) (kind : Kind) (ws : Words) (told : Act × ℕ)
     → act_at rigour declared by kind ws ≡ Some told → SaysDone rigour declared by kind ws told.0 told.1
 act-sound rigour declared by kind ws told h =
-    let f : (Act × ℕ) × Words → Option (Act × ℕ) = λ read. ended read in
+    let f : (Act × ℕ) × Words → Option (Act × ℕ) = λ read. whole_read read in
     let b = bound f (done_at rigour declared by kind ws) told h in
     let e = ended-is b.value.0 b.value.1 told b.then_ in
     let p : (Act × ℕ) → Words → (Act × ℕ) × Words = λ x r. (x, r) in
@@ -265,7 +265,7 @@ test-complete : (rigour : Rigour) (declared : Declared) (by : ConnId) (kind : Ki
     → ActFinds rigour (act_at rigour declared by kind ws) (Test index, 0)
 test-complete rigour declared by kind ws index vectors other h =
     let l = led-by rigour declared (codes "TEST") (Number 0 4294967295 index ∷ []) ws [] h in
-    let n = number_at-complete rigour declared (behind ws) [] index l.rest_is in
+    let n = number_at-complete rigour declared (words_behind ws) [] index l.rest_is in
     let own = own_word (codes "TEST") ws l.begins (λ us. refl) in
     let made : ℕ → Act × ℕ = λ i. (Test i, 0) in
     record {
@@ -281,7 +281,7 @@ word-complete : (rigour : Rigour) (declared : Declared) (by : ConnId) (kind : Ki
     → ActFinds rigour (act_at rigour declared by kind ws) (TestWord index, 0)
 word-complete rigour declared by kind ws index vectors other h =
     let l = led-by rigour declared (codes "TESTWORD") (Number 0 4294967295 index ∷ []) ws [] h in
-    let n = number_at-complete rigour declared (behind ws) [] index l.rest_is in
+    let n = number_at-complete rigour declared (words_behind ws) [] index l.rest_is in
     let own = own_word (codes "TESTWORD") ws l.begins (λ us. refl) in
     let a = first_apart (codes "TESTWORD") (codes "TEST") ws l.begins refl in
     let made : ℕ → Act × ℕ = λ i. (TestWord i, 0) in
@@ -295,7 +295,7 @@ word-complete rigour declared by kind ws index vectors other h =
 alone-complete : (rigour : Rigour) (declared : Declared) (by : ConnId) (kind : Kind) (ws : Words) (word : List ℕ)
     (act : Act) → is_operator by ≡ false
     → ((us : Words) → is_own (word ∷ us) ≡ true) → ((us : Words) → begins_with word us ≡ true
-    → own_at rigour kind us ≡ (let p : (Act × ℕ) × Words = ((act, 0), behind us) in Some p))
+    → own_at rigour kind us ≡ (let p : (Act × ℕ) × Words = ((act, 0), words_behind us) in Some p))
     → Spells rigour declared (Literal word ∷ []) ws [] → ActFinds rigour (act_at rigour declared by kind ws) (act, 0)
 alone-complete rigour declared by kind ws word act other own does h =
     let l = led-by rigour declared word [] ws [] h in
@@ -303,20 +303,20 @@ alone-complete rigour declared by kind ws word act other own does h =
     record { found = (act, 0); read = rw (is, other, does ws l.begins, l.rest_is) refl; same = λ _. refl }
 
 post_at : (rigour : Rigour) (kind : Kind) (us : Words) → begins_with (codes "POST") us ≡ true
-    → own_at rigour kind us ≡ (let p : (Act × ℕ) × Words = ((Post, 0), behind us) in Some p)
+    → own_at rigour kind us ≡ (let p : (Act × ℕ) × Words = ((Post, 0), words_behind us) in Some p)
 post_at rigour kind us e =
     let a = first_apart (codes "POST") (codes "TEST") us e refl in let b = first_apart (codes "POST")
     (codes "TESTWORD") us e refl in rw (a, b, e) refl
 
 take_at : (rigour : Rigour) (kind : Kind) (us : Words) → begins_with (codes "TAKE") us ≡ true
-    → own_at rigour kind us ≡ (let p : (Act × ℕ) × Words = ((Take, 0), behind us) in Some p)
+    → own_at rigour kind us ≡ (let p : (Act × ℕ) × Words = ((Take, 0), words_behind us) in Some p)
 take_at rigour kind us e =
     let a = first_apart (codes "TAKE") (codes "TEST") us e refl in let b = first_apart (codes "TAKE")
     (codes "TESTWORD") us e refl in
     let c = first_apart (codes "TAKE") (codes "POST") us e refl in rw (a, b, c, e) refl
 
 events_at : (rigour : Rigour) (kind : Kind) (us : Words) → begins_with (codes "EVENTS") us ≡ true
-    → own_at rigour kind us ≡ (let p : (Act × ℕ) × Words = ((Events, 0), behind us) in Some p)
+    → own_at rigour kind us ≡ (let p : (Act × ℕ) × Words = ((Events, 0), words_behind us) in Some p)
 events_at rigour kind us e =
     let a = first_apart (codes "EVENTS") (codes "TEST") us e refl in let b = first_apart (codes "EVENTS")
     (codes "TESTWORD") us e refl in

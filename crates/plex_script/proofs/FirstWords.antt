@@ -10,7 +10,7 @@ use Rattle.cf_types.specs.declared.list_commands.ListCmd.TheVariants as list
 use Rattle.cf_types.specs.declared.lock_commands.LockCmd.{LockCmd}
 use Rattle.cf_types.specs.declared.lock_commands.LockCmd.TheVariants as lock
 use Rattle.plex_spell.specs.declared.rigour.Rigour.{Rigour}
-use Rattle.plex_spell.specs.Words.{begins_with, behind}
+use Rattle.plex_spell.specs.Words.{begins_with, words_behind}
 use Rattle.plex_spell.specs.Tokens.{Declared, Token, Spells}
 use Rattle.plex_spell.specs.Tokens.Token.{Literal}
 use Rattle.plex_spell.specs.ShellWords.{shell_tokens, may_give, is_operator}
@@ -46,7 +46,7 @@ at_two rigour declared word second tokens (w ∷ v ∷ ws) rest G f h =
 abbrev pub gives_by : ConnId → Words → Bool
 gives_by by ws =
     cond (begins_with (codes "REBUILD") ws)
-    (cond (begins_with (codes "START") (behind ws) || begins_with (codes "STOP") (behind ws)) true
+    (cond (begins_with (codes "START") (words_behind ws) || begins_with (codes "STOP") (words_behind ws)) true
     (not (is_operator by)))
     (cond (begins_with (codes "FORCECONN") ws || begins_with (codes "FORCESTR") ws || begins_with (codes "LOSECONN")
     ws || begins_with (codes "RESTORECONN") ws

@@ -14,7 +14,7 @@ use Rattle.cf_types.specs.declared.forms.Kind.{Kind}
 use Rattle.cf_types.specs.declared.forms.StrForm.{StrForm}
 use Rattle.cf_types.specs.Term.{IsPadded}
 use Rattle.engine_api.specs.declared.asks.Ask.TheVariants.{Shell, Content}
-use Rattle.plex_spell.specs.Words.{same_word, line_of, spaced}
+use Rattle.plex_spell.specs.Words.{same_word, line_of, tail_of}
 use Rattle.plex_spell.specs.Tokens.{name_word, is_name, is_capital, reserved_words, connector_of, structure_of}
 use Rattle.plex_spell.specs.Tokens.Token.{Literal, Number}
 use Rattle.plex_plain.specs.Naming.{caller_name, structure_name}
@@ -180,8 +180,8 @@ body-adds script front line count names structures h =
       second.short,
       fine.1,
       row.short,
-      length-append (32 ∷ name_word h.form.name) (spaced (plain_words [] script.connectors tokens)),
-      length-append who (spaced (name_word h.form.name ∷ plain_words [] script.connectors tokens)),
+      length-append (32 ∷ name_word h.form.name) (tail_of (plain_words [] script.connectors tokens)),
+      length-append who (tail_of (name_word h.form.name ∷ plain_words [] script.connectors tokens)),
     ) in
     let read = calls script.connectors line.by.0 names h.caller in
     let on = structure-read script.structures line.on h.form structures h.known in

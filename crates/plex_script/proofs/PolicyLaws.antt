@@ -7,7 +7,7 @@ use Rattle.cf_types.specs.declared.forms.Kind.TheVariants as kind
 use Rattle.cf_types.specs.declared.forms.Pref.{Pref as Set}
 use Rattle.cf_types.specs.declared.forms.StrForm.{StrForm}
 use Rattle.plex_spell.specs.declared.rigour.Rigour.{Rigour}
-use Rattle.plex_spell.specs.Words.{same_word, begins_with, behind}
+use Rattle.plex_spell.specs.Words.{same_word, begins_with, words_behind}
 use Rattle.plex_spell.specs.Tokens.{Declared, Spells}
 use Rattle.plex_spell.specs.Tokens.Token.{Literal, NewName}
 use Rattle.plex_spell.specs.Places.{is_names, on_first, new_name_of}
@@ -22,7 +22,7 @@ use Rattle.plex_script.specs.declared.declarations.Declaration.{Declaration}
 use Rattle.plex_script.specs.declared.declarations.Declaration.TheVariants.{Facility, Structure, Pref, Connector}
 use Rattle.plex_spell.specs.FormWords.{form_tokens}
 use Rattle.plex_script.specs.PolicyWords.{declaration_tokens, IsDeclaration, IsVectorTold, Declares}
-use Rattle.plex_script.specs.LineReading.{ended}
+use Rattle.plex_script.specs.LineReading.{whole_read}
 use Rattle.plex_script.specs.PolicyReading.{facility_places, facility_from, pref_places, pref_from, cache_places, cache_from, list_places, list_from, lock_places, lock_from, form_at, structure_at, declared_at, declaration_at}
 use Rattle.plex_script.proofs.ActLaws.{ended-is}
 
@@ -83,7 +83,8 @@ form-sound : (rigour : Rigour) (declared : Declared) (verb : List ℕ) (name : N
 form-sound rigour declared verb name ws mid rest declaration e named h =
     let here = word-same verb (codes "STRUCTURE") e in
     pick h (λ b k.
-    let t = values-sound rigour declared cache_places (cache_from name) (behind mid) rest declaration are_cache k in
+    let t = values-sound rigour declared cache_places (cache_from name)
+    (words_behind mid) rest declaration are_cache k in
     let s = led rigour declared (codes "CACHE") (tokens_of cache_places t.values) mid rest b t.spelled in
     rw t.same (record {
       whole = (refl, tt);
@@ -94,7 +95,7 @@ form-sound rigour declared verb name ws mid rest declaration e named h =
       );
     }))
     (λ _ a. pick a (λ b k.
-    let t = values-sound rigour declared list_places (list_from name) (behind mid) rest declaration are_list k in
+    let t = values-sound rigour declared list_places (list_from name) (words_behind mid) rest declaration are_list k in
     let s = led rigour declared (codes "LIST") (tokens_of list_places t.values) mid rest b t.spelled in
     rw t.same (record {
       whole = (refl, tt);
@@ -105,7 +106,7 @@ form-sound rigour declared verb name ws mid rest declaration e named h =
       );
     }))
     (λ _ c. pick c (λ b k.
-    let t = values-sound rigour declared lock_places (lock_from name) (behind mid) rest declaration are_lock k in
+    let t = values-sound rigour declared lock_places (lock_from name) (words_behind mid) rest declaration are_lock k in
     let s = led rigour declared (codes "LOCK") (tokens_of lock_places t.values) mid rest b t.spelled in
     rw t.same (record {
       whole = (refl, refl);
@@ -141,7 +142,7 @@ pub declaration-sound : (rigour : Rigour) (declared : Declared) (ws : Words) (de
     → declaration_at rigour declared ws ≡ Some declaration
     → Declares rigour declared ws declaration
 declaration-sound rigour declared ws declaration h =
-    let f : Declaration × Words → Option Declaration = λ read. ended read in
+    let f : Declaration × Words → Option Declaration = λ read. whole_read read in
     let b = bound f (declared_at rigour declared ws) declaration h in
     let e = ended-is b.value.0 b.value.1 declaration b.then_ in
     let p : Declaration → Words → Declaration × Words = λ x r. (x, r) in
@@ -155,7 +156,7 @@ kind-complete : (rigour : Rigour) (declared : Declared) (word : List ℕ) (place
     → Values places → Declaration) (name : Name16) (values : Values places) (ws : Words)
     → ArePlaces places → are_rows places ≡ true → all_lack_retry places ≡ true
     → ((n : Name16) (us : Words) → begins_with word us ≡ true → form_at rigour declared n us ≡ values_at rigour
-    declared places (made n) (behind us))
+    declared places (made n) (words_behind us))
     → Spells rigour declared (Literal (codes "STRUCTURE") ∷ NewName name ∷ Literal word ∷ tokens_of places values) ws
     []
     → FindsAll rigour (declared_at rigour declared ws) (made name values) []
@@ -166,7 +167,7 @@ kind-complete rigour declared word places made name values ws are rows free does
     let split = Spells-split rigour declared (NewName name ∷ []) (Literal word ∷ tokens_of places values) us [] s in
     let n = name-complete rigour declared us split.mid name split.front in
     let l = led-by rigour declared word (tokens_of places values) split.mid [] split.behind_ in
-    let v = values-complete rigour declared places (made n.found) values (behind split.mid) [] are rows
+    let v = values-complete rigour declared places (made n.found) values (words_behind split.mid) [] are rows
     (AreFree-tail places [] refl free) l.rest_is in
     rw n.read (record {
       found = made n.found v.found;
@@ -181,15 +182,15 @@ first_apart word other [] e apart = refl
 first_apart word other (w ∷ us) e apart = let same = word-same w word e in rw same apart
 
 does_cache : (rigour : Rigour) (declared : Declared) (n : Name16) (us : Words) → begins_with (codes "CACHE") us ≡ true
-    → form_at rigour declared n us ≡ values_at rigour declared cache_places (cache_from n) (behind us)
+    → form_at rigour declared n us ≡ values_at rigour declared cache_places (cache_from n) (words_behind us)
 does_cache rigour declared n us e = rw e refl
 
 does_list : (rigour : Rigour) (declared : Declared) (n : Name16) (us : Words) → begins_with (codes "LIST") us ≡ true
-    → form_at rigour declared n us ≡ values_at rigour declared list_places (list_from n) (behind us)
+    → form_at rigour declared n us ≡ values_at rigour declared list_places (list_from n) (words_behind us)
 does_list rigour declared n us e = let a = first_apart (codes "LIST") (codes "CACHE") us e refl in rw (a, e) refl
 
 does_lock : (rigour : Rigour) (declared : Declared) (n : Name16) (us : Words) → begins_with (codes "LOCK") us ≡ true
-    → form_at rigour declared n us ≡ values_at rigour declared lock_places (lock_from n) (behind us)
+    → form_at rigour declared n us ≡ values_at rigour declared lock_places (lock_from n) (words_behind us)
 does_lock rigour declared n us e =
     let a = first_apart (codes "LOCK") (codes "CACHE") us e refl in let b = first_apart (codes "LOCK") (codes "LIST")
     us e refl in rw (a, b, e) refl

@@ -20,7 +20,7 @@ use Rattle.cf_types.specs.declared.forms.Pref.{Pref as Set}
 use Rattle.cf_types.specs.declared.forms.StrForm.{StrForm}
 use Rattle.cf_types.specs.Forms.{IsForm, IsPref, IsKind, IsVectorOf}
 use Rattle.plex_spell.specs.declared.rigour.Rigour.TheVariants.{Names}
-use Rattle.plex_spell.specs.Words.{same_word, line_of, spaced}
+use Rattle.plex_spell.specs.Words.{same_word, line_of, tail_of}
 use Rattle.plex_spell.specs.FormWords.{form_tokens}
 use Rattle.plex_spell.specs.Fields.{disposition, references}
 use Rattle.plex_spell.specs.Tokens.{Declared, Token, Spells, name_word, is_declared, structure_of}
@@ -109,7 +109,7 @@ facility-adds front x back count h =
       units.short,
       length-append (32 ∷ facility_word x.cf) ((32 ∷ decimal x.units) ++ []),
       length-append (32 ∷ decimal x.units) [],
-      length-append (codes "FACILITY") (spaced (facility_word x.cf ∷ decimal x.units ∷ [])),
+      length-append (codes "FACILITY") (tail_of (facility_word x.cf ∷ decimal x.units ∷ [])),
     ) in
     line-adds (policy front [] []) (policy (front ++ x ∷ []) [] []) count words good short
     (record {
@@ -304,8 +304,8 @@ form-adds facilities front form back count names few h =
       name.short,
       fine.1,
       row.short,
-      length-append (32 ∷ name_word form.name) (spaced (plain_words [] [] tokens)),
-      length-append (codes "STRUCTURE") (spaced (name_word form.name ∷ plain_words [] [] tokens)),
+      length-append (32 ∷ name_word form.name) (tail_of (plain_words [] [] tokens)),
+      length-append (codes "STRUCTURE") (tail_of (name_word form.name ∷ plain_words [] [] tokens)),
     ) in
     let full : nat_le 16 (length front) ≡ false = room-left (length front) 16 few in
     let fresh = fresh_name (λ (f : StrForm). f.name) front form back names in
@@ -405,9 +405,9 @@ pref-adds facilities front form back done pref rest count names h e room =
       cf.short,
       units.short,
       length-append (32 ∷ decimal pref.units) [],
-      length-append (32 ∷ facility_word pref.cf) (spaced (decimal pref.units ∷ [])),
-      length-append (32 ∷ name_word form.name) (spaced (facility_word pref.cf ∷ decimal pref.units ∷ [])),
-      length-append (codes "PREF") (spaced (name_word form.name ∷ facility_word pref.cf ∷ decimal pref.units ∷ [])),
+      length-append (32 ∷ facility_word pref.cf) (tail_of (decimal pref.units ∷ [])),
+      length-append (32 ∷ name_word form.name) (tail_of (facility_word pref.cf ∷ decimal pref.units ∷ [])),
+      length-append (codes "PREF") (tail_of (name_word form.name ∷ facility_word pref.cf ∷ decimal pref.units ∷ [])),
     ) in
     let fresh = fresh_name (λ (f : StrForm). f.name) front form back names in
     let is_it : StrForm → Bool = λ other. same_word (name_word other.name) (name_word form.name) in
@@ -499,7 +499,7 @@ connector-adds facilities structures front name back count names few =
       arith,
       word.short,
       length-append (32 ∷ name_word name) [],
-      length-append (codes "CONNECTOR") (spaced (name_word name ∷ [])),
+      length-append (codes "CONNECTOR") (tail_of (name_word name ∷ [])),
     ) in
     let full : nat_le 32 (length front) ≡ false = room-left (length front) 32 few in
     let fresh = fresh_name (λ (n : Name16). n) front name back names in

@@ -5,7 +5,7 @@ use Rattle.plex_plain.specs.PolicyLines.{facility_line, structure_lines, connect
 use Rattle.plex_plain.proofs.Texts.{lines-back}
 use Rattle.plex_script.specs.declared.scripts.Script.{Script}
 use Rattle.plex_script.specs.Scripts.{empty_script, AddsAll, IsScript}
-use Rattle.plex_script.specs.Printed.{body_line, policy_lines, printed_lines, printed, renumbered}
+use Rattle.plex_script.specs.Printed.{body_line, policy_lines, printed_lines, script_text, with_line_numbers}
 use Rattle.plex_script.specs.Limits.{KeepsLimits}
 use Rattle.plex_script.specs.Laws.{IsReadBack}
 use Rattle.plex_script.proofs.Chains.{Leads, leads-append}
@@ -37,12 +37,13 @@ script-reads script h =
     let none : base ≡ 0 + base = omega arith in
     let lines = lines-add script base h.connectors (structures-named script.structures h.structure_names) h.lines in
     let all = leads-append (policy_lines script) (map (body_line script) script.lines) empty_script (declaring script)
-    (renumbered script) 0 (policy-reads script h)
+    (with_line_numbers script) 0 (policy-reads script h)
     (subst (λ (n : ℕ). Leads (declaring script) n (map (body_line script) script.lines)
-    (renumbered script)) none lines) in
-    subst (λ (ls : List (List ℕ)). AddsAll empty_script 0 ls (renumbered script))
+    (with_line_numbers script)) none lines) in
+    subst (λ (ls : List (List ℕ)). AddsAll empty_script 0 ls (with_line_numbers script))
     (sym (lines-back (printed_lines script) all.clear_lines)) all.adds
 
-pub read_again : (script : Script) (text : List ℕ) → text ≡ printed script → KeepsLimits script
-    → IsScript text (renumbered script)
-read_again script text is h = subst (λ (t : List ℕ). IsScript t (renumbered script)) (sym is) (script-reads script h)
+pub read_again : (script : Script) (text : List ℕ) → text ≡ script_text script → KeepsLimits script
+    → IsScript text (with_line_numbers script)
+read_again script text is h = subst (λ (t : List ℕ). IsScript t (with_line_numbers script)) (sym is)
+    (script-reads script h)

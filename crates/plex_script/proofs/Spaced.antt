@@ -3,7 +3,7 @@ use Rattle.std.proofs.Common.{◌≡◌, ℕ, ◌+◌, suc, arith, ◌<◌, leng
 use Rattle.std.specs.List.{flat_map}
 use Rattle.std.proofs.lemmas.Grind.{flat_map-append}
 use Rattle.std.proofs.lemmas.List.{map-append}
-use Rattle.plex_spell.specs.Words.{spaced, ended}
+use Rattle.plex_spell.specs.Words.{tail_of, line_text}
 use Rattle.plex_plain.specs.Naming.{caller_name, structure_name}
 use Rattle.plex_plain.specs.PlainWords.{plain_word, plain_words}
 use Rattle.plex_script.specs.declared.scripts.Line.{Line}
@@ -11,31 +11,32 @@ use Rattle.plex_script.specs.declared.scripts.Script.{Script}
 use Rattle.plex_script.specs.LineWords.{act_tokens, retry_tokens}
 use Rattle.plex_script.specs.Printed.{class_in, body_line}
 
-pub text_append : (xs ys : List (List ℕ)) → flat_map ended (xs ++ ys) ≡ flat_map ended xs ++ flat_map ended ys
-text_append xs ys = flat_map-append ended xs ys
+pub text_append : (xs ys : List (List ℕ)) → flat_map line_text (xs ++ ys) ≡ flat_map line_text xs
+    ++ flat_map line_text ys
+text_append xs ys = flat_map-append line_text xs ys
 
-spaced_append : (xs ys : List (List ℕ)) → spaced (xs ++ ys) ≡ spaced xs ++ spaced ys
+spaced_append : (xs ys : List (List ℕ)) → tail_of (xs ++ ys) ≡ tail_of xs ++ tail_of ys
 spaced_append xs ys = flat_map-append (λ word. 32 ∷ word) xs ys
 
 -- a line by its parts: who and where, what, and how often
 pub body_words : (script : Script) (line : Line)
     → body_line script line
-    ≡ (caller_name script.connectors line.by.0 ++ spaced (structure_name script.structures line.on.0 ∷ []))
-    ++ (spaced (plain_words [] script.connectors (act_tokens (class_in line.act) line.act))
-    ++ spaced (plain_words [] script.connectors (retry_tokens line.retry)))
+    ≡ (caller_name script.connectors line.by.0 ++ tail_of (structure_name script.structures line.on.0 ∷ []))
+    ++ (tail_of (plain_words [] script.connectors (act_tokens (class_in line.act) line.act))
+    ++ tail_of (plain_words [] script.connectors (retry_tokens line.retry)))
 body_words script line =
     let acts = act_tokens (class_in line.act) line.act in
     let retries = retry_tokens line.retry in
     let word = plain_word [] script.connectors in
     let who = caller_name script.connectors line.by.0 in
     let where_ = structure_name script.structures line.on.0 in
-    let words : spaced (plain_words [] script.connectors (acts ++ retries)) ≡ spaced (map word acts) ++ spaced
+    let words : tail_of (plain_words [] script.connectors (acts ++ retries)) ≡ tail_of (map word acts) ++ tail_of
     (map word retries) =
-    ap spaced (map-append word acts retries) ∙ spaced_append (map word acts) (map word retries) in
-    let rest = spaced (map word acts) ++ spaced (map word retries) in
-    let behind : spaced (where_ ∷ plain_words [] script.connectors (acts ++ retries)) ≡ spaced (where_ ∷ []) ++ rest =
+    ap tail_of (map-append word acts retries) ∙ spaced_append (map word acts) (map word retries) in
+    let rest = tail_of (map word acts) ++ tail_of (map word retries) in
+    let behind : tail_of (where_ ∷ plain_words [] script.connectors (acts ++ retries)) ≡ tail_of (where_ ∷ []) ++ rest =
     ap (λ (t : List ℕ). (32 ∷ where_) ++ t) words ∙ one (32 ∷ where_) rest in
-    ap (λ (t : List ℕ). who ++ t) behind ∙ sym (append_assoc who (spaced (where_ ∷ [])) rest)
+    ap (λ (t : List ℕ). who ++ t) behind ∙ sym (append_assoc who (tail_of (where_ ∷ [])) rest)
   where
     one : (xs ys : List ℕ) → xs ++ ys ≡ (xs ++ []) ++ ys
     one xs ys = sym (append_assoc xs [] ys)
@@ -43,15 +44,15 @@ body_words script line =
 -- a line more, of a thing that comes next
 pub line_more : {X : Type 0} (f : X → List ℕ) (xs : List X) (i : ℕ) (d : X) (text one two start : List ℕ)
     → i < length xs
-    → one ≡ text ++ f (get_or xs i d) → two ≡ one ++ 10 ∷ [] → text ++ flat_map ended (map f (drop i xs)) ≡ start
-    → two ++ flat_map ended (map f (drop (i + 1) xs)) ≡ start
+    → one ≡ text ++ f (get_or xs i d) → two ≡ one ++ 10 ∷ [] → text ++ flat_map line_text (map f (drop i xs)) ≡ start
+    → two ++ flat_map line_text (map f (drop (i + 1) xs)) ≡ start
 line_more {X} f xs i d text one two start low e g h =
     let line = f (get_or xs i d) in
     let after : suc i ≡ i + 1 = omega arith in
-    let rest = flat_map ended (map f (drop (i + 1) xs)) in
+    let rest = flat_map line_text (map f (drop (i + 1) xs)) in
     let whole : two ≡ text ++ line ++ 10 ∷ [] = g ∙ ap (λ (t : List ℕ). t ++ 10 ∷ []) e in
-    let next : flat_map ended (map f (drop i xs)) ≡ (line ++ 10 ∷ []) ++ rest =
-    ap (λ (ys : List X). flat_map ended (map f ys))
+    let next : flat_map line_text (map f (drop i xs)) ≡ (line ++ 10 ∷ []) ++ rest =
+    ap (λ (ys : List X). flat_map line_text (map f ys))
     (drop-cons xs i d low ∙ ap (λ (n : ℕ). get_or xs i d ∷ drop n xs) after) in
     ap (λ (t : List ℕ). t ++ rest) whole
     ∙ (append_assoc (text ++ line) (10 ∷ []) rest

@@ -6,7 +6,7 @@ use Rattle.engine_api.specs.declared.told.Told.{Told}
 use Rattle.plex_script.specs.declared.agents.Step.{Step}
 use Rattle.plex_script.specs.declared.agents.Step.TheVariants as step
 use Rattle.plex_script.specs.declared.scripts.AnyAsk.{AnyAsk}
-use Rattle.plex_script.specs.Agent.{step_after, most_asks, asks_behind, asked_by, taking, after_round, common, IsReady}
+use Rattle.plex_script.specs.Agent.{step_after, most_asks, asks_behind, asked_by, round_step, after_round, shell_ask, IsReady}
 
 -- ---- how many asks are left
 
@@ -26,7 +26,7 @@ round_asks : (behind : Option ℕ) → most_asks (after_round behind) ≡ asks_b
 round_asks None = refl
 round_asks (Some asks) = refl
 
-taking_asks : (left : ℕ) (behind : Option ℕ) → most_asks (taking left behind) ≤ 2 * left + asks_behind behind
+taking_asks : (left : ℕ) (behind : Option ℕ) → most_asks (round_step left behind) ≤ 2 * left + asks_behind behind
 taking_asks zero behind = omega (arith, round_asks behind)
 taking_asks (suc left) behind = omega arith
 
@@ -37,9 +37,9 @@ fewer_asks (step.Call (suc asks)) told goes =
     either_le told.again (step.Next 63 (Some asks)) step.Rest (most_asks (step.Call (suc asks)))
     (omega arith) (omega arith)
 fewer_asks (step.Next left behind) told goes =
-    either_le told.owes (step.Respond left behind) (cond told.event (taking left behind) (after_round behind))
+    either_le told.owes (step.Respond left behind) (cond told.event (round_step left behind) (after_round behind))
     (most_asks (step.Next left behind)) (omega arith)
-    (either_le told.event (taking left behind) (after_round behind) (most_asks (step.Next left behind))
+    (either_le told.event (round_step left behind) (after_round behind) (most_asks (step.Next left behind))
     (omega (arith, taking_asks left behind)) (omega (arith, round_asks behind)))
 fewer_asks (step.Respond left behind) told goes = omega (arith, taking_asks left behind)
 fewer_asks step.Rest told goes = absurd (goes refl)
@@ -51,7 +51,7 @@ either_ready : (line : Option AnyAsk) (b : Bool) (x y : Step) → IsReady line x
 either_ready line true x y first second = first
 either_ready line false x y first second = second
 
-taking_ready : (left : ℕ) → IsReady None (taking left None)
+taking_ready : (left : ℕ) → IsReady None (round_step left None)
 taking_ready zero = tt
 taking_ready (suc left) = refl
 
@@ -61,8 +61,8 @@ ready_after (Some asked) now told ready = tt
 ready_after None (step.Call asks) told ready = absurd ready
 ready_after None (step.Next left (Some asks)) told ready = absurd cc
 ready_after None (step.Next left None) told ready =
-    either_ready None told.owes (step.Respond left None) (cond told.event (taking left None) step.Rest) refl
-    (either_ready None told.event (taking left None) step.Rest (taking_ready left) tt)
+    either_ready None told.owes (step.Respond left None) (cond told.event (round_step left None) step.Rest) refl
+    (either_ready None told.event (round_step left None) step.Rest (taking_ready left) tt)
 ready_after None (step.Respond left (Some asks)) told ready = absurd cc
 ready_after None (step.Respond left None) told ready = taking_ready left
 ready_after None step.Rest told ready = tt
@@ -72,8 +72,8 @@ pub asks_some : (kind : Kind) (line : Option AnyAsk) (now : Step) → IsReady li
     → (asked : AnyAsk) × (asked_by kind line now ≡ Some asked)
 asks_some kind (Some asked) (step.Call asks) ready goes = (asked, refl)
 asks_some kind None (step.Call asks) ready goes = absurd ready
-asks_some kind line (step.Next left behind) ready goes = (common kind cmd.Next, refl)
-asks_some kind line (step.Respond left behind) ready goes = (common kind cmd.Respond, refl)
+asks_some kind line (step.Next left behind) ready goes = (shell_ask kind cmd.Next, refl)
+asks_some kind line (step.Respond left behind) ready goes = (shell_ask kind cmd.Respond, refl)
 asks_some kind line step.Rest ready goes = absurd (goes refl)
 
 -- a step that asks isn't the last

@@ -29,9 +29,9 @@ after_round None = Rest
 after_round (Some asks) = Call asks
 
 -- the next event, so many more at most
-abbrev pub taking : ℕ → Option ℕ → Step
-taking zero behind = after_round behind
-taking (suc left) behind = Next left behind
+abbrev pub round_step : ℕ → Option ℕ → Step
+round_step zero behind = after_round behind
+round_step (suc left) behind = Next left behind
 
 -- a call that may be asked again is, after an event round, as often as the line says. A round goes on while there are
 -- events, and answers those that owe a response
@@ -39,8 +39,8 @@ abbrev pub step_after : Step → Told → Step
 step_after (Call zero) told = Rest
 step_after (Call (suc asks)) told = if told.again then Next 63 (Some asks) else Rest
 step_after (Next left behind) told =
-    if told.owes then Respond left behind else if told.event then taking left behind else after_round behind
-step_after (Respond left behind) told = taking left behind
+    if told.owes then Respond left behind else if told.event then round_step left behind else after_round behind
+step_after (Respond left behind) told = round_step left behind
 step_after Rest told = Rest
 
 -- how many asks are left at most
@@ -55,16 +55,16 @@ most_asks (Respond left behind) = 2 * left + 1 + asks_behind behind
 most_asks Rest = 0
 
 -- a common command, asked of a structure of this kind
-abbrev pub common : Kind → ShellCmd → AnyAsk
-common kind.Cache command = any.Cache (ask.Shell command)
-common (kind.List headers locks refs) command = any.List (ask.Shell command)
-common kind.Lock command = any.Lock (ask.Shell command)
+abbrev pub shell_ask : Kind → ShellCmd → AnyAsk
+shell_ask kind.Cache command = any.Cache (ask.Shell command)
+shell_ask (kind.List headers locks refs) command = any.List (ask.Shell command)
+shell_ask kind.Lock command = any.Lock (ask.Shell command)
 
 -- what a step asks, if it asks anything: of a structure of this kind, where this is the line's call
 abbrev pub asked_by : Kind → Option AnyAsk → Step → Option AnyAsk
 asked_by kind line (Call asks) = line
-asked_by kind line (Next left behind) = Some (common kind cmd.Next)
-asked_by kind line (Respond left behind) = Some (common kind cmd.Respond)
+asked_by kind line (Next left behind) = Some (shell_ask kind cmd.Next)
+asked_by kind line (Respond left behind) = Some (shell_ask kind cmd.Respond)
 asked_by kind line Rest = None
 
 -- the call of a line, if it is one

@@ -17,15 +17,15 @@ use Rattle.plex_script.specs.declared.scripts.Line.{Line}
 use Rattle.plex_script.specs.declared.scripts.Script.{Script}
 use Rattle.plex_script.specs.declared.transcripts.Shown.{Shown}
 use Rattle.plex_script.specs.declared.transcripts.Shown.TheVariants as shown
-use Rattle.plex_script.specs.Agent.{first_step, step_after, common, asked_by, call_of}
-use Rattle.plex_script.specs.Heard.{AnyCall, heard, own_calls, is_linked, calls_on, length_on}
+use Rattle.plex_script.specs.Agent.{first_step, step_after, shell_ask, asked_by, call_of}
+use Rattle.plex_script.specs.Heard.{AnyCall, call_numbered, own_calls, is_linked, calls_on, length_on}
 
 -- ---- one line
 
 -- the caller's call with this number asks this, and this is told of it
 abbrev pub IsHeard : List AnyCall → ConnId → Option AnyAsk → ℕ → Told → Type 0
 IsHeard calls by None number told = ⊥
-IsHeard calls by (Some asked) number told = heard number calls ≡ Some
+IsHeard calls by (Some asked) number told = call_numbered number calls ≡ Some
     (record { no = number; by = by; ask = asked; told = told })
 
 -- a step and the steps behind it show these items: the number of each call, which asks what the step asks, and the
@@ -103,7 +103,7 @@ is_linked_by calls conn on items = is_linked (take (length (numbers_on on items)
 abbrev pub ShowsClosing : StrForm → List AnyCall → ConnId → StrNo → List Shown → List Shown → Type 0
 ShowsClosing form calls conn on before items =
     MatchBool (is_linked_by calls conn on before)
-    (Runs form.kind (Some (common form.kind cmd.Disconnect)) calls conn on (step.Call 0) items)
+    (Runs form.kind (Some (shell_ask form.kind cmd.Disconnect)) calls conn on (step.Call 0) items)
     (items ≡ [])
 
 abbrev pub ShowsClosings : List AnyHistory → ConnId → ℕ → List StrForm → List Shown → List Shown → Type 0

@@ -5,7 +5,7 @@ use Rattle.cf_types.specs.declared.numbers.StrNo.{StrNo}
 use Rattle.engine_api.specs.declared.asks.Ask.{Ask}
 use Rattle.engine_api.specs.declared.told.Told.{Told}
 use Rattle.engine_api.specs.History.{Call, calls}
-use Rattle.engine_api.specs.Told.{told}
+use Rattle.engine_api.specs.Told.{told_of}
 use Rattle.plex_script.specs.declared.scripts.AnyAsk.{AnyAsk}
 use Rattle.plex_script.specs.declared.scripts.AnyAsk.TheVariants as ask
 use Rattle.plex_script.specs.declared.asks.AnyHistory.{AnyHistory}
@@ -19,7 +19,7 @@ pub record AnyCall : Type 0 where
   pub told : Told
 
 abbrev pub any_call : {C R : Type 0} → (Ask C → AnyAsk) → Call C R → AnyCall
-any_call of call = record { no = call.no; by = call.by; ask = of call.ask; told = told call.no call.ask call.reply }
+any_call of call = record { no = call.no; by = call.by; ask = of call.ask; told = told_of call.no call.ask call.reply }
 
 abbrev pub any_calls : AnyHistory → List AnyCall
 any_calls (history.Cache entries) = map (any_call ask.Cache) (calls entries)
@@ -33,8 +33,8 @@ any_length (history.List entries) = length entries
 any_length (history.Lock entries) = length entries
 
 -- the call with this number
-abbrev pub heard : ℕ → List AnyCall → Option AnyCall
-heard number calls = find (λ call. call.no == number) calls
+abbrev pub call_numbered : ℕ → List AnyCall → Option AnyCall
+call_numbered number calls = find (λ call. call.no == number) calls
 
 -- the calls of one caller, in order
 abbrev pub own_calls : List AnyCall → ConnId → List AnyCall

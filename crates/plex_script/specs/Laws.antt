@@ -3,7 +3,7 @@ use Rattle.std.specs.Prelude.{◌≡◌, ℕ, List, ◌⊎◌}
 use Rattle.plex_script.specs.declared.faults.Why.{Why}
 use Rattle.plex_script.specs.declared.scripts.Script.{Script}
 use Rattle.plex_script.specs.Scripts.{IsScript, IsFault}
-use Rattle.plex_script.specs.Printed.{printed, renumbered}
+use Rattle.plex_script.specs.Printed.{script_text, with_line_numbers}
 use Rattle.plex_script.specs.Limits.{KeepsLimits}
 
 -- a text says one script
@@ -22,7 +22,7 @@ IsExclusive = (text : List ℕ) (script : Script) (number : ℕ) (why : Why) →
 
 -- the printed text of a script says the script again, but for the numbers of its lines
 abbrev pub IsReadBack : Type 0
-IsReadBack = (script : Script) → KeepsLimits script → IsScript (printed script) (renumbered script)
+IsReadBack = (script : Script) → KeepsLimits script → IsScript (script_text script) (with_line_numbers script)
 
 -- each script of a text keeps the limits
 abbrev pub KeepLimits : Type 0

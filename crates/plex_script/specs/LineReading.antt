@@ -10,7 +10,7 @@ use Rattle.cf_types.specs.declared.lock_commands.LockCmd.{LockCmd}
 use Rattle.engine_api.specs.declared.asks.Ask.{Ask}
 use Rattle.engine_api.specs.declared.asks.Ask.TheVariants.{Shell, Content}
 use Rattle.plex_spell.specs.declared.rigour.Rigour.{Rigour}
-use Rattle.plex_spell.specs.Words.{begins_with, behind}
+use Rattle.plex_spell.specs.Words.{begins_with, words_behind}
 use Rattle.plex_spell.specs.Tokens.{Declared}
 use Rattle.plex_spell.specs.Places.{◌>>=◌, on_first, number_of}
 use Rattle.plex_spell.specs.Patterns.{option_at, number_at}
@@ -60,14 +60,15 @@ call_at rigour declared by kind words =
 abbrev pub own_at : Rigour → Kind → List (List ℕ) → Option ((Act × ℕ) × List (List ℕ))
 own_at rigour kind words =
     if begins_with (codes "TEST") words
-    then (if has_vectors kind then option_map (λ read. ((Test read.0, 0), read.1)) (number_at rigour (behind words))
+    then (if has_vectors kind then option_map (λ read. ((Test read.0, 0), read.1))
+    (number_at rigour (words_behind words))
     else None)
     else if begins_with (codes "TESTWORD") words
     then (if has_vectors kind then option_map (λ read. ((TestWord read.0, 0), read.1))
-    (number_at rigour (behind words)) else None)
-    else if begins_with (codes "POST") words then Some ((Post, 0), behind words)
-    else if begins_with (codes "TAKE") words then Some ((Take, 0), behind words)
-    else if begins_with (codes "EVENTS") words then Some ((Events, 0), behind words)
+    (number_at rigour (words_behind words)) else None)
+    else if begins_with (codes "POST") words then Some ((Post, 0), words_behind words)
+    else if begins_with (codes "TAKE") words then Some ((Take, 0), words_behind words)
+    else if begins_with (codes "EVENTS") words then Some ((Events, 0), words_behind words)
     else None
 
 abbrev pub is_own : List (List ℕ) → Bool
@@ -81,12 +82,12 @@ done_at rigour declared by kind words =
     kind words
 
 -- what was read, where no word is left
-abbrev pub ended : {V : Type 0} → V × List (List ℕ) → Option V
-ended read = left read.0 read.1
+abbrev pub whole_read : {V : Type 0} → V × List (List ℕ) → Option V
+whole_read read = left read.0 read.1
   where
     left : {V : Type 0} → V → List (List ℕ) → Option V
     left value [] = Some value
     left value (word ∷ words) = None
 
 abbrev pub act_at : Rigour → Declared → ConnId → Kind → List (List ℕ) → Option (Act × ℕ)
-act_at rigour declared by kind words = done_at rigour declared by kind words >>= ended
+act_at rigour declared by kind words = done_at rigour declared by kind words >>= whole_read

@@ -3,14 +3,14 @@ use Rattle.std.specs.Prelude.{ℕ, if◌then◌else◌, List, [], ◌∷◌, Opt
 use Rattle.cf_types.specs.declared.names.Name16.{Name16}
 use Rattle.cf_types.specs.declared.forms.Kind.TheVariants as kind
 use Rattle.plex_spell.specs.declared.rigour.Rigour.{Rigour}
-use Rattle.plex_spell.specs.Words.{same_word, begins_with, behind}
+use Rattle.plex_spell.specs.Words.{same_word, begins_with, words_behind}
 use Rattle.plex_spell.specs.Tokens.{Declared}
 use Rattle.plex_spell.specs.Places.{◌>>=◌, on_first, new_name_of}
 use Rattle.plex_spell.specs.Patterns.{Place, Values, values_at}
 use Rattle.plex_spell.specs.Patterns.Place.{Amount, ANewFacility, AFacility, AStructure, ANewName, Either, SomeRefs}
 use Rattle.plex_script.specs.declared.declarations.Declaration.{Declaration}
 use Rattle.plex_script.specs.declared.declarations.Declaration.TheVariants.{Facility, Structure, Pref, Connector}
-use Rattle.plex_script.specs.LineReading.{ended}
+use Rattle.plex_script.specs.LineReading.{whole_read}
 
 abbrev pub some_units : Place
 some_units = Amount 1 1000000
@@ -79,11 +79,12 @@ lock_from name v =
 -- behind the name of a structure
 abbrev pub form_at : Rigour → Declared → Name16 → List (List ℕ) → Option (Declaration × List (List ℕ))
 form_at rigour declared name words =
-    if begins_with (codes "CACHE") words then values_at rigour declared cache_places (cache_from name) (behind words)
+    if begins_with (codes "CACHE") words then values_at rigour declared cache_places (cache_from name)
+    (words_behind words)
     else if begins_with (codes "LIST") words then values_at rigour declared list_places (list_from name)
-    (behind words)
+    (words_behind words)
     else if begins_with (codes "LOCK") words then values_at rigour declared lock_places (lock_from name)
-    (behind words)
+    (words_behind words)
     else None
 
 abbrev pub structure_at : Rigour → Declared → List (List ℕ) → Option (Declaration × List (List ℕ))
@@ -101,4 +102,4 @@ declared_at rigour declared (verb ∷ words) =
     else None
 
 abbrev pub declaration_at : Rigour → Declared → List (List ℕ) → Option Declaration
-declaration_at rigour declared words = declared_at rigour declared words >>= ended
+declaration_at rigour declared words = declared_at rigour declared words >>= whole_read

@@ -2,7 +2,7 @@
 use Rattle.std.specs.Prelude.{ℕ, ◌+◌, List, [], ◌∷◌, ◌++◌, length, map, Option, None}
 use Rattle.std.specs.List.{flat_map}
 use Rattle.engine_api.specs.declared.asks.Ask.TheVariants.{Shell, Content}
-use Rattle.plex_spell.specs.Words.{line_of, ended}
+use Rattle.plex_spell.specs.Words.{line_of, line_text}
 use Rattle.plex_spell.specs.Tokens.{Token}
 use Rattle.plex_plain.specs.Naming.{caller_name, structure_name}
 use Rattle.plex_plain.specs.PlainWords.{plain_words, storage_told}
@@ -47,8 +47,8 @@ abbrev pub printed_lines : Script → List (List ℕ)
 printed_lines script = policy_lines script ++ map (body_line script) script.lines
 
 -- each line with its line feed
-abbrev pub printed : Script → List ℕ
-printed script = flat_map ended (printed_lines script)
+abbrev pub script_text : Script → List ℕ
+script_text script = flat_map line_text (printed_lines script)
 
 -- lines, numbered behind so many others
 abbrev pub numbered_behind : ℕ → List Line → List Line
@@ -57,5 +57,5 @@ numbered_behind count (line ∷ lines) =
     record line { at = line_number (count + 1) } ∷ numbered_behind (count + 1) lines
 
 -- the script, with its lines numbered as they stand in its text
-abbrev pub renumbered : Script → Script
-renumbered script = record script { lines = numbered_behind (length (policy_lines script)) script.lines }
+abbrev pub with_line_numbers : Script → Script
+with_line_numbers script = record script { lines = numbered_behind (length (policy_lines script)) script.lines }

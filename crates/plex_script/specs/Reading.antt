@@ -57,8 +57,8 @@ HasRoom script (declaration.Pref on pref) = Unit {0}
 HasRoom script (declaration.Connector name) = length script.connectors < 32
 
 -- what is left where so much is taken away, if it is there
-abbrev pub minus : ℕ → ℕ → Option ℕ
-minus left taken = if nat_le taken left then Some (left - taken) else None
+abbrev pub remainder : ℕ → ℕ → Option ℕ
+remainder left taken = if nat_le taken left then Some (left - taken) else None
 
 -- what a fault of a line is to the reader of a text
 abbrev pub fault_at : ℕ → LineFault → ReadFault

@@ -1,5 +1,5 @@
 ghost use Rattle.std.specs.Prelude.{◌≡◌};
-ghost use Rattle.plex_spell.specs.Places.{Gives, Reads, seen};
+ghost use Rattle.plex_spell.specs.Places.{Gives, Reads, names_of};
 ghost use Rattle.plex_spell.specs.ShellWords.{may_give, is_operator};
 ghost use Rattle.plex_script.specs.LineWords.{has_vectors};
 ghost use Rattle.plex_script.specs.LineReading.{cache_ask_at, list_ask_at, lock_ask_at, any_ask_at, retry_at, call_at, own_at, is_own, done_at, act_at};
@@ -59,7 +59,8 @@ fn cache_ask(
     by: ConnId,
     words: &mut Words,
 ) -> Result<Ask<CacheCmd>, Miss>
-    ensures { Gives result words.new (cache_ask_at judge.now.rigour (seen judge.now) by words.old) }
+    ensures { Gives result words.new
+        (cache_ask_at judge.now.rigour (names_of judge.now) by words.old) }
 {
     let mut ahead = words.again();
     match shell(judge, &mut ahead) {
@@ -87,7 +88,8 @@ fn list_ask(
     by: ConnId,
     words: &mut Words,
 ) -> Result<Ask<ListCmd>, Miss>
-    ensures { Gives result words.new (list_ask_at judge.now.rigour (seen judge.now) by words.old) }
+    ensures { Gives result words.new
+        (list_ask_at judge.now.rigour (names_of judge.now) by words.old) }
 {
     let mut ahead = words.again();
     match shell(judge, &mut ahead) {
@@ -110,7 +112,8 @@ fn list_ask(
 }
 
 fn lock_ask(judge: &Judge, by: ConnId, words: &mut Words) -> Result<Ask<LockCmd>, Miss>
-    ensures { Gives result words.new (lock_ask_at judge.now.rigour (seen judge.now) by words.old) }
+    ensures { Gives result words.new
+        (lock_ask_at judge.now.rigour (names_of judge.now) by words.old) }
 {
     let mut ahead = words.again();
     match shell(judge, &mut ahead) {
@@ -140,7 +143,7 @@ fn any_ask(
     words: &mut Words,
 ) -> Result<AnyAsk, Miss>
     ensures { Gives result words.new (any_ask_at judge.now.rigour
-        (seen judge.now) by kind words.old) }
+        (names_of judge.now) by kind words.old) }
 {
     match kind {
         Kind::Cache => Ok(AnyAsk::Cache(cache_ask(alloc, judge, by, words)?)),
@@ -157,7 +160,8 @@ fn call(
     kind: Kind,
     words: &mut Words,
 ) -> Result<(Act, u32), Miss>
-    ensures { Gives result words.new (call_at judge.now.rigour (seen judge.now) by kind words.old) }
+    ensures { Gives result words.new
+        (call_at judge.now.rigour (names_of judge.now) by kind words.old) }
 {
     let ask = any_ask(alloc, judge, by, kind, words)?;
     let retry = fields::retry(judge.rigour, words)?;
@@ -210,7 +214,8 @@ fn done(
     kind: Kind,
     words: &mut Words,
 ) -> Result<(Act, u32), Miss>
-    ensures { Gives result words.new (done_at judge.now.rigour (seen judge.now) by kind words.old) }
+    ensures { Gives result words.new
+        (done_at judge.now.rigour (names_of judge.now) by kind words.old) }
 {
     if !is_own(words) {
         return call(alloc, judge, by, kind, words);
@@ -230,7 +235,7 @@ pub(crate) fn act(
     kind: Kind,
     mut words: Words,
 ) -> Result<(Act, u32), Miss>
-    ensures { Reads result (act_at judge.now.rigour (seen judge.now) by kind words.entry) }
+    ensures { Reads result (act_at judge.now.rigour (names_of judge.now) by kind words.entry) }
 {
     let told = done(alloc, judge, by, kind, &mut words)?;
     if words.is_done() {

@@ -1,7 +1,7 @@
 ghost use Rattle.std.specs.Prelude.{◌≡◌, IfOk};
 ghost use Rattle.std.specs.Option.{option_copied};
 ghost use Rattle.cf_types.specs.declared.shell_commands.ShellCmd.TheVariants.{Disconnect};
-ghost use Rattle.plex_script.specs.Agent.{first_step, step_after, taking, after_round, asks_behind, most_asks, common, asked_by};
+ghost use Rattle.plex_script.specs.Agent.{first_step, step_after, round_step, after_round, asks_behind, most_asks, shell_ask, asked_by};
 
 use crate::copies::copy_ask;
 use crate::scripts::{Act, AnyAsk};
@@ -112,7 +112,7 @@ fn asks_behind(then: Option<u32>) -> u64
 
 // A common command, asked of a structure of this kind.
 fn common(kind: Kind, cmd: ShellCmd) -> AnyAsk
-    ensures { result ≡ common kind cmd }
+    ensures { result ≡ shell_ask kind cmd }
 {
     match kind {
         Kind::Cache => AnyAsk::Cache(Ask::Shell(cmd)),
@@ -123,14 +123,14 @@ fn common(kind: Kind, cmd: ShellCmd) -> AnyAsk
 
 /// The departure of a connector that has done its lines, from a structure of this kind.
 pub fn closing_ask(kind: Kind) -> AnyAsk
-    ensures { result ≡ common kind Disconnect }
+    ensures { result ≡ shell_ask kind Disconnect }
 {
     common(kind, ShellCmd::Disconnect)
 }
 
 // NEXT again, so many times at most.
 fn taking(left: u32, then: Option<u32>) -> Step
-    ensures { result ≡ taking left then }
+    ensures { result ≡ round_step left then }
 {
     match left {
         0 => after_round(then),

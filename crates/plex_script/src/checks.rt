@@ -3,7 +3,7 @@ ghost use Rattle.std.specs.List.{list_any};
 ghost use Rattle.plex_spell.specs.Words.{same_word};
 ghost use Rattle.plex_spell.specs.Tokens.{name_word};
 ghost use Rattle.plex_script.specs.Causes.{is_full, has_pref, is_twice, facility_units, units_of, all_prefs, is_too_much, kind_of, is_comment, is_policy_word, caller_of, is_long, is_long_name};
-ghost use Rattle.plex_script.specs.Reading.{script_of, minus};
+ghost use Rattle.plex_script.specs.Reading.{script_of, remainder};
 
 use crate::declarations::Declaration;
 use crate::draft::Draft;
@@ -122,7 +122,7 @@ fn facility_units(facilities: &[Pref], cf: CfId) -> u32
 
 // What is left of the units of a facility where these are set aside.
 fn less(units: u32, prefs: &[Pref], cf: CfId) -> Option<u32>
-    ensures { result ≡ minus units (units_of prefs.now cf) }
+    ensures { result ≡ remainder units (units_of prefs.now cf) }
 {
     let mut left = units;
     for pref in prefs {
@@ -135,7 +135,7 @@ fn less(units: u32, prefs: &[Pref], cf: CfId) -> Option<u32>
 
 // What is left of the units of a facility where those of all structures are set aside.
 fn less_all(units: u32, structures: &[StrForm], cf: CfId) -> Option<u32>
-    ensures { result ≡ minus units (units_of (all_prefs structures.now) cf) }
+    ensures { result ≡ remainder units (units_of (all_prefs structures.now) cf) }
 {
     let mut left = units;
     for form in structures {

@@ -1,7 +1,7 @@
 ghost use Rattle.std.specs.Prelude.{◌≡◌};
 ghost use Rattle.std.specs.Option.{is_some};
 ghost use Rattle.plex_spell.specs.declared.rigour.Rigour.TheVariants.{Form, Limits, Names};
-ghost use Rattle.plex_spell.specs.Places.{Reads, seen};
+ghost use Rattle.plex_spell.specs.Places.{Reads, names_of};
 ghost use Rattle.plex_spell.specs.Words.{words_of};
 ghost use Rattle.plex_script.specs.Causes.{declared_in};
 ghost use Rattle.plex_script.specs.LineReading.{act_at};
@@ -22,7 +22,7 @@ use std::alloc::Global;
 // What words are judged by behind what is read already.
 fn judge(draft: &Draft, rigour: Rigour) -> Judge<'_>
     ensures rigour { result.rigour ≡ rigour }
-    ensures declared { seen result ≡ declared_in (script_of draft.now) }
+    ensures declared { names_of result ≡ declared_in (script_of draft.now) }
 {
     Judge {
         rigour,

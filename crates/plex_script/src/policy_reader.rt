@@ -1,6 +1,6 @@
 ghost use Rattle.std.specs.Prelude.{◌≡◌};
 ghost use Rattle.plex_spell.specs.Patterns.{values_at};
-ghost use Rattle.plex_spell.specs.Places.{Gives, Reads, seen};
+ghost use Rattle.plex_spell.specs.Places.{Gives, Reads, names_of};
 ghost use Rattle.plex_script.specs.PolicyReading.{cache_places, cache_from, list_places, list_from, lock_places, lock_from, form_at, structure_at, declared_at, declaration_at};
 
 use crate::declarations::Declaration;
@@ -15,7 +15,7 @@ fn cache_form(
     name: Name16,
     words: &mut Words,
 ) -> Result<Declaration, Miss>
-    ensures { Gives result words.new (values_at judge.now.rigour (seen judge.now) cache_places
+    ensures { Gives result words.new (values_at judge.now.rigour (names_of judge.now) cache_places
         (cache_from name) words.old) }
 {
     let rigour = judge.rigour;
@@ -42,7 +42,7 @@ fn list_form(
     name: Name16,
     words: &mut Words,
 ) -> Result<Declaration, Miss>
-    ensures { Gives result words.new (values_at judge.now.rigour (seen judge.now) list_places
+    ensures { Gives result words.new (values_at judge.now.rigour (names_of judge.now) list_places
         (list_from name) words.old) }
 {
     let rigour = judge.rigour;
@@ -76,7 +76,7 @@ fn lock_form(
     name: Name16,
     words: &mut Words,
 ) -> Result<Declaration, Miss>
-    ensures { Gives result words.new (values_at judge.now.rigour (seen judge.now) lock_places
+    ensures { Gives result words.new (values_at judge.now.rigour (names_of judge.now) lock_places
         (lock_from name) words.old) }
 {
     let rigour = judge.rigour;
@@ -96,7 +96,8 @@ fn lock_form(
 }
 
 fn form(alloc: Global, judge: &Judge, name: Name16, words: &mut Words) -> Result<Declaration, Miss>
-    ensures { Gives result words.new (form_at judge.now.rigour (seen judge.now) name words.old) }
+    ensures { Gives result words.new
+        (form_at judge.now.rigour (names_of judge.now) name words.old) }
 {
     if words.skip(b"CACHE") {
         return cache_form(alloc, judge, name, words);
@@ -112,14 +113,15 @@ fn form(alloc: Global, judge: &Judge, name: Name16, words: &mut Words) -> Result
 
 // What stands behind STRUCTURE.
 fn structure(alloc: Global, judge: &Judge, words: &mut Words) -> Result<Declaration, Miss>
-    ensures { Gives result words.new (structure_at judge.now.rigour (seen judge.now) words.old) }
+    ensures { Gives result words.new
+        (structure_at judge.now.rigour (names_of judge.now) words.old) }
 {
     let name = fields::new_name(judge.rigour, words)?;
     form(alloc, judge, name, words)
 }
 
 fn declared(alloc: Global, judge: &Judge, words: &mut Words) -> Result<Declaration, Miss>
-    ensures { Gives result words.new (declared_at judge.now.rigour (seen judge.now) words.old) }
+    ensures { Gives result words.new (declared_at judge.now.rigour (names_of judge.now) words.old) }
 {
     let verb = words.next().ok_or(Miss::NoForm)?;
     if is(verb, b"FACILITY") {
@@ -152,7 +154,7 @@ pub(crate) fn declaration(
     judge: &Judge,
     mut words: Words,
 ) -> Result<Declaration, Miss>
-    ensures { Reads result (declaration_at judge.now.rigour (seen judge.now) words.entry) }
+    ensures { Reads result (declaration_at judge.now.rigour (names_of judge.now) words.entry) }
 {
     let told = declared(alloc, judge, &mut words)?;
     if words.is_done() {

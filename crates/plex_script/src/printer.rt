@@ -2,13 +2,13 @@
 
 ghost use Rattle.std.specs.Prelude.{◌≡◌, ◌∷◌, ◌++◌, [], IfOk, OnOk, map};
 ghost use Rattle.std.specs.List.{flat_map};
-ghost use Rattle.plex_spell.specs.Words.{spaced, ended};
+ghost use Rattle.plex_spell.specs.Words.{tail_of, line_text};
 ghost use Rattle.plex_plain.specs.Naming.{caller_name, structure_name};
 ghost use Rattle.plex_plain.specs.PlainWords.{plain_words};
 ghost use Rattle.plex_plain.specs.PolicyLines.{facility_line, pref_line, structure_lines, connector_line};
 ghost use Rattle.plex_script.specs.LineWords.{act_tokens, ask_tokens, retry_tokens};
 ghost use Rattle.plex_script.specs.Limits.{KeepsLimits};
-ghost use Rattle.plex_script.specs.Printed.{class_in, body_line, policy_lines, printed, renumbered};
+ghost use Rattle.plex_script.specs.Printed.{class_in, body_line, policy_lines, script_text, with_line_numbers};
 ghost use Rattle.plex_script.specs.Scripts.{IsScript};
 ghost use Rattle.plex_script.specs.declared.scripts.Act.TheVariants as act;
 
@@ -24,7 +24,7 @@ use std::alloc::Global;
 // Puts the lines that declare facilities to a text.
 fn put_facilities(text: &mut Vec<u8>, facilities: &[Pref]) -> Result<(), NoMemory>
     ensures { OnOk result (text.new.items ≡ text.old.items
-        ++ flat_map ended (map facility_line facilities.now)) }
+        ++ flat_map line_text (map facility_line facilities.now)) }
 {
     for facility in facilities {
         put_facility_line(text, facility)?;
@@ -36,7 +36,7 @@ fn put_facilities(text: &mut Vec<u8>, facilities: &[Pref]) -> Result<(), NoMemor
 // Puts the lines that set units of facilities aside for a structure to a text.
 fn put_prefs(text: &mut Vec<u8>, form: &StrForm, prefs: &[Pref]) -> Result<(), NoMemory>
     ensures { OnOk result (text.new.items ≡ text.old.items
-        ++ flat_map ended (map (pref_line form.now) prefs.now)) }
+        ++ flat_map line_text (map (pref_line form.now) prefs.now)) }
 {
     for pref in prefs {
         put_pref_line(text, form, pref)?;
@@ -48,7 +48,7 @@ fn put_prefs(text: &mut Vec<u8>, form: &StrForm, prefs: &[Pref]) -> Result<(), N
 // Puts the lines of a structure to a text.
 fn put_structure(text: &mut Vec<u8>, form: &StrForm) -> Result<(), NoMemory>
     ensures { OnOk result (text.new.items ≡ text.old.items
-        ++ flat_map ended (structure_lines form.now)) }
+        ++ flat_map line_text (structure_lines form.now)) }
 {
     put_form_line(text, form)?;
     text.push(b'\n')?;
@@ -58,7 +58,7 @@ fn put_structure(text: &mut Vec<u8>, form: &StrForm) -> Result<(), NoMemory>
 // Puts the lines of structures to a text.
 fn put_structures(text: &mut Vec<u8>, structures: &[StrForm]) -> Result<(), NoMemory>
     ensures { OnOk result (text.new.items ≡ text.old.items
-        ++ flat_map ended (flat_map structure_lines structures.now)) }
+        ++ flat_map line_text (flat_map structure_lines structures.now)) }
 {
     for form in structures {
         put_structure(text, form)?;
@@ -69,7 +69,7 @@ fn put_structures(text: &mut Vec<u8>, structures: &[StrForm]) -> Result<(), NoMe
 // Puts the lines that declare connectors to a text.
 fn put_connectors(text: &mut Vec<u8>, connectors: &[Name16]) -> Result<(), NoMemory>
     ensures { OnOk result (text.new.items ≡ text.old.items
-        ++ flat_map ended (map connector_line connectors.now)) }
+        ++ flat_map line_text (map connector_line connectors.now)) }
 {
     for name in connectors {
         put_connector_line(text, name)?;
@@ -81,7 +81,7 @@ fn put_connectors(text: &mut Vec<u8>, connectors: &[Name16]) -> Result<(), NoMem
 // Puts the policy to a text.
 fn put_policy(text: &mut Vec<u8>, script: &Script) -> Result<(), NoMemory>
     ensures { OnOk result (text.new.items ≡ text.old.items
-        ++ flat_map ended (policy_lines script.now)) }
+        ++ flat_map line_text (policy_lines script.now)) }
 {
     put_facilities(text, script.facilities.items())?;
     put_structures(text, script.structures.items())?;
@@ -91,7 +91,7 @@ fn put_policy(text: &mut Vec<u8>, script: &Script) -> Result<(), NoMemory>
 // Puts the words of a call to a line, with a blank before each.
 fn put_ask(line: &mut Vec<u8>, script: &Script, ask: &AnyAsk) -> Result<(), NoMemory>
     ensures { OnOk result (line.new.items ≡ line.old.items
-        ++ spaced (plain_words [] script.now.connectors
+        ++ tail_of (plain_words [] script.now.connectors
         (ask_tokens (class_in (act.Call ask.now)) ask.now))) }
 {
     let connectors = script.connectors.items();
@@ -108,7 +108,7 @@ fn put_ask(line: &mut Vec<u8>, script: &Script, ask: &AnyAsk) -> Result<(), NoMe
 // Puts the words of what a line does to it, with a blank before each.
 fn put_act(line: &mut Vec<u8>, script: &Script, act: &Act) -> Result<(), NoMemory>
     ensures { OnOk result (line.new.items ≡ line.old.items
-        ++ spaced (plain_words [] script.now.connectors (act_tokens (class_in act.now) act.now))) }
+        ++ tail_of (plain_words [] script.now.connectors (act_tokens (class_in act.now) act.now))) }
 {
     match act {
         Act::Call(ask) => put_ask(line, script, ask),
@@ -123,7 +123,7 @@ fn put_act(line: &mut Vec<u8>, script: &Script, act: &Act) -> Result<(), NoMemor
 // Puts RETRY and a number to a line, where the number isn't 0.
 fn put_retry(line: &mut Vec<u8>, script: &Script, retry: u32) -> Result<(), NoMemory>
     ensures { OnOk result (line.new.items ≡ line.old.items
-        ++ spaced (plain_words [] script.now.connectors (retry_tokens retry))) }
+        ++ tail_of (plain_words [] script.now.connectors (retry_tokens retry))) }
 {
     if retry == 0 {
         return Ok(());
@@ -135,7 +135,7 @@ fn put_retry(line: &mut Vec<u8>, script: &Script, retry: u32) -> Result<(), NoMe
 fn put_parties(text: &mut Vec<u8>, script: &Script, line: &Line) -> Result<(), NoMemory>
     ensures { OnOk result (text.new.items ≡ text.old.items
         ++ (caller_name script.now.connectors line.now.by.0
-        ++ spaced (structure_name script.now.structures line.now.on.0 ∷ []))) }
+        ++ tail_of (structure_name script.now.structures line.now.on.0 ∷ []))) }
 {
     put_caller_name(text, script.connectors.items(), line.by.0 as usize)?;
     put_word(text, b"")?;
@@ -154,7 +154,7 @@ fn put_line(text: &mut Vec<u8>, script: &Script, line: &Line) -> Result<(), NoMe
 // Puts the lines of callers to a text.
 fn put_lines(text: &mut Vec<u8>, script: &Script, lines: &[Line]) -> Result<(), NoMemory>
     ensures { OnOk result (text.new.items ≡ text.old.items
-        ++ flat_map ended (map (body_line script.now) lines.now)) }
+        ++ flat_map line_text (map (body_line script.now) lines.now)) }
 {
     for line in lines {
         put_line(text, script, line)?;
@@ -176,9 +176,9 @@ fn put_lines(text: &mut Vec<u8>, script: &Script, lines: &[Line]) -> Result<(), 
 /// `NoMemory` where there is no memory for the text.
 #[tactic(auto, using(crate::proofs::ReadBack::read_again, crate::proofs::Spaced::text_append))]
 pub fn print(alloc: Global, script: &Script) -> Result<Vec<u8>, NoMemory>
-    ensures text { IfOk result (λ text. text.items ≡ printed script.now) }
+    ensures text { IfOk result (λ text. text.items ≡ script_text script.now) }
     ensures again { IfOk result (λ text. KeepsLimits script.now
-        → IsScript text.items (renumbered script.now)) }
+        → IsScript text.items (with_line_numbers script.now)) }
 {
     let mut text = Vec::new(alloc);
     put_policy(&mut text, script)?;

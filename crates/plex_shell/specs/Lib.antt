@@ -1,3 +1,3 @@
 pub mod Callers
-pub mod Shelled
+pub mod ShellView
 pub mod Verdicts

@@ -5,7 +5,7 @@ ghost use Rattle.cf_types.specs.Mailboxes.{next_event, owed_event};
 ghost use Rattle.cf_types.specs.declared.refusals.Refusal.TheVariants as refusal;
 ghost use Rattle.cf_types.specs.declared.shell_commands.ShellCmd.TheVariants as cmd;
 ghost use Rattle.engine_api.specs.Asking.{MayCommand};
-ghost use Rattle.engine_api.specs.Shell.{when, unless_active, if_connected, if_too_many, unless_failed, shell_cause};
+ghost use Rattle.engine_api.specs.Shell.{refusal_when, unless_active, if_connected, if_too_many, unless_failed, shell_cause};
 
 use crate::shell::Shell;
 use cf_types::{ConnId, ConnState, Refusal, ShellCmd, StateWord};
@@ -92,7 +92,8 @@ impl Shell {
     // No event waits for the caller.
     fn unless_waiting(&self, by: ConnId) -> Option<Refusal>
         requires { IsCaller by }
-        ensures { result ≡ when (is_none (next_event self.now.shell.mail by)) refusal.NoEvent }
+        ensures { result
+            ≡ refusal_when (is_none (next_event self.now.shell.mail by)) refusal.NoEvent }
     {
         if self.mail.waiting(by).is_none() {
             Some(Refusal::NoEvent)
@@ -104,7 +105,8 @@ impl Shell {
     // The caller owes no response.
     fn unless_owing(&self, by: ConnId) -> Option<Refusal>
         requires { IsCaller by }
-        ensures { result ≡ when (is_none (owed_event self.now.shell.mail by)) refusal.NothingOwed }
+        ensures { result
+            ≡ refusal_when (is_none (owed_event self.now.shell.mail by)) refusal.NothingOwed }
     {
         if self.mail.owed(by).is_none() {
             Some(Refusal::NothingOwed)
@@ -129,7 +131,7 @@ impl Shell {
 
     // Connections are defined.
     fn if_defined(&self) -> Option<Refusal>
-        ensures { result ≡ when (nat_lt 0 (defined_count self.now.shell.conns))
+        ensures { result ≡ refusal_when (nat_lt 0 (defined_count self.now.shell.conns))
             (refusal.HasConnections (defined_count self.now.shell.conns)) }
     {
         let n = self.conns.defined();

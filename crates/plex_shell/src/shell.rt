@@ -1,7 +1,7 @@
 ghost use Rattle.std.specs.Prelude.{◌≡◌, ◌≤◌, ◌<◌, ◌+◌, ◌∷◌, [], IsTrue, IfOk, OnOk};
 ghost use Rattle.cf_types.specs.Forms.{IsForm, IsCaller};
 ghost use Rattle.engine_api.specs.Asking.{MayAsk, MayCommand, IsBuilt};
-ghost use Rattle.engine_api.specs.Shell.{opening_shell, shell_cause, shell_done, leaver, is_kept, posting, is_built, no_deeds};
+ghost use Rattle.engine_api.specs.Shell.{opening_shell, shell_cause, shell_done, leaver, is_kept, with_posted, is_built, no_deeds};
 ghost use Rattle.cf_types.specs.Connections.{state_of};
 ghost use Rattle.plex_shell.specs.Verdicts.{refused_or, verdict, leaver_pair, instances_of};
 
@@ -33,9 +33,9 @@ pub struct Shell {
 
 impl Model for Shell {
     ghost use Rattle.cf_types.specs.Forms.{IsForm};
-    ghost use Rattle.plex_shell.specs.Shelled.{Shelled};
+    ghost use Rattle.plex_shell.specs.ShellView.{ShellView};
 
-    ghost Value = { Shelled };
+    ghost Value = { ShellView };
 
     ghost view = { λ s. record {
       form = s.form;
@@ -115,7 +115,7 @@ impl Shell {
     pub fn post(&mut self, letter: Letter)
         requires room { 0 < self.old.room }
         ensures form { self.new.form ≡ self.old.form }
-        ensures shell { self.new.shell ≡ posting (letter ∷ []) self.old.shell }
+        ensures shell { self.new.shell ≡ with_posted (letter ∷ []) self.old.shell }
         ensures room { self.old.room ≤ self.new.room + 1 }
     {
         self.mail.post(letter);

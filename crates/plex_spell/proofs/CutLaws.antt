@@ -7,11 +7,11 @@ use Rattle.std.proofs.lemmas.Bool.Decides.{nat_tests}
 use Rattle.std.proofs.lemmas.List.Sums.{take_while-cons, split_at_first, passes_at_first}
 use Rattle.cf_types.specs.declared.names.Name16.{Name16}
 use Rattle.cf_types.specs.declared.resources.Resource.{Resource}
-use Rattle.cf_types.specs.Term.{term_byte, padded}
+use Rattle.cf_types.specs.Term.{term_byte, block_of}
 use Rattle.plex_spell.specs.declared.rigour.Rigour.{Rigour}
 use Rattle.plex_spell.specs.declared.rigour.Rigour.TheVariants.{Form, Limits, Names}
 use Rattle.plex_spell.specs.Tokens.{IsCut, AtLimits, IsNumber, IsRepeated, IsData, IsResource, is_term}
-use Rattle.plex_spell.specs.Places.{◌>>=◌, kept, number_of, text_of, name_of, stands_in, repeated_of, data_of, resource_in, resource_of}
+use Rattle.plex_spell.specs.Places.{◌>>=◌, within_limits, number_of, text_of, name_of, stands_in, repeated_of, data_of, resource_in, resource_of}
 use Rattle.plex_spell.proofs.Choices.{chosen, not_some, mapped, bound}
 use Rattle.plex_spell.proofs.TextLaws.{any-place, characters-term, length-repeat}
 use Rattle.plex_spell.proofs.WordLaws.{Finds, kept_value, kept_finds, at_limits-map, at_limits-both, number-sound, number-complete, number-strict, text-sound, text-complete, name-sound, name-complete, le_true, true_le}
@@ -112,11 +112,11 @@ resource-sound rigour word r h =
           cut = cut;
           named = (
             n.0,
-            at_limits-map rigour (Unit {0}) ((length name ≤ 16) × (b.value.0 ≡ padded name))
+            at_limits-map rigour (Unit {0}) ((length name ≤ 16) × (b.value.0 ≡ block_of name))
                 ((length name ≤ 16) × (name ≡ name)) (λ q. (q.0, refl)) n.1,
           );
-          padded = at_limits-map rigour (Unit {0}) ((length name ≤ 16) × (b.value.0 ≡ padded name))
-              (r.name.0 ≡ padded name) (λ q. sym (ap (λ (x : Name16). x.0) same_name) ∙ q.1) n.1;
+          padded = at_limits-map rigour (Unit {0}) ((length name ≤ 16) × (b.value.0 ≡ block_of name))
+              (r.name.0 ≡ block_of name) (λ q. sym (ap (λ (x : Name16). x.0) same_name) ∙ q.1) n.1;
           numeral = rw (← same_hash) (number-sound rigour 0 4294967295 hash m.value (lit< tt) m.read);
         }
 
@@ -125,7 +125,7 @@ pub resource-complete : (rigour : Rigour) (word : List ℕ) (r : Resource) → I
 resource-complete rigour word r h =
     let p = parts-IsCut 64 word h.name h.hash h.cut in
     let n = name-complete rigour h.name r.name h.named.0
-    (at_limits-both rigour (length h.name ≤ 16) (r.name.0 ≡ padded h.name)
+    (at_limits-both rigour (length h.name ≤ 16) (r.name.0 ≡ block_of h.name)
     (at_limits-map rigour (Unit {0}) ((length h.name ≤ 16) × (h.name ≡ h.name)) (length h.name ≤ 16) (λ q. q.0)
     h.named.1) h.padded) in
     let k = number-complete rigour 0 4294967295 h.hash r.hash (lit< tt) h.numeral in
@@ -157,7 +157,8 @@ data-sound rigour word text h =
     from_parts : (piece times : List ℕ) → IsCut 42 word piece times → repeated_of rigour piece times ≡ Some text
         → IsRepeated rigour text word
     from_parts piece times cut read =
-        let kept_text : ℕ → Option (List ℕ) = λ n. kept rigour (nat_le (n * length piece) 4096) (repeat n piece)
+        let kept_text : ℕ → Option (List ℕ) = λ n. within_limits rigour (nat_le (n * length piece) 4096)
+        (repeat n piece)
         (take 1 piece) in
         chosen (is_term piece) (number_of rigour 1 4096 times >>= kept_text) None text
         (λ term made.

@@ -10,7 +10,7 @@ use Rattle.plex_spell.specs.CacheReading.{number_places}
 use Rattle.plex_spell.specs.ListReading.{list_at, use_at, lock_use_at, make_places, make_of, update_places, update_of, record_places, move_places, move_of, two_places, label_name, label_key}
 use Rattle.plex_spell.proofs.CacheLaws.{are_number}
 use Rattle.plex_spell.specs.declared.rigour.Rigour.{Rigour}
-use Rattle.plex_spell.specs.Words.{same_word, begins_with, behind}
+use Rattle.plex_spell.specs.Words.{same_word, begins_with, words_behind}
 use Rattle.plex_spell.specs.Tokens.{Declared, Spells}
 use Rattle.plex_spell.specs.Tokens.Token.{Literal, Number}
 use Rattle.plex_spell.specs.Patterns.{tokens_of, number_at}
@@ -63,12 +63,12 @@ use-sound rigour declared lock ws rest cmd front h told =
   where
     one : (word : List ℕ) (c : ListCmd) → list_tokens c ≡ Literal (codes "LOCK") ∷ Number 0 4294967295 lock ∷ Literal
         word ∷ [] → IsListLine c
-        → begins_with word ws ≡ true → (let p : ListCmd × Words = (c, behind ws) in Some p) ≡ Some (cmd, rest)
+        → begins_with word ws ≡ true → (let p : ListCmd × Words = (c, words_behind ws) in Some p) ≡ Some (cmd, rest)
         → ListTold rigour declared front rest cmd
     one word c is line e k =
-        let same : (let p : ListCmd × Words = (c, behind ws) in p) ≡ (cmd, rest) = cc in
+        let same : (let p : ListCmd × Words = (c, words_behind ws) in p) ≡ (cmd, rest) = cc in
         let v : c ≡ cmd = ap (λ (p : ListCmd × Words). p.0) same in
-        let r : behind ws ≡ rest = ap (λ (p : ListCmd × Words). p.1) same in
+        let r : words_behind ws ≡ rest = ap (λ (p : ListCmd × Words). p.1) same in
         rw (← v) (told word c is line (led rigour declared word [] ws rest e r))
 
 lock_use-sound : (rigour : Rigour) (declared : Declared) (verb : List ℕ) (ws rest : Words) (cmd : ListCmd)
@@ -131,7 +131,7 @@ make-complete rigour declared ws rest header head known body adj cond tail h =
 used-complete : (rigour : Rigour) (declared : Declared) (ws rest : Words) (lock : ℕ) (word : List ℕ) (made : ℕ
     → ListCmd)
     → ((n : ℕ) (us : Words) → begins_with word us ≡ true → use_at n us ≡ (let p : ListCmd
-    × Words = (made n, behind us) in Some p))
+    × Words = (made n, words_behind us) in Some p))
     → Spells rigour declared (Literal (codes "LOCK") ∷ Number 0 4294967295 lock ∷ Literal word ∷ []) ws rest
     → FindsAll rigour (list_at rigour declared ws) (made lock) rest
 used-complete rigour declared ws rest lock word made is h =
@@ -149,7 +149,7 @@ used-complete rigour declared ws rest lock word made is h =
     })) h
 
 use_set : (n : ℕ) (us : Words) → begins_with (codes "SET") us ≡ true → use_at n us ≡ (let p : ListCmd
-    × Words = (LockSet n, behind us) in Some p)
+    × Words = (LockSet n, words_behind us) in Some p)
 use_set n us e = rw e refl
 
 first_apart : (word other : List ℕ) (us : Words) → begins_with word us ≡ true → same_word word other ≡ false
@@ -158,11 +158,11 @@ first_apart word other [] e apart = refl
 first_apart word other (w ∷ us) e apart = let same = word-same w word e in rw same apart
 
 use_reset : (n : ℕ) (us : Words) → begins_with (codes "RESET") us ≡ true → use_at n us ≡ (let p : ListCmd
-    × Words = (LockReset n, behind us) in Some p)
+    × Words = (LockReset n, words_behind us) in Some p)
 use_reset n us e = let a = first_apart (codes "RESET") (codes "SET") us e refl in rw (a, e) refl
 
 use_test : (n : ℕ) (us : Words) → begins_with (codes "TEST") us ≡ true → use_at n us ≡ (let p : ListCmd
-    × Words = (LockTest n, behind us) in Some p)
+    × Words = (LockTest n, words_behind us) in Some p)
 use_test n us e =
     let a = first_apart (codes "TEST") (codes "SET") us e refl in let b = first_apart (codes "TEST") (codes "RESET")
     us e refl in rw (a, b, e) refl

@@ -5,10 +5,10 @@ use Rattle.std.proofs.lemmas.Bool.{and_parts}
 use Rattle.cf_types.specs.declared.list_commands.Cond.TheVariants.{NotHeld, HeldBy}
 use Rattle.plex_spell.specs.declared.labels.Label.TheVariants as label
 use Rattle.plex_spell.specs.declared.rigour.Rigour.{Rigour}
-use Rattle.plex_spell.specs.Words.{same_word, begins_with, behind}
+use Rattle.plex_spell.specs.Words.{same_word, begins_with, words_behind}
 use Rattle.plex_spell.specs.Tokens.{Declared, Token, Spells, facility_of, connector_of, structure_of}
 use Rattle.plex_spell.specs.Tokens.Token.{Literal, Number, Term, Short, Data, OnResource, OfFacility, OfConnector, OfStructure, NewFacility, NewName}
-use Rattle.plex_spell.specs.Fields.{either, references, option_tokens, flag_tokens}
+use Rattle.plex_spell.specs.Fields.{one_of_two, references, option_tokens, flag_tokens}
 use Rattle.plex_spell.specs.LockWords.{decision}
 use Rattle.plex_spell.specs.Places.{is_names, number_of, text_of, data_of, resource_of, new_name_of, facility_in, connector_in, structure_in}
 use Rattle.plex_spell.specs.Patterns.{Place, Value, Values, tokens_at, tokens_of, value_at, values_at, option_at, flag_at, either_of, decision_of, refs_of}
@@ -71,8 +71,8 @@ flag-sound : (rigour : Rigour) (declared : Declared) (word : List ℕ) (ws rest 
     → flag_at word ws ≡ Some (given, rest)
     → Spells rigour declared (flag_tokens word given) ws rest
 flag-sound rigour declared word ws rest given h =
-    chosen (begins_with word ws) (Some (true, behind ws)) (Some (false, ws)) (given, rest)
-    (λ e k. told true (behind ws) (led rigour declared word [] ws (behind ws) e refl) k)
+    chosen (begins_with word ws) (Some (true, words_behind ws)) (Some (false, ws)) (given, rest)
+    (λ e k. told true (words_behind ws) (led rigour declared word [] ws (words_behind ws) e refl) k)
     (λ _ k. told false ws refl k) h
   where
     told : (b : Bool) (left : Words) → Spells rigour declared (flag_tokens word b) ws left
@@ -111,9 +111,9 @@ option-sound : {V : Type 0} (rigour : Rigour) (declared : Declared) (word : List
 option-sound {V} rigour declared word reading tokens sound ws rest value h =
     let some : V → Option V = λ v. Some v in
     chosen (begins_with word ws) (option_map (λ (read : V × Words). (let p : Option V × Words = (some read.0, read.1)
-    in p)) (reading (behind ws))) (Some (None, ws)) (value, rest)
-    (λ e k. behind-sound rigour declared some (reading (behind ws)) (option_tokens word tokens) ws rest value
-    (λ v m. led rigour declared word (tokens v) ws rest e (sound (behind ws) rest v m)) k)
+    in p)) (reading (words_behind ws))) (Some (None, ws)) (value, rest)
+    (λ e k. behind-sound rigour declared some (reading (words_behind ws)) (option_tokens word tokens) ws rest value
+    (λ v m. led rigour declared word (tokens v) ws rest e (sound (words_behind ws) rest v m)) k)
     (λ _ k. nothing-sound rigour declared (option_tokens word tokens) ws rest value refl k) h
 
 option-complete : {V : Type 0} (rigour : Rigour) (declared : Declared) (word : List ℕ) (reading : Words
@@ -132,7 +132,8 @@ option-complete {V} rigour declared word reading tokens complete ws rest None fr
 option-complete {V} rigour declared word reading tokens complete ws rest (Some v) free h =
     let l = led-by rigour declared word (tokens v) ws rest h in
     let some : V → Option V = λ x. Some x in
-    rw l.begins (behind-complete rigour some (reading (behind ws)) rest v (complete (behind ws) rest v l.rest_is))
+    rw l.begins (behind-complete rigour some (reading (words_behind ws)) rest v
+    (complete (words_behind ws) rest v l.rest_is))
 
 pub value-sound : (rigour : Rigour) (declared : Declared) (place : Place) (ws rest : Words) (v : Value place)
     → IsPlace place
@@ -162,7 +163,7 @@ value-sound rigour declared AStructure ws rest v is h =
 value-sound rigour declared ANewName ws rest v is h =
     single-sound rigour declared (new_name_of rigour) NewName (λ w x e. new_name-sound rigour w x e) ws rest v h
 value-sound rigour declared (Either first second) ws rest v is h =
-    single-sound rigour declared (either_of first second) (either first second)
+    single-sound rigour declared (either_of first second) (one_of_two first second)
     (λ w x e. either-sound first second rigour declared w x e) ws rest v h
 value-sound rigour declared ADecision ws rest v is h =
     single-sound rigour declared decision_of decision (λ w x e. decision-sound rigour declared w x e) ws rest v h
@@ -239,7 +240,7 @@ value-complete rigour declared ANewName ws rest v is fixed free h =
     single-complete rigour declared (new_name_of rigour) NewName v (λ w e. new_name-complete rigour w v e.0 e.1) ws
     rest h
 value-complete rigour declared (Either first second) ws rest v is fixed free h =
-    single-complete rigour declared (either_of first second) (either first second) v
+    single-complete rigour declared (either_of first second) (one_of_two first second) v
     (λ w e. either-complete first second is rigour declared v w e) ws rest h
 value-complete rigour declared ADecision ws rest v is fixed free h =
     single-complete rigour declared decision_of decision v (λ w e. decision-complete rigour declared v w e) ws rest h

@@ -5,10 +5,10 @@ use Rattle.cf_types.specs.declared.forms.Refs.TheVariants as refs
 use Rattle.cf_types.specs.declared.lock_commands.Decision.{Decision}
 use Rattle.cf_types.specs.declared.lock_commands.Decision.TheVariants.{Keep, Deny, Notify}
 use Rattle.plex_spell.specs.declared.rigour.Rigour.{Rigour}
-use Rattle.plex_spell.specs.Words.{same_word, begins_with, behind}
+use Rattle.plex_spell.specs.Words.{same_word, begins_with, words_behind}
 use Rattle.plex_spell.specs.Tokens.{Declared, Token, IsWord, Spells}
 use Rattle.plex_spell.specs.Tokens.Token.{Literal, Number}
-use Rattle.plex_spell.specs.Fields.{either, references}
+use Rattle.plex_spell.specs.Fields.{one_of_two, references}
 use Rattle.plex_spell.specs.LockWords.{decision}
 use Rattle.plex_spell.specs.Places.{is_names, on_first, number_of}
 use Rattle.plex_spell.specs.Patterns.{either_of, decision_of, refs_of, number_at}
@@ -86,24 +86,24 @@ single-complete {V} rigour declared f token v complete (w ∷ ws) rest h =
 -- ---- choices of words
 
 pub either-sound : (first second : List ℕ) (rigour : Rigour) (declared : Declared) (w : List ℕ) (b : Bool)
-    → either_of first second w ≡ Some b → IsWord rigour declared (either first second b) w
+    → either_of first second w ≡ Some b → IsWord rigour declared (one_of_two first second b) w
 either-sound first second rigour declared w b h =
     chosen (same_word w first) (Some true) (cond (same_word w second) (Some false) None) b
     (λ e k. at_first b (word-same w first e) k)
     (λ _ k. chosen (same_word w second) (Some false) None b (λ e m. at_second b (word-same w second e) m)
     (λ _ n. not_some b n) k) h
   where
-    at_first : (x : Bool) → w ≡ first → Some true ≡ Some x → IsWord rigour declared (either first second x) w
+    at_first : (x : Bool) → w ≡ first → Some true ≡ Some x → IsWord rigour declared (one_of_two first second x) w
     at_first true e k = e
     at_first false e k = absurd (cc)
 
-    at_second : (x : Bool) → w ≡ second → Some false ≡ Some x → IsWord rigour declared (either first second x) w
+    at_second : (x : Bool) → w ≡ second → Some false ≡ Some x → IsWord rigour declared (one_of_two first second x) w
     at_second true e k = absurd (cc)
     at_second false e k = e
 
 pub either-complete : (first second : List ℕ) → same_word second first ≡ false
     → (rigour : Rigour) (declared : Declared) (b : Bool) (w : List ℕ)
-    → IsWord rigour declared (either first second b) w → Finds rigour (either_of first second w) b
+    → IsWord rigour declared (one_of_two first second b) w → Finds rigour (either_of first second w) b
 either-complete first second other rigour declared true w h =
     record { found = true; read = rw (same_word-of w first h) refl; same = λ _. refl }
 either-complete first second other rigour declared false w h =
@@ -162,7 +162,7 @@ refs-complete rigour declared refs.Nothing w h = record {
 
 -- behind this word stands what the rest says
 pub led : (rigour : Rigour) (declared : Declared) (word : List ℕ) (tokens : List Token) (ws rest : Words)
-    → begins_with word ws ≡ true → Spells rigour declared tokens (behind ws) rest → Spells rigour declared
+    → begins_with word ws ≡ true → Spells rigour declared tokens (words_behind ws) rest → Spells rigour declared
     (Literal word ∷ tokens) ws rest
 led rigour declared word tokens [] rest e h = absurd (cc)
 led rigour declared word tokens (w ∷ ws) rest e h = (word-same w word e, h)
@@ -170,7 +170,7 @@ led rigour declared word tokens (w ∷ ws) rest e h = (word-same w word e, h)
 pub record Led (rigour : Rigour) (declared : Declared) (word : List ℕ) (tokens : List Token) (ws rest : Words) : Type
     0 where
   pub begins : begins_with word ws ≡ true
-  pub rest_is : Spells rigour declared tokens (behind ws) rest
+  pub rest_is : Spells rigour declared tokens (words_behind ws) rest
   pub first_is : (other : List ℕ) → same_word word other ≡ begins_with other ws
 
 pub led-by : (rigour : Rigour) (declared : Declared) (word : List ℕ) (tokens : List Token) (ws rest : Words)

@@ -11,7 +11,7 @@ use Rattle.cf_types.specs.declared.list_commands.Cond.TheVariants.{NotHeld, Held
 use Rattle.plex_spell.specs.declared.labels.Label.{Label}
 use Rattle.plex_spell.specs.declared.labels.Label.TheVariants as label
 use Rattle.plex_spell.specs.declared.rigour.Rigour.{Rigour}
-use Rattle.plex_spell.specs.Words.{same_word, begins_with, behind}
+use Rattle.plex_spell.specs.Words.{same_word, begins_with, words_behind}
 use Rattle.plex_spell.specs.Tokens.{Declared, Token, Spells}
 use Rattle.plex_spell.specs.Tokens.Token.{Number, Term, Record}
 use Rattle.plex_spell.specs.CacheWords.{class_tokens}
@@ -72,16 +72,16 @@ pub class-sound : (rigour : Rigour) (declared : Declared) (ws rest : Words) (cla
 class-sound rigour declared ws rest class h =
     let some : ℕ → Option ℕ = λ n. Some n in
     chosen (begins_with (codes "CHANGED") ws) (option_map (λ (read : ℕ × Words). (let p : Option ℕ
-    × Words = (Some read.0, read.1) in p)) (number_at rigour (behind ws)))
-    (cond (begins_with (codes "UNCHANGED") ws) (Some (None, behind ws)) None) (class, rest)
-    (λ e k. behind-sound rigour declared some (number_at rigour (behind ws)) class_tokens ws rest class
+    × Words = (Some read.0, read.1) in p)) (number_at rigour (words_behind ws)))
+    (cond (begins_with (codes "UNCHANGED") ws) (Some (None, words_behind ws)) None) (class, rest)
+    (λ e k. behind-sound rigour declared some (number_at rigour (words_behind ws)) class_tokens ws rest class
     (λ n m. led rigour declared (codes "CHANGED") (Number 0 4294967295 n ∷ []) ws rest e
-    (number_at-sound rigour declared (behind ws) rest n m)) k)
-    (λ _ k. chosen (begins_with (codes "UNCHANGED") ws) (Some (None, behind ws)) None (class, rest)
+    (number_at-sound rigour declared (words_behind ws) rest n m)) k)
+    (λ _ k. chosen (begins_with (codes "UNCHANGED") ws) (Some (None, words_behind ws)) None (class, rest)
     (λ e m.
-    let same : (let p : Option ℕ × Words = (None, behind ws) in p) ≡ (class, rest) = cc in
+    let same : (let p : Option ℕ × Words = (None, words_behind ws) in p) ≡ (class, rest) = cc in
     let v : None ≡ class = ap (λ (p : Option ℕ × Words). p.0) same in
-    let r : behind ws ≡ rest = ap (λ (p : Option ℕ × Words). p.1) same in
+    let r : words_behind ws ≡ rest = ap (λ (p : Option ℕ × Words). p.1) same in
     rw (← v) (led rigour declared (codes "UNCHANGED") [] ws rest e r))
     (λ _ n. not_some (let p : Option ℕ × Words = (class, rest) in p) n) k) h
 
@@ -100,8 +100,8 @@ class-complete rigour declared ws rest None h =
 class-complete rigour declared ws rest (Some class) h =
     let l = led-by rigour declared (codes "CHANGED") (Number 0 4294967295 class ∷ []) ws rest h in
     let some : ℕ → Option ℕ = λ n. Some n in
-    rw l.begins (behind-complete rigour some (number_at rigour (behind ws)) rest class
-    (number_at-complete rigour declared (behind ws) rest class l.rest_is))
+    rw l.begins (behind-complete rigour some (number_at rigour (words_behind ws)) rest class
+    (number_at-complete rigour declared (words_behind ws) rest class l.rest_is))
 
 -- ---- conditions
 
@@ -112,17 +112,17 @@ cond-sound rigour declared ws rest value h =
     let held : ℕ → Option Cond = λ n. Some (HeldBy n) in
     let not_held : ℕ → Option Cond = λ n. Some (NotHeld n) in
     chosen (begins_with (codes "NOTHELD") ws) (option_map (λ (read : ℕ × Words). (let p : Option Cond
-    × Words = (not_held read.0, read.1) in p)) (number_at rigour (behind ws)))
+    × Words = (not_held read.0, read.1) in p)) (number_at rigour (words_behind ws)))
     (cond (begins_with (codes "HELDBY") ws) (option_map (λ (read : ℕ × Words). (let p : Option Cond
-    × Words = (held read.0, read.1) in p)) (number_at rigour (behind ws))) (Some (None, ws))) (value, rest)
-    (λ e k. behind-sound rigour declared not_held (number_at rigour (behind ws)) cond_tokens ws rest value
+    × Words = (held read.0, read.1) in p)) (number_at rigour (words_behind ws))) (Some (None, ws))) (value, rest)
+    (λ e k. behind-sound rigour declared not_held (number_at rigour (words_behind ws)) cond_tokens ws rest value
     (λ n m. led rigour declared (codes "NOTHELD") (Number 0 4294967295 n ∷ []) ws rest e
-    (number_at-sound rigour declared (behind ws) rest n m)) k)
+    (number_at-sound rigour declared (words_behind ws) rest n m)) k)
     (λ _ k. chosen (begins_with (codes "HELDBY") ws) (option_map (λ (read : ℕ × Words). (let p : Option Cond
-    × Words = (held read.0, read.1) in p)) (number_at rigour (behind ws))) (Some (None, ws)) (value, rest)
-    (λ e m. behind-sound rigour declared held (number_at rigour (behind ws)) cond_tokens ws rest value
+    × Words = (held read.0, read.1) in p)) (number_at rigour (words_behind ws))) (Some (None, ws)) (value, rest)
+    (λ e m. behind-sound rigour declared held (number_at rigour (words_behind ws)) cond_tokens ws rest value
     (λ n o. led rigour declared (codes "HELDBY") (Number 0 4294967295 n ∷ []) ws rest e
-    (number_at-sound rigour declared (behind ws) rest n o)) m)
+    (number_at-sound rigour declared (words_behind ws) rest n o)) m)
     (λ _ m. nothing-sound rigour declared cond_tokens ws rest value refl m) k) h
 
 -- the first of the words is none of these
@@ -168,14 +168,14 @@ cond-complete rigour declared ws rest None free h =
 cond-complete rigour declared ws rest (Some (NotHeld lock)) free h =
     let l = led-by rigour declared (codes "NOTHELD") (Number 0 4294967295 lock ∷ []) ws rest h in
     let made : ℕ → Option Cond = λ n. Some (NotHeld n) in
-    rw l.begins (behind-complete rigour made (number_at rigour (behind ws)) rest lock
-    (number_at-complete rigour declared (behind ws) rest lock l.rest_is))
+    rw l.begins (behind-complete rigour made (number_at rigour (words_behind ws)) rest lock
+    (number_at-complete rigour declared (words_behind ws) rest lock l.rest_is))
 cond-complete rigour declared ws rest (Some (HeldBy lock)) free h =
     let l = led-by rigour declared (codes "HELDBY") (Number 0 4294967295 lock ∷ []) ws rest h in
     let other : begins_with (codes "NOTHELD") ws ≡ false = sym (l.first_is (codes "NOTHELD")) in
     let made : ℕ → Option Cond = λ n. Some (HeldBy n) in
-    rw (other, l.begins) (behind-complete rigour made (number_at rigour (behind ws)) rest lock
-    (number_at-complete rigour declared (behind ws) rest lock l.rest_is))
+    rw (other, l.begins) (behind-complete rigour made (number_at rigour (words_behind ws)) rest lock
+    (number_at-complete rigour declared (words_behind ws) rest lock l.rest_is))
 
 -- ---- names and keys of new records
 
@@ -186,16 +186,20 @@ label-sound rigour declared ws rest value h =
     let named : Name16 → Option Label = λ n. Some (label.Name n) in
     let keyed : Key16 → Option Label = λ k. Some (label.Key k) in
     chosen (begins_with (codes "NAME") ws) (option_map (λ (read : Name16 × Words). (let p : Option Label
-    × Words = (named read.0, read.1) in p)) (on_first (name_of rigour) (behind ws)))
+    × Words = (named read.0, read.1) in p)) (on_first (name_of rigour) (words_behind ws)))
     (cond (begins_with (codes "KEY") ws) (option_map (λ (read : Key16 × Words). (let p : Option Label
-    × Words = (keyed read.0, read.1) in p)) (on_first (key_of rigour) (behind ws))) (Some (None, ws))) (value, rest)
-    (λ e k. behind-sound rigour declared named (on_first (name_of rigour) (behind ws)) label_tokens ws rest value
-    (λ n m. led rigour declared (codes "NAME") (Term n.0 ∷ []) ws rest e (name_at-sound rigour declared (behind ws)
+    × Words = (keyed read.0, read.1) in p)) (on_first (key_of rigour) (words_behind ws))) (Some (None, ws)))
+    (value, rest)
+    (λ e k. behind-sound rigour declared named (on_first (name_of rigour) (words_behind ws)) label_tokens ws rest value
+    (λ n m. led rigour declared (codes "NAME") (Term n.0 ∷ []) ws rest e
+    (name_at-sound rigour declared (words_behind ws)
     rest n m)) k)
     (λ _ k. chosen (begins_with (codes "KEY") ws) (option_map (λ (read : Key16 × Words). (let p : Option Label
-    × Words = (keyed read.0, read.1) in p)) (on_first (key_of rigour) (behind ws))) (Some (None, ws)) (value, rest)
-    (λ e m. behind-sound rigour declared keyed (on_first (key_of rigour) (behind ws)) label_tokens ws rest value
-    (λ n o. led rigour declared (codes "KEY") (Term n.0 ∷ []) ws rest e (key_word-sound rigour declared (behind ws)
+    × Words = (keyed read.0, read.1) in p)) (on_first (key_of rigour) (words_behind ws))) (Some (None, ws))
+    (value, rest)
+    (λ e m. behind-sound rigour declared keyed (on_first (key_of rigour) (words_behind ws)) label_tokens ws rest value
+    (λ n o. led rigour declared (codes "KEY") (Term n.0 ∷ []) ws rest e
+    (key_word-sound rigour declared (words_behind ws)
     rest n o)) m)
     (λ _ m. nothing-sound rigour declared label_tokens ws rest value refl m) k) h
 
@@ -218,14 +222,14 @@ label-complete rigour declared ws rest None free h =
 label-complete rigour declared ws rest (Some (label.Name name)) free h =
     let l = led-by rigour declared (codes "NAME") (Term name.0 ∷ []) ws rest h in
     let made : Name16 → Option Label = λ n. Some (label.Name n) in
-    rw l.begins (behind-complete rigour made (on_first (name_of rigour) (behind ws)) rest name
-    (name_at-complete rigour declared (behind ws) rest name l.rest_is))
+    rw l.begins (behind-complete rigour made (on_first (name_of rigour) (words_behind ws)) rest name
+    (name_at-complete rigour declared (words_behind ws) rest name l.rest_is))
 label-complete rigour declared ws rest (Some (label.Key key)) free h =
     let l = led-by rigour declared (codes "KEY") (Term key.0 ∷ []) ws rest h in
     let other : begins_with (codes "NAME") ws ≡ false = sym (l.first_is (codes "NAME")) in
     let made : Key16 → Option Label = λ k. Some (label.Key k) in
-    rw (other, l.begins) (behind-complete rigour made (on_first (key_of rigour) (behind ws)) rest key
-    (key_word-complete rigour declared (behind ws) rest key l.rest_is))
+    rw (other, l.begins) (behind-complete rigour made (on_first (key_of rigour) (words_behind ws)) rest key
+    (key_word-complete rigour declared (words_behind ws) rest key l.rest_is))
 
 -- ---- which record
 
@@ -273,7 +277,7 @@ id_at-complete rigour declared ws rest id h = single-complete rigour declared (r
     (λ w e. record-complete rigour w id e) ws rest h
 
 led_whole : (rigour : Rigour) (declared : Declared) (word : List ℕ) (tokens : List Token) (ws rest : Words)
-    → begins_with word ws ≡ true → Spells rigour declared tokens (word ∷ behind ws) rest
+    → begins_with word ws ≡ true → Spells rigour declared tokens (word ∷ words_behind ws) rest
     → Spells rigour declared tokens ws rest
 led_whole rigour declared word tokens [] rest e h = absurd (cc)
 led_whole rigour declared word tokens (w ∷ ws) rest e h = let same = word-same w word e in rw same h
@@ -287,33 +291,34 @@ record-at-sound rigour declared ws rest value h =
     let by_tail : ℕ → At = λ n. at.Tail n in
     let by_id : EntryId → At = λ n. at.Id n in
     let o_name = option_map (λ (read : Name16 × Words). (let p : At × Words = (by_name read.0, read.1) in p))
-    (on_first (name_of rigour) (behind ws)) in
+    (on_first (name_of rigour) (words_behind ws)) in
     let o_head = option_map (λ (read : ℕ × Words). (let p : At × Words = (by_head read.0, read.1) in p))
-    (number_at rigour (behind ws)) in
+    (number_at rigour (words_behind ws)) in
     let o_tail = option_map (λ (read : ℕ × Words). (let p : At × Words = (by_tail read.0, read.1) in p))
-    (number_at rigour (behind ws)) in
+    (number_at rigour (words_behind ws)) in
     let o_id = option_map (λ (read : EntryId × Words). (let p : At × Words = (by_id read.0, read.1) in p))
     (on_first (record_of rigour) ws) in
     let v : At × Words = (value, rest) in
     chosen (begins_with (codes "NAME") ws) o_name
     (cond (begins_with (codes "HEAD") ws) o_head (cond (begins_with (codes "TAIL") ws) o_tail
-    (cond (begins_with (codes "KEY") ws) (key_at rigour (behind ws)) o_id))) v
-    (λ e k. behind-sound rigour declared by_name (on_first (name_of rigour) (behind ws)) at_tokens ws rest value
-    (λ n m. led rigour declared (codes "NAME") (Term n.0 ∷ []) ws rest e (name_at-sound rigour declared (behind ws)
+    (cond (begins_with (codes "KEY") ws) (key_at rigour (words_behind ws)) o_id))) v
+    (λ e k. behind-sound rigour declared by_name (on_first (name_of rigour) (words_behind ws)) at_tokens ws rest value
+    (λ n m. led rigour declared (codes "NAME") (Term n.0 ∷ []) ws rest e
+    (name_at-sound rigour declared (words_behind ws)
     rest n m)) k)
     (λ _ k. chosen (begins_with (codes "HEAD") ws) o_head (cond (begins_with (codes "TAIL") ws) o_tail
-    (cond (begins_with (codes "KEY") ws) (key_at rigour (behind ws)) o_id)) v
-    (λ e m. behind-sound rigour declared by_head (number_at rigour (behind ws)) at_tokens ws rest value
+    (cond (begins_with (codes "KEY") ws) (key_at rigour (words_behind ws)) o_id)) v
+    (λ e m. behind-sound rigour declared by_head (number_at rigour (words_behind ws)) at_tokens ws rest value
     (λ n o. led rigour declared (codes "HEAD") (Number 0 4294967295 n ∷ []) ws rest e (number_at-sound rigour declared
-    (behind ws) rest n o)) m)
+    (words_behind ws) rest n o)) m)
     (λ _ m. chosen (begins_with (codes "TAIL") ws) o_tail (cond (begins_with (codes "KEY") ws)
-    (key_at rigour (behind ws)) o_id) v
-    (λ e n. behind-sound rigour declared by_tail (number_at rigour (behind ws)) at_tokens ws rest value
+    (key_at rigour (words_behind ws)) o_id) v
+    (λ e n. behind-sound rigour declared by_tail (number_at rigour (words_behind ws)) at_tokens ws rest value
     (λ x o. led rigour declared (codes "TAIL") (Number 0 4294967295 x ∷ []) ws rest e (number_at-sound rigour declared
-    (behind ws) rest x o)) n)
-    (λ _ n. chosen (begins_with (codes "KEY") ws) (key_at rigour (behind ws)) o_id v
+    (words_behind ws) rest x o)) n)
+    (λ _ n. chosen (begins_with (codes "KEY") ws) (key_at rigour (words_behind ws)) o_id v
     (λ e o. led_whole rigour declared (codes "KEY") (at_tokens value) ws rest e (key_at-sound rigour declared
-    (behind ws) rest value o))
+    (words_behind ws) rest value o))
     (λ _ o. behind-sound rigour declared by_id (on_first (record_of rigour) ws) at_tokens ws rest value
     (λ x p. id_at-sound rigour declared ws rest x p) o) n) m) k) h
 
@@ -339,24 +344,24 @@ record-at-complete rigour declared ws rest (at.Id id) h =
 record-at-complete rigour declared ws rest (at.Name name) h =
     let l = led-by rigour declared (codes "NAME") (Term name.0 ∷ []) ws rest h in
     let made : Name16 → At = λ n. at.Name n in
-    rw l.begins (behind-complete rigour made (on_first (name_of rigour) (behind ws)) rest name
-    (name_at-complete rigour declared (behind ws) rest name l.rest_is))
+    rw l.begins (behind-complete rigour made (on_first (name_of rigour) (words_behind ws)) rest name
+    (name_at-complete rigour declared (words_behind ws) rest name l.rest_is))
 record-at-complete rigour declared ws rest (at.Head header) h =
     let l = led-by rigour declared (codes "HEAD") (Number 0 4294967295 header ∷ []) ws rest h in
     let a : begins_with (codes "NAME") ws ≡ false = sym (l.first_is (codes "NAME")) in
     let made : ℕ → At = λ n. at.Head n in
-    rw (a, l.begins) (behind-complete rigour made (number_at rigour (behind ws)) rest header
-    (number_at-complete rigour declared (behind ws) rest header l.rest_is))
+    rw (a, l.begins) (behind-complete rigour made (number_at rigour (words_behind ws)) rest header
+    (number_at-complete rigour declared (words_behind ws) rest header l.rest_is))
 record-at-complete rigour declared ws rest (at.Tail header) h =
     let l = led-by rigour declared (codes "TAIL") (Number 0 4294967295 header ∷ []) ws rest h in
     let a : begins_with (codes "NAME") ws ≡ false = sym (l.first_is (codes "NAME")) in
     let b : begins_with (codes "HEAD") ws ≡ false = sym (l.first_is (codes "HEAD")) in
     let made : ℕ → At = λ n. at.Tail n in
-    rw (a, b, l.begins) (behind-complete rigour made (number_at rigour (behind ws)) rest header
-    (number_at-complete rigour declared (behind ws) rest header l.rest_is))
+    rw (a, b, l.begins) (behind-complete rigour made (number_at rigour (words_behind ws)) rest header
+    (number_at-complete rigour declared (words_behind ws) rest header l.rest_is))
 record-at-complete rigour declared ws rest (at.Key header key) h =
     let l = led-by rigour declared (codes "KEY") (Number 0 4294967295 header ∷ Term key.0 ∷ []) ws rest h in
     let a : begins_with (codes "NAME") ws ≡ false = sym (l.first_is (codes "NAME")) in
     let b : begins_with (codes "HEAD") ws ≡ false = sym (l.first_is (codes "HEAD")) in
     let c : begins_with (codes "TAIL") ws ≡ false = sym (l.first_is (codes "TAIL")) in
-    rw (a, b, c, l.begins) (key_at-complete rigour declared (behind ws) rest header key l.rest_is)
+    rw (a, b, c, l.begins) (key_at-complete rigour declared (words_behind ws) rest header key l.rest_is)

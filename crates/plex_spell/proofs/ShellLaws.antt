@@ -6,7 +6,7 @@ use Rattle.plex_spell.specs.ShellWords.{shell_tokens}
 use Rattle.plex_spell.specs.ShellReading.{shell_at, an_amount, caps_places, start_of, rebuild_at, duplex_at, operator_at}
 use Rattle.plex_spell.specs.Patterns.Place.{AFacility, AConnector, Either}
 use Rattle.plex_spell.specs.declared.rigour.Rigour.{Rigour}
-use Rattle.plex_spell.specs.Words.{same_word, begins_with, behind}
+use Rattle.plex_spell.specs.Words.{same_word, begins_with, words_behind}
 use Rattle.plex_spell.specs.Tokens.{Declared, Spells}
 use Rattle.plex_spell.specs.Tokens.Token.{Literal}
 use Rattle.plex_spell.specs.Patterns.{tokens_of}
@@ -21,11 +21,12 @@ are_caps = (lit< tt, tt, (lit< tt, tt, tt))
 inner-plain : (rigour : Rigour) (declared : Declared) (word : List ℕ) (made : ShellCmd) (ws rest : Words)
     (cmd : ShellCmd) (P : ShellCmd → Type 0)
     → (Spells rigour declared (Literal word ∷ []) ws rest → P made)
-    → begins_with word ws ≡ true → (let p : ShellCmd × Words = (made, behind ws) in Some p) ≡ Some (cmd, rest) → P cmd
+    → begins_with word ws ≡ true → (let p : ShellCmd × Words = (made, words_behind ws) in Some p) ≡ Some (cmd, rest)
+    → P cmd
 inner-plain rigour declared word made ws rest cmd P told e h =
-    let same : (let p : ShellCmd × Words = (made, behind ws) in p) ≡ (cmd, rest) = cc in
+    let same : (let p : ShellCmd × Words = (made, words_behind ws) in p) ≡ (cmd, rest) = cc in
     let v : made ≡ cmd = ap (λ (p : ShellCmd × Words). p.0) same in
-    let r : behind ws ≡ rest = ap (λ (p : ShellCmd × Words). p.1) same in
+    let r : words_behind ws ≡ rest = ap (λ (p : ShellCmd × Words). p.1) same in
     rw (← v) (told (led rigour declared word [] ws rest e r))
 
 rebuild-sound : (rigour : Rigour) (declared : Declared) (verb : List ℕ) (ws rest : Words) (cmd : ShellCmd)
@@ -35,7 +36,7 @@ rebuild-sound rigour declared verb ws rest cmd e h =
     let P : ShellCmd → Type 0 = λ c. Spells rigour declared (shell_tokens c) (verb ∷ ws) rest in
     let here = word-same verb (codes "REBUILD") e in
     pick h (λ b k.
-    let t = values-sound rigour declared caps_places start_of (behind ws) rest cmd are_caps k in
+    let t = values-sound rigour declared caps_places start_of (words_behind ws) rest cmd are_caps k in
     rw t.same (here, led rigour declared (codes "START") (tokens_of caps_places t.values) ws rest b t.spelled))
     (λ _ a. pick a (λ b k. inner-plain rigour declared (codes "STOP") RebuildStop ws rest cmd P (λ s. (here, s)) b k)
     (λ _ c. pick c (λ b k. inner-plain rigour declared (codes "CONNECT") RebuildConnect ws rest cmd P (λ s. (here, s))
@@ -100,7 +101,8 @@ first_apart word other (w ∷ us) e apart = let same = word-same w word e in rw 
 inner-complete : (rigour : Rigour) (declared : Declared) (first word : List ℕ) (made : ShellCmd) (ws rest : Words)
     (inner : Words → Option (ShellCmd × Words))
     → ((us : Words) → shell_at rigour declared (first ∷ us) ≡ inner us)
-    → ((us : Words) → begins_with word us ≡ true → inner us ≡ (let p : ShellCmd × Words = (made, behind us) in Some
+    → ((us : Words) → begins_with word us ≡ true → inner us ≡
+    (let p : ShellCmd × Words = (made, words_behind us) in Some
     p))
     → Spells rigour declared (Literal first ∷ Literal word ∷ []) ws rest
     → FindsAll rigour (shell_at rigour declared ws) made rest
@@ -116,28 +118,28 @@ inner-complete rigour declared first word made ws rest inner is does h =
     }) h
 
 rebuild_stop : (rigour : Rigour) (declared : Declared) (us : Words) → begins_with (codes "STOP") us ≡ true
-    → rebuild_at rigour declared us ≡ (let p : ShellCmd × Words = (RebuildStop, behind us) in Some p)
+    → rebuild_at rigour declared us ≡ (let p : ShellCmd × Words = (RebuildStop, words_behind us) in Some p)
 rebuild_stop rigour declared us e = let a = first_apart (codes "STOP") (codes "START") us e refl in rw (a, e) refl
 
 rebuild_connect : (rigour : Rigour) (declared : Declared) (us : Words) → begins_with (codes "CONNECT") us ≡ true
-    → rebuild_at rigour declared us ≡ (let p : ShellCmd × Words = (RebuildConnect, behind us) in Some p)
+    → rebuild_at rigour declared us ≡ (let p : ShellCmd × Words = (RebuildConnect, words_behind us) in Some p)
 rebuild_connect rigour declared us e =
     let a = first_apart (codes "CONNECT") (codes "START") us e refl in let b = first_apart (codes "CONNECT")
     (codes "STOP") us e refl in rw (a, b, e) refl
 
 rebuild_complete : (rigour : Rigour) (declared : Declared) (us : Words) → begins_with (codes "COMPLETE") us ≡ true
-    → rebuild_at rigour declared us ≡ (let p : ShellCmd × Words = (RebuildComplete, behind us) in Some p)
+    → rebuild_at rigour declared us ≡ (let p : ShellCmd × Words = (RebuildComplete, words_behind us) in Some p)
 rebuild_complete rigour declared us e =
     let a = first_apart (codes "COMPLETE") (codes "START") us e refl in
     let b = first_apart (codes "COMPLETE") (codes "STOP") us e refl in
     let c = first_apart (codes "COMPLETE") (codes "CONNECT") us e refl in rw (a, b, c, e) refl
 
 duplex_start : (us : Words) → begins_with (codes "START") us ≡ true → duplex_at us ≡ (let p : ShellCmd
-    × Words = (DuplexStart, behind us) in Some p)
+    × Words = (DuplexStart, words_behind us) in Some p)
 duplex_start us e = rw e refl
 
 duplex_stop : (us : Words) → begins_with (codes "STOP") us ≡ true → duplex_at us ≡ (let p : ShellCmd
-    × Words = (DuplexStop, behind us) in Some p)
+    × Words = (DuplexStop, words_behind us) in Some p)
 duplex_stop us e = let a = first_apart (codes "STOP") (codes "START") us e refl in rw (a, e) refl
 
 pub shell-complete : (rigour : Rigour) (declared : Declared) (ws rest : Words) (cmd : ShellCmd) → is_tail rest ≡ true
@@ -162,7 +164,8 @@ shell-complete rigour declared ws rest (RebuildStart caps) tail h =
     (λ us s.
     let l = led-by rigour declared (codes "START") (tokens_of caps_places (caps.entries, (caps.elements, tt))) us rest
     s in
-    rw l.begins (verb-complete rigour declared caps_places start_of (caps.entries, (caps.elements, tt)) (behind us)
+    rw l.begins (verb-complete rigour declared caps_places start_of (caps.entries, (caps.elements, tt))
+    (words_behind us)
     rest are_caps refl (AreFree-tail caps_places rest tail refl) l.rest_is)) h
 shell-complete rigour declared ws rest RebuildStop tail h =
     inner-complete rigour declared (codes "REBUILD") (codes "STOP") RebuildStop ws rest (rebuilt rigour declared)

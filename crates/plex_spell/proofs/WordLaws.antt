@@ -10,12 +10,12 @@ use Rattle.cf_types.specs.declared.names.Name16.{Name16}
 use Rattle.cf_types.specs.declared.names.Key16.{Key16}
 use Rattle.cf_types.specs.declared.numbers.CfId.{CfId}
 use Rattle.cf_types.specs.declared.numbers.EntryId.{EntryId}
-use Rattle.cf_types.specs.Term.{term_byte, padded}
+use Rattle.cf_types.specs.Term.{term_byte, block_of}
 use Rattle.plex_spell.specs.declared.rigour.Rigour.{Rigour}
 use Rattle.plex_spell.specs.declared.rigour.Rigour.TheVariants.{Form, Limits, Names}
 use Rattle.plex_spell.specs.Words.{same_word}
 use Rattle.plex_spell.specs.Tokens.{Declared, AtLimits, AtNames, IsNumber, IsText, IsName, IsRecord, is_numeral, is_term, is_name, is_capital, reserved_words, facility_of, is_declared}
-use Rattle.plex_spell.specs.Places.{◌>>=◌, kept, known, is_names, number_of, text_of, name_of, key_of, new_name_of, record_of, facility_in}
+use Rattle.plex_spell.specs.Places.{◌>>=◌, within_limits, named_value, is_names, number_of, text_of, name_of, key_of, new_name_of, record_of, facility_in}
 use Rattle.plex_spell.proofs.Choices.{chosen, not_some, mapped, bound}
 use Rattle.plex_spell.proofs.NumberLaws.{decimal-numeral, value-decimal, numeral-decimal}
 
@@ -32,7 +32,7 @@ at_limits Limits p q = q
 at_limits Names p q = q
 
 pub kept_value : {V : Type 0} (rigour : Rigour) (fits : Bool) (value other v : V) (P : Type 0) (Q : V → Type 0)
-    → P → (fits ≡ true → Q value) → kept rigour fits value other ≡ Some v → AtLimits rigour P (Q v)
+    → P → (fits ≡ true → Q value) → within_limits rigour fits value other ≡ Some v → AtLimits rigour P (Q v)
 kept_value Form true value other v P Q p q h = p
 kept_value Form false value other v P Q p q h = p
 kept_value Limits true value other v P Q p q h = let same : value ≡ v = cc in rw (← same) (q refl)
@@ -41,7 +41,7 @@ kept_value Names true value other v P Q p q h = let same : value ≡ v = cc in r
 kept_value Names false value other v P Q p q h = absurd (cc)
 
 pub kept_finds : {V : Type 0} (rigour : Rigour) (fits : Bool) (value other v : V) (P Q : Type 0)
-    → (Q → (fits ≡ true) × (value ≡ v)) → AtLimits rigour P Q → Finds rigour (kept rigour fits value other) v
+    → (Q → (fits ≡ true) × (value ≡ v)) → AtLimits rigour P Q → Finds rigour (within_limits rigour fits value other) v
 kept_finds Form true value other v P Q f h = record { found = value; read = refl; same = λ e. absurd (cc) }
 kept_finds Form false value other v P Q f h = record { found = other; read = refl; same = λ e. absurd (cc) }
 kept_finds Limits fits value other v P Q f h = let k = f h in record {
@@ -74,7 +74,7 @@ pub number-sound : (rigour : Rigour) (low high : ℕ) (word : List ℕ) (n : ℕ
     → number_of rigour low high word ≡ Some n
     → IsNumber rigour low high n word
 number-sound rigour low high word n small h =
-    chosen (is_numeral word) (kept rigour (nat_le low v && nat_le v high) v low) None n
+    chosen (is_numeral word) (within_limits rigour (nat_le low v && nat_le v high) v low) None n
     (λ numeral read. (
       numeral,
       kept_value rigour (nat_le low v && nat_le v high) v low n (Unit {0}) (λ m. (word ≡ decimal m) × (low ≤ m)
@@ -123,7 +123,7 @@ true_le m n h = grind (arith, nat_tests)
 pub text-sound : (rigour : Rigour) (limit : ℕ) (word text : List ℕ) → text_of rigour limit word ≡ Some text
     → IsText rigour limit text word
 text-sound rigour limit word text h =
-    chosen (is_term word) (kept rigour (nat_le (length word) limit) word (take limit word)) None text
+    chosen (is_term word) (within_limits rigour (nat_le (length word) limit) word (take limit word)) None text
     (λ term read. (
       term,
       kept_value rigour (nat_le (length word) limit) word (take limit word) text (Unit {0})
@@ -165,65 +165,65 @@ names_at_names Names P Q e h = h
 -- ---- names and keys
 
 pub name-sound : (rigour : Rigour) (word : List ℕ) (name : Name16) → name_of rigour word ≡ Some name
-    → (is_term word ≡ true) × AtLimits rigour (Unit {0}) ((length word ≤ 16) × (name.0 ≡ padded word))
+    → (is_term word ≡ true) × AtLimits rigour (Unit {0}) ((length word ≤ 16) × (name.0 ≡ block_of word))
 name-sound rigour word name h =
-    let m = mapped (λ (text : List ℕ). (let n : Name16 = record { 0 = padded text } in n)) (text_of rigour 16 word)
+    let m = mapped (λ (text : List ℕ). (let n : Name16 = record { 0 = block_of text } in n)) (text_of rigour 16 word)
     name h in
     let t = text-sound rigour 16 word m.value m.read in
-    let is : padded m.value ≡ name.0 = ap (λ (n : Name16). n.0) m.made in (
+    let is : block_of m.value ≡ name.0 = ap (λ (n : Name16). n.0) m.made in (
       t.0,
       at_limits-map rigour (Unit {0}) ((length word ≤ 16) × (m.value ≡ word)) ((length word ≤ 16)
-          × (name.0 ≡ padded word))
-          (λ q. (q.0, sym is ∙ ap padded q.1)) t.1,
+          × (name.0 ≡ block_of word))
+          (λ q. (q.0, sym is ∙ ap block_of q.1)) t.1,
     )
 
 pub name-complete : (rigour : Rigour) (word : List ℕ) (name : Name16) → is_term word ≡ true
-    → AtLimits rigour (Unit {0}) ((length word ≤ 16) × (name.0 ≡ padded word)) → Finds rigour (name_of rigour word)
+    → AtLimits rigour (Unit {0}) ((length word ≤ 16) × (name.0 ≡ block_of word)) → Finds rigour (name_of rigour word)
     name
 name-complete rigour word name term h =
-    let make = λ (text : List ℕ). (let n : Name16 = record { 0 = padded text } in n) in
+    let make = λ (text : List ℕ). (let n : Name16 = record { 0 = block_of text } in n) in
     let t = text-complete rigour 16 word word (
       term,
       at_limits-map rigour (Unit {0}) ((length word ≤ 16)
-          × (name.0 ≡ padded word)) ((length word ≤ 16) × (word ≡ word)) (λ q. (q.0, refl)) h,
+          × (name.0 ≡ block_of word)) ((length word ≤ 16) × (word ≡ word)) (λ q. (q.0, refl)) h,
     ) in
     record {
       found = make t.found;
       read = ap (option_map make) t.read;
       same = λ e.
-          let q = limits_at_names rigour (Unit {0}) ((length word ≤ 16) × (name.0 ≡ padded word)) e h in
-          let bytes : padded t.found ≡ name.0 = ap padded (t.same e) ∙ sym q.1 in
+          let q = limits_at_names rigour (Unit {0}) ((length word ≤ 16) × (name.0 ≡ block_of word)) e h in
+          let bytes : block_of t.found ≡ name.0 = ap block_of (t.same e) ∙ sym q.1 in
           ap (λ (bs : List ℕ). (let n : Name16 = record { 0 = bs } in n)) bytes;
     }
 
 pub key-sound : (rigour : Rigour) (word : List ℕ) (key : Key16) → key_of rigour word ≡ Some key
-    → (is_term word ≡ true) × AtLimits rigour (Unit {0}) ((length word ≤ 16) × (key.0 ≡ padded word))
+    → (is_term word ≡ true) × AtLimits rigour (Unit {0}) ((length word ≤ 16) × (key.0 ≡ block_of word))
 key-sound rigour word key h =
-    let m = mapped (λ (text : List ℕ). (let n : Key16 = record { 0 = padded text } in n)) (text_of rigour 16 word) key
+    let m = mapped (λ (text : List ℕ). (let n : Key16 = record { 0 = block_of text } in n)) (text_of rigour 16 word) key
     h in
     let t = text-sound rigour 16 word m.value m.read in
-    let is : padded m.value ≡ key.0 = ap (λ (n : Key16). n.0) m.made in (
+    let is : block_of m.value ≡ key.0 = ap (λ (n : Key16). n.0) m.made in (
       t.0,
       at_limits-map rigour (Unit {0}) ((length word ≤ 16) × (m.value ≡ word)) ((length word ≤ 16)
-          × (key.0 ≡ padded word))
-          (λ q. (q.0, sym is ∙ ap padded q.1)) t.1,
+          × (key.0 ≡ block_of word))
+          (λ q. (q.0, sym is ∙ ap block_of q.1)) t.1,
     )
 
 pub key-complete : (rigour : Rigour) (word : List ℕ) (key : Key16) → is_term word ≡ true
-    → AtLimits rigour (Unit {0}) ((length word ≤ 16) × (key.0 ≡ padded word)) → Finds rigour (key_of rigour word) key
+    → AtLimits rigour (Unit {0}) ((length word ≤ 16) × (key.0 ≡ block_of word)) → Finds rigour (key_of rigour word) key
 key-complete rigour word key term h =
-    let make = λ (text : List ℕ). (let n : Key16 = record { 0 = padded text } in n) in
+    let make = λ (text : List ℕ). (let n : Key16 = record { 0 = block_of text } in n) in
     let t = text-complete rigour 16 word word (
       term,
       at_limits-map rigour (Unit {0}) ((length word ≤ 16)
-          × (key.0 ≡ padded word)) ((length word ≤ 16) × (word ≡ word)) (λ q. (q.0, refl)) h,
+          × (key.0 ≡ block_of word)) ((length word ≤ 16) × (word ≡ word)) (λ q. (q.0, refl)) h,
     ) in
     record {
       found = make t.found;
       read = ap (option_map make) t.read;
       same = λ e.
-          let q = limits_at_names rigour (Unit {0}) ((length word ≤ 16) × (key.0 ≡ padded word)) e h in
-          let bytes : padded t.found ≡ key.0 = ap padded (t.same e) ∙ sym q.1 in
+          let q = limits_at_names rigour (Unit {0}) ((length word ≤ 16) × (key.0 ≡ block_of word)) e h in
+          let bytes : block_of t.found ≡ key.0 = ap block_of (t.same e) ∙ sym q.1 in
           ap (λ (bs : List ℕ). (let n : Key16 = record { 0 = bs } in n)) bytes;
     }
 
@@ -252,31 +252,32 @@ term-name (b ∷ word) h =
     and_from (term_byte b) (list_all term_byte word) (upper_term b parts.0) (capitals_term word parts.1)
 
 pub new_name-sound : (rigour : Rigour) (word : List ℕ) (name : Name16) → new_name_of rigour word ≡ Some name
-    → IsName rigour word × AtLimits rigour (Unit {0}) (name.0 ≡ padded word)
+    → IsName rigour word × AtLimits rigour (Unit {0}) (name.0 ≡ block_of word)
 new_name-sound rigour word name h =
     chosen (is_name word) (name_of rigour word) None name
     (λ named read.
     let n = name-sound rigour word name read in (
       (
         named,
-        at_limits-map rigour (Unit {0}) ((length word ≤ 16) × (name.0 ≡ padded word)) (length word ≤ 16)
+        at_limits-map rigour (Unit {0}) ((length word ≤ 16) × (name.0 ≡ block_of word)) (length word ≤ 16)
             (λ q. q.0) n.1,
       ),
-      at_limits-map rigour (Unit {0}) ((length word ≤ 16) × (name.0 ≡ padded word)) (name.0 ≡ padded word) (λ q. q.1)
+      at_limits-map rigour (Unit {0}) ((length word ≤ 16) × (name.0 ≡ block_of word)) (name.0 ≡ block_of word)
+          (λ q. q.1)
           n.1,
     ))
     (λ _ none. not_some name none) h
 
 pub new_name-complete : (rigour : Rigour) (word : List ℕ) (name : Name16) → IsName rigour word
-    → AtLimits rigour (Unit {0}) (name.0 ≡ padded word)
+    → AtLimits rigour (Unit {0}) (name.0 ≡ block_of word)
     → Finds rigour (new_name_of rigour word) name
 new_name-complete rigour word name named h =
     rw named.0 (name-complete rigour word name (term-name word named.0) (at_limits-both rigour (length word ≤ 16)
-    (name.0 ≡ padded word) named.1 h))
+    (name.0 ≡ block_of word) named.1 h))
 
 -- ---- what is declared
 
-known-sound : {V : Type 0} (rigour : Rigour) (o : Option V) (other v : V) → known rigour o other ≡ Some v
+known-sound : {V : Type 0} (rigour : Rigour) (o : Option V) (other v : V) → named_value rigour o other ≡ Some v
     → AtNames rigour (Unit {0}) (o ≡ Some v)
 known-sound Form o other v h = tt
 known-sound Limits o other v h = tt
@@ -284,7 +285,7 @@ known-sound Names None other v h = absurd (cc)
 known-sound Names (Some x) other v h = h
 
 known-complete : {V : Type 0} (rigour : Rigour) (o : Option V) (other v : V) → AtNames rigour (Unit {0}) (o ≡ Some v)
-    → Finds rigour (known rigour o other) v
+    → Finds rigour (named_value rigour o other) v
 known-complete Form None other v h = record { found = other; read = refl; same = λ e. absurd (cc) }
 known-complete Form (Some x) other v h = record { found = x; read = refl; same = λ e. absurd (cc) }
 known-complete Limits None other v h = record { found = other; read = refl; same = λ e. absurd (cc) }
@@ -296,22 +297,22 @@ abbrev pub IsDeclaredName : {V : Type 0} → Rigour → Option V → V → List 
 IsDeclaredName rigour o v word = IsName rigour word × AtNames rigour (Unit {0}) (o ≡ Some v)
 
 pub declared-sound : {V : Type 0} (rigour : Rigour) (word : List ℕ) (o : Option V) (other v : V)
-    → (new_name_of rigour word >>= (λ name. known rigour o other)) ≡ Some v → IsDeclaredName rigour o v word
+    → (new_name_of rigour word >>= (λ name. named_value rigour o other)) ≡ Some v → IsDeclaredName rigour o v word
 declared-sound rigour word o other v h =
-    let b = bound (λ (name : Name16). known rigour o other) (new_name_of rigour word) v h in
+    let b = bound (λ (name : Name16). named_value rigour o other) (new_name_of rigour word) v h in
     ((new_name-sound rigour word b.value b.read).0, known-sound rigour o other v b.then_)
 
 -- some name for the word
 padded_name : List ℕ → Name16
-padded_name word = record { 0 = padded word }
+padded_name word = record { 0 = block_of word }
 
-padded_name-is : (word : List ℕ) → (padded_name word).0 ≡ padded word
+padded_name-is : (word : List ℕ) → (padded_name word).0 ≡ block_of word
 unfolding padded_name
 padded_name-is word = refl
 
 pub declared-complete : {V : Type 0} (rigour : Rigour) (word : List ℕ) (o : Option V) (other v : V)
     → IsDeclaredName rigour o v word
-    → Finds rigour (new_name_of rigour word >>= (λ name. known rigour o other)) v
+    → Finds rigour (new_name_of rigour word >>= (λ name. named_value rigour o other)) v
 declared-complete rigour word o other v h =
     let n = new_name-complete rigour word (padded_name word) h.0 (at_limits rigour tt (padded_name-is word)) in
     let k = known-complete rigour o other v h.1 in

@@ -4,7 +4,7 @@ use Rattle.cf_types.specs.declared.cache_commands.CacheCmd.{CacheCmd}
 use Rattle.cf_types.specs.declared.cache_commands.CacheCmd.TheVariants.{Read, Write, CrossInval, RegList, Castout, Unlock, CoClass, CoStats, DirInfo, Delete, StgStats}
 use Rattle.plex_spell.specs.Tokens.{Token}
 use Rattle.plex_spell.specs.Tokens.Token.{Literal, Term, Data}
-use Rattle.plex_spell.specs.Fields.{joined, number, name_tokens, number_tokens, short_tokens, option_tokens, flag_tokens}
+use Rattle.plex_spell.specs.Fields.{all_tokens, number, name_tokens, number_tokens, short_tokens, option_tokens, flag_tokens}
 
 -- the castout class, where the entry is written as changed
 abbrev pub class_tokens : Option ℕ → List Token
@@ -15,10 +15,10 @@ class_tokens (Some class) = Literal (codes "CHANGED") ∷ number class ∷ []
 abbrev pub cache_tokens : Option ℕ → CacheCmd → List Token
 cache_tokens given (Read name index old stg) =
     Literal (codes "READ") ∷ Term name.0 ∷ number index
-    ∷ joined (option_tokens (codes "OLD") name_tokens old ∷ option_tokens (codes "STG") number_tokens given ∷ [])
+    ∷ all_tokens (option_tokens (codes "OLD") name_tokens old ∷ option_tokens (codes "STG") number_tokens given ∷ [])
 cache_tokens given (Write name index body class adj old stg when_reg) =
     Literal (codes "WRITE") ∷ Term name.0 ∷ number index ∷ Data body
-    ∷ joined (class_tokens class ∷ option_tokens (codes "ADJ") short_tokens adj ∷ option_tokens (codes "OLD")
+    ∷ all_tokens (class_tokens class ∷ option_tokens (codes "ADJ") short_tokens adj ∷ option_tokens (codes "OLD")
     name_tokens old
     ∷ option_tokens (codes "STG") number_tokens given ∷ flag_tokens (codes "WHENREG") when_reg ∷ [])
 cache_tokens given (CrossInval name) = Literal (codes "CROSSINVAL") ∷ Term name.0 ∷ []

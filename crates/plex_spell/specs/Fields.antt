@@ -8,9 +8,9 @@ use Rattle.plex_spell.specs.Tokens.{Token}
 use Rattle.plex_spell.specs.Tokens.Token.{Literal, Number, Term, Short, Data}
 
 -- one after another
-abbrev pub joined : List (List Token) → List Token
-joined [] = []
-joined (part ∷ parts) = part ++ joined parts
+abbrev pub all_tokens : List (List Token) → List Token
+all_tokens [] = []
+all_tokens (part ∷ parts) = part ++ all_tokens parts
 
 -- a number of 32 bits
 abbrev pub number : ℕ → Token
@@ -41,19 +41,19 @@ flag_tokens word false = []
 flag_tokens word true = Literal word ∷ []
 
 -- the first word for true, the second for false
-abbrev pub either : List ℕ → List ℕ → Bool → Token
-either first second false = Literal second
-either first second true = Literal first
+abbrev pub one_of_two : List ℕ → List ℕ → Bool → Token
+one_of_two first second false = Literal second
+one_of_two first second true = Literal first
 
 -- the place of a list record, and the state of a lock
 abbrev pub end : Bool → Token
-end head = either (codes "HEAD") (codes "TAIL") head
+end head = one_of_two (codes "HEAD") (codes "TAIL") head
 
 abbrev pub state : Bool → Token
-state excl = either (codes "EXCL") (codes "SHR") excl
+state excl = one_of_two (codes "EXCL") (codes "SHR") excl
 
 abbrev pub disposition : Bool → Token
-disposition keep = either (codes "KEEP") (codes "DELETE") keep
+disposition keep = one_of_two (codes "KEEP") (codes "DELETE") keep
 
 -- what the records of a list structure are known by
 abbrev pub references : Refs → Token

@@ -7,7 +7,7 @@ use Rattle.cf_types.specs.declared.list_commands.ListCmd.TheVariants.{Write, Upd
 use Rattle.plex_spell.specs.declared.labels.Label.{Label}
 use Rattle.plex_spell.specs.declared.labels.Label.TheVariants as label
 use Rattle.plex_spell.specs.declared.rigour.Rigour.{Rigour}
-use Rattle.plex_spell.specs.Words.{same_word, begins_with, behind}
+use Rattle.plex_spell.specs.Words.{same_word, begins_with, words_behind}
 use Rattle.plex_spell.specs.Tokens.{Declared}
 use Rattle.plex_spell.specs.Places.{◌>>=◌}
 use Rattle.plex_spell.specs.Patterns.{Place, Values, values_at, number_at}
@@ -54,9 +54,9 @@ two_places = a_number ∷ a_number ∷ []
 -- behind the number of a list lock stands what is done with it
 abbrev pub use_at : ℕ → List (List ℕ) → Option (ListCmd × List (List ℕ))
 use_at lock words =
-    if begins_with (codes "SET") words then Some (LockSet lock, behind words)
-    else if begins_with (codes "RESET") words then Some (LockReset lock, behind words)
-    else if begins_with (codes "TEST") words then Some (LockTest lock, behind words)
+    if begins_with (codes "SET") words then Some (LockSet lock, words_behind words)
+    else if begins_with (codes "RESET") words then Some (LockReset lock, words_behind words)
+    else if begins_with (codes "TEST") words then Some (LockTest lock, words_behind words)
     else None
 
 abbrev pub lock_use_at : Rigour → List (List ℕ) → Option (ListCmd × List (List ℕ))

@@ -10,7 +10,7 @@ use Rattle.cf_types.specs.declared.list_commands.ListCmd.{ListCmd}
 use Rattle.cf_types.specs.declared.list_commands.ListCmd.TheVariants.{Write, Update, Read, Move, Delete, ReadList, LockSet, LockReset, LockTest, LControls, SetLimit, Monitor, Unmonitor}
 use Rattle.plex_spell.specs.Tokens.{Token}
 use Rattle.plex_spell.specs.Tokens.Token.{Literal, Term, Record}
-use Rattle.plex_spell.specs.Fields.{joined, number, name_tokens, key_tokens, short_tokens, data_tokens, option_tokens, end}
+use Rattle.plex_spell.specs.Fields.{all_tokens, number, name_tokens, key_tokens, short_tokens, data_tokens, option_tokens, end}
 
 -- which record is meant
 abbrev pub at_tokens : At → List Token
@@ -29,19 +29,20 @@ cond_tokens (Some (HeldBy lock)) = Literal (codes "HELDBY") ∷ number lock ∷ 
 abbrev pub list_tokens : ListCmd → List Token
 list_tokens (Write header head name key body adj cond) =
     Literal (codes "WRITE") ∷ number header ∷ end head
-    ∷ joined (option_tokens (codes "NAME") name_tokens name ∷ option_tokens (codes "KEY") key_tokens key
+    ∷ all_tokens (option_tokens (codes "NAME") name_tokens name ∷ option_tokens (codes "KEY") key_tokens key
     ∷ option_tokens (codes "DATA") data_tokens body ∷ option_tokens (codes "ADJ") short_tokens adj ∷ cond_tokens cond
     ∷ [])
 list_tokens (Update ref body adj cond) =
     Literal (codes "UPDATE")
-    ∷ joined (at_tokens ref ∷ option_tokens (codes "DATA") data_tokens body ∷ option_tokens (codes "ADJ") short_tokens
+    ∷ all_tokens (at_tokens ref ∷ option_tokens (codes "DATA") data_tokens body
+    ∷ option_tokens (codes "ADJ") short_tokens
     adj ∷ cond_tokens cond ∷ [])
-list_tokens (Read ref cond) = Literal (codes "READ") ∷ joined (at_tokens ref ∷ cond_tokens cond ∷ [])
+list_tokens (Read ref cond) = Literal (codes "READ") ∷ all_tokens (at_tokens ref ∷ cond_tokens cond ∷ [])
 list_tokens (Move ref header head key cond) =
     Literal (codes "MOVE")
-    ∷ joined (at_tokens ref ∷ (number header ∷ end head ∷ []) ∷ option_tokens (codes "KEY") key_tokens key ∷
+    ∷ all_tokens (at_tokens ref ∷ (number header ∷ end head ∷ []) ∷ option_tokens (codes "KEY") key_tokens key ∷
     cond_tokens cond ∷ [])
-list_tokens (Delete ref cond) = Literal (codes "DELETE") ∷ joined (at_tokens ref ∷ cond_tokens cond ∷ [])
+list_tokens (Delete ref cond) = Literal (codes "DELETE") ∷ all_tokens (at_tokens ref ∷ cond_tokens cond ∷ [])
 list_tokens (ReadList header) = Literal (codes "READLIST") ∷ number header ∷ []
 list_tokens (LockSet lock) = Literal (codes "LOCK") ∷ number lock ∷ Literal (codes "SET") ∷ []
 list_tokens (LockReset lock) = Literal (codes "LOCK") ∷ number lock ∷ Literal (codes "RESET") ∷ []

@@ -17,10 +17,10 @@ use Rattle.cf_types.specs.declared.list_commands.Cond.TheVariants.{NotHeld, Held
 use Rattle.plex_spell.specs.declared.labels.Label.{Label}
 use Rattle.plex_spell.specs.declared.labels.Label.TheVariants as label
 use Rattle.plex_spell.specs.declared.rigour.Rigour.{Rigour}
-use Rattle.plex_spell.specs.Words.{same_word, begins_with, behind}
+use Rattle.plex_spell.specs.Words.{same_word, begins_with, words_behind}
 use Rattle.plex_spell.specs.Tokens.{Declared, Token, facility_of}
 use Rattle.plex_spell.specs.Tokens.Token.{Data, Literal, NewFacility, NewName, Number, OnResource, Short, Term, OfFacility, OfConnector, OfStructure}
-use Rattle.plex_spell.specs.Fields.{either, option_tokens, flag_tokens, references}
+use Rattle.plex_spell.specs.Fields.{one_of_two, option_tokens, flag_tokens, references}
 use Rattle.plex_spell.specs.CacheWords.{class_tokens}
 use Rattle.plex_spell.specs.ListWords.{at_tokens, cond_tokens}
 use Rattle.plex_spell.specs.LockWords.{decision}
@@ -90,7 +90,7 @@ tokens_at ANewFacility cf = NewFacility cf ∷ []
 tokens_at AConnector conn = OfConnector conn ∷ []
 tokens_at AStructure on = OfStructure on ∷ []
 tokens_at ANewName name = NewName name ∷ []
-tokens_at (Either first second) choice = either first second choice ∷ []
+tokens_at (Either first second) choice = one_of_two first second choice ∷ []
 tokens_at ADecision how = decision how ∷ []
 tokens_at SomeRefs how = references how ∷ []
 tokens_at AClass class = class_tokens class
@@ -106,11 +106,11 @@ tokens_at (AnOption word place) value = option_tokens word (tokens_at place) val
 abbrev pub option_at : {V : Type 0} → List ℕ → (List (List ℕ) → Option (V × List (List ℕ))) → List (List ℕ)
     → Option (Option V × List (List ℕ))
 option_at word reading words =
-    if begins_with word words then option_map (λ read. (Some read.0, read.1)) (reading (behind words)) else Some
+    if begins_with word words then option_map (λ read. (Some read.0, read.1)) (reading (words_behind words)) else Some
     (None, words)
 
 abbrev pub flag_at : List ℕ → List (List ℕ) → Option (Bool × List (List ℕ))
-flag_at word words = if begins_with word words then Some (true, behind words) else Some (false, words)
+flag_at word words = if begins_with word words then Some (true, words_behind words) else Some (false, words)
 
 abbrev pub either_of : List ℕ → List ℕ → List ℕ → Option Bool
 either_of first second word = if same_word word first then Some true else if same_word word second then Some false
@@ -136,24 +136,24 @@ number_at rigour words = on_first (number_of rigour 0 4294967295) words
 abbrev pub class_at : Rigour → List (List ℕ) → Option (Option ℕ × List (List ℕ))
 class_at rigour words =
     if begins_with (codes "CHANGED") words then option_map (λ read. (Some read.0, read.1))
-    (number_at rigour (behind words))
-    else if begins_with (codes "UNCHANGED") words then Some (None, behind words)
+    (number_at rigour (words_behind words))
+    else if begins_with (codes "UNCHANGED") words then Some (None, words_behind words)
     else None
 
 abbrev pub cond_at : Rigour → List (List ℕ) → Option (Option Cond × List (List ℕ))
 cond_at rigour words =
     if begins_with (codes "NOTHELD") words then option_map (λ read. (Some (NotHeld read.0), read.1))
-    (number_at rigour (behind words))
+    (number_at rigour (words_behind words))
     else if begins_with (codes "HELDBY") words then option_map (λ read. (Some (HeldBy read.0), read.1))
-    (number_at rigour (behind words))
+    (number_at rigour (words_behind words))
     else Some (None, words)
 
 abbrev pub label_at : Rigour → List (List ℕ) → Option (Option Label × List (List ℕ))
 label_at rigour words =
     if begins_with (codes "NAME") words
-    then option_map (λ read. (Some (label.Name read.0), read.1)) (on_first (name_of rigour) (behind words))
+    then option_map (λ read. (Some (label.Name read.0), read.1)) (on_first (name_of rigour) (words_behind words))
     else if begins_with (codes "KEY") words
-    then option_map (λ read. (Some (label.Key read.0), read.1)) (on_first (key_of rigour) (behind words))
+    then option_map (λ read. (Some (label.Key read.0), read.1)) (on_first (key_of rigour) (words_behind words))
     else Some (None, words)
 
 abbrev pub key_at : Rigour → List (List ℕ) → Option (At × List (List ℕ))
@@ -164,12 +164,12 @@ key_at rigour words =
 abbrev pub record_at : Rigour → List (List ℕ) → Option (At × List (List ℕ))
 record_at rigour words =
     if begins_with (codes "NAME") words then option_map (λ read. (at.Name read.0, read.1))
-    (on_first (name_of rigour) (behind words))
+    (on_first (name_of rigour) (words_behind words))
     else if begins_with (codes "HEAD") words then option_map (λ read. (at.Head read.0, read.1))
-    (number_at rigour (behind words))
+    (number_at rigour (words_behind words))
     else if begins_with (codes "TAIL") words then option_map (λ read. (at.Tail read.0, read.1))
-    (number_at rigour (behind words))
-    else if begins_with (codes "KEY") words then key_at rigour (behind words)
+    (number_at rigour (words_behind words))
+    else if begins_with (codes "KEY") words then key_at rigour (words_behind words)
     else option_map (λ read. (at.Id read.0, read.1)) (on_first (record_of rigour) words)
 
 abbrev pub value_at : Rigour → Declared → (place : Place) → List (List ℕ) → Option (Value place × List (List ℕ))

@@ -9,7 +9,7 @@ use Rattle.cf_types.specs.declared.numbers.ConnId.{ConnId}
 use Rattle.cf_types.specs.declared.numbers.EntryId.{EntryId}
 use Rattle.cf_types.specs.declared.numbers.StrNo.{StrNo}
 use Rattle.cf_types.specs.declared.resources.Resource.{Resource}
-use Rattle.cf_types.specs.Term.{padded}
+use Rattle.cf_types.specs.Term.{block_of}
 use Rattle.plex_spell.specs.declared.judge.Judge.{Judge}
 use Rattle.plex_spell.specs.declared.rigour.Rigour.{Rigour}
 use Rattle.plex_spell.specs.declared.rigour.Rigour.TheVariants.{Form, Limits, Names}
@@ -18,8 +18,8 @@ use Rattle.plex_spell.specs.declared.misses.Miss.TheVariants.{NoForm, NoMemory}
 use Rattle.plex_spell.specs.Tokens.{Declared, is_numeral, is_term, is_name, facility_of, is_declared, connector_of, structure_of}
 
 -- what is declared, as a reader has it at hand
-abbrev pub seen : Judge → Declared
-seen judge = record {
+abbrev pub names_of : Judge → Declared
+names_of judge = record {
   facilities = judge.facilities.now;
   structures = judge.structures.now;
   connectors =
@@ -37,13 +37,13 @@ is_names Limits = false
 is_names Names = true
 
 -- the value of a word that keeps the limits; where the form alone counts, another stands for it
-abbrev pub kept : {V : Type 0} → Rigour → Bool → V → V → Option V
-kept rigour fits value other = if fits then Some value else if is_form rigour then Some other else None
+abbrev pub within_limits : {V : Type 0} → Rigour → Bool → V → V → Option V
+within_limits rigour fits value other = if fits then Some value else if is_form rigour then Some other else None
 
 -- what a word names, where that is declared; where it need not be, another stands for it
-abbrev pub known : {V : Type 0} → Rigour → Option V → V → Option V
-known rigour None other = if is_names rigour then None else Some other
-known rigour (Some value) other = Some value
+abbrev pub named_value : {V : Type 0} → Rigour → Option V → V → Option V
+named_value rigour None other = if is_names rigour then None else Some other
+named_value rigour (Some value) other = Some value
 
 infixl 10 ◌>>=◌
 abbrev pub ◌>>=◌ : {A B : Type 0} → Option A → (A → Option B) → Option B
@@ -52,20 +52,22 @@ o >>= f = option_and_then f o
 abbrev pub number_of : Rigour → ℕ → ℕ → List ℕ → Option ℕ
 number_of rigour low high word =
     if is_numeral word
-    then kept rigour (nat_le low (digits_value 10 word) && nat_le (digits_value 10 word) high) (digits_value 10 word)
+    then within_limits rigour (nat_le low (digits_value 10 word) && nat_le (digits_value 10 word) high)
+    (digits_value 10 word)
     low
     else None
 
 abbrev pub text_of : Rigour → ℕ → List ℕ → Option (List ℕ)
-text_of rigour limit word = if is_term word then kept rigour (nat_le (length word) limit) word (take limit word)
+text_of rigour limit word = if is_term word then within_limits rigour (nat_le (length word) limit) word
+    (take limit word)
     else None
 
 abbrev pub name_of : Rigour → List ℕ → Option Name16
-name_of rigour word = option_map (λ text. (let name : Name16 = record { 0 = padded text } in name))
+name_of rigour word = option_map (λ text. (let name : Name16 = record { 0 = block_of text } in name))
     (text_of rigour 16 word)
 
 abbrev pub key_of : Rigour → List ℕ → Option Key16
-key_of rigour word = option_map (λ text. (let key : Key16 = record { 0 = padded text } in key))
+key_of rigour word = option_map (λ text. (let key : Key16 = record { 0 = block_of text } in key))
     (text_of rigour 16 word)
 
 abbrev pub stands_in : ℕ → List ℕ → Bool
@@ -74,7 +76,7 @@ stands_in at word = list_any (λ b. b == at) word
 abbrev pub repeated_of : Rigour → List ℕ → List ℕ → Option (List ℕ)
 repeated_of rigour piece times =
     if is_term piece
-    then number_of rigour 1 4096 times >>= (λ n. kept rigour (nat_le (n * length piece) 4096) (repeat n piece)
+    then number_of rigour 1 4096 times >>= (λ n. within_limits rigour (nat_le (n * length piece) 4096) (repeat n piece)
     (take 1 piece))
     else None
 
@@ -111,11 +113,11 @@ facility_in rigour declared word =
 
 abbrev pub connector_in : Rigour → Declared → List ℕ → Option ConnId
 connector_in rigour declared word =
-    new_name_of rigour word >>= (λ name. known rigour (connector_of declared.connectors word) (record { 0 = 0 }))
+    new_name_of rigour word >>= (λ name. named_value rigour (connector_of declared.connectors word) (record { 0 = 0 }))
 
 abbrev pub structure_in : Rigour → Declared → List ℕ → Option StrNo
 structure_in rigour declared word =
-    new_name_of rigour word >>= (λ name. known rigour (structure_of declared.structures word) (record { 0 = 0 }))
+    new_name_of rigour word >>= (λ name. named_value rigour (structure_of declared.structures word) (record { 0 = 0 }))
 
 -- ---- words that are left
 

@@ -3,7 +3,7 @@ use Rattle.std.specs.Prelude.{ℕ, List, [], ◌∷◌, Option, None, Some, code
 use Rattle.cf_types.specs.declared.shell_commands.ShellCmd.{ShellCmd}
 use Rattle.cf_types.specs.declared.shell_commands.ShellCmd.TheVariants.{Connect, Disconnect, Fail, Next, Respond, RebuildStart, RebuildStop, RebuildConnect, Copy, RebuildComplete, ForceConn, ForceStr, LoseConn, RestoreConn, Vary, DuplexStart, DuplexStop}
 use Rattle.plex_spell.specs.declared.rigour.Rigour.{Rigour}
-use Rattle.plex_spell.specs.Words.{same_word, begins_with, behind}
+use Rattle.plex_spell.specs.Words.{same_word, begins_with, words_behind}
 use Rattle.plex_spell.specs.Tokens.{Declared}
 use Rattle.plex_spell.specs.Patterns.{Place, Values, values_at}
 use Rattle.plex_spell.specs.Patterns.Place.{Amount, AFacility, AConnector, Either}
@@ -20,17 +20,17 @@ start_of v = RebuildStart (record { entries = v.0; elements = v.1.0 })
 -- behind REBUILD
 abbrev pub rebuild_at : Rigour → Declared → List (List ℕ) → Option (ShellCmd × List (List ℕ))
 rebuild_at rigour declared words =
-    if begins_with (codes "START") words then values_at rigour declared caps_places start_of (behind words)
-    else if begins_with (codes "STOP") words then Some (RebuildStop, behind words)
-    else if begins_with (codes "CONNECT") words then Some (RebuildConnect, behind words)
-    else if begins_with (codes "COMPLETE") words then Some (RebuildComplete, behind words)
+    if begins_with (codes "START") words then values_at rigour declared caps_places start_of (words_behind words)
+    else if begins_with (codes "STOP") words then Some (RebuildStop, words_behind words)
+    else if begins_with (codes "CONNECT") words then Some (RebuildConnect, words_behind words)
+    else if begins_with (codes "COMPLETE") words then Some (RebuildComplete, words_behind words)
     else None
 
 -- behind DUPLEX
 abbrev pub duplex_at : List (List ℕ) → Option (ShellCmd × List (List ℕ))
 duplex_at words =
-    if begins_with (codes "START") words then Some (DuplexStart, behind words)
-    else if begins_with (codes "STOP") words then Some (DuplexStop, behind words)
+    if begins_with (codes "START") words then Some (DuplexStart, words_behind words)
+    else if begins_with (codes "STOP") words then Some (DuplexStop, words_behind words)
     else None
 
 -- commands of the operator alone

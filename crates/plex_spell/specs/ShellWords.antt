@@ -5,7 +5,7 @@ use Rattle.cf_types.specs.declared.shell_commands.ShellCmd.{ShellCmd}
 use Rattle.cf_types.specs.declared.shell_commands.ShellCmd.TheVariants.{Connect, Disconnect, Fail, Next, Respond, RebuildStart, RebuildStop, RebuildConnect, Copy, RebuildComplete, ForceConn, ForceStr, LoseConn, RestoreConn, Vary, DuplexStart, DuplexStop}
 use Rattle.plex_spell.specs.Tokens.{Token}
 use Rattle.plex_spell.specs.Tokens.Token.{Literal, Number, OfFacility, OfConnector}
-use Rattle.plex_spell.specs.Fields.{either, disposition}
+use Rattle.plex_spell.specs.Fields.{one_of_two, disposition}
 
 -- of entries, elements, records and items there are 1 to 4,096
 abbrev pub amount : ℕ → Token
@@ -27,7 +27,7 @@ shell_tokens (ForceConn conn) = Literal (codes "FORCECONN") ∷ OfConnector conn
 shell_tokens ForceStr = Literal (codes "FORCESTR") ∷ []
 shell_tokens (LoseConn conn cf) = Literal (codes "LOSECONN") ∷ OfConnector conn ∷ OfFacility cf ∷ []
 shell_tokens (RestoreConn conn cf) = Literal (codes "RESTORECONN") ∷ OfConnector conn ∷ OfFacility cf ∷ []
-shell_tokens (Vary cf off) = Literal (codes "VARY") ∷ OfFacility cf ∷ either (codes "OFF") (codes "ON") off ∷ []
+shell_tokens (Vary cf off) = Literal (codes "VARY") ∷ OfFacility cf ∷ one_of_two (codes "OFF") (codes "ON") off ∷ []
 shell_tokens DuplexStart = Literal (codes "DUPLEX") ∷ Literal (codes "START") ∷ []
 shell_tokens DuplexStop = Literal (codes "DUPLEX") ∷ Literal (codes "STOP") ∷ []
 

@@ -12,7 +12,7 @@ use Rattle.cf_types.specs.declared.numbers.StrNo.{StrNo}
 use Rattle.cf_types.specs.declared.resources.Resource.{Resource}
 use Rattle.cf_types.specs.declared.forms.Pref.{Pref}
 use Rattle.cf_types.specs.declared.forms.StrForm.{StrForm}
-use Rattle.cf_types.specs.Term.{term_byte, padded, unpadded}
+use Rattle.cf_types.specs.Term.{term_byte, block_of, text_in_block}
 use Rattle.plex_spell.specs.declared.rigour.Rigour.{Rigour}
 use Rattle.plex_spell.specs.declared.rigour.Rigour.TheVariants.{Form, Limits, Names}
 
@@ -57,7 +57,7 @@ pub record Declared : Type 0 where
   pub connectors : List Name16
 
 abbrev pub name_word : Name16 → List ℕ
-name_word name = unpadded name.0
+name_word name = text_in_block name.0
 
 -- the number of the facility that a word names
 abbrev pub facility_of : List ℕ → Option CfId
@@ -139,7 +139,7 @@ pub record IsResource (rigour : Rigour) (resource : Resource) (word : List ℕ) 
   pub hash : List ℕ
   pub cut : IsCut 64 word name hash
   pub named : IsText rigour 16 name name
-  pub padded : AtLimits rigour (Unit {0}) (resource.name.0 ≡ padded name)
+  pub padded : AtLimits rigour (Unit {0}) (resource.name.0 ≡ block_of name)
   pub numeral : IsNumber rigour 0 4294967295 resource.hash hash
 
 -- a list record: `#` and its number
@@ -156,7 +156,7 @@ abbrev pub IsWord : Rigour → Declared → Token → List ℕ → Type 0
 IsWord rigour declared (Literal text) word = word ≡ text
 IsWord rigour declared (Number low high n) word = IsNumber rigour low high n word
 IsWord rigour declared (Term bytes) word =
-    IsTrue (is_term word) × AtLimits rigour (Unit {0}) ((length word ≤ 16) × (bytes ≡ padded word))
+    IsTrue (is_term word) × AtLimits rigour (Unit {0}) ((length word ≤ 16) × (bytes ≡ block_of word))
 IsWord rigour declared (Short text) word = IsText rigour 64 text word
 IsWord rigour declared (Data text) word = IsData rigour text word
 IsWord rigour declared (OnResource resource) word = IsResource rigour resource word
@@ -169,7 +169,7 @@ IsWord rigour declared (OfStructure on) word =
     IsName rigour word × AtNames rigour (Unit {0}) (structure_of declared.structures word ≡ Some on)
 IsWord rigour declared (NewFacility cf) word = facility_of word ≡ Some cf
 IsWord rigour declared (NewName name) word =
-    IsName rigour word × AtLimits rigour (Unit {0}) (name.0 ≡ padded word)
+    IsName rigour word × AtLimits rigour (Unit {0}) (name.0 ≡ block_of word)
 
 -- the first words stand for the tokens, and the rest follows
 abbrev pub Spells : Rigour → Declared → List Token → List (List ℕ) → List (List ℕ) → Type 0

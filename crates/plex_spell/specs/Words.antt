@@ -44,19 +44,19 @@ abbrev pub begins_with : List ℕ → List (List ℕ) → Bool
 begins_with wanted [] = false
 begins_with wanted (word ∷ words) = same_word word wanted
 
-abbrev pub behind : List (List ℕ) → List (List ℕ)
-behind [] = []
-behind (word ∷ words) = words
+abbrev pub words_behind : List (List ℕ) → List (List ℕ)
+words_behind [] = []
+words_behind (word ∷ words) = words
 
 -- the words, with a blank before each
-abbrev pub spaced : List (List ℕ) → List ℕ
-spaced words = flat_map (λ word. 32 ∷ word) words
+abbrev pub tail_of : List (List ℕ) → List ℕ
+tail_of words = flat_map (λ word. 32 ∷ word) words
 
 -- the words, with a blank between each two
 abbrev pub line_of : List (List ℕ) → List ℕ
 line_of [] = []
-line_of (word ∷ words) = word ++ spaced words
+line_of (word ∷ words) = word ++ tail_of words
 
 -- a line with its line feed
-abbrev pub ended : List ℕ → List ℕ
-ended line = line ++ 10 ∷ []
+abbrev pub line_text : List ℕ → List ℕ
+line_text line = line ++ 10 ∷ []

@@ -1,7 +1,7 @@
 ghost use Rattle.std.specs.Prelude.{◌≡◌, codes};
 ghost use Rattle.cf_types.specs.declared.cache_commands.CacheCmd.TheVariants as cache;
 ghost use Rattle.plex_spell.specs.CacheReading.{cache_at, read_places, read_of, write_places, write_of, name_places, number_places};
-ghost use Rattle.plex_spell.specs.Places.{Gives, seen};
+ghost use Rattle.plex_spell.specs.Places.{Gives, names_of};
 ghost use Rattle.plex_spell.specs.Patterns.{values_at};
 
 use crate::fields::{class, data, name, number, old, short_option, storage};
@@ -13,7 +13,7 @@ use std::alloc::Global;
 
 fn read(judge: &Judge, words: &mut Words) -> Result<CacheCmd, Miss>
     ensures { Gives result words.new (values_at judge.now.rigour
-        (seen judge.now) read_places read_of words.old) }
+        (names_of judge.now) read_places read_of words.old) }
 {
     let name = name(judge.rigour, words)?;
     let index = number(judge.rigour, words)?;
@@ -29,7 +29,7 @@ fn read(judge: &Judge, words: &mut Words) -> Result<CacheCmd, Miss>
 
 fn write(alloc: Global, judge: &Judge, words: &mut Words) -> Result<CacheCmd, Miss>
     ensures { Gives result words.new (values_at judge.now.rigour
-        (seen judge.now) write_places write_of words.old) }
+        (names_of judge.now) write_places write_of words.old) }
 {
     let name = name(judge.rigour, words)?;
     let index = number(judge.rigour, words)?;
@@ -53,7 +53,7 @@ fn write(alloc: Global, judge: &Judge, words: &mut Words) -> Result<CacheCmd, Mi
 
 /// Takes a command of a cache structure.
 pub fn cache(alloc: Global, judge: &Judge, words: &mut Words) -> Result<CacheCmd, Miss>
-    ensures { Gives result words.new (cache_at judge.now.rigour (seen judge.now) words.old) }
+    ensures { Gives result words.new (cache_at judge.now.rigour (names_of judge.now) words.old) }
 {
     let verb = words.next().ok_or(Miss::NoForm)?;
     let rigour = judge.rigour;

@@ -1,7 +1,7 @@
 ghost use Rattle.std.specs.Prelude.{◌≡◌, ◌≤◌, IfOk, codes, option_map};
 ghost use Rattle.cf_types.specs.declared.list_commands.At.TheVariants as at;
 ghost use Rattle.plex_spell.specs.Tokens.{facility_of};
-ghost use Rattle.plex_spell.specs.Places.{Gives, seen, on_first, number_of, name_of, key_of, text_of, data_of, resource_of, record_of, new_name_of, facility_in, connector_in, structure_in};
+ghost use Rattle.plex_spell.specs.Places.{Gives, names_of, on_first, number_of, name_of, key_of, text_of, data_of, resource_of, record_of, new_name_of, facility_in, connector_in, structure_in};
 ghost use Rattle.plex_spell.specs.Patterns.{either_of, decision_of, refs_of, class_at, cond_at, label_at, key_at, record_at, flag_at, option_at, number_at};
 
 use crate::judge::Judge;
@@ -90,7 +90,7 @@ pub fn new_facility(words: &mut Words) -> Result<CfId, Miss>
 /// Takes a facility.
 pub fn facility(judge: &Judge, words: &mut Words) -> Result<CfId, Miss>
     ensures { Gives result words.new (on_first (facility_in judge.now.rigour
-        (seen judge.now)) words.old) }
+        (names_of judge.now)) words.old) }
 {
     let word = words.next().ok_or(Miss::NoForm)?;
     singles::facility(judge, word).ok_or(Miss::NoForm)
@@ -99,7 +99,7 @@ pub fn facility(judge: &Judge, words: &mut Words) -> Result<CfId, Miss>
 /// Takes a connector.
 pub(crate) fn connector(judge: &Judge, words: &mut Words) -> Result<ConnId, Miss>
     ensures { Gives result words.new (on_first (connector_in judge.now.rigour
-        (seen judge.now)) words.old) }
+        (names_of judge.now)) words.old) }
 {
     let word = words.next().ok_or(Miss::NoForm)?;
     singles::connector(judge, word).ok_or(Miss::NoForm)
@@ -108,7 +108,7 @@ pub(crate) fn connector(judge: &Judge, words: &mut Words) -> Result<ConnId, Miss
 /// Takes a structure.
 pub fn structure(judge: &Judge, words: &mut Words) -> Result<StrNo, Miss>
     ensures { Gives result words.new (on_first (structure_in judge.now.rigour
-        (seen judge.now)) words.old) }
+        (names_of judge.now)) words.old) }
 {
     let word = words.next().ok_or(Miss::NoForm)?;
     singles::structure(judge, word).ok_or(Miss::NoForm)

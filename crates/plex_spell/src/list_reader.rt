@@ -1,7 +1,7 @@
 ghost use Rattle.std.specs.Prelude.{◌≡◌, Option};
 ghost use Rattle.plex_spell.specs.ListReading.{list_at, use_at, lock_use_at, make_places, make_of, update_places, update_of, move_places, move_of, label_name, label_key};
 ghost use Rattle.plex_spell.specs.Patterns.{values_at};
-ghost use Rattle.plex_spell.specs.Places.{Gives, seen};
+ghost use Rattle.plex_spell.specs.Places.{Gives, names_of};
 
 use crate::fields::{cond, data_option, either, key_option, label, number, record, short_option};
 use crate::judge::Judge;
@@ -34,7 +34,7 @@ fn keyed(label: Option<Label>) -> Option<Key16>
 // What stands behind WRITE.
 fn make(alloc: Global, judge: &Judge, words: &mut Words) -> Result<ListCmd, Miss>
     ensures { Gives result words.new (values_at judge.now.rigour
-        (seen judge.now) make_places make_of words.old) }
+        (names_of judge.now) make_places make_of words.old) }
 {
     let rigour = judge.rigour;
     let header = number(rigour, words)?;
@@ -57,7 +57,7 @@ fn make(alloc: Global, judge: &Judge, words: &mut Words) -> Result<ListCmd, Miss
 // What stands behind UPDATE.
 fn update(alloc: Global, judge: &Judge, words: &mut Words) -> Result<ListCmd, Miss>
     ensures { Gives result words.new (values_at judge.now.rigour
-        (seen judge.now) update_places update_of words.old) }
+        (names_of judge.now) update_places update_of words.old) }
 {
     let rigour = judge.rigour;
     let at = record(rigour, words)?;
@@ -75,7 +75,7 @@ fn update(alloc: Global, judge: &Judge, words: &mut Words) -> Result<ListCmd, Mi
 // What stands behind MOVE.
 fn shift(judge: &Judge, words: &mut Words) -> Result<ListCmd, Miss>
     ensures { Gives result words.new (values_at judge.now.rigour
-        (seen judge.now) move_places move_of words.old) }
+        (names_of judge.now) move_places move_of words.old) }
 {
     let rigour = judge.rigour;
     let at = record(rigour, words)?;
@@ -118,7 +118,7 @@ fn lock_use(judge: &Judge, words: &mut Words) -> Result<ListCmd, Miss>
 
 /// Takes a command of a list structure.
 pub fn list(alloc: Global, judge: &Judge, words: &mut Words) -> Result<ListCmd, Miss>
-    ensures { Gives result words.new (list_at judge.now.rigour (seen judge.now) words.old) }
+    ensures { Gives result words.new (list_at judge.now.rigour (names_of judge.now) words.old) }
 {
     let verb = words.next().ok_or(Miss::NoForm)?;
     let rigour = judge.rigour;

@@ -1,6 +1,6 @@
 ghost use Rattle.std.specs.Prelude.{◌≡◌};
 ghost use Rattle.plex_spell.specs.LockReading.{lock_at};
-ghost use Rattle.plex_spell.specs.Places.{Gives, seen};
+ghost use Rattle.plex_spell.specs.Places.{Gives, names_of};
 
 use crate::fields::{connector, decision, either, resource, short_option};
 use crate::judge::Judge;
@@ -10,7 +10,7 @@ use cf_types::LockCmd;
 
 /// Takes a command of a lock structure.
 pub fn lock(judge: &Judge, words: &mut Words) -> Result<LockCmd, Miss>
-    ensures { Gives result words.new (lock_at judge.now.rigour (seen judge.now) words.old) }
+    ensures { Gives result words.new (lock_at judge.now.rigour (names_of judge.now) words.old) }
 {
     let verb = words.next().ok_or(Miss::NoForm)?;
     let rigour = judge.rigour;

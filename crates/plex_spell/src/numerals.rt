@@ -3,7 +3,7 @@ ghost use Rattle.std.specs.Char.{is_ascii_digit};
 ghost use Rattle.std.specs.List.{list_all};
 ghost use Rattle.std.specs.Str.Parse.{digits_value};
 ghost use Rattle.plex_spell.specs.Tokens.{is_numeral};
-ghost use Rattle.plex_spell.specs.Places.{kept, is_form, number_of};
+ghost use Rattle.plex_spell.specs.Places.{within_limits, is_form, number_of};
 
 use crate::rigour::Rigour;
 

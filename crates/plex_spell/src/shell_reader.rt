@@ -1,6 +1,6 @@
 ghost use Rattle.std.specs.Prelude.{◌≡◌};
 ghost use Rattle.plex_spell.specs.ShellReading.{shell_at, rebuild_at, duplex_at, operator_at};
-ghost use Rattle.plex_spell.specs.Places.{Gives, seen};
+ghost use Rattle.plex_spell.specs.Places.{Gives, names_of};
 
 use crate::fields::{bounded, connector, either, facility};
 use crate::judge::Judge;
@@ -10,7 +10,7 @@ use cf_types::{Caps, ShellCmd};
 
 // What stands behind REBUILD.
 fn rebuild(judge: &Judge, words: &mut Words) -> Result<ShellCmd, Miss>
-    ensures { Gives result words.new (rebuild_at judge.now.rigour (seen judge.now) words.old) }
+    ensures { Gives result words.new (rebuild_at judge.now.rigour (names_of judge.now) words.old) }
 {
     if words.skip(b"START") {
         let entries = bounded(judge.rigour, words, 1, 4096)?;
@@ -47,7 +47,7 @@ fn duplex(words: &mut Words) -> Result<ShellCmd, Miss>
 // A command that only the operator gives, behind its first word.
 fn operator_command(judge: &Judge, verb: &[u8], words: &mut Words) -> Result<ShellCmd, Miss>
     ensures { Gives result words.new (operator_at judge.now.rigour
-        (seen judge.now) verb.now words.old) }
+        (names_of judge.now) verb.now words.old) }
 {
     if is(verb, b"FORCECONN") {
         let conn = connector(judge, words)?;
@@ -79,7 +79,7 @@ fn operator_command(judge: &Judge, verb: &[u8], words: &mut Words) -> Result<She
 
 /// Takes a command that structures of every kind share, whoever gives it.
 pub fn shell(judge: &Judge, words: &mut Words) -> Result<ShellCmd, Miss>
-    ensures { Gives result words.new (shell_at judge.now.rigour (seen judge.now) words.old) }
+    ensures { Gives result words.new (shell_at judge.now.rigour (names_of judge.now) words.old) }
 {
     let verb = words.next().ok_or(Miss::NoForm)?;
     if is(verb, b"CONNECT") {

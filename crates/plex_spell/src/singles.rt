@@ -3,7 +3,7 @@ ghost use Rattle.std.specs.List.{list_any, repeat};
 ghost use Rattle.cf_types.specs.Term.{IsTerm};
 ghost use Rattle.plex_spell.specs.Words.{same_word};
 ghost use Rattle.plex_spell.specs.Tokens.{is_term, name_word, facility_of, is_declared, connector_of, structure_of};
-ghost use Rattle.plex_spell.specs.Places.{Reads, seen, name_of, key_of, text_of, data_of, repeated_of, resource_of, resource_in, record_of, new_name_of, facility_in, connector_in, structure_in};
+ghost use Rattle.plex_spell.specs.Places.{Reads, names_of, name_of, key_of, text_of, data_of, repeated_of, resource_of, resource_in, record_of, new_name_of, facility_in, connector_in, structure_in};
 ghost use Rattle.cf_types.specs.declared.names.Name16.{Name16};
 
 use crate::judge::Judge;
@@ -185,7 +185,7 @@ pub fn is_about(prefs: &[Pref], cf: CfId) -> bool
 
 /// Reads a facility.
 pub(crate) fn facility(judge: &Judge, word: &[u8]) -> Option<CfId>
-    ensures { result ≡ facility_in judge.now.rigour (seen judge.now) word.now }
+    ensures { result ≡ facility_in judge.now.rigour (names_of judge.now) word.now }
 {
     let cf = facility_number(word)?;
     if judge.rigour == Rigour::Names && !is_about(judge.facilities, cf) {
@@ -212,7 +212,7 @@ pub fn connector_number(connectors: &[Name16], word: &[u8]) -> Option<ConnId>
 
 /// Reads a connector.
 pub(crate) fn connector(judge: &Judge, word: &[u8]) -> Option<ConnId>
-    ensures { result ≡ connector_in judge.now.rigour (seen judge.now) word.now }
+    ensures { result ≡ connector_in judge.now.rigour (names_of judge.now) word.now }
 {
     new_name(judge.rigour, word)?;
     match connector_number(judge.connectors, word) {
@@ -241,7 +241,7 @@ pub fn structure_number(structures: &[StrForm], word: &[u8]) -> Option<StrNo>
 
 /// Reads a structure.
 pub(crate) fn structure(judge: &Judge, word: &[u8]) -> Option<StrNo>
-    ensures { result ≡ structure_in judge.now.rigour (seen judge.now) word.now }
+    ensures { result ≡ structure_in judge.now.rigour (names_of judge.now) word.now }
 {
     new_name(judge.rigour, word)?;
     match structure_number(judge.structures, word) {

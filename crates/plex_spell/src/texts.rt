@@ -2,7 +2,7 @@ ghost use Rattle.std.specs.Prelude.{◌≡◌, ◌==◌, ◌||◌, ◌<◌, ◌�
 ghost use Rattle.std.specs.Char.{is_ascii_uppercase, is_ascii_digit};
 ghost use Rattle.std.specs.List.{list_all, before_first, after_first};
 ghost use Rattle.std.specs.Option.{option_copied};
-ghost use Rattle.cf_types.specs.Term.{IsTerm, term_byte, unpadded};
+ghost use Rattle.cf_types.specs.Term.{IsTerm, term_byte, text_in_block};
 ghost use Rattle.plex_spell.specs.Tokens.{is_term, is_name, is_capital, name_word};
 ghost use Rattle.plex_spell.specs.Places.{text_of, stands_in};
 
@@ -111,7 +111,7 @@ fn blank_place(bytes: &[u8]) -> Option<usize>
 
 // The bytes before the first blank.
 fn unpadded_text(bytes: &[u8]) -> &[u8]
-    ensures { result.now ≡ unpadded bytes.now }
+    ensures { result.now ≡ text_in_block bytes.now }
 {
     let len = blank_place(bytes).unwrap_or(bytes.len());
     &bytes[..len]
@@ -126,7 +126,7 @@ pub fn name_text(name: &Name16) -> &[u8]
 
 /// The text of a key.
 pub fn key_text(key: &Key16) -> &[u8]
-    ensures { result.now ≡ unpadded key.now.0 }
+    ensures { result.now ≡ text_in_block key.now.0 }
 {
     unpadded_text(&key.0)
 }

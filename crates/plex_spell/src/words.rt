@@ -21,7 +21,7 @@ impl<'a> Model for Words<'a> {
 
 impl<'a> Words<'a> {
     ghost use Rattle.std.specs.Prelude.{◌≡◌, ◌↔◌, IsTrue, IfSome, IfNone, [], ◌∷◌, if◌then◌else◌};
-    ghost use Rattle.plex_spell.specs.Words.{words_of, begins_with, behind};
+    ghost use Rattle.plex_spell.specs.Words.{words_of, begins_with, words_behind};
 
     /// All words of a line.
     pub fn of(line: &'a [u8]) -> Words<'a>
@@ -62,7 +62,7 @@ impl<'a> Words<'a> {
     /// Takes the next word where it is this one.
     pub fn skip(&mut self, wanted: &[u8]) -> bool
         ensures value { result ≡ begins_with wanted.now self.old }
-        ensures rest { self.new ≡ (if result then behind self.old else self.old) }
+        ensures rest { self.new ≡ (if result then words_behind self.old else self.old) }
     {
         let text = after_blanks(self.rest);
         if text.is_empty() {

@@ -10,7 +10,7 @@ abbrev pub IsOfSame : NoteShown → NoteShown → Type 0
 IsOfSame first note = (note.str_type ≡ first.str_type) × (note.words ≡ first.words)
 
 -- a station's box has notes of its cell, and its kind and the length of its vectors are the cell's
-pub record IsStation {L : Type 0} (cell : CellShown L) (first : NoteShown) (kind : Kind) (vector : ℕ) : Type 0 where
+pub record IsKept {L : Type 0} (cell : CellShown L) (first : NoteShown) (kind : Kind) (vector : ℕ) : Type 0 where
   pub notes : IsNoteOf cell first
   pub kind_is : kind ≡ cell.form.kind
   pub type_is : cell.str_type ≡ type_of_kind kind

@@ -39,13 +39,13 @@ pub struct Station<L: Link> {
 impl<L: Link> Model for Station<L> {
     ghost use Rattle.any_cell.specs.Passes.{note_shown};
     ghost use Rattle.any_cell.specs.Cells.{CellShown, cell_shown};
-    ghost use Rattle.plex_station.specs.Stations.{IsStation};
+    ghost use Rattle.plex_station.specs.Stations.{IsKept};
 
     ghost Value = { CellShown L };
 
     ghost view = { λ s. cell_shown s.cell };
 
-    ghost invariant = { λ s. IsStation (cell_shown s.cell) (note_shown s.posted.key) s.kind s.vector };
+    ghost invariant = { λ s. IsKept (cell_shown s.cell) (note_shown s.posted.key) s.kind s.vector };
 }
 
 impl<L: Link> Station<L> {

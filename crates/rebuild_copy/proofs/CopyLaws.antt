@@ -9,7 +9,7 @@ use Rattle.cf_types.specs.declared.forms.Kind.{Kind}
 use Rattle.cf_types.specs.declared.forms.Kind.TheVariants as kind
 use Rattle.engine_api.specs.declared.shapes.Shape.{Shape}
 use Rattle.engine_api.specs.Meaning.{Meaning, Held, items_of, with_item, without_last_item}
-use Rattle.engine_api.specs.Items.{Fits, IsNoMore, IsNextItem, made}
+use Rattle.engine_api.specs.Items.{Fits, IsNoMore, IsNextItem, content_of_items}
 use Rattle.list_laws.proofs.TakeLaws.{take_next, split_next}
 use Rattle.rebuild_copy.specs.Copies.{Copy, copy_in, IsFilled, IsCopyOf, with_next}
 
@@ -38,7 +38,7 @@ module _ {C R I S : Type 0} (meaning : Meaning C R I S) (is_kind : Kind → Bool
     pub content_empty : (shape : Shape) (caps : Caps) → IsContent shape caps (meaning.empty shape)
     pub items_empty : (shape : Shape) → meaning.items shape (meaning.empty shape) ≡ []
     pub made_again : (shape : Shape) (caps : Caps) (state : S) → IsContent shape caps state
-        → made meaning shape (meaning.items shape state) ≡ meaning.forget state
+        → content_of_items meaning shape (meaning.items shape state) ≡ meaning.forget state
     pub content_moved : (shape : Shape) (caps other : Caps) (state : S) → IsTrue (is_kind shape.kind)
         → IsContent shape caps state → Fits shape.kind (meaning.need (meaning.items shape state)) other
         → IsContent shape other (meaning.forget state)
@@ -54,43 +54,45 @@ module _ {C R I S : Type 0} (meaning : Meaning C R I S) (is_kind : Kind → Bool
     -- ---- the content that items make
 
     made_push : (shape : Shape) (front : List I) (item : I)
-        → made meaning shape (front ++ item ∷ []) ≡ meaning.place shape (made meaning shape front) item
+        → content_of_items meaning shape (front ++ item ∷ [])
+        ≡ meaning.place shape (content_of_items meaning shape front) item
     made_push shape front item = fold-append (meaning.place shape) (meaning.empty shape) front (item ∷ [])
 
     -- an item is the next one of what the items before it make
     next_of : (shape : Shape) (caps : Caps) (whole : S) (front : List I) (item : I) (others : List I)
         → IsContent shape caps whole → meaning.items shape whole ≡ front ++ item ∷ others
-        → meaning.items shape (made meaning shape front) ≡ front
-        → IsNextItem meaning (IsContent shape caps) shape (made meaning shape front) item
+        → meaning.items shape (content_of_items meaning shape front) ≡ front
+        → IsNextItem meaning (IsContent shape caps) shape (content_of_items meaning shape front) item
     next_of shape caps whole front item others content split same =
         record {
           whole = whole;
           others = others;
           content = content;
           first = split ∙ ap (λ (l : List I). l ++ item ∷ others) (sym same);
-          made_so = ap (made meaning shape) same;
+          made_so = ap (content_of_items meaning shape) same;
         }
 
     module _ (shape : Shape) (caps : Caps) (whole : S) (content : IsContent shape caps whole) where
       items_front : (front rest others : List I) → meaning.items shape whole ≡ front ++ (rest ++ others)
-          → meaning.items shape (made meaning shape front) ≡ front
-          → meaning.items shape (made meaning shape (front ++ rest)) ≡ front ++ rest
+          → meaning.items shape (content_of_items meaning shape front) ≡ front
+          → meaning.items shape (content_of_items meaning shape (front ++ rest)) ≡ front ++ rest
       items_front front [] others split same =
-          ap (λ (l : List I). meaning.items shape (made meaning shape l)) (append-nil front) ∙ same
+          ap (λ (l : List I). meaning.items shape (content_of_items meaning shape l)) (append-nil front) ∙ same
           ∙ sym (append-nil front)
       items_front front (item ∷ rest) others split same =
           let next = next_of shape caps whole front item (rest ++ others) content split same in
-          let more : meaning.items shape (made meaning shape (front ++ item ∷ [])) ≡ front ++ item ∷ [] =
+          let more : meaning.items shape (content_of_items meaning shape (front ++ item ∷ [])) ≡ front ++ item ∷ [] =
           ap (meaning.items shape) (made_push shape front item)
-          ∙ laws.items_place shape caps (made meaning shape front) item next
+          ∙ laws.items_place shape caps (content_of_items meaning shape front) item next
           ∙ ap (λ (l : List I). l ++ item ∷ []) same in
-          subst (λ (l : List I). meaning.items shape (made meaning shape l) ≡ l) (append_assoc front (item ∷ []) rest)
+          subst (λ (l : List I). meaning.items shape (content_of_items meaning shape l) ≡ l)
+          (append_assoc front (item ∷ []) rest)
           (items_front (front ++ item ∷ []) rest others
           (split ∙ sym (append_assoc front (item ∷ []) (rest ++ others))) more)
 
       -- the first items of a content make something that has just them
       items_made : (front others : List I) → meaning.items shape whole ≡ front ++ others
-          → meaning.items shape (made meaning shape front) ≡ front
+          → meaning.items shape (content_of_items meaning shape front) ≡ front
       items_made front others split = items_front [] front others split (laws.items_empty shape)
 
       items_forgotten : meaning.items shape (meaning.forget whole) ≡ meaning.items shape whole
@@ -158,7 +160,8 @@ module _ {C R I S : Type 0} (meaning : Meaning C R I S) (is_kind : Kind → Bool
             content = place-next.content;
             first = place-next.first ∙ sym (append_assoc (items_of meaning new) (item ∷ []) rest)
                 ∙ ap (λ (l : List I). l ++ rest) (sym placed-items);
-            alone = ap (made meaning new.shape) placed-items ∙ made_push new.shape (items_of meaning new) item
+            alone = ap (content_of_items meaning new.shape) placed-items
+                ∙ made_push new.shape (items_of meaning new) item
                 ∙ ap (λ (s : S). meaning.place new.shape s item) full.alone;
           }
 
@@ -192,14 +195,14 @@ module _ {C R I S : Type 0} (meaning : Meaning C R I S) (is_kind : Kind → Bool
           full.first ∙ ap (λ (l : List I). l ++ full.others) last.1
           ∙ append_assoc front (last.0 ∷ []) full.others
 
-      front_made : meaning.items held.shape (made meaning held.shape front) ≡ front
+      front_made : meaning.items held.shape (content_of_items meaning held.shape front) ≡ front
       front_made = items_made held.shape held.caps full.whole full.content front (last.0 ∷ full.others) whole_split
 
-      state_left : meaning.unplace held.shape held.state ≡ made meaning held.shape front
+      state_left : meaning.unplace held.shape held.state ≡ content_of_items meaning held.shape front
       state_left =
           ap (meaning.unplace held.shape)
-          (sym full.alone ∙ ap (made meaning held.shape) last.1 ∙ made_push held.shape front last.0)
-          ∙ laws.unplace_place held.shape held.caps (made meaning held.shape front) last.0
+          (sym full.alone ∙ ap (content_of_items meaning held.shape) last.1 ∙ made_push held.shape front last.0)
+          ∙ laws.unplace_place held.shape held.caps (content_of_items meaning held.shape front) last.0
           (next_of held.shape held.caps full.whole front last.0 full.others full.content whole_split front_made)
 
       pub dropped-items : items_of meaning (without_last_item meaning held) ≡ front
@@ -212,7 +215,7 @@ module _ {C R I S : Type 0} (meaning : Meaning C R I S) (is_kind : Kind → Bool
             others = last.0 ∷ full.others;
             content = full.content;
             first = whole_split ∙ ap (λ (l : List I). l ++ last.0 ∷ full.others) (sym dropped-items);
-            alone = ap (made meaning held.shape) dropped-items ∙ sym state_left;
+            alone = ap (content_of_items meaning held.shape) dropped-items ∙ sym state_left;
           }
 
       pub dropped-one : (after : Held S) (copy : Copy I) → copy_in meaning held ≡ copy

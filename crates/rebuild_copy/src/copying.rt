@@ -1,6 +1,6 @@
 //! A copy under way.
 ghost use Rattle.std.specs.Prelude.{◌≡◌, ◌+◌, ◌-◌, ◌<◌, ◌≤◌, [], IfOk, OnOk, OnErr, length, take};
-ghost use Rattle.engine_api.specs.Meaning.{opened, items_of};
+ghost use Rattle.engine_api.specs.Meaning.{new_held, items_of};
 ghost use Rattle.rebuild_copy.specs.Copies.{held_of, IsCopyOf, left_of, with_next, moved_by};
 
 use crate::moved::Moved;
@@ -29,7 +29,7 @@ impl<E: Engine> Model for Copying<E> {
 impl<E: Engine> Copying<E> {
     /// Begins with a new instance in which nothing is.
     pub fn start(fresh: E) -> Copying<E>
-        requires { E.held fresh ≡ opened E.meaning (E.held fresh).shape (E.held fresh).caps }
+        requires { E.held fresh ≡ new_held E.meaning (E.held fresh).shape (E.held fresh).caps }
         ensures { result ≡ record {
           shape = (E.held fresh).shape;
           caps = (E.held fresh).caps;

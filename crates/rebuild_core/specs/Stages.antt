@@ -23,12 +23,12 @@ event_of number Cleanup = Some (event.Cleanup number)
 event_of number Stopping = Some (event.Stop number)
 
 -- what comes behind a stage
-abbrev pub behind : Stage → Passed
-behind Quiesce = Into Connect
-behind Connect = Into Copy
-behind Copy = Into Cleanup
-behind Cleanup = Ended
-behind Stopping = Ended
+abbrev pub next_stage : Stage → Passed
+next_stage Quiesce = Into Connect
+next_stage Connect = Into Copy
+next_stage Copy = Into Cleanup
+next_stage Cleanup = Ended
+next_stage Stopping = Ended
 
 -- the new instance goes with a rebuild in CONNECT and COPY alone: it is in use after them, or given up
 abbrev pub fresh_in : Stage → Option CfId → Option CfId
@@ -81,7 +81,7 @@ rebuild_without conn rebuild =
 abbrev pub outcome : Stage → (members owing : List ConnId) → Passed
 outcome stage [] owing = Ended
 outcome stage (member ∷ members) (conn ∷ owing) = No
-outcome stage (member ∷ members) [] = behind stage
+outcome stage (member ∷ members) [] = next_stage stage
 
 abbrev pub outcome_of : Rebuild → Passed
 outcome_of rebuild = outcome rebuild.stage rebuild.members rebuild.owing

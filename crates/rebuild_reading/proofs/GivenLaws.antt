@@ -8,9 +8,9 @@ use Rattle.cf_types.specs.declared.numbers.CfId.{CfId}
 use Rattle.cf_types.specs.declared.numbers.ConnId.{ConnId}
 use Rattle.cf_types.specs.ConnSets.{without_member}
 use Rattle.list_laws.proofs.FilterLaws.{filter-filter, filter_all, filter_swap, list_all_always}
-use Rattle.rebuild_reading.specs.Tellings.{Telling, Told, is_departure, is_emptying, is_awaited}
+use Rattle.rebuild_reading.specs.Tellings.{Telling, TellingEntry, is_departure, is_emptying, is_awaited}
 use Rattle.rebuild_reading.specs.Tellings.Telling.{Starts, Places, Completes, Responds, Stops, Departs, Forces, Nothing}
-use Rattle.rebuild_reading.specs.Readings.{departs, gives, members_left, counted, has_given, place_or, first_place}
+use Rattle.rebuild_reading.specs.Readings.{departs, gives, members_left, counted_entries, has_given, place_or, first_place}
 use Rattle.rebuild_reading.proofs.ListFacts.{any-more, since_last-new, since_last-old, or_false}
 
 not_either : (a b : Bool) → not (a || b) ≡ (not a && not b)
@@ -27,7 +27,7 @@ and_false false = refl
 
 -- ---- members
 
-module _ (begun : List ConnId) (since : List Told) (entry : Told) where
+module _ (begun : List ConnId) (since : List TellingEntry) (entry : TellingEntry) where
   pub members-more : members_left begun (since ++ entry ∷ [])
       ≡ filter (λ conn. not (departs conn entry)) (members_left begun since)
   members-more =
@@ -56,28 +56,30 @@ module _ (begun : List ConnId) (since : List Told) (entry : Told) where
 
 -- ---- what was given
 
-counted-more : (stage : Stage) (entries : List Told) (entry : Told) → is_emptying entry.telling ≡ false
-    → counted stage (entries ++ entry ∷ []) ≡ counted stage entries ++ entry ∷ []
+counted-more : (stage : Stage) (entries : List TellingEntry) (entry : TellingEntry) → is_emptying entry.telling ≡ false
+    → counted_entries stage (entries ++ entry ∷ []) ≡ counted_entries stage entries ++ entry ∷ []
 counted-more Quiesce entries entry other = refl
 counted-more Connect entries entry other = refl
-counted-more Copy entries entry other = since_last-old (λ (x : Told). is_emptying x.telling) entries entry other
+counted-more Copy entries entry other = since_last-old (λ (x : TellingEntry). is_emptying x.telling) entries entry other
 counted-more Cleanup entries entry other = refl
 counted-more Stopping entries entry other = refl
 
-counted-elsewhere : (stage : Stage) (entries : List Told) (entry : Told) → stage ≢ Copy
-    → counted stage (entries ++ entry ∷ []) ≡ counted stage entries ++ entry ∷ []
+counted-elsewhere : (stage : Stage) (entries : List TellingEntry) (entry : TellingEntry) → stage ≢ Copy
+    → counted_entries stage (entries ++ entry ∷ []) ≡ counted_entries stage entries ++ entry ∷ []
 counted-elsewhere Quiesce entries entry other = refl
 counted-elsewhere Connect entries entry other = refl
 counted-elsewhere Copy entries entry other = absurd (other refl)
 counted-elsewhere Cleanup entries entry other = refl
 counted-elsewhere Stopping entries entry other = refl
 
-module _ (stage : Stage) (number : ℕ) (entries : List Told) (entry : Told) where
-  given-also : counted stage (entries ++ entry ∷ []) ≡ counted stage entries ++ entry ∷ [] → (conn : ConnId)
+module _ (stage : Stage) (number : ℕ) (entries : List TellingEntry) (entry : TellingEntry) where
+  given-also : counted_entries stage (entries ++ entry ∷ []) ≡ counted_entries stage entries ++ entry ∷ []
+      → (conn : ConnId)
       → has_given stage number (entries ++ entry ∷ []) conn
       ≡ (has_given stage number entries conn || gives stage number conn entry)
   given-also more conn =
-      ap (list_any (gives stage number conn)) more ∙ any-more (gives stage number conn) (counted stage entries) entry
+      ap (list_any (gives stage number conn)) more ∙ any-more (gives stage number conn)
+      (counted_entries stage entries) entry
 
   given_other : (conn : ConnId) → is_awaited stage number entry.telling ≡ false
       → (has_given stage number entries conn || gives stage number conn entry) ≡ has_given stage number entries conn
@@ -87,7 +89,7 @@ module _ (stage : Stage) (number : ℕ) (entries : List Told) (entry : Told) whe
       ∙ or_false (has_given stage number entries conn)
 
   -- an entry that isn't awaited, and empties nothing
-  pub given-same : counted stage (entries ++ entry ∷ []) ≡ counted stage entries ++ entry ∷ []
+  pub given-same : counted_entries stage (entries ++ entry ∷ []) ≡ counted_entries stage entries ++ entry ∷ []
       → is_awaited stage number entry.telling ≡ false → (conn : ConnId)
       → has_given stage number (entries ++ entry ∷ []) conn ≡ has_given stage number entries conn
   given-same more other conn = given-also more conn ∙ given_other conn other
@@ -107,19 +109,21 @@ module _ (stage : Stage) (number : ℕ) (entries : List Told) (entry : Told) whe
       ∙ sym (filter-filter (λ conn. not (conn.0 == entry.by.0))
       (λ conn. not (has_given stage number entries conn)) left)
 
-pub more-counted : (stage : Stage) (entries : List Told) (entry : Told) → is_emptying entry.telling ≡ false
-    → counted stage (entries ++ entry ∷ []) ≡ counted stage entries ++ entry ∷ []
+pub more-counted : (stage : Stage) (entries : List TellingEntry) (entry : TellingEntry)
+    → is_emptying entry.telling ≡ false
+    → counted_entries stage (entries ++ entry ∷ []) ≡ counted_entries stage entries ++ entry ∷ []
 more-counted stage entries entry other = counted-more stage entries entry other
 
-pub elsewhere-counted : (stage : Stage) (entries : List Told) (entry : Told) → stage ≢ Copy
-    → counted stage (entries ++ entry ∷ []) ≡ counted stage entries ++ entry ∷ []
+pub elsewhere-counted : (stage : Stage) (entries : List TellingEntry) (entry : TellingEntry) → stage ≢ Copy
+    → counted_entries stage (entries ++ entry ∷ []) ≡ counted_entries stage entries ++ entry ∷ []
 elsewhere-counted stage entries entry other = counted-elsewhere stage entries entry other
 
 -- in COPY nothing counts behind an entry that empties
-pub given-emptied : (number : ℕ) (entries : List Told) (entry : Told) → is_emptying entry.telling ≡ true
+pub given-emptied : (number : ℕ) (entries : List TellingEntry) (entry : TellingEntry) → is_emptying entry.telling ≡ true
     → (conn : ConnId) → has_given Copy number (entries ++ entry ∷ []) conn ≡ false
 given-emptied number entries entry empties conn =
-    ap (list_any (gives Copy number conn)) (since_last-new (λ (x : Told). is_emptying x.telling) entries entry empties)
+    ap (list_any (gives Copy number conn)) (since_last-new (λ (x : TellingEntry). is_emptying x.telling) entries entry
+    empties)
 
 -- those who owe, without one who departed
 pub owing-without : (given : ConnId → Bool) (by : ConnId) (left : List ConnId)
@@ -136,7 +140,7 @@ all-owe given none left =
 
 -- ---- the place of the new instance
 
-pub place-more : (since : List Told) (entry : Told) → place_or entry.telling None ≡ None
+pub place-more : (since : List TellingEntry) (entry : TellingEntry) → place_or entry.telling None ≡ None
     → first_place (since ++ entry ∷ []) ≡ first_place since
 place-more [] entry none = none
 place-more (first ∷ since) entry none = ap (place_or first.telling) (place-more since entry none)
@@ -152,7 +156,7 @@ place_kept Departs place cf = refl
 place_kept Forces place cf = refl
 place_kept Nothing place cf = refl
 
-pub place-first : (since : List Told) (by : ConnId) (cf : CfId)
+pub place-first : (since : List TellingEntry) (by : ConnId) (cf : CfId)
     → first_place (since ++ record { by = by; telling = Places cf } ∷ []) ≡ Some (unwrap_or (first_place since) cf)
 place-first [] by cf = refl
 place-first (first ∷ since) by cf =

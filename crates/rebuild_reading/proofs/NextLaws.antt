@@ -9,17 +9,18 @@ use Rattle.cf_types.specs.declared.numbers.ConnId.{ConnId}
 use Rattle.cf_types.specs.ConnSets.{without_member}
 use Rattle.rebuild_core.specs.declared.passed.Passed.TheVariants.{Into}
 use Rattle.rebuild_core.specs.declared.rebuild.Rebuild.{Rebuild}
-use Rattle.rebuild_core.specs.Stages.{behind, fresh_in, owing_after}
-use Rattle.rebuild_reading.specs.Tellings.{Told, is_stop, is_departure, is_emptying, is_awaited}
+use Rattle.rebuild_core.specs.Stages.{next_stage, fresh_in, owing_after}
+use Rattle.rebuild_reading.specs.Tellings.{TellingEntry, is_stop, is_departure, is_emptying, is_awaited}
 use Rattle.rebuild_reading.specs.Tellings.Telling.{Places, Stops, Departs, Forces}
-use Rattle.rebuild_reading.specs.Readings.{Start, counted, has_given, is_empty, is_passed, members_left, place_or, first_place, stage_of, rebuild_during, rebuild_since}
+use Rattle.rebuild_reading.specs.Readings.{Start, counted_entries, has_given, is_empty, is_passed, members_left, place_or, first_place, stage_of, rebuild_during, rebuild_since}
 use Rattle.rebuild_reading.specs.Steps.{rebuild_given, rebuild_emptied, rebuild_by, with_place, IsEarly}
 use Rattle.rebuild_reading.proofs.ListFacts.{all-none_left}
 use Rattle.rebuild_reading.proofs.StageLaws.{given-none, during_next, stage-more, stage-stopped, stage-goes, no-stop}
 use Rattle.rebuild_reading.proofs.GivenLaws.{members-same, members-without, given-same, owing-given, more-counted, elsewhere-counted, given-emptied, owing-without, all-owe, place-more, place-first}
 use Rattle.rebuild_reading.proofs.OnwardLaws.{same_rebuild, reading_of, owing_of, IsPlaced, onward-read, going-read}
 
-placed_next : (stage next : Stage) (place : Option CfId) → (stage ≡ Quiesce → place ≡ None) → behind stage ≡ Into next
+placed_next : (stage next : Stage) (place : Option CfId) → (stage ≡ Quiesce → place ≡ None)
+    → next_stage stage ≡ Into next
     → fresh_in next (fresh_in stage place) ≡ fresh_in next place
 placed_next Quiesce next place quiet is =
     let same : next ≡ Connect = cc in rw (same, quiet refl) refl
@@ -32,7 +33,7 @@ never : (b : Bool) → (b && false) ≡ false
 never true = refl
 never false = refl
 
-module _ {C R : Type 0} (begun : List ConnId) (start : Start C R) (stage : Stage) (entries : List Told)
+module _ {C R : Type 0} (begun : List ConnId) (start : Start C R) (stage : Stage) (entries : List TellingEntry)
     (found : stage_of begun start.number start.since ≡ Some (record { stage = stage; entries = entries }))
     (some : is_empty (members_left begun start.since) ≡ false)
     (quiet : stage ≡ Quiesce → first_place start.since ≡ None) where
@@ -45,11 +46,11 @@ module _ {C R : Type 0} (begun : List ConnId) (start : Start C R) (stage : Stage
   abbrev pub owing : List ConnId
   owing = owing_of begun start stage entries
 
-  abbrev pub more : Told → Start C R
+  abbrev pub more : TellingEntry → Start C R
   more entry = record start { since = start.since ++ entry ∷ [] }
 
   -- what is read with one entry more that is no stop
-  read-more : (entry : Told) → is_stop entry.telling ≡ false
+  read-more : (entry : TellingEntry) → is_stop entry.telling ≡ false
       → rebuild_since begun (more entry)
       ≡ reading_of begun (more entry) stage (entries ++ entry ∷ []) (is_empty (members_left begun (more entry).since))
       (is_passed begun start.number stage (more entry).since (entries ++ entry ∷ []))
@@ -59,7 +60,7 @@ module _ {C R : Type 0} (begun : List ConnId) (start : Start C R) (stage : Stage
       (stage-more begun start.number start.since entry other
       ∙ ap (during_next begun start.number (more entry).since entry) found)
 
-  place-same : (entry : Told) → place_or entry.telling None ≡ None
+  place-same : (entry : TellingEntry) → place_or entry.telling None ≡ None
       → IsPlaced begun (more entry) stage (entries ++ entry ∷ []) (fresh_in stage (first_place start.since))
   place-same entry none =
       let same = place-more start.since entry none in (
@@ -68,9 +69,9 @@ module _ {C R : Type 0} (begun : List ConnId) (start : Start C R) (stage : Stage
       )
 
   -- an entry that changes nothing
-  pub unchanged : (entry : Told) → is_stop entry.telling ≡ false → is_departure entry.telling ≡ false
+  pub unchanged : (entry : TellingEntry) → is_stop entry.telling ≡ false → is_departure entry.telling ≡ false
       → place_or entry.telling None ≡ None
-      → counted stage (entries ++ entry ∷ []) ≡ counted stage entries ++ entry ∷ []
+      → counted_entries stage (entries ++ entry ∷ []) ≡ counted_entries stage entries ++ entry ∷ []
       → is_awaited stage start.number entry.telling ≡ false
       → Some now ≡ rebuild_since begun (more entry)
   unchanged entry no_stop stays none more_counted other =
@@ -94,7 +95,8 @@ module _ {C R : Type 0} (begun : List ConnId) (start : Start C R) (stage : Stage
       ∙ sym (read-more entry no_stop)
 
   -- an entry that gives what the stage waits for
-  given : (entry : Told) (fresh : Option CfId) → is_stop entry.telling ≡ false → is_emptying entry.telling ≡ false
+  given : (entry : TellingEntry) (fresh : Option CfId) → is_stop entry.telling ≡ false
+      → is_emptying entry.telling ≡ false
       → is_departure entry.telling ≡ false → is_awaited stage start.number entry.telling ≡ true
       → IsPlaced begun (more entry) stage (entries ++ entry ∷ []) fresh
       → rebuild_given true entry.by (record now { fresh = fresh }) ≡ rebuild_since begun (more entry)
@@ -109,7 +111,8 @@ module _ {C R : Type 0} (begun : List ConnId) (start : Start C R) (stage : Stage
       placed
       ∙ sym (read-more entry no_stop)
 
-  pub given_or_not : (b : Bool) (entry : Told) → is_stop entry.telling ≡ false → is_emptying entry.telling ≡ false
+  pub given_or_not : (b : Bool) (entry : TellingEntry) → is_stop entry.telling ≡ false
+      → is_emptying entry.telling ≡ false
       → is_departure entry.telling ≡ false → place_or entry.telling None ≡ None
       → is_awaited stage start.number entry.telling ≡ b
       → rebuild_given b entry.by now ≡ rebuild_since begun (more entry)
@@ -156,7 +159,7 @@ module _ {C R : Type 0} (begun : List ConnId) (start : Start C R) (stage : Stage
   pub departed : (by : ConnId)
       → rebuild_by by Departs now ≡ rebuild_since begun (more (record { by = by; telling = Departs }))
   departed by =
-      let entry : Told = record { by = by; telling = Departs } in
+      let entry : TellingEntry = record { by = by; telling = Departs } in
       let left : without_member by members ≡ members_left begun (more entry).since =
       sym (members-without begun start.since entry refl) in
       onward-read begun (more entry) stage (entries ++ entry ∷ []) (without_member by members)
@@ -183,7 +186,7 @@ module _ {C R : Type 0} (begun : List ConnId) (start : Start C R) (stage : Stage
       by_stage Quiesce e = elsewhere (λ c. absurd cc) (ap (λ s. is_awaited s start.number Forces) e)
       by_stage Connect e = elsewhere (λ c. absurd cc) (ap (λ s. is_awaited s start.number Forces) e)
       by_stage Copy e =
-          let entry : Told = record { by = by; telling = Forces } in
+          let entry : TellingEntry = record { by = by; telling = Forces } in
           let left : members ≡ members_left begun (more entry).since =
           sym (members-same begun start.since entry refl) in
           let none : (conn : ConnId) → has_given stage start.number (entries ++ entry ∷ []) conn ≡ false =
@@ -209,7 +212,7 @@ module _ {C R : Type 0} (begun : List ConnId) (start : Start C R) (stage : Stage
   pub placed : (by : ConnId) (cf : CfId) → stage ≡ Connect
       → rebuild_by by (Places cf) now ≡ rebuild_since begun (more (record { by = by; telling = Places cf }))
   placed by cf is =
-      let entry : Told = record { by = by; telling = Places cf } in
+      let entry : TellingEntry = record { by = by; telling = Places cf } in
       let place = place-first start.since by cf in
       let fresh : Some (unwrap_or (fresh_in stage (first_place start.since)) cf) ≡ first_place (more entry).since =
       ap (λ s. Some (unwrap_or (fresh_in s (first_place start.since)) cf)) is ∙ sym place in
@@ -224,7 +227,7 @@ module _ {C R : Type 0} (begun : List ConnId) (start : Start C R) (stage : Stage
   pub stopped : (by : ConnId) → stage ≢ Stopping
       → rebuild_by by Stops now ≡ rebuild_since begun (more (record { by = by; telling = Stops }))
   stopped by other =
-      let entry : Told = record { by = by; telling = Stops } in
+      let entry : TellingEntry = record { by = by; telling = Stops } in
       let left : members ≡ members_left begun (more entry).since = sym (members-same begun start.since entry refl) in
       let none = no-stop begun start.number start.since (record { stage = stage; entries = entries }) found other in
       ap Some (same_rebuild start.number Stopping start.caps members (members_left begun (more entry).since) members

@@ -8,8 +8,8 @@ use Rattle.cf_types.specs.declared.numbers.ConnId.{ConnId}
 use Rattle.rebuild_core.specs.declared.passed.Passed.{Passed}
 use Rattle.rebuild_core.specs.declared.passed.Passed.TheVariants.{No, Into, Ended}
 use Rattle.rebuild_core.specs.declared.rebuild.Rebuild.{Rebuild}
-use Rattle.rebuild_core.specs.Stages.{behind, fresh_in}
-use Rattle.rebuild_reading.specs.Tellings.{Told}
+use Rattle.rebuild_core.specs.Stages.{next_stage, fresh_in}
+use Rattle.rebuild_reading.specs.Tellings.{TellingEntry}
 use Rattle.rebuild_reading.specs.Readings.{Start, has_given, is_empty, is_passed, members_left, first_place, rebuild_during}
 use Rattle.rebuild_reading.specs.Steps.{rebuild_onward}
 use Rattle.rebuild_reading.proofs.ListFacts.{all-none_left}
@@ -32,7 +32,7 @@ pub same_rebuild : (number : ℕ) (stage : Stage) (caps : Caps) (members members
     → rebuild_of number stage caps members owing fresh ≡ rebuild_of number stage caps members' owing' fresh'
 same_rebuild number stage caps members members' owing owing' fresh fresh' a b c = rw (a, b, c) refl
 
-module _ {C R : Type 0} (begun : List ConnId) (start : Start C R) (stage : Stage) (entries : List Told) where
+module _ {C R : Type 0} (begun : List ConnId) (start : Start C R) (stage : Stage) (entries : List TellingEntry) where
   abbrev pub left : List ConnId
   left = members_left begun start.since
 
@@ -43,7 +43,7 @@ module _ {C R : Type 0} (begun : List ConnId) (start : Start C R) (stage : Stage
   abbrev pub reading_of : Bool → Bool → Option Rebuild
   reading_of empty passed =
       cond empty None (option_map (rebuild_during begun start)
-      (cond passed (during_behind (behind stage)) (Some (record { stage = stage; entries = entries }))))
+      (cond passed (during_behind (next_stage stage)) (Some (record { stage = stage; entries = entries }))))
 
   abbrev pub kept_as : (members owing : List ConnId) → Option CfId → Rebuild
   kept_as members owing fresh = rebuild_of start.number stage start.caps members owing fresh
@@ -52,14 +52,14 @@ module _ {C R : Type 0} (begun : List ConnId) (start : Start C R) (stage : Stage
   abbrev pub IsPlaced : Option CfId → Type 0
   IsPlaced fresh =
       (fresh ≡ fresh_in stage (first_place start.since))
-      × ((next : Stage) → behind stage ≡ Into next → fresh_in next fresh ≡ fresh_in next (first_place start.since))
+      × ((next : Stage) → next_stage stage ≡ Into next → fresh_in next fresh ≡ fresh_in next (first_place start.since))
 
   all_owe_next : (next : Stage) → filter (λ conn. not (has_given next start.number [] conn)) left ≡ left
   all_owe_next next = all-owe (has_given next start.number []) (given-none next start.number) left
 
   -- the next stage begins
   next-begun : (after : Passed) (members : List ConnId) (conn : ConnId) (others : List ConnId)
-      (fresh : Option CfId) → after ≢ No → behind stage ≡ after → members ≡ conn ∷ others → members ≡ left
+      (fresh : Option CfId) → after ≢ No → next_stage stage ≡ after → members ≡ conn ∷ others → members ≡ left
       → IsPlaced fresh
       → rebuild_onward (kept_as members [] fresh)
       ≡ option_map (rebuild_during begun start) (during_behind after)
@@ -72,7 +72,7 @@ module _ {C R : Type 0} (begun : List ConnId) (start : Start C R) (stage : Stage
       (fresh_in next (first_place start.since)) (sym some ∙ same) (sym some ∙ same ∙ sym all) fresh'))
   next-begun Ended members conn others fresh goes is some same placed = rw (some, is) refl
 
-  behind-some : (s : Stage) → behind s ≢ No
+  behind-some : (s : Stage) → next_stage s ≢ No
   behind-some Quiesce e = cc
   behind-some Connect e = cc
   behind-some Copy e = cc
@@ -86,7 +86,7 @@ module _ {C R : Type 0} (begun : List ConnId) (start : Start C R) (stage : Stage
   by_owing [] owing fresh same owes placed =
       ap (λ (l : List ConnId). reading_of (is_empty l) (not (is_empty l) && is_empty owing)) same
   by_owing (conn ∷ members) [] fresh same owes placed =
-      next-begun (behind stage) (conn ∷ members) conn members fresh (behind-some stage) refl refl same placed
+      next-begun (next_stage stage) (conn ∷ members) conn members fresh (behind-some stage) refl refl same placed
       ∙ ap (λ (l : List ConnId). reading_of (is_empty l) (not (is_empty l) && true)) same
   by_owing (conn ∷ members) (first ∷ owing) fresh same owes placed =
       ap Some (same_rebuild start.number stage start.caps (conn ∷ members) left (first ∷ owing) owing_of fresh

@@ -8,8 +8,8 @@ use Rattle.cf_types.specs.declared.numbers.CfId.{CfId}
 use Rattle.cf_types.specs.declared.numbers.ConnId.{ConnId}
 use Rattle.engine_api.specs.declared.histories.Entry.{Entry}
 use Rattle.rebuild_core.specs.declared.rebuild.Rebuild.{Rebuild}
-use Rattle.rebuild_core.specs.Stages.{behind, new_rebuild}
-use Rattle.rebuild_reading.specs.Tellings.{Telling, Told, told, is_stop, is_awaited}
+use Rattle.rebuild_core.specs.Stages.{next_stage, new_rebuild}
+use Rattle.rebuild_reading.specs.Tellings.{Telling, TellingEntry, telling_entry, is_stop, is_awaited}
 use Rattle.rebuild_reading.specs.Tellings.Telling.{Starts, Places, Completes, Responds, Stops, Departs, Forces, Nothing}
 use Rattle.rebuild_reading.specs.Readings.{Start, During, departs, has_given, is_empty, is_passed, members_left, place_or, first_place, stage_from, stage_of, start_at, start_or, last_start, rebuild_during, rebuild_since, rebuild_from, rebuild_told}
 use Rattle.rebuild_reading.specs.Steps.{rebuild_by, rebuild_if, rebuild_next, rebuild_kept, IsInStage, IsEarly, MayBeTold, MayAllBeTold}
@@ -21,7 +21,7 @@ use Rattle.rebuild_reading.proofs.NextLaws.{unchanged, given_or_not, departed, f
 -- ---- the last start
 
 abbrev pub longer : {C R : Type 0} → Entry C R → Start C R → Start C R
-longer entry start = record start { since = start.since ++ told entry ∷ [] }
+longer entry start = record start { since = start.since ++ telling_entry entry ∷ [] }
 
 abbrev pub is_start : Telling → Bool
 is_start (Starts number caps) = true
@@ -43,7 +43,7 @@ module _ {C R : Type 0} where
       → start_at (entries ++ entry ∷ []) telling ≡ option_map (longer entry) (start_at entries telling)
   start_longer entries entry (Starts number caps) =
       ap (λ since. Some (record { number = number; caps = caps; before = []; since = since }))
-      (map-append told entries (entry ∷ []))
+      (map-append telling_entry entries (entry ∷ []))
   start_longer entries entry (Places cf) = refl
   start_longer entries entry Completes = refl
   start_longer entries entry (Responds event) = refl
@@ -55,20 +55,20 @@ module _ {C R : Type 0} where
   or_longer : (first : Entry C R) (entries : List (Entry C R)) (entry : Entry C R) (later : Option (Start C R))
       → start_or first (entries ++ entry ∷ []) (option_map (longer entry) later)
       ≡ option_map (longer entry) (start_or first entries later)
-  or_longer first entries entry None = start_longer entries entry (told first).telling
+  or_longer first entries entry None = start_longer entries entry (telling_entry first).telling
   or_longer first entries entry (Some start) = refl
 
   -- an entry that is no start
-  start-more : (before : List (Entry C R)) (entry : Entry C R) → is_start (told entry).telling ≡ false
+  start-more : (before : List (Entry C R)) (entry : Entry C R) → is_start (telling_entry entry).telling ≡ false
       → last_start (before ++ entry ∷ []) ≡ option_map (longer entry) (last_start before)
-  start-more [] entry none = no_start [] (told entry).telling none
+  start-more [] entry none = no_start [] (telling_entry entry).telling none
   start-more (first ∷ before) entry none =
       ap (start_or first (before ++ entry ∷ [])) (start-more before entry none)
       ∙ or_longer first before entry (last_start before)
 
   -- one that is
   start-new : (before : List (Entry C R)) (entry : Entry C R) (number : ℕ) (caps : Caps)
-      → (told entry).telling ≡ Starts number caps
+      → (telling_entry entry).telling ≡ Starts number caps
       → last_start (before ++ entry ∷ [])
       ≡ Some (record { number = number; caps = caps; before = before; since = [] })
   start-new [] entry number caps is = ap (start_at []) is
@@ -120,7 +120,7 @@ module _ {C R : Type 0} (begun : List ConnId) (start : Start C R) (by : ConnId) 
   IsQuiet = (during : During) → stage_of begun start.number start.since ≡ Some during → during.stage ≡ Quiesce
       → first_place start.since ≡ None
 
-  under_way : (actives : List ConnId) (telling : Telling) (stage : Stage) (entries : List Told)
+  under_way : (actives : List ConnId) (telling : Telling) (stage : Stage) (entries : List TellingEntry)
       → is_start telling ≡ false
       → stage_of begun start.number start.since ≡ Some (record { stage = stage; entries = entries })
       → is_empty (members_left begun start.since) ≡ false → (stage ≡ Quiesce → first_place start.since ≡ None)
@@ -150,7 +150,7 @@ module _ {C R : Type 0} (begun : List ConnId) (start : Start C R) (by : ConnId) 
   ended : (telling : Telling) → is_empty (members_left begun start.since) ≡ true
       → is_empty (members_left begun (more telling).since) ≡ true
   ended telling none =
-      let entry : Told = record { by = by; telling = telling } in
+      let entry : TellingEntry = record { by = by; telling = telling } in
       ap is_empty (members-more begun start.since entry) ∙ by_members (members_left begun start.since) none
     where
       by_members : (members : List ConnId) → is_empty members ≡ true
@@ -210,8 +210,9 @@ module _ {C R : Type 0} (begun : List ConnId) (start : Start C R) (by : ConnId) 
 
   -- ---- no place is told before CONNECT
 
-  still_quiet : (passed : Bool) (stage : Stage) (entries : List Told) (during : During)
-      → cond passed (during_behind (behind stage)) (Some (record { stage = stage; entries = entries })) ≡ Some during
+  still_quiet : (passed : Bool) (stage : Stage) (entries : List TellingEntry) (during : During)
+      → cond passed (during_behind (next_stage stage)) (Some (record { stage = stage; entries = entries }))
+      ≡ Some during
       → during.stage ≡ Quiesce → stage ≡ Quiesce
   still_quiet true Quiesce entries during found is = refl
   still_quiet true Connect entries during found is = absurd cc
@@ -238,7 +239,7 @@ module _ {C R : Type 0} (begun : List ConnId) (start : Start C R) (by : ConnId) 
       → (during : During) → stage_of begun start.number (more telling).since ≡ Some during → during.stage ≡ Quiesce
       → first_place (more telling).since ≡ None
   quiet_other telling other none quiet during found is =
-      let entry : Told = record { by = by; telling = telling } in
+      let entry : TellingEntry = record { by = by; telling = telling } in
       let was = was_quiet telling (stage_of begun start.number start.since) during
       (sym (stage-more begun start.number start.since entry other) ∙ found) is in
       place-more start.since entry none ∙ quiet was.0 was.1.0 was.1.1
@@ -252,7 +253,7 @@ module _ {C R : Type 0} (begun : List ConnId) (start : Start C R) (by : ConnId) 
       → (during : During) → stage_of begun start.number (more (Places cf)).since ≡ Some during → during.stage ≡ Quiesce
       → first_place (more (Places cf)).since ≡ None
   quiet_placed cf may during found is =
-      let entry : Told = record { by = by; telling = Places cf } in
+      let entry : TellingEntry = record { by = by; telling = Places cf } in
       let was = was_quiet (Places cf) (stage_of begun start.number start.since) during
       (sym (stage-more begun start.number start.since entry refl) ∙ found) is in
       let connect : was.0.stage ≡ Connect =
@@ -276,7 +277,7 @@ module _ {C R : Type 0} (begun : List ConnId) (start : Start C R) (by : ConnId) 
       → (during : During) → stage_of begun start.number (more Stops).since ≡ Some during → during.stage ≡ Quiesce
       → first_place (more Stops).since ≡ None
   quiet_stopped may during found is =
-      let entry : Told = record { by = by; telling = Stops } in
+      let entry : TellingEntry = record { by = by; telling = Stops } in
       let now = some_stage (is_empty (members_left begun start.since)) (stage_of begun start.number start.since) may in
       let none = no-stop begun start.number start.since now.0 now.1.0 (not_stopping now.0.stage now.1.1) in
       absurd (apart (sym (stage-stopped begun start.number start.since entry refl none) ∙ found) is)
@@ -324,13 +325,14 @@ module _ {C R : Type 0} (actives_after : List (Entry C R) → List ConnId) where
 
   abbrev Reads : (before : List (Entry C R)) → Entry C R → Type 0
   Reads before entry =
-      (rebuild_next (actives_after before) entry.by (told entry).telling (rebuild_told actives_after before)
+      (rebuild_next (actives_after before) entry.by (telling_entry entry).telling (rebuild_told actives_after before)
       ≡ rebuild_told actives_after (before ++ entry ∷ []))
       × QuietAt (last_start (before ++ entry ∷ []))
 
   reads_start : (before : List (Entry C R)) (entry : Entry C R) (number : ℕ) (caps : Caps)
-      → (told entry).telling ≡ Starts number caps
-      → MayBeTold (actives_after before) (told entry).telling (rebuild_told actives_after before) → Reads before entry
+      → (telling_entry entry).telling ≡ Starts number caps
+      → MayBeTold (actives_after before) (telling_entry entry).telling (rebuild_told actives_after before)
+      → Reads before entry
   reads_start before entry number caps is may =
       let new = start-new before entry number caps is in
       let some = subst (λ (t : Telling). MayBeTold (actives_after before) t (rebuild_told actives_after before)) is may
@@ -342,29 +344,34 @@ module _ {C R : Type 0} (actives_after : List (Entry C R) → List ConnId) where
       )
 
   reads_other : (before : List (Entry C R)) (entry : Entry C R) (start : Option (Start C R))
-      → is_start (told entry).telling ≡ false → last_start before ≡ start → QuietAt start
-      → MayBeTold (actives_after before) (told entry).telling (rebuild_from actives_after start) → Reads before entry
+      → is_start (telling_entry entry).telling ≡ false → last_start before ≡ start → QuietAt start
+      → MayBeTold (actives_after before) (telling_entry entry).telling (rebuild_from actives_after start)
+      → Reads before entry
   reads_other before entry None none is quiet may =
       let more = start-more before entry none ∙ ap (option_map (longer entry)) is in (
-        ap (λ s. rebuild_next (actives_after before) entry.by (told entry).telling (rebuild_from actives_after s)) is
-            ∙ next_if (actives_after before) entry.by (told entry).telling None none
+        ap (λ s. rebuild_next (actives_after before) entry.by (telling_entry entry).telling
+            (rebuild_from actives_after s)) is
+            ∙ next_if (actives_after before) entry.by (telling_entry entry).telling None none
             ∙ sym (ap (rebuild_from actives_after) more),
         subst QuietAt (sym more) tt,
       )
   reads_other before entry (Some start) none is quiet may =
       let begun = actives_after start.before in
       let more = start-more before entry none ∙ ap (option_map (longer entry)) is in (
-        ap (λ s. rebuild_next (actives_after before) entry.by (told entry).telling (rebuild_from actives_after s)) is
-            ∙ next_if (actives_after before) entry.by (told entry).telling (rebuild_since begun start) none
-            ∙ read-more begun start entry.by (actives_after before) (told entry).telling none quiet may
+        ap (λ s. rebuild_next (actives_after before) entry.by (telling_entry entry).telling
+            (rebuild_from actives_after s)) is
+            ∙ next_if (actives_after before) entry.by (telling_entry entry).telling (rebuild_since begun start) none
+            ∙ read-more begun start entry.by (actives_after before) (telling_entry entry).telling none quiet may
             ∙ sym (ap (rebuild_from actives_after) more),
         subst QuietAt (sym more)
-            (quiet-more begun start entry.by (actives_after before) (told entry).telling none quiet may),
+            (quiet-more begun start entry.by (actives_after before) (telling_entry entry).telling none quiet may),
       )
 
-  reads_either : (before : List (Entry C R)) (entry : Entry C R) (telling : Telling) → (told entry).telling ≡ telling
+  reads_either : (before : List (Entry C R)) (entry : Entry C R) (telling : Telling)
+      → (telling_entry entry).telling ≡ telling
       → QuietAt (last_start before)
-      → MayBeTold (actives_after before) (told entry).telling (rebuild_told actives_after before) → Reads before entry
+      → MayBeTold (actives_after before) (telling_entry entry).telling (rebuild_told actives_after before)
+      → Reads before entry
   reads_either before entry (Starts number caps) is quiet may = reads_start before entry number caps is may
   reads_either before entry (Places cf) is quiet may =
       reads_other before entry (last_start before) (ap is_start is) refl quiet may
@@ -387,11 +394,11 @@ module _ {C R : Type 0} (actives_after : List (Entry C R) → List ConnId) where
       → rebuild_kept actives_after before entries rebuild ≡ rebuild_told actives_after (before ++ entries)
   kept_reads before [] rebuild same quiet may = same ∙ ap (rebuild_told actives_after) (sym (append-nil before))
   kept_reads before (entry ∷ entries) rebuild same quiet may =
-      let step = reads_either before entry (told entry).telling refl quiet
-      (subst (MayBeTold (actives_after before) (told entry).telling) same may.0) in
+      let step = reads_either before entry (telling_entry entry).telling refl quiet
+      (subst (MayBeTold (actives_after before) (telling_entry entry).telling) same may.0) in
       kept_reads (before ++ entry ∷ []) entries
-      (rebuild_next (actives_after before) entry.by (told entry).telling rebuild)
-      (ap (rebuild_next (actives_after before) entry.by (told entry).telling) same ∙ step.0) step.1 may.1
+      (rebuild_next (actives_after before) entry.by (telling_entry entry).telling rebuild)
+      (ap (rebuild_next (actives_after before) entry.by (telling_entry entry).telling) same ∙ step.0) step.1 may.1
       ∙ ap (rebuild_told actives_after) (append_assoc before (entry ∷ []) entries)
 
   -- after each history in which every entry may be told where it stands

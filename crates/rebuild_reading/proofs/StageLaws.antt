@@ -8,14 +8,14 @@ use Rattle.cf_types.specs.declared.numbers.ConnId.{ConnId}
 use Rattle.list_laws.specs.Prefixes.{shortest_prefix}
 use Rattle.rebuild_core.specs.declared.passed.Passed.{Passed}
 use Rattle.rebuild_core.specs.declared.passed.Passed.TheVariants.{No, Into, Ended}
-use Rattle.rebuild_core.specs.Stages.{behind}
-use Rattle.rebuild_reading.specs.Tellings.{Told, is_stop}
-use Rattle.rebuild_reading.specs.Readings.{During, counted, gives, has_given, has_stop, is_empty, is_passed, members_left, stage_from, stage_of}
+use Rattle.rebuild_core.specs.Stages.{next_stage}
+use Rattle.rebuild_reading.specs.Tellings.{TellingEntry, is_stop}
+use Rattle.rebuild_reading.specs.Readings.{During, counted_entries, gives, has_given, has_stop, is_empty, is_passed, members_left, stage_from, stage_of}
 use Rattle.rebuild_reading.proofs.ListFacts.{prefix-longer, prefix-whole, prefix-more, prefix-split, prefix-drop, any-more, or_true}
 
 -- ---- nothing is given as a stage begins
 
-counted-none : (stage : Stage) → counted stage [] ≡ []
+counted-none : (stage : Stage) → counted_entries stage [] ≡ []
 counted-none Quiesce = refl
 counted-none Connect = refl
 counted-none Copy = refl
@@ -37,37 +37,37 @@ during_behind (Into stage) = Some (record { stage = stage; entries = [] })
 during_behind Ended = None
 
 module _ (begun : List ConnId) (number : ℕ) where
-  pub passed-none : (stage : Stage) (since : List Told) → is_passed begun number stage since [] ≡ false
+  pub passed-none : (stage : Stage) (since : List TellingEntry) → is_passed begun number stage since [] ≡ false
   passed-none stage since = none_pass (members_left begun since) (has_given stage number []) (given-none stage number)
 
   -- ---- one entry more
 
-  abbrev pub during_next : List Told → Told → Option During → Option During
+  abbrev pub during_next : List TellingEntry → TellingEntry → Option During → Option During
   during_next since entry None = None
   during_next since entry (Some during) =
       cond (is_passed begun number during.stage since (during.entries ++ entry ∷ []))
-      (during_behind (behind during.stage))
+      (during_behind (next_stage during.stage))
       (Some (record { stage = during.stage; entries = during.entries ++ entry ∷ [] }))
 
   -- each stage is followed by the one behind it, and the last by none
   abbrev pub IsChain : List Stage → Type 0
   IsChain [] = Unit {0}
-  IsChain (stage ∷ []) = behind stage ≡ Ended
-  IsChain (stage ∷ (next ∷ stages)) = (behind stage ≡ Into next) × IsChain (next ∷ stages)
+  IsChain (stage ∷ []) = next_stage stage ≡ Ended
+  IsChain (stage ∷ (next ∷ stages)) = (next_stage stage ≡ Into next) × IsChain (next ∷ stages)
 
   -- a stage with this prefix of the entries, and what follows
-  abbrev with_prefix : Stage → List Stage → (past rest prefix : List Told) → Option During
+  abbrev with_prefix : Stage → List Stage → (past rest prefix : List TellingEntry) → Option During
   with_prefix stage stages past rest prefix =
       cond (is_passed begun number stage (past ++ prefix) prefix)
       (stage_from begun number stages (past ++ prefix) (drop (length prefix) rest))
       (Some (record { stage = stage; entries = prefix }))
 
-  abbrev enough : Stage → List Told → List Told → Bool
+  abbrev enough : Stage → List TellingEntry → List TellingEntry → Bool
   enough stage past entries = is_passed begun number stage (past ++ entries) entries
 
   -- with no entries the first of the stages left goes on
-  from-none : (stage : Stage) (stages : List Stage) (past : List Told) → IsChain (stage ∷ stages)
-      → stage_from begun number stages past [] ≡ during_behind (behind stage)
+  from-none : (stage : Stage) (stages : List Stage) (past : List TellingEntry) → IsChain (stage ∷ stages)
+      → stage_from begun number stages past [] ≡ during_behind (next_stage stage)
   from-none stage [] past chain = ap during_behind (sym chain)
   from-none stage (next ∷ stages) past chain =
       ap (λ b. cond b (stage_from begun number stages (past ++ []) []) (Some (record { stage = next; entries = [] })))
@@ -77,7 +77,7 @@ module _ (begun : List ConnId) (number : ℕ) where
   chain_rest stage [] chain = tt
   chain_rest stage (next ∷ stages) chain = chain.1
 
-  from-passed : (stage : Stage) (stages : List Stage) (past rest : List Told) (entry : Told)
+  from-passed : (stage : Stage) (stages : List Stage) (past rest : List TellingEntry) (entry : TellingEntry)
       → enough stage past (shortest_prefix (enough stage past) rest) ≡ true
       → stage_from begun number stages (past ++ shortest_prefix (enough stage past) rest)
       (drop (length (shortest_prefix (enough stage past) rest)) rest ++ entry ∷ [])
@@ -106,7 +106,7 @@ module _ (begun : List ConnId) (number : ℕ) where
       (cond b (stage_from begun number stages (past ++ prefix) behind_it)
       (Some (record { stage = stage; entries = prefix })))) (sym passed)
 
-  from-going : (stage : Stage) (stages : List Stage) (past rest : List Told) (entry : Told)
+  from-going : (stage : Stage) (stages : List Stage) (past rest : List TellingEntry) (entry : TellingEntry)
       → IsChain (stage ∷ stages) → enough stage past (shortest_prefix (enough stage past) rest) ≡ false
       → stage_from begun number (stage ∷ stages) past (rest ++ entry ∷ [])
       ≡ during_next (past ++ (rest ++ entry ∷ [])) entry (stage_from begun number (stage ∷ stages) past rest)
@@ -124,7 +124,7 @@ module _ (begun : List ConnId) (number : ℕ) where
       ∙ ap (λ b. cond b (stage_from begun number stages (past ++ rest) (drop (length rest) rest))
       (Some (record { stage = stage; entries = rest }))) goes))
 
-  from_either : (stage : Stage) (stages : List Stage) (past rest : List Told) (entry : Told)
+  from_either : (stage : Stage) (stages : List Stage) (past rest : List TellingEntry) (entry : TellingEntry)
       → IsChain (stage ∷ stages) → (b : Bool)
       → enough stage past (shortest_prefix (enough stage past) rest) ≡ b
       → stage_from begun number stages (past ++ shortest_prefix (enough stage past) rest)
@@ -140,7 +140,7 @@ module _ (begun : List ConnId) (number : ℕ) where
       from-passed stage stages past rest entry is further
   from_either stage stages past rest entry chain false is further = from-going stage stages past rest entry chain is
 
-  pub from-more : (stages : List Stage) (past rest : List Told) (entry : Told) → IsChain stages
+  pub from-more : (stages : List Stage) (past rest : List TellingEntry) (entry : TellingEntry) → IsChain stages
       → stage_from begun number stages past (rest ++ entry ∷ [])
       ≡ during_next (past ++ (rest ++ entry ∷ [])) entry (stage_from begun number stages past rest)
   from-more [] past rest entry chain = refl
@@ -150,7 +150,7 @@ module _ (begun : List ConnId) (number : ℕ) where
       (from-more stages (past ++ prefix) (drop (length prefix) rest) entry (chain_rest stage stages chain))
 
   -- a stage that goes on hasn't passed
-  goes_either : (stage : Stage) (stages : List Stage) (past rest : List Told) (during : During) (b : Bool)
+  goes_either : (stage : Stage) (stages : List Stage) (past rest : List TellingEntry) (during : During) (b : Bool)
       → enough stage past (shortest_prefix (enough stage past) rest) ≡ b
       → (stage_from begun number stages (past ++ shortest_prefix (enough stage past) rest)
       (drop (length (shortest_prefix (enough stage past) rest)) rest) ≡ Some during
@@ -175,7 +175,7 @@ module _ (begun : List ConnId) (number : ℕ) where
       (sym (prefix-whole (enough stage past) rest is))
       ∙ is
 
-  from-goes : (stages : List Stage) (past rest : List Told) (during : During)
+  from-goes : (stages : List Stage) (past rest : List TellingEntry) (during : During)
       → stage_from begun number stages past rest ≡ Some during
       → is_passed begun number during.stage (past ++ rest) during.entries ≡ false
   from-goes [] past rest during found = absurd cc
@@ -185,25 +185,25 @@ module _ (begun : List ConnId) (number : ℕ) where
       (from-goes stages (past ++ prefix) (drop (length prefix) rest) during) found
 
   -- the only stage
-  only_either : (stage : Stage) (b : Bool) (entries : List Told) (during : During)
+  only_either : (stage : Stage) (b : Bool) (entries : List TellingEntry) (during : During)
       → cond b None (Some (record { stage = stage; entries = entries })) ≡ Some during → during.stage ≡ stage
   only_either stage true entries during found = absurd cc
   only_either stage false entries during found = cc
 
   -- ---- stops
 
-  abbrev pub until_stop : List Told → List Told
+  abbrev pub until_stop : List TellingEntry → List TellingEntry
   until_stop since = shortest_prefix has_stop since
 
   abbrev running : List Stage
   running = Quiesce ∷ Connect ∷ Copy ∷ Cleanup ∷ []
 
-  abbrev with_stop : (since prefix : List Told) → Option During
+  abbrev with_stop : (since prefix : List TellingEntry) → Option During
   with_stop since prefix =
       cond (has_stop prefix) (stage_from begun number (Stopping ∷ []) prefix (drop (length prefix) since))
       (stage_from begun number running [] since)
 
-  more_either : (since : List Told) (entry : Told) (b : Bool) → is_stop entry.telling ≡ false
+  more_either : (since : List TellingEntry) (entry : TellingEntry) (b : Bool) → is_stop entry.telling ≡ false
       → has_stop (until_stop since) ≡ b
       → stage_of begun number (since ++ entry ∷ [])
       ≡ during_next (since ++ entry ∷ []) entry (stage_of begun number since)
@@ -225,7 +225,8 @@ module _ (begun : List ConnId) (number : ℕ) where
       let whole = prefix-whole has_stop since is in
       let none : has_stop since ≡ false = ap has_stop (sym whole) ∙ is in
       let none' : has_stop longer ≡ false =
-      any-more (λ (x : Told). is_stop x.telling) since entry ∙ ap (λ b. b || is_stop entry.telling) none ∙ other in
+      any-more (λ (x : TellingEntry). is_stop x.telling) since entry ∙ ap (λ b. b || is_stop entry.telling) none
+      ∙ other in
       ap (with_stop longer) (prefix-more has_stop since entry is)
       ∙ ap (λ b. cond b (stage_from begun number (Stopping ∷ []) longer (drop (length longer) longer))
       (stage_from begun number running [] longer)) none'
@@ -235,19 +236,19 @@ module _ (begun : List ConnId) (number : ℕ) where
       (stage_from begun number running [] since))) (sym is)
 
   -- an entry that is no stop
-  pub stage-more : (since : List Told) (entry : Told) → is_stop entry.telling ≡ false
+  pub stage-more : (since : List TellingEntry) (entry : TellingEntry) → is_stop entry.telling ≡ false
       → stage_of begun number (since ++ entry ∷ [])
       ≡ during_next (since ++ entry ∷ []) entry (stage_of begun number since)
   stage-more since entry other = more_either since entry (has_stop (until_stop since)) other refl
 
   -- the first stop
-  pub stage-stopped : (since : List Told) (entry : Told) → is_stop entry.telling ≡ true
+  pub stage-stopped : (since : List TellingEntry) (entry : TellingEntry) → is_stop entry.telling ≡ true
       → has_stop (until_stop since) ≡ false
       → stage_of begun number (since ++ entry ∷ []) ≡ Some (record { stage = Stopping; entries = [] })
   stage-stopped since entry stop is =
       let longer = since ++ entry ∷ [] in
       let stopped : has_stop longer ≡ true =
-      any-more (λ (x : Told). is_stop x.telling) since entry ∙ ap (λ b. has_stop since || b) stop
+      any-more (λ (x : TellingEntry). is_stop x.telling) since entry ∙ ap (λ b. has_stop since || b) stop
       ∙ or_true (has_stop since) in
       ap (with_stop longer) (prefix-more has_stop since entry is)
       ∙ ap (λ b. cond b (stage_from begun number (Stopping ∷ []) longer (drop (length longer) longer))
@@ -255,7 +256,7 @@ module _ (begun : List ConnId) (number : ℕ) where
       ∙ ap (stage_from begun number (Stopping ∷ []) longer) (drop_all (length longer) longer (omega arith))
       ∙ ap (λ b. cond b None (Some (record { stage = Stopping; entries = [] }))) (passed-none Stopping (longer ++ []))
 
-  stopped_stage : (since : List Told) (during : During) (b : Bool) → has_stop (until_stop since) ≡ b
+  stopped_stage : (since : List TellingEntry) (during : During) (b : Bool) → has_stop (until_stop since) ≡ b
       → stage_of begun number since ≡ Some during → (b ≡ false) ⊎ (during.stage ≡ Stopping)
   stopped_stage since during true is found =
       let prefix = until_stop since in
@@ -267,13 +268,13 @@ module _ (begun : List ConnId) (number : ℕ) where
   stopped_stage since during false is found = inl refl
 
   -- in another stage than STOPPING there was no stop
-  pub no-stop : (since : List Told) (during : During) → stage_of begun number since ≡ Some during
+  pub no-stop : (since : List TellingEntry) (during : During) → stage_of begun number since ≡ Some during
       → during.stage ≢ Stopping → has_stop (until_stop since) ≡ false
   no-stop since during found other =
       ⊎_elim (λ none. none) (λ stopping. absurd (other stopping))
       (stopped_stage since during (has_stop (until_stop since)) refl found)
 
-  going_either : (since : List Told) (during : During) (b : Bool) → has_stop (until_stop since) ≡ b
+  going_either : (since : List TellingEntry) (during : During) (b : Bool) → has_stop (until_stop since) ≡ b
       → stage_of begun number since ≡ Some during → is_passed begun number during.stage since during.entries ≡ false
   going_either since during true is found =
       let prefix = until_stop since in
@@ -288,6 +289,6 @@ module _ (begun : List ConnId) (number : ℕ) where
       (sym (ap (λ b. cond b (stage_from begun number (Stopping ∷ []) prefix (drop (length prefix) since))
       (stage_from begun number running [] since)) is) ∙ found)
 
-  pub stage-goes : (since : List Told) (during : During) → stage_of begun number since ≡ Some during
+  pub stage-goes : (since : List TellingEntry) (during : During) → stage_of begun number since ≡ Some during
       → is_passed begun number during.stage since during.entries ≡ false
   stage-goes since during found = going_either since during (has_stop (until_stop since)) refl found

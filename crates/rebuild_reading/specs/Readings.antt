@@ -10,7 +10,7 @@ use Rattle.engine_api.specs.declared.histories.Entry.{Entry}
 use Rattle.list_laws.specs.Prefixes.{shortest_prefix}
 use Rattle.rebuild_core.specs.declared.rebuild.Rebuild.{Rebuild}
 use Rattle.rebuild_core.specs.Stages.{fresh_in}
-use Rattle.rebuild_reading.specs.Tellings.{Telling, Told, told, told_by, is_stop, is_departure, is_emptying, is_awaited}
+use Rattle.rebuild_reading.specs.Tellings.{Telling, TellingEntry, telling_entry, told_by, is_stop, is_departure, is_emptying, is_awaited}
 use Rattle.rebuild_reading.specs.Tellings.Telling.{Starts, Places}
 
 -- the elements behind the last one at which p holds; all of them where it holds of none
@@ -29,7 +29,7 @@ pub record Start (C R : Type 0) : Type 0 where
   pub number : ℕ
   pub caps : Caps
   pub before : List (Entry C R)
-  pub since : List Told
+  pub since : List TellingEntry
 
 module _ {C R : Type 0} where
   abbrev pub start_at : List (Entry C R) → Telling → Option (Start C R)
@@ -39,7 +39,7 @@ module _ {C R : Type 0} where
 
   -- one that stands among the entries behind an entry is later than this one
   abbrev pub start_or : Entry C R → List (Entry C R) → Option (Start C R) → Option (Start C R)
-  start_or entry entries None = start_at entries (told entry).telling
+  start_or entry entries None = start_at entries (telling_entry entry).telling
   start_or entry entries (Some start) = Some (record start { before = entry ∷ start.before })
 
   abbrev pub last_start : List (Entry C R) → Option (Start C R)
@@ -48,47 +48,47 @@ module _ {C R : Type 0} where
 
 -- ---- members, and what they gave
 
-abbrev pub departs : ConnId → Told → Bool
+abbrev pub departs : ConnId → TellingEntry → Bool
 departs conn entry = (conn.0 == entry.by.0) && is_departure entry.telling
 
-abbrev pub gives : Stage → ℕ → ConnId → Told → Bool
+abbrev pub gives : Stage → ℕ → ConnId → TellingEntry → Bool
 gives stage number conn entry = (conn.0 == entry.by.0) && is_awaited stage number entry.telling
 
-abbrev pub has_stop : List Told → Bool
+abbrev pub has_stop : List TellingEntry → Bool
 has_stop entries = list_any (λ entry. is_stop entry.telling) entries
 
 -- who was active at the start and hasn't departed since
-abbrev pub members_left : List ConnId → List Told → List ConnId
+abbrev pub members_left : List ConnId → List TellingEntry → List ConnId
 members_left begun since = filter (λ conn. not (list_any (departs conn) since)) begun
 
 -- the entries of a stage that count: in COPY those behind the last departure or forcing of a connection
-abbrev pub counted : Stage → List Told → List Told
-counted Quiesce entries = entries
-counted Connect entries = entries
-counted Copy entries = since_last (λ entry. is_emptying entry.telling) entries
-counted Cleanup entries = entries
-counted Stopping entries = entries
+abbrev pub counted_entries : Stage → List TellingEntry → List TellingEntry
+counted_entries Quiesce entries = entries
+counted_entries Connect entries = entries
+counted_entries Copy entries = since_last (λ entry. is_emptying entry.telling) entries
+counted_entries Cleanup entries = entries
+counted_entries Stopping entries = entries
 
-abbrev pub has_given : Stage → ℕ → List Told → ConnId → Bool
-has_given stage number entries conn = list_any (gives stage number conn) (counted stage entries)
+abbrev pub has_given : Stage → ℕ → List TellingEntry → ConnId → Bool
+has_given stage number entries conn = list_any (gives stage number conn) (counted_entries stage entries)
 
 -- ---- stages
 
 -- a stage, and its entries so far
 pub record During : Type 0 where
   pub stage : Stage
-  pub entries : List Told
+  pub entries : List TellingEntry
 
 module _ (begun : List ConnId) (number : ℕ) where
   -- a stage with these entries of all since the start has passed: a member is left, and each has given what the stage
   -- waits for
-  abbrev pub is_passed : Stage → (since entries : List Told) → Bool
+  abbrev pub is_passed : Stage → (since entries : List TellingEntry) → Bool
   is_passed stage since entries =
       let left = members_left begun since in
       not (is_empty left) && list_all (has_given stage number entries) left
 
   -- each stage has the entries up to the first with which it has passed; none goes on where all have
-  abbrev pub stage_from : List Stage → (past rest : List Told) → Option During
+  abbrev pub stage_from : List Stage → (past rest : List TellingEntry) → Option During
   stage_from [] past rest = None
   stage_from (stage ∷ stages) past rest =
       let entries = shortest_prefix (λ entries. is_passed stage (past ++ entries) entries) rest in
@@ -97,7 +97,7 @@ module _ (begun : List ConnId) (number : ℕ) where
       else Some (record { stage = stage; entries = entries })
 
   -- behind a stop the stage is STOPPING
-  abbrev pub stage_of : List Told → Option During
+  abbrev pub stage_of : List TellingEntry → Option During
   stage_of since =
       let until_stop = shortest_prefix has_stop since in
       if has_stop until_stop then stage_from (Stopping ∷ []) until_stop (drop (length until_stop) since)
@@ -110,7 +110,7 @@ abbrev pub place_or : Telling → Option CfId → Option CfId
 place_or (Places cf) place = Some cf
 place_or _ place = place
 
-abbrev pub first_place : List Told → Option CfId
+abbrev pub first_place : List TellingEntry → Option CfId
 first_place [] = None
 first_place (entry ∷ entries) = place_or entry.telling (first_place entries)
 

@@ -9,7 +9,7 @@ use Rattle.rebuild_core.specs.declared.passed.Passed.{Passed}
 use Rattle.rebuild_core.specs.declared.passed.Passed.TheVariants.{No, Into, Ended}
 use Rattle.rebuild_core.specs.declared.rebuild.Rebuild.{Rebuild}
 use Rattle.rebuild_core.specs.Stages.{new_rebuild, with_all_owing, rebuild_in, without_owing, rebuild_without, outcome_of}
-use Rattle.rebuild_reading.specs.Tellings.{Telling, told, is_awaited}
+use Rattle.rebuild_reading.specs.Tellings.{Telling, telling_entry, is_awaited}
 use Rattle.rebuild_reading.specs.Tellings.Telling.{Starts, Places, Completes, Responds, Stops, Departs, Forces, Nothing}
 
 -- a stage that has passed makes way for the next one, and the last one for none
@@ -92,12 +92,12 @@ module _ {C R : Type 0} (actives_after : List (Entry C R) → List ConnId) where
   rebuild_kept before [] rebuild = rebuild
   rebuild_kept before (entry ∷ entries) rebuild =
       rebuild_kept (before ++ entry ∷ []) entries
-      (rebuild_next (actives_after before) entry.by (told entry).telling rebuild)
+      (rebuild_next (actives_after before) entry.by (telling_entry entry).telling rebuild)
 
   -- each entry may be told where it stands
   abbrev pub MayAllBeTold : (before entries : List (Entry C R)) → Option Rebuild → Type 0
   MayAllBeTold before [] rebuild = Unit {0}
   MayAllBeTold before (entry ∷ entries) rebuild =
-      MayBeTold (actives_after before) (told entry).telling rebuild
+      MayBeTold (actives_after before) (telling_entry entry).telling rebuild
       × MayAllBeTold (before ++ entry ∷ []) entries
-      (rebuild_next (actives_after before) entry.by (told entry).telling rebuild)
+      (rebuild_next (actives_after before) entry.by (telling_entry entry).telling rebuild)

@@ -43,7 +43,7 @@ telling (cmd.ForceConn conn) shown.Ok = Forces
 telling _ _ = Nothing
 
 -- an entry as far as it tells of a rebuild
-pub record Told : Type 0 where
+pub record TellingEntry : Type 0 where
   pub by : ConnId
   pub telling : Telling
 
@@ -52,11 +52,11 @@ module _ {C R : Type 0} where
   telling_of (what.Call (ask.Shell command)) (reply.Shell answer) = telling command answer
   telling_of _ _ = Nothing
 
-  abbrev pub told : Entry C R → Told
-  told entry = record { by = entry.by; telling = telling_of entry.what entry.reply }
+  abbrev pub telling_entry : Entry C R → TellingEntry
+  telling_entry entry = record { by = entry.by; telling = telling_of entry.what entry.reply }
 
-  abbrev pub told_by : List (Entry C R) → List Told
-  told_by entries = map told entries
+  abbrev pub told_by : List (Entry C R) → List TellingEntry
+  told_by entries = map telling_entry entries
 
 -- ---- tests
 

@@ -13,7 +13,7 @@ use Rattle.plex_script.specs.declared.scripts.Script.{Script}
 use Rattle.plex_script.specs.declared.transcripts.AgentEnd.{AgentEnd}
 use Rattle.plex_script.specs.declared.transcripts.AgentEnd.TheVariants as ended
 use Rattle.plex_script.specs.declared.transcripts.Transcript.{Transcript}
-use Rattle.plex_script.specs.Agent.{common}
+use Rattle.plex_script.specs.Agent.{shell_ask}
 use Rattle.plex_script.specs.Heard.{AnyCall, any_calls, own_calls, is_linked}
 use Rattle.any_model.specs.Kinds.{any_take}
 use Rattle.any_model.proofs.HistoryLaws.{take_calls}
@@ -25,7 +25,7 @@ use Rattle.desk_model.specs.Desks.{pass_at, with_pass}
 use Rattle.desk_model.specs.Boards.{BoardShown, note_in}
 use Rattle.desk_model.specs.Turns.{AtWork, Asks, Departs, is_done_as}
 use Rattle.desk_model.specs.Callers.{DepartsEach}
-use Rattle.desk_model.specs.Floors.{Floor, worker_of, with_worker, heard, heard_all, ClosesAll}
+use Rattle.desk_model.specs.Floors.{Floor, worker_of, with_worker, heard_from_last, heard_all, ClosesAll}
 use Rattle.serial_exact.proofs.Spots.{conn, str, put, put_all, put_same, put_other, Spot, moved, known_moved}
 use Rattle.serial_exact.proofs.Fits.{put_back, FitsAt, fits_put, heard_pass, IsHeardPass, heard_is, heard_complete}
 use Rattle.serial_exact.proofs.Agreements.{AgreesAt, agrees_put, last_is}
@@ -63,20 +63,20 @@ pub goes_heard_all : (stage : Stage) (by : ℕ) (state : State) → by ≤ stage
 goes_heard_all stage by state caller =
     record {
       known = λ known x within.
-          let heard : IsHeardPass by (state.spots x) (heard_pass by (state.spots x)) =
+          let heeded : IsHeardPass by (state.spots x) (heard_pass by (state.spots x)) =
           heard_is stage.callers by (state.spots x) caller (known x within) in
           known_moved stage.callers by (state.spots x) (heard_pass by (state.spots x)) caller (known x within)
-          (omega (arith, heard.known))
-          heard.sure heard.owner heard.calls;
+          (omega (arith, heeded.known))
+          heeded.sure heeded.owner heeded.calls;
       back = λ known fits. record {
         at = λ x within.
             let pass : PassShown = heard_pass by (state.spots x) in
-            let heard : IsHeardPass by (state.spots x) pass =
+            let heeded : IsHeardPass by (state.spots x) pass =
             heard_is stage.callers by (state.spots x) caller (known x within) in
             fits_put (stage.form x) (stage.entries x) stage.callers by (state.spots x) pass (Some (conn by))
             pass.known
-            (omega (arith, heard.known))
-            (λ told. subst (All (IsAnyTold (stage.form x) (stage.entries x) (conn by))) heard.tests told)
+            (omega (arith, heeded.known))
+            (λ told. subst (All (IsAnyTold (stage.form x) (stage.entries x) (conn by))) heeded.tests told)
             (fits.at x within);
         memory = λ c.
             put_back (λ c transcript'. c ≤ stage.callers → transcript'.end ≢ ended.NoMemory) by (state.shown by)
@@ -95,7 +95,7 @@ goes_heard_all stage by state caller =
             let pass : PassShown = heard_pass by spot in
             let at : AgreesAt stage.callers (stage.entries x) x (of_none x) spot state.shown
             (slice_get run.histories x) (slice_get run.posted x) = agrees.at x within in
-            let heard : IsHeardPass by spot pass = heard_is stage.callers by spot caller (known x within) in
+            let heeded : IsHeardPass by spot pass = heard_is stage.callers by spot caller (known x within) in
             let complete : pass.sure ≡ pass.known =
             heard_complete stage.callers by spot caller (known x within) at.lasts in
             agrees_put stage.callers (stage.entries x) x (of_none x) (of_none x) by spot state.shown
@@ -104,7 +104,7 @@ goes_heard_all stage by state caller =
             spot.events pass.known (state.shown by) at at.history_is at.number_is
             (λ works. record {
               complete = complete;
-              most = omega (arith, (at.seen by caller works).most, heard.more);
+              most = omega (arith, (at.seen by caller works).most, heeded.more);
               seen = λ said. absurd said;
             })
             (λ c apart said. said)
@@ -129,10 +129,11 @@ record IsHearing (cells by n : ℕ) (worker : AtWork) (state : State) : Type 0 w
 
 hearing_next : (stage : Stage) (by n : ℕ) (worker : AtWork) (floor : Floor) (state : State) → n < stage.cells
     → IsFloor stage floor state → Known stage state → IsHearing stage.cells by n worker state
-    → IsHearing stage.cells by (n + 1) (heard floor (conn by) worker (str n)) state
+    → IsHearing stage.cells by (n + 1) (heard_from_last floor (conn by) worker (str n)) state
 hearing_next stage by n worker floor state within is known hearing =
     let pass : PassShown = heard_pass by (state.spots n) in
-    let heard_is : heard floor (conn by) worker (str n) ≡ record worker { desk = with_pass (str n) pass worker.desk }
+    let heard_is : heard_from_last floor (conn by) worker (str n)
+    ≡ record worker { desk = with_pass (str n) pass worker.desk }
     =
     heard_desk stage n by worker floor state within is known hearing.size (hearing.behind n (omega arith) within) in
     subst (λ (w : AtWork). IsHearing stage.cells by (n + 1) w state) (sym heard_is)
@@ -153,12 +154,13 @@ hearing_all : (stage : Stage) (by n left : ℕ) (worker : AtWork) (floor : Floor
     → n + left ≡ stage.cells
     → IsFloor stage floor state → Known stage state → IsHearing stage.cells by n worker state
     → IsHearing stage.cells by stage.cells
-    (fold (λ worker place. heard floor (conn by) worker (str place)) worker (range_with_len n left)) state
+    (fold (λ worker place. heard_from_last floor (conn by) worker (str place)) worker (range_with_len n left)) state
 hearing_all stage by n zero worker floor state all is known hearing =
     let whole : n ≡ stage.cells = omega arith in
     subst (λ (m : ℕ). IsHearing stage.cells by m worker state) whole hearing
 hearing_all stage by n (suc left) worker floor state all is known hearing =
-    hearing_all stage by (n + 1) left (heard floor (conn by) worker (str n)) floor state (omega arith) is known
+    hearing_all stage by (n + 1) left (heard_from_last floor (conn by) worker (str n)) floor state
+    (omega arith) is known
     (hearing_next stage by n worker floor state (omega arith) is known hearing)
 
 pub heard_all_worker : {L : Type 0} (board : BoardShown L) (stage : Stage) (by : ℕ) (floor : Floor) (state : State)
@@ -235,12 +237,12 @@ module _ (stage : Stage) (is : IsStage stage) (on by : ℕ) (worker worker' : At
 
   departs_case : (b : Bool) → is_linked (pass_at worker.desk (str on)).calls ≡ b → (before.shown by).end ≡ ended.Done
       → (before.spots on).last ≡ Some (conn by)
-      → MatchBool b (Asks stage.limit (stage.form on).kind (Some (common (stage.form on).kind cmd.Disconnect))
+      → MatchBool b (Asks stage.limit (stage.form on).kind (Some (shell_ask (stage.form on).kind cmd.Disconnect))
       (str on) (step.Call 0) worker worker')
       (worker' ≡ worker)
       → DepartsGo stage by worker' before (λ run. after_departure stage.limit (conn by) run (on, stage.form on))
   departs_case true linked works last asks =
-      let line : Option AnyAsk = Some (common (stage.form on).kind cmd.Disconnect) in
+      let line : Option AnyAsk = Some (shell_ask (stage.form on).kind cmd.Disconnect) in
       let go : AsksGo stage of_none of_none line on by (step.Call 0) worker' before =
       asks_go stage is of_none of_none line on by (step.Call 0) worker worker' before within caller (λ e. cc)
       (says_same of_none on by) at
@@ -276,7 +278,7 @@ module _ (stage : Stage) (is : IsStage stage) (on by : ℕ) (worker worker' : At
   departs_end : (end : AgentEnd) → (before.shown by).end ≡ end → (before.spots on).last ≡ Some (conn by)
       → MatchBool (is_done_as end)
       (MatchBool (is_linked (pass_at worker.desk (str on)).calls)
-      (Asks stage.limit (stage.form on).kind (Some (common (stage.form on).kind cmd.Disconnect)) (str on)
+      (Asks stage.limit (stage.form on).kind (Some (shell_ask (stage.form on).kind cmd.Disconnect)) (str on)
       (step.Call 0) worker worker')
       (worker' ≡ worker))
       (worker' ≡ worker)
@@ -299,7 +301,7 @@ module _ (stage : Stage) (is : IsStage stage) (on by : ℕ) (worker worker' : At
       departs_end (before.shown by).end refl last
       (subst (λ (t : Transcript). MatchBool (is_done_as t.end)
       (MatchBool (is_linked (pass_at worker.desk (str on)).calls)
-      (Asks stage.limit (stage.form on).kind (Some (common (stage.form on).kind cmd.Disconnect)) (str on)
+      (Asks stage.limit (stage.form on).kind (Some (shell_ask (stage.form on).kind cmd.Disconnect)) (str on)
       (step.Call 0) worker worker')
       (worker' ≡ worker))
       (worker' ≡ worker)) at.shown departs)

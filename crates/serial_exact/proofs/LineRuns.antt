@@ -24,7 +24,7 @@ use Rattle.desk_model.specs.Boards.{BoardShown, cell_on}
 use Rattle.desk_model.specs.Turns.{AtWork, Acts, Tests, TestsWord, ShowsOnly, RunsOut, IfDone, is_done_as}
 use Rattle.any_model.specs.Kinds.{any_word}
 use Rattle.plex_script.specs.Heard.{any_length}
-use Rattle.desk_model.specs.Floors.{Floor, worker_of, with_worker, heard_from, told_by, heard, is_counted, PlaysAct, is_working, PlaysLine, PlaysLines}
+use Rattle.desk_model.specs.Floors.{Floor, worker_of, with_worker, heard_from, told_by, heard_from_last, is_counted, PlaysAct, is_working, PlaysLine, PlaysLines}
 use Rattle.serial_exact.proofs.Stages.{Stage, IsStage, State, Known, Shows, Agrees, Goes, goes_then, goes_not}
 use Rattle.serial_exact.proofs.Moves.{transcript_is}
 use Rattle.serial_exact.proofs.Workers.{IsFloor}
@@ -60,10 +60,12 @@ goes_as stage shows shows' before after goes goes' same one =
 abbrev Played : ℕ → StrForm → Line → Act → Floor → Floor → Type 0
 Played limit form line done before after =
     (worker : AtWork)
-    × IfDone (if is_counted form done then heard before line.by (worker_of before line.by) line.on else worker_of
+    × IfDone (if is_counted form done then heard_from_last before line.by (worker_of before line.by) line.on
+    else worker_of
     before line.by) worker
     (Acts limit form line.on line.retry done
-    (if is_counted form done then heard before line.by (worker_of before line.by) line.on else worker_of before
+    (if is_counted form done then heard_from_last before line.by (worker_of before line.by) line.on
+    else worker_of before
     line.by) worker)
     × (after ≡ record (with_worker line.by worker before) {
       last = if is_counted form done then set before.last line.on.0 (Some line.by) else before.last;
@@ -95,7 +97,7 @@ module _ {L : Type 0} (board : BoardShown L) (script : Script) (stage : Stage) (
     works_here : (worker_of floor line.by).shown.end ≡ ended.Done
     works_here = ap (λ (t : Transcript). t.end) (at.worker line.by.0 caller).shown ∙ works
 
-    works_heard : (heard floor line.by (worker_of floor line.by) line.on).shown.end ≡ ended.Done
+    works_heard : (heard_from_last floor line.by (worker_of floor line.by) line.on).shown.end ≡ ended.Done
     works_heard =
         ap (λ (t : Transcript). t.end) (heard_end floor line.by line.on (slice_index_or floor.last line.on.0 None)
         (worker_of floor line.by))
@@ -112,19 +114,22 @@ module _ {L : Type 0} (board : BoardShown L) (script : Script) (stage : Stage) (
     Turn goes = TurnGoes stage of_all of_all before floor' goes
 
     test_turn : (index : ℕ) (b : Bool) → nat_lt index (stage.form line.on.0).vector ≡ b → (worker : AtWork)
-        → IfDone (if b then heard floor line.by (worker_of floor line.by) line.on else worker_of floor line.by) worker
+        → IfDone (if b then heard_from_last floor line.by (worker_of floor line.by) line.on
+        else worker_of floor line.by) worker
         (MatchBool b
-        (Tests line.on index (if b then heard floor line.by (worker_of floor line.by) line.on else worker_of floor
+        (Tests line.on index (if b then heard_from_last floor line.by (worker_of floor line.by) line.on
+        else worker_of floor
         line.by) worker)
         (ShowsOnly (shown.BadIndex line.on index false (stage.form line.on.0).vector)
-        (if b then heard floor line.by (worker_of floor line.by) line.on else worker_of floor line.by) worker)
-        ⊎ RunsOut (if b then heard floor line.by (worker_of floor line.by) line.on else worker_of floor line.by)
+        (if b then heard_from_last floor line.by (worker_of floor line.by) line.on else worker_of floor line.by) worker)
+        ⊎ RunsOut (if b then heard_from_last floor line.by (worker_of floor line.by) line.on
+        else worker_of floor line.by)
         worker)
         → floor' ≡ record (with_worker line.by worker floor)
         { last = if b then set floor.last line.on.0 (Some line.by) else floor.last }
         → Turn (act_made stage.limit (stage.form line.on.0) line (act.Test index))
     test_turn index true inside worker acts floor_is =
-        elim (if_done (heard floor line.by (worker_of floor line.by) line.on) worker _ works_heard acts) [
+        elim (if_done (heard_from_last floor line.by (worker_of floor line.by) line.on) worker _ works_heard acts) [
           | inl tests ↦ bit_turn stage is line.on.0 line.by.0 within caller floor floor' before at known works index
               worker inside tests floor_is
           | inr out ↦ heard_out_turn stage is line.on.0 line.by.0 within caller floor floor' before at known works
@@ -146,19 +151,22 @@ module _ {L : Type 0} (board : BoardShown L) (script : Script) (stage : Stage) (
     word_outside word false sum size other outside = refl
 
     tests_word : (word : ℕ) (b : Bool) → nat_lt (32 * word) (stage.form line.on.0).vector ≡ b → (worker : AtWork)
-        → IfDone (if b then heard floor line.by (worker_of floor line.by) line.on else worker_of floor line.by) worker
+        → IfDone (if b then heard_from_last floor line.by (worker_of floor line.by) line.on
+        else worker_of floor line.by) worker
         (MatchBool b
-        (TestsWord line.on word (if b then heard floor line.by (worker_of floor line.by) line.on else worker_of floor
+        (TestsWord line.on word (if b then heard_from_last floor line.by (worker_of floor line.by) line.on
+        else worker_of floor
         line.by) worker)
         (ShowsOnly (shown.BadIndex line.on word true (stage.form line.on.0).vector)
-        (if b then heard floor line.by (worker_of floor line.by) line.on else worker_of floor line.by) worker)
-        ⊎ RunsOut (if b then heard floor line.by (worker_of floor line.by) line.on else worker_of floor line.by)
+        (if b then heard_from_last floor line.by (worker_of floor line.by) line.on else worker_of floor line.by) worker)
+        ⊎ RunsOut (if b then heard_from_last floor line.by (worker_of floor line.by) line.on
+        else worker_of floor line.by)
         worker)
         → floor' ≡ record (with_worker line.by worker floor)
         { last = if b then set floor.last line.on.0 (Some line.by) else floor.last }
         → Turn (act_made stage.limit (stage.form line.on.0) line (act.TestWord word))
     tests_word word true inside worker acts floor_is =
-        elim (if_done (heard floor line.by (worker_of floor line.by) line.on) worker _ works_heard acts) [
+        elim (if_done (heard_from_last floor line.by (worker_of floor line.by) line.on) worker _ works_heard acts) [
           | inl tests ↦ word_turn stage is line.on.0 line.by.0 within caller floor floor' before at known works word
               worker inside tests floor_is
           | inr out ↦ heard_out_turn stage is line.on.0 line.by.0 within caller floor floor' before at known works
@@ -182,12 +190,14 @@ module _ {L : Type 0} (board : BoardShown L) (script : Script) (stage : Stage) (
         let here = played_here (act.Call asked) act_is played in
         calls_turn stage is line.on.0 line.by.0 within caller floor floor' before at known works (Some asked)
         (step.Call line.retry) here.0
-        (λ e. cc) (if_done (heard floor line.by (worker_of floor line.by) line.on) here.0 _ works_heard here.1) here.2
+        (λ e. cc) (if_done (heard_from_last floor line.by (worker_of floor line.by) line.on) here.0 _ works_heard
+        here.1) here.2
     act_turn act.Events act_is played =
         let here = played_here act.Events act_is played in
         calls_turn stage is line.on.0 line.by.0 within caller floor floor' before at known works None
         (first_step act.Events line.retry) here.0
-        (λ e. cc) (if_done (heard floor line.by (worker_of floor line.by) line.on) here.0 _ works_heard here.1) here.2
+        (λ e. cc) (if_done (heard_from_last floor line.by (worker_of floor line.by) line.on) here.0 _ works_heard
+        here.1) here.2
     act_turn (act.Test index) act_is played =
         let here = played_here (act.Test index) act_is played in
         test_turn index (nat_lt index (stage.form line.on.0).vector) refl here.0 here.1 here.2

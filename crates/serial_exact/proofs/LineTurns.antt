@@ -21,7 +21,7 @@ use Rattle.desk_model.specs.Notes.{with_any_note}
 use Rattle.desk_model.specs.Desks.{DeskShown, pass_at, with_pass, no_pass}
 use Rattle.desk_model.specs.Boards.{note_in}
 use Rattle.desk_model.specs.Turns.{AtWork, Asks, Tests, TestsWord, ShowsOnly, RunsOut, Posts, with_item}
-use Rattle.desk_model.specs.Floors.{Floor, worker_of, heard, taken}
+use Rattle.desk_model.specs.Floors.{Floor, worker_of, heard_from_last, worker_after_take}
 use Rattle.serial_exact.proofs.Spots.{conn, str, put_same, put_other, Spot, moved, noticed}
 use Rattle.serial_exact.proofs.Fits.{heard_pass}
 use Rattle.serial_exact.proofs.Stages.{Stage, IsStage, State, Known, Shows, Goes, goes_then, acted}
@@ -69,7 +69,7 @@ module _ (stage : Stage) (is : IsStage stage) (on by : ℕ) (within : on < stage
   self = worker_of floor (conn by)
 
   abbrev ready_self : AtWork
-  ready_self = heard floor (conn by) self (str on)
+  ready_self = heard_from_last floor (conn by) self (str on)
 
   abbrev heard_now : State
   heard_now = heard_state on by before
@@ -332,7 +332,7 @@ module _ (stage : Stage) (is : IsStage stage) (on by : ℕ) (within : on < stage
       (goes_post stage of_all on by before within caller works tt)
 
   pub take_turn : floor' ≡ record {
-    workers = set floor.workers by (taken (str on) (note_in floor.tray (str on)) self);
+    workers = set floor.workers by (worker_after_take (str on) (note_in floor.tray (str on)) self);
     tray = floor.tray;
     last = floor.last;
   }
@@ -340,7 +340,7 @@ module _ (stage : Stage) (is : IsStage stage) (on by : ℕ) (within : on < stage
   take_turn floor_is =
       let pass_is : pass_at self.desk (str on) ≡ (before.spots on).passes by = mine.passes on within in
       let pass : PassShown = with_any_note (before.spots on).note ((before.spots on).passes by) in
-      let worker : AtWork = taken (str on) (note_in floor.tray (str on)) self in
+      let worker : AtWork = worker_after_take (str on) (note_in floor.tray (str on)) self in
       let told_is : with_any_note (note_in floor.tray (str on)) (pass_at self.desk (str on)) ≡ pass =
       ap (λ (n : Option NoteShown). with_any_note n (pass_at self.desk (str on))) (at.note on within)
       ∙ ap (with_any_note (before.spots on).note) pass_is in

@@ -11,7 +11,7 @@ use Rattle.desk_model.specs.Notes.{with_note}
 use Rattle.desk_model.specs.Desks.{DeskShown, pass_at, with_pass, no_pass}
 use Rattle.desk_model.specs.Boards.{note_in}
 use Rattle.desk_model.specs.Turns.{AtWork}
-use Rattle.desk_model.specs.Floors.{Floor, worker_of, heard_from, heard}
+use Rattle.desk_model.specs.Floors.{Floor, worker_of, heard_from, heard_from_last}
 use Rattle.serial_exact.proofs.Spots.{conn, str, put, put_same, put_other, Spot, LastKnows, noticed, known_noticed}
 use Rattle.serial_exact.proofs.Fits.{fits_put, heard_as, heard_pass}
 use Rattle.serial_exact.proofs.Stages.{Stage, State, Known, Shows, Goes, acted, known_acted, fits_acted}
@@ -121,7 +121,7 @@ last_again stage on floor state within is =
 pub heard_desk : (stage : Stage) (on by : ℕ) (worker : AtWork) (floor : Floor) (state : State) → on < stage.cells
     → IsFloor stage floor state → Known stage state → length worker.desk.passes ≡ stage.cells
     → pass_at worker.desk (str on) ≡ (state.spots on).passes by
-    → heard floor (conn by) worker (str on)
+    → heard_from_last floor (conn by) worker (str on)
     ≡ record worker { desk = with_pass (str on) (heard_pass by (state.spots on)) worker.desk }
 heard_desk stage on by worker floor state within is known size pass_is =
     ap (λ (l : Option ConnId). heard_from floor (conn by) (str on) l worker) (is.last on within)
@@ -164,17 +164,18 @@ heard_desk stage on by worker floor state within is known size pass_is =
 -- the caller that heard
 pub heard_worker : (stage : Stage) (on by : ℕ) (floor : Floor) (state : State) → on < stage.cells → by ≤ stage.callers
     → IsFloor stage floor state → Known stage state
-    → IsWorker stage.cells by (heard floor (conn by) (worker_of floor (conn by)) (str on)) (heard_state on by state)
+    → IsWorker stage.cells by (heard_from_last floor (conn by) (worker_of floor (conn by)) (str on))
+    (heard_state on by state)
 heard_worker stage on by floor state within caller is known =
     let worker : AtWork = worker_of floor (conn by) in
     let at : IsWorker stage.cells by worker state = is.worker by caller in
     let pass : PassShown = heard_pass by (state.spots on) in
-    let heard_is : heard floor (conn by) worker (str on) ≡ record worker
+    let heard_is : heard_from_last floor (conn by) worker (str on) ≡ record worker
     { desk = with_pass (str on) pass worker.desk } =
     heard_desk stage on by worker floor state within is known at.size (at.passes on within) in
     turned_worker on by pass (state.spots on).note (Some (conn by)) pass.known (state.shown by) state stage.cells
     worker
-    (heard floor (conn by) worker (str on)) within at (ap (λ (w : AtWork). w.desk) heard_is)
+    (heard_from_last floor (conn by) worker (str on)) within at (ap (λ (w : AtWork). w.desk) heard_is)
     (ap (λ (w : AtWork). w.shown) heard_is ∙ at.shown)
 
 -- ---- out of memory

@@ -14,7 +14,7 @@ use Rattle.plex_script.specs.declared.scripts.AnyAsk.{AnyAsk}
 use Rattle.plex_script.specs.declared.asks.AnyHistory.{AnyHistory}
 use Rattle.plex_script.specs.declared.transcripts.Shown.{Shown}
 use Rattle.plex_script.specs.declared.transcripts.Shown.TheVariants as shown
-use Rattle.plex_script.specs.Agent.{step_after, common}
+use Rattle.plex_script.specs.Agent.{step_after, shell_ask}
 use Rattle.plex_script.specs.Heard.{AnyCall, own_calls, is_linked, calls_on}
 use Rattle.plex_script.specs.Follows.{Runs, RunsUpTo, number_on, numbers_on, is_linked_by, ShowsClosing, ShowsClosings}
 use Rattle.serial_model.proofs.Fronts.{IsFront, AreFronts, runs_front}
@@ -85,7 +85,7 @@ closing_front : (form : StrForm) (xs ys : List AnyCall) (conn : ConnId) (on : St
 closing_front form xs ys conn on before items front within shows =
     rw (link_front xs ys conn on before front within)
     (either (is_linked_by xs conn on before) _ _ _
-    (runs_front form.kind (Some (common form.kind cmd.Disconnect)) xs ys conn on (step.Call 0) items front) shows)
+    (runs_front form.kind (Some (shell_ask form.kind cmd.Disconnect)) xs ys conn on (step.Call 0) items front) shows)
 
 pub closings_front : (histories later : List AnyHistory) (conn : ConnId) (on : ℕ) (forms : List StrForm)
     (before items : List Shown)
@@ -146,7 +146,7 @@ closings_elsewhere histories conn on (form ∷ forms) before items other (first,
     ) refl
   where
     by_link : (b : Bool)
-        → MatchBool b (Runs form.kind (Some (common form.kind cmd.Disconnect))
+        → MatchBool b (Runs form.kind (Some (shell_ask form.kind cmd.Disconnect))
         (calls_on histories (record { 0 = on })) conn (record { 0 = on }) (step.Call 0) first) (first ≡ [])
         → numbers_on other first ≡ []
     by_link true runs =

@@ -17,10 +17,10 @@ use Rattle.plex_script.specs.declared.transcripts.AgentEnd.{AgentEnd}
 use Rattle.plex_script.specs.declared.transcripts.AgentEnd.TheVariants as ended
 use Rattle.plex_script.specs.declared.transcripts.Shown.{Shown}
 use Rattle.plex_script.specs.declared.transcripts.Transcript.{Transcript}
-use Rattle.plex_script.specs.Agent.{most_asks, common}
+use Rattle.plex_script.specs.Agent.{most_asks, shell_ask}
 use Rattle.plex_script.specs.Heard.{AnyCall, any_calls, own_calls, is_linked, calls_on, length_on}
 use Rattle.plex_script.specs.Follows.{ShowsLines, lines_of, number_on, numbers_on, is_linked_by, ShowsClosing, ShowsClosings}
-use Rattle.serial_model.specs.Serial.{Run, transcript_at, is_done, is_done_as, all_steps_made, departed, after_departure}
+use Rattle.serial_model.specs.Serial.{Run, transcript_at, is_done, is_done_as, all_steps_made, run_departed, after_departure}
 use Rattle.any_model.proofs.KindLaws.{common_ask_of}
 use Rattle.serial_model.proofs.Steps.{IsAt, AreSteps, EndsAs, steps_are}
 use Rattle.serial_model.proofs.Fronts.{AreFronts, front_same, shows_lines_front}
@@ -214,11 +214,12 @@ module _ (limit : ℕ) (script : Script) (closed : ℕ → ℕ) (conn : ConnId) 
       ∙ link_now
 
   ends_now : is_linked (own_calls (any_calls entries) conn) ≡ true → (run' : Run)
-      (steps : AreSteps limit form (Some (common form.kind cmd.Disconnect)) conn place (step.Call 0) entries items run
+      (steps : AreSteps limit form (Some (shell_ask form.kind cmd.Disconnect)) conn place
+      (step.Call 0) entries items run
       run')
       → AreFronts run.histories run'.histories → AreLater script.structures run.histories run'.histories
       → (end : AgentEnd)
-      → EndsAs limit form.kind (Some (common form.kind cmd.Disconnect)) conn place (step.Call 0) steps.later
+      → EndsAs limit form.kind (Some (shell_ask form.kind cmd.Disconnect)) conn place (step.Call 0) steps.later
       steps.part end
       → IsClosed limit script (k + 1) run'.histories conn (items ++ steps.part) end
   ends_now linked run' steps fronts grows ended.Done ends =
@@ -230,7 +231,7 @@ module _ (limit : ℕ) (script : Script) (closed : ℕ → ℕ) (conn : ConnId) 
       let there : slice_get run'.histories k ≡ Some steps.later =
       ap (λ (t : List AnyHistory). slice_get t k) steps.histories ∙ get-set_same run.histories k entries steps.later
       at.there in
-      let nothing : steps.part ≡ [] = one_call_stops form.kind (Some (common form.kind cmd.Disconnect))
+      let nothing : steps.part ≡ [] = one_call_stops form.kind (Some (shell_ask form.kind cmd.Disconnect))
       (any_calls steps.later) conn place steps.part runs in
       let same : items ++ steps.part ≡ items = ap (λ (t : List Shown). items ++ t) nothing ∙ append-nil items in
       let old = departed_later script k run.histories run'.histories conn items fronts (was.numbers conn _ at.caller)
@@ -252,22 +253,23 @@ module _ (limit : ℕ) (script : Script) (closed : ℕ → ℕ) (conn : ConnId) 
 
   pub departs : is_linked (own_calls (any_calls entries) conn) ≡ true
       → IsRunOf script (AreClosed limit script (closed_at conn (k + 1) closed))
-      (all_steps_made limit form (Some (common form.kind cmd.Disconnect)) conn place (step.Call 0) run)
+      (all_steps_made limit form (Some (shell_ask form.kind cmd.Disconnect)) conn place (step.Call 0) run)
   departs linked =
-      let run' : Run = all_steps_made limit form (Some (common form.kind cmd.Disconnect)) conn place (step.Call 0) run
+      let run' : Run = all_steps_made limit form (Some (shell_ask form.kind cmd.Disconnect)) conn place
+      (step.Call 0) run
       in
-      let steps : AreSteps limit form (Some (common form.kind cmd.Disconnect)) conn place (step.Call 0) entries items
+      let steps : AreSteps limit form (Some (shell_ask form.kind cmd.Disconnect)) conn place (step.Call 0) entries items
       run run' =
-      steps_are limit (most_asks (step.Call 0)) form (Some (common form.kind cmd.Disconnect)) conn place
+      steps_are limit (most_asks (step.Call 0)) form (Some (shell_ask form.kind cmd.Disconnect)) conn place
       (common_ask_of form.kind cmd.Disconnect)
       (step.Call 0) entries items run at (was.kept place form entries known at.there) tt (omega arith) in
       let change : IsChange script.structures form conn place entries items run run' =
-      steps_change limit script.structures form (Some (common form.kind cmd.Disconnect)) conn place (step.Call 0)
+      steps_change limit script.structures form (Some (shell_ask form.kind cmd.Disconnect)) conn place (step.Call 0)
       entries items run run' at steps in
       run_changed script (AreClosed limit script (closed_at conn k closed))
       (AreClosed limit script (closed_at conn (k + 1) closed)) form conn place entries
       items run run' was
-      (steps_change limit script.structures form (Some (common form.kind cmd.Disconnect)) conn place (step.Call 0)
+      (steps_change limit script.structures form (Some (shell_ask form.kind cmd.Disconnect)) conn place (step.Call 0)
       entries items run run' at steps) at known
       (mine run' (items ++ steps.part) steps.end
       (ends_now linked run' steps (change_fronts script.structures form conn place entries items run run' change at
@@ -357,7 +359,7 @@ departure_runs limit script closed conn k form run was connector within known fi
     by_link : (t : Transcript) (h : AnyHistory) → IsAt run conn (record { 0 = k }) h t.items → (b : Bool)
         → is_linked (own_calls (any_calls h) conn) ≡ b
         → IsRunOf script (AreClosed limit script (closed_at conn (k + 1) closed))
-        (departed limit conn (record { 0 = k }) form (Some h) run)
+        (run_departed limit conn (record { 0 = k }) form (Some h) run)
     by_link t h at true linked = rw linked (departs limit script closed conn k form run was connector known first
         count h t.items at linked)
     by_link t h at false linked = rw linked (stays limit script closed conn k form run was connector known first count

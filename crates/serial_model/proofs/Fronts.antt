@@ -16,7 +16,7 @@ use Rattle.plex_script.specs.declared.scripts.Line.{Line}
 use Rattle.plex_script.specs.declared.transcripts.Shown.{Shown}
 use Rattle.plex_script.specs.declared.transcripts.Shown.TheVariants as shown
 use Rattle.plex_script.specs.Agent.{step_after, asked_by}
-use Rattle.plex_script.specs.Heard.{AnyCall, heard, calls_on}
+use Rattle.plex_script.specs.Heard.{AnyCall, call_numbered, calls_on}
 use Rattle.plex_script.specs.Follows.{IsHeard, Runs, RunsUpTo, ShowsAct, ShowsLines}
 
 -- the calls of a history, and those of a longer one
@@ -35,11 +35,12 @@ front_then xs ys zs first second =
           ∙ append_assoc xs first.more second.more;
     }
 
-pub heard_front : (number : ℕ) (xs ys : List AnyCall) (call : AnyCall) → IsFront xs ys → heard number xs ≡ Some call
-    → heard number ys ≡ Some call
+pub heard_front : (number : ℕ) (xs ys : List AnyCall) (call : AnyCall) → IsFront xs ys
+    → call_numbered number xs ≡ Some call
+    → call_numbered number ys ≡ Some call
 heard_front number xs ys call front found =
-    ap (heard number) front.behind ∙ find-append (λ (call : AnyCall). call.no == number) xs front.more
-    ∙ ap (λ (o : Option AnyCall). option_or o (heard number front.more)) found
+    ap (call_numbered number) front.behind ∙ find-append (λ (call : AnyCall). call.no == number) xs front.more
+    ∙ ap (λ (o : Option AnyCall). option_or o (call_numbered number front.more)) found
 
 is_heard_front : (xs ys : List AnyCall) (by : ConnId) (asked : Option AnyAsk) (number : ℕ) (told : Told)
     → IsFront xs ys

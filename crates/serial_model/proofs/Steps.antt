@@ -18,12 +18,12 @@ use Rattle.plex_script.specs.declared.transcripts.Shown.{Shown}
 use Rattle.plex_script.specs.declared.transcripts.Shown.TheVariants as shown
 use Rattle.plex_script.specs.declared.transcripts.Transcript.{Transcript}
 use Rattle.cf_types.specs.declared.shell_commands.ShellCmd.TheVariants as cmd
-use Rattle.plex_script.specs.Agent.{step_after, most_asks, asked_by, common, IsReady}
+use Rattle.plex_script.specs.Agent.{step_after, most_asks, asked_by, shell_ask, IsReady}
 use Rattle.plex_script.proofs.StepLaws.{rests, fewer_asks, ready_after, some_goes}
-use Rattle.plex_script.specs.Heard.{AnyCall, any_calls, any_length, heard, own_calls}
+use Rattle.plex_script.specs.Heard.{AnyCall, any_calls, any_length, call_numbered, own_calls}
 use Rattle.plex_script.specs.Follows.{Runs, RunsUpTo}
 use Rattle.any_model.specs.Kinds.{IsAskOf, any_next, any_told}
-use Rattle.serial_model.specs.Serial.{Run, Made, shown_to, stopped_at, transcript_of, transcript_at, call_made, step_made, steps_made}
+use Rattle.serial_model.specs.Serial.{Run, Progress, shown_to, stopped_at, transcript_of, transcript_at, call_made, step_made, steps_made}
 use Rattle.any_model.proofs.KindLaws.{common_ask_of, Takes, takes_of_kind, call_added, calls-next, length-next, Stood, stood-next}
 use Rattle.any_model.proofs.Histories.{IsHistory, added_heard, next_history}
 use Rattle.serial_model.proofs.Fronts.{heard_front}
@@ -141,7 +141,7 @@ more_steps limit form line by on now entries items run run1 run' asked at kept t
     let item : Shown = shown.Call on number in
     let call : AnyCall = call_added form entries by asked in
     let mine : by.0 == by.0 ≡ true = grind (arith, nat_tests) in
-    let heard_now : heard number (any_calls rest.later) ≡ Some call =
+    let heard_now : call_numbered number (any_calls rest.later) ≡ Some call =
     heard_front number (any_calls (any_next form entries by asked)) (any_calls rest.later) call
     (record { more = rest.more; behind = rest.calls }) (added_heard form entries by asked takes kept.counted) in
     record {
@@ -177,7 +177,7 @@ more_steps limit form line by on now entries items run run1 run' asked at kept t
   where
     ends_more : (end : AgentEnd)
         → EndsAs limit form.kind line by on (step_after now (any_told form entries by asked)) rest.later rest.part end
-        → heard (any_length entries + 1) (any_calls rest.later) ≡ Some (call_added form entries by asked)
+        → call_numbered (any_length entries + 1) (any_calls rest.later) ≡ Some (call_added form entries by asked)
         → EndsAs limit form.kind line by on now rest.later (shown.Call on (any_length entries + 1) ∷ rest.part) end
     ends_more ended.Done runs found = (any_told form entries by asked, refl, rw asks found, runs)
     ends_more (ended.JournalFull place) (there, runs, full)
@@ -210,9 +210,9 @@ ask_of_step kind None (step.Call asks) asked of_kind asks' = absurd cc
 ask_of_step kind (Some own) (step.Call asks) asked of_kind asks' = let same : own ≡ asked = cc in subst (IsAskOf kind)
     same of_kind
 ask_of_step kind line (step.Next left behind) asked of_kind asks' =
-    let same : common kind cmd.Next ≡ asked = cc in subst (IsAskOf kind) same (common_ask_of kind cmd.Next)
+    let same : shell_ask kind cmd.Next ≡ asked = cc in subst (IsAskOf kind) same (common_ask_of kind cmd.Next)
 ask_of_step kind line (step.Respond left behind) asked of_kind asks' =
-    let same : common kind cmd.Respond ≡ asked = cc in subst (IsAskOf kind) same (common_ask_of kind cmd.Respond)
+    let same : shell_ask kind cmd.Respond ≡ asked = cc in subst (IsAskOf kind) same (common_ask_of kind cmd.Respond)
 ask_of_step kind line step.Rest asked of_kind asks' = absurd cc
 
 not_full : (limit n : ℕ) → nat_le limit n ≡ false → n < limit
@@ -222,7 +222,7 @@ is_full : (limit n : ℕ) → nat_le limit n ≡ true → limit ≤ n
 is_full limit n e = grind (arith, nat_tests)
 
 -- what was made of the first ask, and the steps behind it
-abbrev AreStepsFrom : ℕ → ℕ → StrForm → Option AnyAsk → ConnId → StrNo → Step → AnyHistory → List Shown → Run → Made
+abbrev AreStepsFrom : ℕ → ℕ → StrForm → Option AnyAsk → ConnId → StrNo → Step → AnyHistory → List Shown → Run → Progress
     → Type 0
 AreStepsFrom limit most form line by on now entries items run made =
     AreSteps limit form line by on now entries items run (steps_made limit most form line by on made.now made.run)

@@ -18,7 +18,7 @@ use Rattle.plex_script.specs.declared.transcripts.AgentEnd.TheVariants as ended
 use Rattle.plex_script.specs.declared.transcripts.Shown.{Shown}
 use Rattle.plex_script.specs.declared.transcripts.Shown.TheVariants as shown
 use Rattle.plex_script.specs.declared.transcripts.Transcript.{Transcript}
-use Rattle.plex_script.specs.Agent.{first_step, step_after, most_asks, asked_by, common}
+use Rattle.plex_script.specs.Agent.{first_step, step_after, most_asks, asked_by, shell_ask}
 use Rattle.plex_script.specs.Heard.{any_calls, any_length, own_calls, is_linked}
 use Rattle.any_model.specs.Kinds.{no_calls, any_next, any_told, any_stands, any_word, numbers_from}
 use Rattle.serial_model.specs.Numbers.{seen_on}
@@ -121,14 +121,14 @@ take_made by on run = shown_to by (shown.Took on (max (number_of run by on) (sli
 -- ---- calls
 
 -- a run, and what its caller asks next
-pub record Made : Type 0 where
+pub record Progress : Type 0 where
   pub run : Run
   pub now : Step
 
 module _ (limit : ℕ) where
   -- a call is numbered, answered and journalled at once, and its caller is shown the number; a full journal takes no
   -- call
-  abbrev pub call_made : StrForm → ConnId → StrNo → Step → AnyAsk → AnyHistory → Run → Made
+  abbrev pub call_made : StrForm → ConnId → StrNo → Step → AnyAsk → AnyHistory → Run → Progress
   call_made form by on now asked entries run =
       if nat_le limit (any_length entries)
       then record { run = stopped_at by on run; now = step.Rest }
@@ -138,13 +138,13 @@ module _ (limit : ℕ) where
         now = step_after now (any_told form entries by asked);
       }
 
-  abbrev pub ask_made : StrForm → ConnId → StrNo → Step → Option AnyAsk → Option AnyHistory → Run → Made
+  abbrev pub ask_made : StrForm → ConnId → StrNo → Step → Option AnyAsk → Option AnyHistory → Run → Progress
   ask_made form by on now None entries run = record { run = run; now = step.Rest }
   ask_made form by on now (Some asked) None run = record { run = run; now = step.Rest }
   ask_made form by on now (Some asked) (Some entries) run = call_made form by on now asked entries run
 
   -- what a step asks
-  abbrev pub step_made : StrForm → Option AnyAsk → ConnId → StrNo → Step → Run → Made
+  abbrev pub step_made : StrForm → Option AnyAsk → ConnId → StrNo → Step → Run → Progress
   step_made form line by on now run = ask_made form by on now (asked_by form.kind line now)
       (slice_get run.histories on.0) run
 
@@ -179,18 +179,18 @@ module _ (limit : ℕ) where
 
   -- ---- closings
 
-  abbrev pub departed : ConnId → StrNo → StrForm → Option AnyHistory → Run → Run
-  departed conn on form None run = run
-  departed conn on form (Some entries) run =
+  abbrev pub run_departed : ConnId → StrNo → StrForm → Option AnyHistory → Run → Run
+  run_departed conn on form None run = run
+  run_departed conn on form (Some entries) run =
       if is_linked (own_calls (any_calls entries) conn)
-      then all_steps_made form (Some (common form.kind cmd.Disconnect)) conn on (step.Call 0) run
+      then all_steps_made form (Some (shell_ask form.kind cmd.Disconnect)) conn on (step.Call 0) run
       else run
 
   -- a connector departs from a structure at which it is active
   abbrev pub after_departure : ConnId → Run → ℕ × StrForm → Run
   after_departure conn run place =
       let on : StrNo = record { 0 = place.0 } in
-      if is_done run conn then departed conn on place.1 (slice_get run.histories place.0) run else run
+      if is_done run conn then run_departed conn on place.1 (slice_get run.histories place.0) run else run
 
   abbrev pub after_closing : Script → Run → ConnId → Run
   after_closing script run conn = fold (after_departure conn) run (enumerate_from 0 script.structures)

@@ -13,7 +13,7 @@ use Rattle.plex_script.specs.declared.transcripts.AgentEnd.{AgentEnd}
 use Rattle.plex_script.specs.declared.transcripts.AgentEnd.TheVariants as ended
 use Rattle.plex_script.specs.declared.transcripts.Shown.{Shown}
 use Rattle.plex_script.specs.declared.transcripts.Shown.TheVariants as shown
-use Rattle.plex_script.specs.Agent.{common}
+use Rattle.plex_script.specs.Agent.{shell_ask}
 use Rattle.plex_script.specs.Heard.{AnyCall, is_linked, calls_on, length_on}
 use Rattle.plex_script.specs.Follows.{Runs, RunsUpTo, is_linked_by, ShowsClosing, ShowsClosings}
 use Rattle.any_cell.specs.Cells.{CellShown}
@@ -52,7 +52,7 @@ one_call_stops kind line calls by on (shown.Took place sure ∷ items) runs = ab
 
 -- what a departure asks
 abbrev pub departing : Kind → Option AnyAsk
-departing kind = Some (common kind cmd.Disconnect)
+departing kind = Some (shell_ask kind cmd.Disconnect)
 
 -- whether a caller is active at a structure, by its own calls
 abbrev pub is_active : DeskShown → StrNo → Bool

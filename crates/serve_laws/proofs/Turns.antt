@@ -12,7 +12,7 @@ use Rattle.plex_script.specs.declared.transcripts.AgentEnd.{AgentEnd}
 use Rattle.plex_script.specs.declared.transcripts.AgentEnd.TheVariants as ended
 use Rattle.plex_script.specs.declared.transcripts.Shown.{Shown}
 use Rattle.plex_script.specs.Agent.{step_after, asked_by}
-use Rattle.plex_script.specs.Heard.{AnyCall, heard, calls_on, length_on}
+use Rattle.plex_script.specs.Heard.{AnyCall, call_numbered, calls_on, length_on}
 use Rattle.plex_script.specs.Follows.{IsHeard, Runs, RunsUpTo}
 use Rattle.any_cell.specs.Passes.{PassShown, with_call}
 use Rattle.any_model.specs.Kinds.{Rising}
@@ -42,10 +42,11 @@ module _ (me : Caller) where
   call_heard : (on : StrNo) (by : ConnId) (asked : AnyAsk) (told : Told) (pass : PassShown)
       → Rising 0 (calls_on me.histories on) → pass.owner ≡ by
       → IsWithin me on (with_call asked told pass)
-      → heard told.no (calls_on me.histories on) ≡ Some (record { no = told.no; by = by; ask = asked; told = told })
+      → call_numbered told.no (calls_on me.histories on)
+      ≡ Some (record { no = told.no; by = by; ask = asked; told = told })
   call_heard on by asked told pass rise owner within =
       let call : AnyCall = record { no = told.no; by = pass.owner; ask = asked; told = told } in
-      let found : heard told.no (calls_on me.histories on) ≡ Some call =
+      let found : call_numbered told.no (calls_on me.histories on) ≡ Some call =
       own_heard 0 (calls_on me.histories on) me.conn pass.calls call within.calls.more rise
       (within.calls.behind ∙ append_assoc pass.calls (call ∷ []) within.calls.more) in
       let by_other : ConnId → Option AnyCall =

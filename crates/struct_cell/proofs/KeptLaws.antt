@@ -11,11 +11,11 @@ use Rattle.engine_api.specs.declared.asks.Reply.{Reply}
 use Rattle.engine_api.specs.declared.asks.What.TheVariants as what
 use Rattle.engine_api.specs.declared.histories.Entry.{Entry}
 use Rattle.engine_api.specs.Meaning.{Meaning}
-use Rattle.engine_api.specs.Machine.{Machine, Answered, opening, step}
+use Rattle.engine_api.specs.Machine.{Machine, CallOutcome, opening, step}
 use Rattle.engine_api.specs.History.{Call, calls, next, next_entry, next_reply, replay}
 use Rattle.engine_api.specs.Shapes.{shape_of}
 use Rattle.engine_api.proofs.HistoryLaws.{calls-next, next_call, legal_none, legal_next, replay-push}
-use Rattle.struct_machine.specs.Standing.{Standing, stands_at}
+use Rattle.struct_machine.specs.StructureView.{StructureView, stands_at}
 use Rattle.vec_words.specs.declared.logged.Logged.{Logged}
 use Rattle.vec_words.specs.declared.logged.Logged.TheVariants.{Committed}
 use Rattle.vec_words.specs.declared.stores.Place.{Place}
@@ -46,7 +46,7 @@ entered journal by ask reply = journal ++ record
 
 module _ {C R I S L : Type 0} (meaning : Meaning C R I S) where
   -- a cell begins so
-  pub cell_start : (key : CellKey C R L) (standing : Standing S) (touched : TouchedWords) (links : Links L)
+  pub cell_start : (key : CellKey C R L) (standing : StructureView S) (touched : TouchedWords) (links : Links L)
       (seat : SeatSeen (About C R)) (journal : List (Entry C R))
       → key ≡ record
       { form = standing.form; callers = seat.table.conns; limit = key.limit; words = seat.table; links = links }
@@ -87,7 +87,7 @@ module _ {C R I S L : Type 0} (meaning : Meaning C R I S) where
       })
 
   -- a call keeps it
-  pub cell_called : (key : CellKey C R L) (limit : ℕ) (standing standing' : Standing S)
+  pub cell_called : (key : CellKey C R L) (limit : ℕ) (standing standing' : StructureView S)
       (touched touched' : TouchedWords) (journal : List (Entry C R))
       (links : Links L) (seat begun stored seat' : SeatSeen (About C R)) (bits : ℕ → ℕ → ℕ) (by : ConnId)
       (ask : Ask C) (reply : Reply R)
@@ -112,10 +112,10 @@ module _ {C R I S L : Type 0} (meaning : Meaning C R I S) where
       (replay meaning form journal) by ask =
       ap (λ (f : StrForm). step meaning f standing.machine by ask) cell.form
       ∙ ap (λ (m : Machine S). step meaning form m by ask) cell.machine in
-      let replies : reply ≡ next_reply meaning form journal by ask = ap (λ (a : Answered R S). a.reply)
+      let replies : reply ≡ next_reply meaning form journal by ask = ap (λ (a : CallOutcome R S). a.reply)
       (steps ∙ at_journal) in
       let machine_is : standing'.machine ≡ replay meaning form history =
-      ap (λ (a : Answered R S). a.machine) (steps ∙ at_journal)
+      ap (λ (a : CallOutcome R S). a.machine) (steps ∙ at_journal)
       ∙ sym (replay-push meaning form journal (next_entry meaning form journal by ask)) in
       let journal_is : history ≡ entered journal by ask reply =
       ap (λ (r : Reply R). entered journal by ask r) (sym replies) in
@@ -175,7 +175,7 @@ module _ {C R I S L : Type 0} (meaning : Meaning C R I S) where
       })
 
   -- so does a step that leaves the seat as it was
-  pub cell_same : (key : CellKey C R L) (limit : ℕ) (standing : Standing S) (touched : TouchedWords)
+  pub cell_same : (key : CellKey C R L) (limit : ℕ) (standing : StructureView S) (touched : TouchedWords)
       (journal : List (Entry C R)) (links : Links L)
       (seat seat' : SeatSeen (About C R)) → IsCell meaning key limit standing touched journal links seat
       → seat' ≡ seat
@@ -184,7 +184,7 @@ module _ {C R I S L : Type 0} (meaning : Meaning C R I S) where
       subst (IsCell meaning key limit standing touched journal links) (sym same) cell
 
   -- the same, by other names for what is the same
-  pub cell_answered : (key : CellKey C R L) (limit : ℕ) (standing standing' : Standing S)
+  pub cell_answered : (key : CellKey C R L) (limit : ℕ) (standing standing' : StructureView S)
       (touched touched' : TouchedWords) (journal journal' : List (Entry C R))
       (links : Links L) (seat learned begun stored seat' : SeatSeen (About C R)) (vectors : WordTable)
       (named : List Place) (count owner : ℕ)

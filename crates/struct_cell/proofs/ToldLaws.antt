@@ -13,14 +13,14 @@ use Rattle.cf_link.specs.declared.links.Links.{Links}
 use Rattle.engine_api.specs.declared.histories.Entry.{Entry}
 use Rattle.engine_api.specs.Meaning.{Meaning}
 use Rattle.engine_api.specs.History.{Call, calls, numbers, own, IsPoint, stands_after, last_call_below}
-use Rattle.struct_machine.specs.Standing.{Standing}
+use Rattle.struct_machine.specs.StructureView.{StructureView}
 use Rattle.vec_world.specs.Log.{bits_at}
 use Rattle.vec_words.specs.declared.logged.Sight.{Sight}
 use Rattle.vec_words.specs.Logged.{steps_of, calls_in, word_number, words_of, bit_in, IsIssued, IsHonest}
 use Rattle.vec_words.specs.Tokens.{WordTable, SeatSeen, PassSeen, IsShown}
 use Rattle.vec_words.proofs.Commits.{committed-all}
 use Rattle.struct_cell.specs.declared.inside.CellKey.{CellKey}
-use Rattle.struct_cell.specs.Cells.{About, answered, commit_of, IsCell, shown_after, shown_below}
+use Rattle.struct_cell.specs.Cells.{About, own_call_of, commit_of, IsCell, shown_after, shown_below}
 use Rattle.struct_cell.specs.Touches.{TouchedWords}
 use Rattle.struct_cell.specs.Telling.{IsTold}
 
@@ -36,18 +36,18 @@ module _ {C R : Type 0} where
 
   -- the calls of one caller among commits are those of the history
   own_calls : (owner : ℕ) (all : List (Call C R))
-      → calls_in owner (map commit_of all) ≡ map answered (filter (λ call. call.by.0 == owner) all)
+      → calls_in owner (map commit_of all) ≡ map own_call_of (filter (λ call. call.by.0 == owner) all)
   own_calls owner [] = refl
   own_calls owner (call ∷ all) = by_owner (call.by.0 == owner) refl (own_calls owner all)
     where
       by_owner : (b : Bool) → call.by.0 == owner ≡ b
-          → calls_in owner (map commit_of all) ≡ map answered (filter (λ (c : Call C R). c.by.0 == owner) all)
-          → calls_in owner (map commit_of (call ∷ all)) ≡ map answered
+          → calls_in owner (map commit_of all) ≡ map own_call_of (filter (λ (c : Call C R). c.by.0 == owner) all)
+          → calls_in owner (map commit_of (call ∷ all)) ≡ map own_call_of
           (filter (λ (c : Call C R). c.by.0 == owner) (call ∷ all))
-      by_owner true is rest = rw is (ap (λ (more : List (ℕ × About C R)). answered call ∷ more) rest)
+      by_owner true is rest = rw is (ap (λ (more : List (ℕ × About C R)). own_call_of call ∷ more) rest)
       by_owner false is rest = rw is rest
 
-module _ {C R I S L : Type 0} (meaning : Meaning C R I S) (key : CellKey C R L) (limit : ℕ) (standing : Standing S)
+module _ {C R I S L : Type 0} (meaning : Meaning C R I S) (key : CellKey C R L) (limit : ℕ) (standing : StructureView S)
     (touched : TouchedWords)
     (journal : List (Entry C R)) (links : Links L) (seat : SeatSeen (About C R))
     (cell : IsCell meaning key limit standing touched journal links seat) where
@@ -128,13 +128,13 @@ module _ {C R I S L : Type 0} (meaning : Meaning C R I S) (key : CellKey C R L) 
       (subst (λ w. IsHonest seat.log seat.number w.len pass.owner test) table honest)) pass.tests shown.tests
 
   pub mine_own : (pass : PassSeen (About C R)) → IsShown seat pass
-      → pass.mine ≡ map answered (own journal (record { 0 = pass.owner }))
+      → pass.mine ≡ map own_call_of (own journal (record { 0 = pass.owner }))
   mine_own pass shown = shown.mine ∙ ap (calls_in pass.owner) cell.commits ∙ own_calls pass.owner (calls journal)
 
 -- ---- a cell that is closed
 
 module _ {C R I S L : Type 0} (meaning : Meaning C R I S) (key seen : CellKey C R L) (limit : ℕ)
-    (standing : Standing S) (touched : TouchedWords)
+    (standing : StructureView S) (touched : TouchedWords)
     (journal history : List (Entry C R)) (links : Links L) (seat : SeatSeen (About C R))
     (passes : List (PassSeen (About C R)))
     (cell : IsCell meaning key limit standing touched journal links seat) (key_is : key ≡ seen)
@@ -146,14 +146,14 @@ module _ {C R I S L : Type 0} (meaning : Meaning C R I S) (key seen : CellKey C 
       (sym history_is) cell.callers)
 
   pub closed_mine : All (IsShown seat) passes
-      → All (λ (pass : PassSeen (About C R)). pass.mine ≡ map answered (own history (record { 0 = pass.owner })))
+      → All (λ (pass : PassSeen (About C R)). pass.mine ≡ map own_call_of (own history (record { 0 = pass.owner })))
       passes
   closed_mine shown =
       subst (λ (h : List (Entry C R)). All
-      (λ (pass : PassSeen (About C R)). pass.mine ≡ map answered (own h (record { 0 = pass.owner }))) passes)
+      (λ (pass : PassSeen (About C R)). pass.mine ≡ map own_call_of (own h (record { 0 = pass.owner }))) passes)
       (sym history_is)
       (All-weaker (IsShown seat)
-      (λ (pass : PassSeen (About C R)). pass.mine ≡ map answered (own journal (record { 0 = pass.owner })))
+      (λ (pass : PassSeen (About C R)). pass.mine ≡ map own_call_of (own journal (record { 0 = pass.owner })))
       (λ pass it. mine_own meaning key limit standing touched journal links seat cell pass it) passes shown)
 
   pub closed_known : All (IsShown seat) passes

@@ -3,7 +3,7 @@ use Rattle.std.specs.Prelude.{◌≡◌, ◌≤◌, ◌++◌, ◌∷◌, []}
 use Rattle.engine_api.specs.declared.asks.Ask.{Ask}
 use Rattle.engine_api.specs.declared.asks.Reply.{Reply}
 use Rattle.engine_api.specs.declared.told.Told.{Told}
-use Rattle.engine_api.specs.Told.{told}
+use Rattle.engine_api.specs.Told.{told_of}
 use Rattle.vec_words.specs.Tokens.{PassSeen}
 use Rattle.struct_cell.specs.Cells.{About}
 
@@ -11,7 +11,7 @@ use Rattle.struct_cell.specs.Cells.{About}
 -- has seen it complete. Nothing else of the pass is different.
 pub record IsAnswered {C R : Type 0} (ask : Ask C) (it : Told) (before after : PassSeen (About C R)) : Type 0 where
   pub reply : Reply R
-  pub told : it ≡ told it.no ask reply
+  pub told : it ≡ told_of it.no ask reply
   pub pass : after ≡ record before { known = it.no; sure = it.no; mine = before.mine ++ (it.no, (ask, reply)) ∷ [] }
 
 -- The pass knows as much as before, or more.

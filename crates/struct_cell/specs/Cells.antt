@@ -8,10 +8,10 @@ use Rattle.engine_api.specs.declared.asks.Reply.{Reply}
 use Rattle.engine_api.specs.declared.histories.Entry.{Entry}
 use Rattle.engine_api.specs.Meaning.{Meaning}
 use Rattle.engine_api.specs.History.{Call, calls, replay, last_call_below, IsLegal, IsPoint}
-use Rattle.struct_machine.specs.Standing.{Standing}
+use Rattle.struct_machine.specs.StructureView.{StructureView}
 use Rattle.vec_world.specs.Log.{bits_at}
 use Rattle.vec_words.specs.declared.logged.Logged.{Logged}
-use Rattle.vec_words.specs.Logged.{Answered, steps_of, commits_of, count_of, words_of, word_number, bit_in}
+use Rattle.vec_words.specs.Logged.{CallRecord, steps_of, commits_of, count_of, words_of, word_number, bit_in}
 use Rattle.vec_words.specs.Tokens.{SeatSeen}
 use Rattle.struct_cell.specs.declared.inside.CellKey.{CellKey}
 use Rattle.struct_cell.specs.Touches.{TouchedWords}
@@ -23,12 +23,12 @@ About C R = Ask C × Reply R
 
 module _ {C R : Type 0} where
   -- a call as the words' log has it
-  abbrev pub commit_of : Call C R → Answered (About C R)
+  abbrev pub commit_of : Call C R → CallRecord (About C R)
   commit_of call = record { number = call.no; caller = call.by.0; about = (call.ask, call.reply) }
 
   -- a call as its caller has it
-  abbrev pub answered : Call C R → ℕ × About C R
-  answered call = (call.no, (call.ask, call.reply))
+  abbrev pub own_call_of : Call C R → ℕ × About C R
+  own_call_of call = (call.no, (call.ask, call.reply))
 
   -- What the numbers of calls have to do with a history's length: none is past it, nor is the last call below any
   -- number; the last call below a number past it is its end; and the last call up to a call's number is that call.
@@ -57,7 +57,7 @@ module _ {C R I S : Type 0} (meaning : Meaning C R I S) (form : StrForm) where
 -- calls; the journal is legal, and leads to the machine; and at each number the words show what stood after the last
 -- call up to it.
 pub record IsCell {C R I S L : Type 0} (meaning : Meaning C R I S) (key : CellKey C R L) (limit : ℕ)
-    (standing : Standing S)
+    (standing : StructureView S)
     (touched : TouchedWords) (journal : List (Entry C R)) (links : Links L) (seat : SeatSeen (About C R)) : Type 0
   where
     pub form : standing.form ≡ key.form

@@ -6,7 +6,7 @@ ghost use Rattle.engine_api.specs.Asking.{MayAsk, IsBuilt};
 ghost use Rattle.engine_api.specs.History.{calls, own, replay, IsLegal};
 ghost use Rattle.vec_words.specs.Logged.{count_of};
 ghost use Rattle.vec_words.specs.Tokens.{new_pass, learned_pass};
-ghost use Rattle.struct_cell.specs.Cells.{answered, IsCell};
+ghost use Rattle.struct_cell.specs.Cells.{own_call_of, IsCell};
 ghost use Rattle.struct_cell.specs.Calls.{IsAnswered, IsLater};
 ghost use Rattle.struct_cell.specs.Telling.{IsTold};
 ghost use Rattle.struct_cell.specs.declared.refused.CallRefused.TheVariants as refused;
@@ -213,7 +213,7 @@ impl<E: Engine, L: Link> Cell<E, L> {
         ensures legal { IsLegal E.meaning self.form result.history }
         ensures most { length result.history ≤ self.limit }
         ensures callers { All (λ call. call.by.0 ≤ self.callers) (calls result.history) }
-        ensures mine { All (λ pass. pass.mine ≡ map answered (own result.history
+        ensures mine { All (λ pass. pass.mine ≡ map own_call_of (own result.history
             (record { 0 = pass.owner }))) passes.items }
         ensures tests { All (λ pass. All (IsTold E.meaning self.form result.history pass.owner)
             pass.tests) passes.items }

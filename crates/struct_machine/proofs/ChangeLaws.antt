@@ -5,7 +5,7 @@ use Rattle.std.specs.List.{AllByRecursion}
 use Rattle.cf_types.specs.declared.effects.BitChange.{BitChange}
 use Rattle.cf_types.specs.declared.numbers.CfId.{CfId}
 use Rattle.cf_types.specs.declared.numbers.ConnId.{ConnId}
-use Rattle.cf_types.specs.Gains.{Bits, Gains, is_for, told, difference}
+use Rattle.cf_types.specs.Gains.{Bits, Gains, is_for, bits_told, difference}
 use Rattle.engine_api.specs.declared.deeds.Deeds.{Deeds}
 use Rattle.engine_api.specs.declared.shapes.Shape.{Shape}
 use Rattle.engine_api.specs.Meaning.{Meaning, Held, stands_in}
@@ -21,7 +21,7 @@ filter_none p (x ∷ xs) none = rw none.0 (filter_none p xs none.1)
 -- nothing is told of a bit that isn't named
 told_unnamed : (changes : List BitChange) (conn : ConnId) (index : ℕ)
     → All (λ change. is_for conn index change ≡ false) changes
-    → told changes conn index ≡ []
+    → bits_told changes conn index ≡ []
 told_unnamed changes conn index unnamed =
     ap (map (λ (change : BitChange). change.bit))
     (filter_none (is_for conn index) changes (recursion_from_All _ changes unnamed))
@@ -35,9 +35,9 @@ difference_same true true none = refl
 pub covers_gains : (before after : Bits) (changed : ChangeList) → Gains before after [] changed.bits
     → Covers changed before after
 covers_gains before after changed gains conn index untouched =
-    let nothing : told changed.bits conn index ≡ [] = told_unnamed changed.bits conn index untouched.unnamed in
+    let nothing : bits_told changed.bits conn index ≡ [] = told_unnamed changed.bits conn index untouched.unnamed in
     difference_same (before conn index) (after conn index)
-    (sym (gains.exactly conn index) ∙ ap (λ (changes : List BitChange). told changes conn index) (sym gains.behind)
+    (sym (gains.exactly conn index) ∙ ap (λ (changes : List BitChange). bits_told changes conn index) (sym gains.behind)
     ∙ nothing)
 
 -- the same of an engine that was got ready

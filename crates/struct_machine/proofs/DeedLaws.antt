@@ -14,7 +14,7 @@ use Rattle.engine_api.specs.Asking.{MayCommand}
 use Rattle.engine_api.specs.Shapes.{shape_of}
 use Rattle.engine_api.specs.Meaning.{Meaning}
 use Rattle.engine_api.specs.Machine.{with_deeds, with_back_of}
-use Rattle.engine_api.specs.Shell.{Shell, Leaver, Acted, shell_done, leaver, take_event, respond}
+use Rattle.engine_api.specs.Shell.{Shell, Leaver, ShellOutcome, shell_done, leaver, take_event, response_outcome}
 use Rattle.struct_machine.specs.Kept.{state_with_deeds, taken_back}
 
 -- who departs is a caller
@@ -40,7 +40,7 @@ leaver_caller shell by (cmd.Vary cf off) who may e = absurd cc
 leaver_caller shell by cmd.DuplexStart who may e = absurd cc
 leaver_caller shell by cmd.DuplexStop who may e = absurd cc
 
-either_back : (b : Bool) (x y : Acted) → IfSome x.deeds.back IsCaller → IfSome y.deeds.back IsCaller
+either_back : (b : Bool) (x y : ShellOutcome) → IfSome x.deeds.back IsCaller → IfSome y.deeds.back IsCaller
     → IfSome (cond b x y).deeds.back IsCaller
 either_back true x y first second = first
 either_back false x y first second = second
@@ -50,7 +50,8 @@ taken_none : (shell : Shell) (by : ConnId) (event : Option Event) → IfSome (ta
 taken_none shell by None = tt
 taken_none shell by (Some event) = tt
 
-respond_none : (shell : Shell) (by : ConnId) (event : Option Event) → IfSome (respond shell by event).deeds.back
+respond_none : (shell : Shell) (by : ConnId) (event : Option Event)
+    → IfSome (response_outcome shell by event).deeds.back
     IsCaller
 respond_none shell by None = tt
 respond_none shell by (Some event) = tt

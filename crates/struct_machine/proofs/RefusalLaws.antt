@@ -7,7 +7,7 @@ use Rattle.engine_api.specs.declared.asks.Ask.{Ask}
 use Rattle.engine_api.specs.declared.asks.Ask.TheVariants as ask
 use Rattle.engine_api.specs.Meaning.{Meaning}
 use Rattle.engine_api.specs.Shell.{shell_cause, content_cause}
-use Rattle.engine_api.specs.Machine.{Machine, refusing, step}
+use Rattle.engine_api.specs.Machine.{Machine, refusal_outcome, step}
 use Rattle.plex_shell.specs.Verdicts.{refused_or, verdict}
 use Rattle.plex_shell.specs.declared.verdicts.Verdict.{Verdict}
 use Rattle.plex_shell.specs.declared.verdicts.Verdict.TheVariants.{Refuse, Content, Act}
@@ -22,7 +22,7 @@ module _ {C R I S : Type 0} (meaning : Meaning C R I S) (form : StrForm) where
   -- a call that the shell refuses
   pub refused_step : (machine : Machine S) (by : ConnId) (asked : Ask C) (refusal : Refusal)
       → verdict form machine.shell by asked ≡ Refuse refusal
-      → step meaning form machine by asked ≡ refusing machine refusal
+      → step meaning form machine by asked ≡ refusal_outcome machine refusal
   refused_step machine by (ask.Shell command) refusal e =
       let cause : shell_cause form machine.shell by command ≡ Some refusal =
       cause_of (shell_cause form machine.shell by command) Act refusal (λ r same. cc) e in rw cause refl

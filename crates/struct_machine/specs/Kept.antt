@@ -7,14 +7,14 @@ use Rattle.engine_api.specs.declared.shapes.Shape.{Shape}
 use Rattle.engine_api.specs.Meaning.{Meaning, Held}
 use Rattle.engine_api.specs.Machine.{Machine}
 use Rattle.engine_api.specs.Shapes.{shape_of}
-use Rattle.plex_shell.specs.Shelled.{Shelled}
+use Rattle.plex_shell.specs.ShellView.{ShellView}
 
 -- the machine of a shell and of what an engine holds
-abbrev pub machine_of : {S : Type 0} → Shelled → Held S → Machine S
+abbrev pub machine_of : {S : Type 0} → ShellView → Held S → Machine S
 machine_of shelled held = record { shell = shelled.shell; content = held.state }
 
 -- a shell and an engine are of one form
-pub record AreOf {S : Type 0} (form : StrForm) (shelled : Shelled) (held : Held S) : Type 0 where
+pub record AreOf {S : Type 0} (form : StrForm) (shelled : ShellView) (held : Held S) : Type 0 where
   pub shell_form : shelled.form ≡ form
   pub shape : held.shape ≡ shape_of form
   pub caps : held.caps ≡ form.caps

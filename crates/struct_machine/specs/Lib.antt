@@ -1,3 +1,3 @@
 pub mod Changes
 pub mod Kept
-pub mod Standing
+pub mod StructureView

@@ -4,8 +4,8 @@ ghost use Rattle.cf_types.specs.Forms.{IsForm, IsCaller, IsConnector};
 ghost use Rattle.cf_types.specs.Gains.{Gains};
 ghost use Rattle.engine_api.specs.Asking.{MayAsk, MayCommand, IsBuilt};
 ghost use Rattle.engine_api.specs.Meaning.{departure, with_departure, stands_in};
-ghost use Rattle.engine_api.specs.Machine.{content_done, content_reply, command_done, leaving, step};
-ghost use Rattle.engine_api.specs.Shell.{shell_cause, is_built, leaver, posting};
+ghost use Rattle.engine_api.specs.Machine.{content_done, content_reply, command_done, departure_from, step};
+ghost use Rattle.engine_api.specs.Shell.{shell_cause, is_built, leaver, with_posted};
 ghost use Rattle.struct_machine.specs.Changes.{Covers};
 ghost use Rattle.struct_machine.specs.Kept.{AreOf, machine_of, state_with_deeds};
 
@@ -100,7 +100,7 @@ fn leave_content<E: Engine>(
     ensures ok_held { OnOk result (E.held engine.new
         ≡ with_departure E.meaning (E.held engine.old) conn keep) }
     ensures ok_shell { OnOk result (shell.new.shell
-        ≡ posting (departure E.meaning (E.held engine.old) conn keep).letters shell.old.shell) }
+        ≡ with_posted (departure E.meaning (E.held engine.old) conn keep).letters shell.old.shell) }
     ensures room { OnOk result (ACT_LETTERS ≤ shell.new.room) }
     ensures bits { OnOk result (Gains (stands_in E.meaning (E.held engine.old))
         (stands_in E.meaning (E.held engine.new)) [] out.new.bits.items) }
@@ -153,14 +153,14 @@ fn depart_first<E: Engine>(
     ensures form { shell.new.form ≡ shell.old.form }
     ensures shape { (E.held engine.new).shape ≡ (E.held engine.old).shape }
     ensures caps { (E.held engine.new).caps ≡ (E.held engine.old).caps }
-    ensures ok_state { let gone = leaving E.meaning shell.old.form
+    ensures ok_state { let gone = departure_from E.meaning shell.old.form
         (leaver shell.old.shell by cmd.now)
         (machine_of shell.old (E.held engine.old)) in
         OnOk result ((E.held engine.new).state ≡ gone.state) }
-    ensures ok_shell { let gone = leaving E.meaning shell.old.form
+    ensures ok_shell { let gone = departure_from E.meaning shell.old.form
         (leaver shell.old.shell by cmd.now)
         (machine_of shell.old (E.held engine.old)) in
-        OnOk result (shell.new.shell ≡ posting gone.letters shell.old.shell) }
+        OnOk result (shell.new.shell ≡ with_posted gone.letters shell.old.shell) }
     ensures room { OnOk result (ACT_LETTERS ≤ shell.new.room) }
     ensures bits { OnOk result (Gains (stands_in E.meaning (E.held engine.old))
         (stands_in E.meaning (E.held engine.new)) [] out.new.bits.items) }
@@ -216,7 +216,7 @@ fn do_command<E: Engine>(
 fn post_all(shell: &mut Shell, letters: &[Letter])
     requires { length letters.now ≤ shell.old.room }
     ensures form { shell.new.form ≡ shell.old.form }
-    ensures shell { shell.new.shell ≡ posting letters.now shell.old.shell }
+    ensures shell { shell.new.shell ≡ with_posted letters.now shell.old.shell }
     ensures room { shell.old.room ≤ shell.new.room + length letters.now }
 {
     for letter in letters {

@@ -4,7 +4,7 @@ ghost use Rattle.cf_types.specs.declared.numbers.ConnId.{ConnId};
 ghost use Rattle.engine_api.specs.Asking.{MayAsk, IsBuilt};
 ghost use Rattle.engine_api.specs.Machine.{step};
 ghost use Rattle.struct_machine.specs.Changes.{IsUntouched};
-ghost use Rattle.struct_machine.specs.Standing.{opened, stands_at};
+ghost use Rattle.struct_machine.specs.StructureView.{new_structure, stands_at};
 
 use crate::changed::Changed;
 use crate::doing::answer;
@@ -27,10 +27,10 @@ pub struct Machine<E: Engine> {
 impl<E: Engine> Model for Machine<E> {
     ghost use Rattle.std.specs.Prelude.{IsTrue};
     ghost use Rattle.cf_types.specs.Forms.{IsForm};
-    ghost use Rattle.struct_machine.specs.Standing.{Standing};
+    ghost use Rattle.struct_machine.specs.StructureView.{StructureView};
     ghost use Rattle.struct_machine.specs.Kept.{AreOf, machine_of};
 
-    ghost Value = { Standing E.State };
+    ghost Value = { StructureView E.State };
 
     ghost view = { λ m. record { form = m.form; machine = machine_of m.shell (E.held m.engine) } };
 
@@ -43,7 +43,7 @@ impl<E: Engine> Machine<E> {
     pub fn start(alloc: Global, form: StrForm) -> Result<Machine<E>, NoMemory>
         requires formed { IsForm form }
         requires kind { IsTrue (E.is_kind form.kind) }
-        ensures { IfOk result (λ machine. machine ≡ opened E.meaning form) }
+        ensures { IfOk result (λ machine. machine ≡ new_structure E.meaning form) }
     {
         let shell = Shell::start(alloc, &form, CONNECTORS)?;
         let engine = E::empty(alloc, &form, form.caps)?;

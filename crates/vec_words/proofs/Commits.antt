@@ -8,7 +8,7 @@ use Rattle.vec_world.specs.declared.step.Step.TheVariants.{Store, Commit}
 use Rattle.vec_world.specs.Log.{IsCommitted}
 use Rattle.vec_words.specs.declared.logged.Logged.{Logged}
 use Rattle.vec_words.specs.declared.logged.Logged.TheVariants.{Stored, Committed}
-use Rattle.vec_words.specs.Logged.{steps_of, Answered, commits_of, calls_in, calls_of}
+use Rattle.vec_words.specs.Logged.{steps_of, CallRecord, commits_of, calls_in, calls_of}
 
 -- a fact of a commit's number
 abbrev OnCommit : (ℕ → Type 0) → Step → Type 0
@@ -32,7 +32,7 @@ module _ {D : Type 0} where
       { number = number; caller = by; about = about } ∷ []
   commits-commit log number by about = commits_of-append log (Committed number by about ∷ [])
 
-  pub calls_in-append : (caller : ℕ) (commits more : List (Answered D))
+  pub calls_in-append : (caller : ℕ) (commits more : List (CallRecord D))
       → calls_in caller (commits ++ more) ≡ calls_in caller commits ++ calls_in caller more
   calls_in-append caller commits more =
       ap (map (λ c. (c.number, c.about))) (filter-append (λ c. c.caller == caller) commits more)
@@ -52,7 +52,7 @@ module _ {D : Type 0} where
   pub calls-here : (caller number : ℕ) (about : D) (log : List (Logged D))
       → calls_of caller (log ++ Committed number caller about ∷ []) ≡ calls_of caller log ++ (number, about) ∷ []
   calls-here caller number about log =
-      let new : Answered D = record { number = number; caller = caller; about = about } in
+      let new : CallRecord D = record { number = number; caller = caller; about = about } in
       calls_of-append caller log (Committed number caller about ∷ [])
       ∙ ap (λ b. calls_of caller log ++ map (λ c. (c.number, c.about)) (if b then new ∷ [] else []))
       (eq-eqb caller caller refl)
@@ -60,7 +60,7 @@ module _ {D : Type 0} where
   pub calls-other : (caller by number : ℕ) (about : D) (log : List (Logged D)) → by ≢ caller
       → calls_of caller (log ++ Committed number by about ∷ []) ≡ calls_of caller log
   calls-other caller by number about log apart =
-      let new : Answered D = record { number = number; caller = by; about = about } in
+      let new : CallRecord D = record { number = number; caller = by; about = about } in
       calls_of-append caller log (Committed number by about ∷ [])
       ∙ ap (λ b. calls_of caller log ++ map (λ c. (c.number, c.about)) (if b then new ∷ [] else []))
       (ne_eqb by caller apart)
@@ -72,8 +72,8 @@ module _ {D : Type 0} where
   all_steps P (Stored word bits stamp ∷ log) all =
       All-cons (OnCommit P) (Store word bits stamp) (steps_of log) tt (all_steps P log all)
   all_steps P (Committed number by about ∷ log) all =
-      let Q : Answered D → Type 0 = λ c. P c.number in
-      let first : Answered D = record { number = number; caller = by; about = about } in
+      let Q : CallRecord D → Type 0 = λ c. P c.number in
+      let first : CallRecord D = record { number = number; caller = by; about = about } in
       All-cons (OnCommit P) (Commit number) (steps_of log) (All-head Q first (commits_of log) all)
       (all_steps P log (All-tail Q first (commits_of log) all))
 

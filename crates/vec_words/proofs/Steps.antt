@@ -17,7 +17,7 @@ use Rattle.vec_words.specs.declared.view.View.{View}
 use Rattle.vec_words.specs.declared.view.Shape.{Shape}
 use Rattle.vec_words.specs.Logged.{words_of, word_number, steps_of, count_of, flying_of, left_in, calls_of, IsOrderly}
 use Rattle.vec_words.specs.Logged.{sight}
-use Rattle.vec_words.specs.View.{note_view, blank, first_view, made_one, next_pass, note_of, told_of, without_log}
+use Rattle.vec_words.specs.View.{note_view, blank_view, first_view, made_one, next_pass, note_of, told_of, without_log}
 use Rattle.vec_words.specs.View.{log_alone, with_log}
 use Rattle.vec_words.specs.View.{tested_of, learned_of, Becomes}
 use Rattle.vec_words.specs.Rule.{Settled, IsKept, Roll, Fits, AllFit, AreLeft, Kept, Shows}
@@ -47,7 +47,7 @@ module _ {D : Type 0} where
     tests = All-nil (IsKept roll.log len 0);
   }
 
-  fits_blank : (len : ℕ) (roll : Roll D) (seat : ℕ) → Fits len roll seat blank
+  fits_blank : (len : ℕ) (roll : Roll D) (seat : ℕ) → Fits len roll seat blank_view
   fits_blank len roll seat = fits_note len roll seat 0 0 0 0 (inl (omega arith, inl refl)) (omega arith)
 
   -- the table at its start
@@ -117,7 +117,7 @@ module _ {D : Type 0} where
 
   -- a note is told
   pub joins_note : (shape : Shape) (id : ℕ) (v : View D) (other : ℕ) (w : View D)
-      → Joins (Kept shape) id v other w (told_of v w) blank
+      → Joins (Kept shape) id v other w (told_of v w) blank_view
   joins_note shape id v other w s kept at apart there =
       let roll = kept.roll in
       let mine = kept.fit id v at in
@@ -126,7 +126,7 @@ module _ {D : Type 0} where
         roll = roll;
         sound = kept.sound;
         left = kept.left;
-        fit = all_set shape.len roll (set s.views id (told_of v w)) other blank
+        fit = all_set shape.len roll (set s.views id (told_of v w)) other blank_view
             (λ j u _ e. all_set shape.len roll s.views id (told_of v w) (λ i y _ e'. kept.fit i y e')
             (raised shape.len roll id v w.known w.sure mine theirs.known theirs.sure) j u e)
             (fits_blank shape.len roll other);
@@ -220,13 +220,13 @@ module _ {D : Type 0} where
             handed shape.len old (length views) j u u.keeps u.log (λ k. absurd (apart ((f.keeps k).0 ∙ sym held.0)))
             f)
             (handed shape.len old (length views) id v false [] (λ k. absurd (off k)) mine))
-            (handed shape.len old (length views) (length views) blank true v.log (λ _. (refl, held.1))
+            (handed shape.len old (length views) (length views) blank_view true v.log (λ _. (refl, held.1))
             (fits_blank shape.len old (length views)));
       }
 
   -- the log comes to a seat
   pub joins_log : (shape : Shape) (id : ℕ) (v : View D) (other : ℕ) (w : View D) → w.keeps ≡ true
-      → Joins (Kept shape) id v other w (with_log v w) blank
+      → Joins (Kept shape) id v other w (with_log v w) blank_view
   joins_log shape id v other w has_log s kept at apart there =
       let old = kept.roll in
       let mine = kept.fit id v at in
@@ -246,7 +246,7 @@ module _ {D : Type 0} where
         roll = roll;
         sound = kept.sound;
         left = kept.left;
-        fit = all_set shape.len roll (set s.views id (with_log v w)) other blank others
+        fit = all_set shape.len roll (set s.views id (with_log v w)) other blank_view others
             (fits_blank shape.len roll other);
       }
 

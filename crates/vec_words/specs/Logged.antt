@@ -33,7 +33,7 @@ abbrev pub sight : ℕ → ℕ → ℕ → ℕ → Sight
 sight bits at sure index = record { index = index; bit = bit_in bits index; at = at; sure = sure }
 
 -- a commit: its number, its caller and its call's data
-pub record Answered (D : Type 0) : Type 0 where
+pub record CallRecord (D : Type 0) : Type 0 where
   pub number : ℕ
   pub caller : ℕ
   pub about : D
@@ -72,14 +72,14 @@ module _ {D : Type 0} where
   left_in log word = fold (left_after word) 0 log
 
   -- the commits of a log, in order
-  abbrev pub commits_of : List (Logged D) → List (Answered D)
+  abbrev pub commits_of : List (Logged D) → List (CallRecord D)
   commits_of [] = []
   commits_of (Stored word bits stamp ∷ log) = commits_of log
   commits_of (Committed number caller about ∷ log) =
       record { number = number; caller = caller; about = about } ∷ commits_of log
 
   -- the calls of one caller among commits, each with its number and its data
-  abbrev pub calls_in : ℕ → List (Answered D) → List (ℕ × D)
+  abbrev pub calls_in : ℕ → List (CallRecord D) → List (ℕ × D)
   calls_in caller commits = map (λ c. (c.number, c.about)) (filter (λ c. c.caller == caller) commits)
 
   -- the calls of one caller in a log

@@ -26,8 +26,8 @@ module _ {D : Type 0} where
         tests = [];
       }
 
-  abbrev pub blank : View D
-  blank = note_view 0 0 0 0
+  abbrev pub blank_view : View D
+  blank_view = note_view 0 0 0 0
 
   -- the engine's seat at the start: it has the empty log, and makes the passes
   abbrev pub first_view : Shape → View D
@@ -53,7 +53,7 @@ module _ {D : Type 0} where
   without_log v = record v { keeps = false; log = [] }
 
   abbrev pub log_alone : View D → View D
-  log_alone v = record blank { keeps = true; log = v.log }
+  log_alone v = record blank_view { keeps = true; log = v.log }
 
   abbrev pub with_log : View D → View D → View D
   with_log v w = record v { keeps = true; log = w.log }

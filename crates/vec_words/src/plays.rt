@@ -1,6 +1,6 @@
 // The steps on the word table: what each one tells its seat, and how views are cut and joined.
 ghost use Rattle.std.specs.Prelude.{ℕ, List, []};
-ghost use Rattle.vec_words.specs.View.{blank, first_view, made_one, next_pass, note_of, told_of, without_log, log_alone, with_log, stored_to, tested_of, committed_of, learned_of, Becomes};
+ghost use Rattle.vec_words.specs.View.{blank_view, first_view, made_one, next_pass, note_of, told_of, without_log, log_alone, with_log, stored_to, tested_of, committed_of, learned_of, Becomes};
 ghost use Rattle.vec_words.specs.Rule.{Kept, Shows};
 
 use crate::view::{Shape, View};
@@ -107,7 +107,7 @@ impl<D> Split<View<D>> for Tell {
 impl<D> Join<View<D>> for Tell {
     ghost both = { told_of };
 
-    ghost spent = { blank };
+    ghost spent = { blank_view };
 }
 
 // The log goes from seat to seat.
@@ -122,5 +122,5 @@ impl<D> Split<View<D>> for HandLog {
 impl<D> Join<View<D>> for HandLog {
     ghost both = { with_log };
 
-    ghost spent = { blank };
+    ghost spent = { blank_view };
 }

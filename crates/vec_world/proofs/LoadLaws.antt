@@ -12,8 +12,8 @@ use Rattle.vec_world.specs.declared.step.Step.TheVariants.{Store, Commit, Load, 
 use Rattle.vec_world.specs.declared.world.World.{World}
 use Rattle.vec_world.specs.Log.{IsOpen, FitsHalf}
 use Rattle.vec_world.specs.World.{bits_of, stamp_of, word_at, known_by, start, is_open, has_word, has_pass, can_store}
-use Rattle.vec_world.specs.World.{stored, committed}
-use Rattle.vec_world.specs.World.{learned, noted, told, act, world_of}
+use Rattle.vec_world.specs.World.{with_store, with_commit}
+use Rattle.vec_world.specs.World.{with_learned, with_note, with_note_told, act, world_of}
 use Rattle.vec_world.specs.Fresh.{Tells, TellsWord, EachLoadTells, known_at_load, logged_since}
 use Rattle.vec_world.proofs.LogLaws.{Carries-at, StampsUpTo-weaker, settled-store, settled-commit, settled-max}
 use Rattle.vec_world.proofs.LogLaws.{settled-below, Tells-push_commit, Tells-push_store}
@@ -38,7 +38,7 @@ logged_since-push before after step grown = drop-append-le (length before) after
 
 after_load-stored : (before after : World) (word bits number at new stamp : ℕ) → new < 2 ^ 32
     → CanStore after at stamp
-    → IsAfterLoad before word bits number after → IsAfterLoad before word bits number (stored after at new stamp)
+    → IsAfterLoad before word bits number after → IsAfterLoad before word bits number (with_store after at new stamp)
 after_load-stored before after word bits number at new stamp fits can since =
     let step : Step = Store at new stamp in
     let above : stamp_of (word_at after at) < stamp = stamp-above after at stamp can since.sound in
@@ -63,7 +63,7 @@ after_load-stored before after word bits number at new stamp fits can since =
     }
 
 after_load-committed : (before after : World) (word bits number done : ℕ) → IsOpen after.count after.flying done
-    → IsAfterLoad before word bits number after → IsAfterLoad before word bits number (committed after done)
+    → IsAfterLoad before word bits number after → IsAfterLoad before word bits number (with_commit after done)
 after_load-committed before after word bits number done fresh since =
     let above : after.count < done = fresh.0 in
     let grown : before.count ≤ after.count = since.count in
@@ -81,8 +81,8 @@ after_load-committed before after word bits number done fresh since =
     }
 
 -- a step that logs nothing changes nothing that was told
-after_load-learned : (before after : World) (word bits number pass at : ℕ) → IsSound (learned after pass at)
-    → IsAfterLoad before word bits number after → IsAfterLoad before word bits number (learned after pass at)
+after_load-learned : (before after : World) (word bits number pass at : ℕ) → IsSound (with_learned after pass at)
+    → IsAfterLoad before word bits number after → IsAfterLoad before word bits number (with_learned after pass at)
 after_load-learned before after word bits number pass at =
     cond_both (has_pass after pass) (record after { known = set after.known pass (max (known_by after pass) at) })
     after
@@ -97,8 +97,8 @@ after_load-learned before after word bits number pass at =
     (λ _ sound since. since)
 
 after_load-told : (before after : World) (word bits number into : ℕ) (note : Option ℕ)
-    → IsSound (told after into note)
-    → IsAfterLoad before word bits number after → IsAfterLoad before word bits number (told after into note)
+    → IsSound (with_note_told after into note)
+    → IsAfterLoad before word bits number after → IsAfterLoad before word bits number (with_note_told after into note)
 after_load-told before after word bits number into None sound since = since
 after_load-told before after word bits number into (Some note) sound since =
     cond_both (has_pass after into) (record after { known = set after.known into (max (known_by after into) note) })
@@ -124,15 +124,15 @@ after_load-told before after word bits number into (Some note) sound since =
 after_load-act : (before : World) (word bits number : ℕ) (after : World) (step : Step) → FitsHalf step
     → IsAfterLoad before word bits number after → IsAfterLoad before word bits number (act after step)
 after_load-act before word bits number after (Store at new stamp) fits since =
-    cond_both (can_store after at stamp) (stored after at new stamp) after (IsAfterLoad before word bits number)
+    cond_both (can_store after at stamp) (with_store after at new stamp) after (IsAfterLoad before word bits number)
     (λ test. after_load-stored before after word bits number at new stamp fits
     (can_store_from_test after at stamp test) since) (λ _. since)
 after_load-act before word bits number after (Commit done) fits since =
-    cond_both (is_open after done) (committed after done) after (IsAfterLoad before word bits number)
+    cond_both (is_open after done) (with_commit after done) after (IsAfterLoad before word bits number)
     (λ test. after_load-committed before after word bits number done (open_from_test after done test) since)
     (λ _. since)
 after_load-act before word bits number after (Load pass at) fits since =
-    cond_both (has_word after at) (learned after pass (stamp_of (word_at after at))) after
+    cond_both (has_word after at) (with_learned after pass (stamp_of (word_at after at))) after
     (IsAfterLoad before word bits number)
     (λ _. after_load-learned before after word bits number pass (stamp_of (word_at after at))
     (sound-learned after pass (stamp_of (word_at after at)) (settled-stamp after at since.sound.stamps) since.sound)
@@ -142,7 +142,7 @@ after_load-act before word bits number after (LoadCount pass) fits since =
     after_load-learned before after word bits number pass after.count
     (sound-act after (LoadCount pass) fits since.sound) since
 after_load-act before word bits number after (Split pass) fits since =
-    cond_both (has_pass after pass) (noted after pass) after (IsAfterLoad before word bits number)
+    cond_both (has_pass after pass) (with_note after pass) after (IsAfterLoad before word bits number)
     (λ _. record {
       sound = sound-noted after pass since.sound;
       settled = since.settled;
@@ -152,7 +152,7 @@ after_load-act before word bits number after (Split pass) fits since =
     })
     (λ _. since)
 after_load-act before word bits number after (Join into) fits since =
-    cond_both (has_pass after into) (told after into (slice_get after.notes (length after.notes - 1))) after
+    cond_both (has_pass after into) (with_note_told after into (slice_get after.notes (length after.notes - 1))) after
     (IsAfterLoad before word bits number)
     (λ _. after_load-told before after word bits number into (slice_get after.notes (length after.notes - 1))
     (sound-told after into (slice_get after.notes (length after.notes - 1)) refl since.sound) since)

@@ -17,7 +17,7 @@ use Rattle.vec_world.specs.declared.world.World.{World}
 use Rattle.vec_world.specs.Log.{IsOpen, IsSettled, FitsHalf}
 use Rattle.vec_world.specs.World.{bits_of, stamp_of, word_of, CarriesWord, word_at, known_by, start, is_open, has_word}
 use Rattle.vec_world.specs.World.{has_pass}
-use Rattle.vec_world.specs.World.{can_store, stored, committed, learned, noted, told, act, world_of}
+use Rattle.vec_world.specs.World.{can_store, with_store, with_commit, with_learned, with_note, with_note_told, act, world_of}
 use Rattle.vec_world.specs.Fresh.{IsGenuine, HasGenuineNumbers}
 use Rattle.vec_world.proofs.LogLaws.{Carries-nil, Carries-push_other, Carries-push_commit, CarriesWord-push_store}
 use Rattle.vec_world.proofs.LogLaws.{stamp_of-word_of}
@@ -104,9 +104,9 @@ stamp-above world word stamp can sound =
 -- Each change keeps the world sound.
 
 pub sound-stored : (world : World) (word bits stamp : ℕ) → bits < 2 ^ 32 → CanStore world word stamp → IsSound world
-    → IsSound (stored world word bits stamp)
+    → IsSound (with_store world word bits stamp)
 sound-stored world word bits stamp fits can sound =
-    let later : World = stored world word bits stamp in
+    let later : World = with_store world word bits stamp in
     let Log : ℕ → ℕ → Type 0 = CarriesWord (world.log ++ Store word bits stamp ∷ []) in
     let keeps_settled : (n : ℕ) → Settled world n → Settled later n =
     λ n. settled-store world.log world.count world.flying word bits stamp n can.fresh in
@@ -137,9 +137,9 @@ sound-stored world word bits stamp fits can sound =
     }
 
 pub sound-committed : (world : World) (number : ℕ) → IsOpen world.count world.flying number → IsSound world
-    → IsSound (committed world number)
+    → IsSound (with_commit world number)
 sound-committed world number fresh sound =
-    let later : World = committed world number in
+    let later : World = with_commit world number in
     let keeps_settled : (n : ℕ) → Settled world n → Settled later n =
     λ n. settled-commit world.log world.count world.flying number n fresh in
     record {
@@ -156,7 +156,7 @@ sound-committed world number fresh sound =
     }
 
 pub sound-learned : (world : World) (pass number : ℕ) → Settled world number → IsSound world
-    → IsSound (learned world pass number)
+    → IsSound (with_learned world pass number)
 sound-learned world pass number settled sound =
     cond_both (has_pass world pass) (record world { known = set world.known pass (max (known_by world pass) number) })
     world IsSound
@@ -174,7 +174,7 @@ sound-learned world pass number settled sound =
     })
     (λ _. sound)
 
-pub sound-noted : (world : World) (pass : ℕ) → IsSound world → IsSound (noted world pass)
+pub sound-noted : (world : World) (pass : ℕ) → IsSound world → IsSound (with_note world pass)
 sound-noted world pass sound =
     record {
       flight = sound.flight;
@@ -206,7 +206,7 @@ settled-note world at note there sound =
 
 -- a note that is told was among the notes
 pub sound-told : (world : World) (into : ℕ) (note : Option ℕ) → slice_get world.notes (length world.notes - 1) ≡ note
-    → IsSound world → IsSound (told world into note)
+    → IsSound world → IsSound (with_note_told world into note)
 sound-told world into None there sound = sound
 sound-told world into (Some note) there sound =
     let settled : Settled world note = settled-note world (length world.notes - 1) note there sound in
@@ -249,22 +249,23 @@ sound-start words passes =
 
 pub sound-act : (world : World) (step : Step) → FitsHalf step → IsSound world → IsSound (act world step)
 sound-act world (Store word bits stamp) fits sound =
-    cond_both (can_store world word stamp) (stored world word bits stamp) world IsSound
+    cond_both (can_store world word stamp) (with_store world word bits stamp) world IsSound
     (λ test. sound-stored world word bits stamp fits (can_store_from_test world word stamp test) sound) (λ _. sound)
 sound-act world (Commit number) fits sound =
-    cond_both (is_open world number) (committed world number) world IsSound
+    cond_both (is_open world number) (with_commit world number) world IsSound
     (λ test. sound-committed world number (open_from_test world number test) sound) (λ _. sound)
 sound-act world (Load pass word) fits sound =
-    cond_both (has_word world word) (learned world pass (stamp_of (word_at world word))) world IsSound
+    cond_both (has_word world word) (with_learned world pass (stamp_of (word_at world word))) world IsSound
     (λ _. sound-learned world pass (stamp_of (word_at world word))
     (settled-stamp world word sound.stamps) sound)
     (λ _. sound)
 sound-act world (LoadCount pass) fits sound = sound-learned world pass world.count sound.count sound
 sound-act world (Split pass) fits sound =
-    cond_both (has_pass world pass) (noted world pass) world IsSound
+    cond_both (has_pass world pass) (with_note world pass) world IsSound
     (λ _. sound-noted world pass sound) (λ _. sound)
 sound-act world (Join into) fits sound =
-    cond_both (has_pass world into) (told world into (slice_get world.notes (length world.notes - 1))) world IsSound
+    cond_both (has_pass world into) (with_note_told world into
+    (slice_get world.notes (length world.notes - 1))) world IsSound
     (λ _. sound-told world into (slice_get world.notes (length world.notes - 1)) refl sound) (λ _. sound)
 
 -- what each step keeps, a list of steps keeps

@@ -50,8 +50,8 @@ can_store world word stamp =
     has_word world word && (is_open world stamp && not (stamp_of (word_at world word) == stamp))
 
 -- the store's bits and stamp are in the word, its stamp is in flight, and it is logged
-abbrev pub stored : World → ℕ → ℕ → ℕ → World
-stored world word bits stamp =
+abbrev pub with_store : World → ℕ → ℕ → ℕ → World
+with_store world word bits stamp =
     record world {
       words = slice_set world.words word (word_of bits stamp);
       flying = stamp;
@@ -59,32 +59,36 @@ stored world word bits stamp =
     }
 
 -- the number is the count, nothing is in flight, and the commit is logged
-abbrev pub committed : World → ℕ → World
-committed world number = record world { count = number; flying = 0; log = world.log ++ Commit number ∷ [] }
+abbrev pub with_commit : World → ℕ → World
+with_commit world number = record world { count = number; flying = 0; log = world.log ++ Commit number ∷ [] }
 
 -- the pass, where there is one, knows the larger of what it knew and this number
-abbrev pub learned : World → ℕ → ℕ → World
-learned world pass number =
+abbrev pub with_learned : World → ℕ → ℕ → World
+with_learned world pass number =
     if has_pass world pass then record world { known = slice_set world.known pass (max (known_by world pass) number) }
     else world
 
 -- the pass's number stands last among the notes
-abbrev pub noted : World → ℕ → World
-noted world pass = record world { notes = world.notes ++ known_by world pass ∷ [] }
+abbrev pub with_note : World → ℕ → World
+with_note world pass = record world { notes = world.notes ++ known_by world pass ∷ [] }
 
 -- the last note is taken away and the pass learns its number; with no note nothing happens
-abbrev pub told : World → ℕ → Option ℕ → World
-told world into None = world
-told world into (Some note) = record (learned world into note) { notes = take (length world.notes - 1) world.notes }
+abbrev pub with_note_told : World → ℕ → Option ℕ → World
+with_note_told world into None = world
+with_note_told world into (Some note) = record (with_learned world into note) {
+  notes =
+      take (length world.notes - 1) world.notes;
+}
 
 -- what one step does. A step that can't act does nothing: nor does one that names a word or a pass that isn't there
 abbrev pub act : World → Step → World
-act world (Store word bits stamp) = if can_store world word stamp then stored world word bits stamp else world
-act world (Commit number) = if is_open world number then committed world number else world
-act world (Load pass word) = if has_word world word then learned world pass (stamp_of (word_at world word)) else world
-act world (LoadCount pass) = learned world pass world.count
-act world (Split pass) = if has_pass world pass then noted world pass else world
-act world (Join into) = if has_pass world into then told world into
+act world (Store word bits stamp) = if can_store world word stamp then with_store world word bits stamp else world
+act world (Commit number) = if is_open world number then with_commit world number else world
+act world (Load pass word) = if has_word world word then with_learned world pass (stamp_of (word_at world word))
+    else world
+act world (LoadCount pass) = with_learned world pass world.count
+act world (Split pass) = if has_pass world pass then with_note world pass else world
+act world (Join into) = if has_pass world into then with_note_told world into
     (slice_get world.notes (length world.notes - 1)) else world
 
 -- the world that a whole list of steps makes of the start

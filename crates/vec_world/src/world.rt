@@ -2,7 +2,7 @@
 ghost use Rattle.std.specs.Prelude.{◌≡◌, ◌^◌, ◌<◌, max, length, IfOk, OnOk, OnErr, slice_get, slice_set, Option, option_map};
 ghost use Rattle.vec_world.specs.declared.step.Step.TheVariants.{Store, Commit, Load, LoadCount, Split, Join};
 ghost use Rattle.vec_world.specs.Log.{FitsHalf};
-ghost use Rattle.vec_world.specs.World.{start, act, is_open, learned};
+ghost use Rattle.vec_world.specs.World.{start, act, is_open, with_learned};
 
 use crate::word::{stamp_of, word_of};
 use crate::{Items, NoMemory, Step};
@@ -118,7 +118,7 @@ impl World {
 
     /// Raises what the pass knows to this number, where there is such a pass.
     fn learn(&mut self, pass: u8, number: u32)
-        ensures { self.new ≡ learned self.old pass number }
+        ensures { self.new ≡ with_learned self.old pass number }
     {
         let at = usize::from(pass);
         if let Some(known) = self.known.get(at) {

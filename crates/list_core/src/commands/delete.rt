@@ -3,7 +3,7 @@ ghost use Rattle.std.specs.Prelude.{◌≡◌};
 ghost use Rattle.cf_types.specs.Gains.{Gains};
 ghost use Rattle.list_model.specs.Contents.{stands};
 ghost use Rattle.list_model.specs.Commands.Delete as delete;
-ghost use Rattle.list_kept.specs.Keeping.{IsRoomy};
+ghost use Rattle.list_kept.specs.ContentView.{IsRoomy};
 ghost use Rattle.list_core.specs.Found.{IsFound};
 
 use cf_types::{At, Effects, ListReply};

@@ -4,7 +4,7 @@ ghost use Rattle.cf_types.specs.Gains.{Gains};
 ghost use Rattle.engine_api.specs.Meaning.{first_refusal};
 ghost use Rattle.list_model.specs.Contents.{stands};
 ghost use Rattle.list_model.specs.Commands.Monitor as monitor;
-ghost use Rattle.list_kept.specs.Keeping.{IsRoomy};
+ghost use Rattle.list_kept.specs.ContentView.{IsRoomy};
 
 use crate::refusals::{first_refusal, header_refusal, in_use_refusal, index_refusal};
 use cf_types::{ConnId, Effects, ListReply, Refusal};

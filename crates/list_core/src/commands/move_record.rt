@@ -5,7 +5,7 @@ ghost use Rattle.cf_types.specs.Gains.{Gains};
 ghost use Rattle.engine_api.specs.Meaning.{first_refusal};
 ghost use Rattle.list_model.specs.Contents.{stands};
 ghost use Rattle.list_model.specs.Commands.Move as moving;
-ghost use Rattle.list_kept.specs.Keeping.{IsRoomy};
+ghost use Rattle.list_kept.specs.ContentView.{IsRoomy};
 ghost use Rattle.list_core.specs.Found.{IsFound};
 
 use crate::refusals::{

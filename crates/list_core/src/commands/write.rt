@@ -7,7 +7,7 @@ ghost use Rattle.list_store.specs.Lists.{all_records, count_of, is_id};
 ghost use Rattle.list_model.specs.Records.{elements_in};
 ghost use Rattle.list_model.specs.Contents.{stands};
 ghost use Rattle.list_model.specs.Commands.Write as write;
-ghost use Rattle.list_kept.specs.Keeping.{IsRoomy};
+ghost use Rattle.list_kept.specs.ContentView.{IsRoomy};
 
 use crate::refusals::{
     cond_lock_refusal, cond_refusal, elements_refusal, entries_refusal, first_refusal,

@@ -28,12 +28,12 @@ causes shape content by at header key cond =
     ∷ record_refusal (record_at content.lists at) ∷ header_refusal (headers_of shape.kind) header
     ∷ new_key_refusal (refs_of shape.kind) key ∷ place_refusal content at header ∷ []
 
-abbrev pub moved : Option Key16 → Rec → Rec
-moved key rec = record rec { key = option_or key rec.key }
+abbrev pub with_new_key : Option Key16 → Rec → Rec
+with_new_key key rec = record rec { key = option_or key rec.key }
 
 abbrev pub after : Content → At → ℕ → Bool → Option Key16 → Content
 after content at header head key =
     let rec = the_record content.lists at in
     record content {
-      lists = with_record head header (moved key rec) (lists_without rec.id content.lists);
+      lists = with_record head header (with_new_key key rec) (lists_without rec.id content.lists);
     }

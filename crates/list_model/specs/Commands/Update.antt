@@ -30,10 +30,10 @@ causes shape caps content by at body cond =
 abbrev pub reply : Content → At → ListReply
 reply content at = replies.Id (the_record content.lists at).id
 
-abbrev pub updated : Option (List ℕ) → Option (List ℕ) → Rec → Rec
-updated body adj rec = record rec { body = option_or body rec.body; adj = option_or adj rec.adj }
+abbrev pub with_new_data : Option (List ℕ) → Option (List ℕ) → Rec → Rec
+with_new_data body adj rec = record rec { body = option_or body rec.body; adj = option_or adj rec.adj }
 
 abbrev pub after : Content → At → Option (List ℕ) → Option (List ℕ) → Content
 after content at body adj =
     let rec = the_record content.lists at in
-    record content { lists = lists_replaced (updated body adj rec) content.lists }
+    record content { lists = lists_replaced (with_new_data body adj rec) content.lists }

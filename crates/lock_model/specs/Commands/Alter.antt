@@ -8,7 +8,7 @@ use Rattle.cf_types.specs.declared.lock_commands.LockReply.{LockReply}
 use Rattle.lock_queue.specs.declared.waiters.Waiter.{Waiter}
 use Rattle.lock_model.specs.Interests.{interest_of, may_own}
 use Rattle.lock_model.specs.Contents.{Content}
-use Rattle.lock_model.specs.Grants.{Left, held_by, grant}
+use Rattle.lock_model.specs.Grants.{Settlement, held_by, grant}
 use Rattle.lock_model.specs.Refusals.{pending_refusal, interest_refusal, records_refusal}
 use Rattle.lock_model.specs.Requests as requests
 
@@ -29,8 +29,8 @@ abbrev pub reply : Waiter → Content → LockReply
 reply w content = requests.reply (at_once w content) w content
 
 -- its interest is altered, and others may be granted then; or it waits, and its old interest stays
-abbrev pub after : Waiter → Content → Left
+abbrev pub after : Waiter → Content → Settlement
 after w content =
     if at_once w content
     then grant w.r (requests.content_asked true w content)
-    else requests.waiting w content
+    else requests.wait_settlement w content

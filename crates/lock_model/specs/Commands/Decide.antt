@@ -10,7 +10,7 @@ use Rattle.cf_types.specs.declared.lock_commands.Decision.TheVariants.{Keep, Den
 use Rattle.lock_queue.specs.Waiters.{waiters_without}
 use Rattle.lock_model.specs.Interests.{Interest, is_managing, is_by, manager_of}
 use Rattle.lock_model.specs.Contents.{Content}
-use Rattle.lock_model.specs.Grants.{Left, left_so, sent_before, grant}
+use Rattle.lock_model.specs.Grants.{Settlement, settlement_of, with_letters_before, grant}
 use Rattle.lock_model.specs.Refusals.{manager_refusal, waiter_refusal}
 
 abbrev pub causes : ConnId → Resource → ConnId → Content → List (Option Refusal)
@@ -34,9 +34,9 @@ notify_letter r conn interest = record { to = interest.held.conn; event = events
 abbrev pub notify_letters : Resource → ConnId → List Interest → List Letter
 notify_letters r conn interests = map (notify_letter r conn) (filter (is_told r conn) interests)
 
-abbrev pub after : Decision → Resource → ConnId → Content → Left
-after Keep r conn content = left_so content
+abbrev pub after : Decision → Resource → ConnId → Content → Settlement
+after Keep r conn content = settlement_of content
 after Deny r conn content =
-    sent_before (denied_letter r conn ∷ []) (grant r (content_denied r conn content))
+    with_letters_before (denied_letter r conn ∷ []) (grant r (content_denied r conn content))
 after Notify r conn content =
     record { content = content; letters = notify_letters r conn content.interests }

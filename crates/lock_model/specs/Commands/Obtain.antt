@@ -10,7 +10,7 @@ use Rattle.lock_queue.specs.declared.waiters.Waiter.{Waiter}
 use Rattle.lock_model.specs.Interests.{interest_of, may_own}
 use Rattle.lock_queue.specs.Waiters.{is_on}
 use Rattle.lock_model.specs.Contents.{Content}
-use Rattle.lock_model.specs.Grants.{Left, left_so, held_by}
+use Rattle.lock_model.specs.Grants.{Settlement, settlement_of, held_by}
 use Rattle.lock_model.specs.Refusals.{pending_refusal, interested_refusal, records_refusal}
 use Rattle.lock_model.specs.Requests as requests
 
@@ -33,8 +33,8 @@ causes caps w content =
 abbrev pub reply : Waiter → Content → LockReply
 reply w content = requests.reply (at_once w content) w content
 
-abbrev pub after : Waiter → Content → Left
+abbrev pub after : Waiter → Content → Settlement
 after w content =
     if at_once w content
-    then left_so (requests.content_asked true w content)
-    else requests.waiting w content
+    then settlement_of (requests.content_asked true w content)
+    else requests.wait_settlement w content

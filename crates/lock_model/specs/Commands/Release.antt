@@ -5,7 +5,7 @@ use Rattle.cf_types.specs.declared.numbers.ConnId.{ConnId}
 use Rattle.cf_types.specs.declared.resources.Resource.{Resource}
 use Rattle.lock_model.specs.Interests.{interest_of, interests_without}
 use Rattle.lock_model.specs.Contents.{Content}
-use Rattle.lock_model.specs.Grants.{Left, grant}
+use Rattle.lock_model.specs.Grants.{Settlement, grant}
 use Rattle.lock_model.specs.Refusals.{pending_refusal, interest_refusal}
 
 abbrev pub causes : ConnId → Resource → Content → List (Option Refusal)
@@ -13,6 +13,6 @@ causes by r content =
     pending_refusal r by content.waiters
     ∷ interest_refusal (interest_of r by content.interests) ∷ []
 
-abbrev pub after : ConnId → Resource → Content → Left
+abbrev pub after : ConnId → Resource → Content → Settlement
 after by r content =
     grant r (record content { interests = interests_without r by content.interests })

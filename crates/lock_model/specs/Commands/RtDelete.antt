@@ -7,7 +7,7 @@ use Rattle.cf_types.specs.declared.resources.Resource.{Resource}
 use Rattle.lock_queue.specs.Waiters.{waiters_without}
 use Rattle.lock_model.specs.Interests.{Interest, is_of, interests_without, interests_changed}
 use Rattle.lock_model.specs.Contents.{Content}
-use Rattle.lock_model.specs.Grants.{Left, left_so, grant}
+use Rattle.lock_model.specs.Grants.{Settlement, settlement_of, grant}
 use Rattle.lock_model.specs.Refusals.{record_refusal}
 
 abbrev pub is_recorded : Resource → ConnId → Interest → Bool
@@ -35,8 +35,8 @@ content_unowned r conn content =
       waiters = waiters_without r conn content.waiters;
     }
 
-abbrev pub after : Resource → ConnId → Content → Left
+abbrev pub after : Resource → ConnId → Content → Settlement
 after r conn content =
     if is_retained r conn content.interests
     then grant r (content_unowned r conn content)
-    else left_so (content_unrecorded r conn content)
+    else settlement_of (content_unrecorded r conn content)

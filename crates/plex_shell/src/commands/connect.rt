@@ -1,7 +1,7 @@
 ghost use Rattle.std.specs.Prelude.{◌≡◌, ◌≤◌, ◌+◌, None};
 ghost use Rattle.cf_types.specs.Forms.{IsConnector};
 ghost use Rattle.cf_types.specs.declared.shell_commands.ShellCmd.TheVariants as cmd;
-ghost use Rattle.engine_api.specs.Shell.{shell_cause, connect, facility_of};
+ghost use Rattle.engine_api.specs.Shell.{shell_cause, connect_outcome, facility_of};
 ghost use Rattle.plex_shell.specs.declared.shell.TheConstants.{ACT_LETTERS};
 
 use crate::letters::tell;
@@ -18,7 +18,7 @@ impl Shell {
         requires room { ACT_LETTERS ≤ self.old.room }
         ensures form { self.new.form ≡ self.old.form }
         ensures acts { record { reply = result.0; shell = self.new.shell; deeds = result.1 }
-            ≡ connect self.old.form self.old.shell by keep }
+            ≡ connect_outcome self.old.form self.old.shell by keep }
         ensures room { self.old.room ≤ self.new.room + ACT_LETTERS }
     {
         let make = self.made_at();

@@ -2,7 +2,7 @@ ghost use Rattle.std.specs.Prelude.{◌≡◌, ◌≤◌, ◌+◌, IsTrue, true}
 ghost use Rattle.cf_types.specs.Connections.{is_active};
 ghost use Rattle.cf_types.specs.Forms.{IsCaller};
 ghost use Rattle.engine_api.specs.Instances.{no_instance};
-ghost use Rattle.engine_api.specs.Shell.{depart, goes, unless_gone, no_deeds};
+ghost use Rattle.engine_api.specs.Shell.{departure_outcome, goes, unless_gone, no_deeds};
 ghost use Rattle.plex_shell.specs.declared.shell.TheConstants.{ACT_LETTERS};
 
 use crate::letters::tell;
@@ -19,7 +19,7 @@ impl Shell {
         requires room { ACT_LETTERS ≤ self.old.room }
         ensures form { self.new.form ≡ self.old.form }
         ensures acts { record { reply = result.0; shell = self.new.shell; deeds = result.1 }
-            ≡ depart self.old.form self.old.shell by keep }
+            ≡ departure_outcome self.old.form self.old.shell by keep }
         ensures room { self.old.room ≤ self.new.room + ACT_LETTERS }
     {
         self.conns.depart(by, keep);

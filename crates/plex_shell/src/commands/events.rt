@@ -2,7 +2,7 @@ ghost use Rattle.std.specs.Prelude.{◌≡◌, IsSome};
 ghost use Rattle.cf_types.specs.Connections.{with_answer};
 ghost use Rattle.cf_types.specs.Forms.{IsCaller};
 ghost use Rattle.cf_types.specs.Mailboxes.{next_event, owed_event};
-ghost use Rattle.engine_api.specs.Shell.{take_event, respond, answering};
+ghost use Rattle.engine_api.specs.Shell.{take_event, response_outcome, conns_answered};
 
 use crate::shell::{Shell, no_deeds};
 use cf_types::{ConnId, ConnState, Event, ShellReply};
@@ -29,7 +29,7 @@ impl Shell {
         requires owes { IsSome (owed_event self.old.shell.mail by) }
         ensures form { self.new.form ≡ self.old.form }
         ensures acts { record { reply = result.0; shell = self.new.shell; deeds = result.1 }
-            ≡ respond self.old.shell by (owed_event self.old.shell.mail by) }
+            ≡ response_outcome self.old.shell by (owed_event self.old.shell.mail by) }
         ensures room { self.new.room ≡ self.old.room }
     {
         let event = self.mail.respond(by).unwrap();
@@ -41,7 +41,7 @@ impl Shell {
 // The connections once an event is answered.
 fn answer(conns: &mut Conns, by: ConnId, event: Event)
     requires { IsCaller by }
-    ensures { conns.new ≡ answering by event conns.old }
+    ensures { conns.new ≡ conns_answered by event conns.old }
 {
     match event {
         Event::DiscFail { conn } => excuse(conns, by, conn),

@@ -3,7 +3,7 @@ use Rattle.std.specs.List.{prefix_len}
 use Rattle.list_store.specs.declared.records.Rec.{Rec}
 use Rattle.list_store.specs.Lists.{lists_with}
 use Rattle.list_model.proofs.StoreLaws.{placed-with}
-use Rattle.list_kept.specs.Keeping.{comes_behind}
+use Rattle.list_kept.specs.ContentView.{comes_behind}
 use Rattle.list_kept.proofs.keeping.put.Goals as goal
 
 pub returns : goal.returns

@@ -5,7 +5,7 @@ use Rattle.std.proofs.lemmas.Bool.{eqb-true}
 use Rattle.std.proofs.lemmas.List.{drop_more, length-map, nil_from_length}
 use Rattle.list_store.specs.declared.records.Rec.{Rec}
 use Rattle.list_store.specs.Lists.{all_records}
-use Rattle.list_store.specs.Stored.{lists_in}
+use Rattle.list_store.specs.StoreView.{lists_in}
 use Rattle.list_store.proofs.RecordLaws.{list_of, list_of-get_or}
 use Rattle.list_store.proofs.VecLaws.{list_of-in}
 use Rattle.list_store.proofs.lists.last_header.Goals as goal

@@ -1,6 +1,6 @@
 use Rattle.std.proofs.Common.{◌≡◌, ◌≤◌, [], length, drop}
 use Rattle.list_store.specs.Lists.{all_records}
-use Rattle.list_store.specs.Stored.{lists_in}
+use Rattle.list_store.specs.StoreView.{lists_in}
 use Rattle.list_store.proofs.lists.last_header.Given as goal
 
 abbrev pub invariant-loop-left : goal.invariant-loop-left

@@ -1,5 +1,5 @@
 use Rattle.std.proofs.Common.{◌≡◌, [], replicate}
-use Rattle.list_store.specs.Stored.{lists_in}
+use Rattle.list_store.specs.StoreView.{lists_in}
 use Rattle.list_store.proofs.lists.no_records.Given as goal
 
 abbrev pub invariant-loop : goal.invariant-loop

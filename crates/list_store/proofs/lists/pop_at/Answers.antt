@@ -1,7 +1,7 @@
 use Rattle.std.proofs.Common.{◌≡◌, ◌-◌, List, length, take, set, sym, ap, ◌∙◌, arith}
 use Rattle.std.specs.Vec.{vec_len}
 use Rattle.list_store.specs.declared.records.Rec.{Rec}
-use Rattle.list_store.specs.Stored.{lists_in}
+use Rattle.list_store.specs.StoreView.{lists_in}
 use Rattle.list_store.proofs.VecLaws.{list_of-in, lists_in-set}
 use Rattle.list_store.proofs.lists.pop_at.Goals as goal
 

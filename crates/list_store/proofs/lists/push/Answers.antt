@@ -5,7 +5,7 @@ use Rattle.std.specs.declared.alloc.Global.{Global}
 use Rattle.std.proofs.lemmas.Bool.{lt-ltb}
 use Rattle.std.proofs.lemmas.List.{get_or_default}
 use Rattle.list_store.specs.declared.records.Rec.{Rec}
-use Rattle.list_store.specs.Stored.{lists_in, is_few}
+use Rattle.list_store.specs.StoreView.{lists_in, is_few}
 use Rattle.list_store.proofs.RecordLaws.{list_all-set}
 use Rattle.list_store.proofs.VecLaws.{list_of-in, lists_in-set, lists_in-kept}
 use Rattle.list_store.proofs.lists.push.Goals as goal

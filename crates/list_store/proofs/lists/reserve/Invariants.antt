@@ -1,7 +1,7 @@
 use Rattle.std.proofs.Common.{◌≡◌, true, take}
 use Rattle.std.specs.List.{list_all}
 use Rattle.std.specs.Vec.{vec_len}
-use Rattle.list_store.specs.Stored.{lists_in, has_place}
+use Rattle.list_store.specs.StoreView.{lists_in, has_place}
 use Rattle.list_store.proofs.lists.reserve.Given as goal
 
 abbrev pub invariant-loop-header : goal.invariant-loop-header

@@ -1,7 +1,7 @@
 use Rattle.std.proofs.Common.{List, set, sym, ap, ◌∙◌, arith}
 use Rattle.std.specs.List.{remove}
 use Rattle.list_store.specs.declared.records.Rec.{Rec}
-use Rattle.list_store.specs.Stored.{lists_in}
+use Rattle.list_store.specs.StoreView.{lists_in}
 use Rattle.list_store.proofs.VecLaws.{list_of-in, lists_in-set, place-less}
 use Rattle.list_store.proofs.lists.take_at.Goals as goal
 

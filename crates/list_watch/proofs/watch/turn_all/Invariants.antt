@@ -1,8 +1,8 @@
 use Rattle.std.proofs.Common.{◌≡◌, map, take, drop}
-use Rattle.list_watch.specs.Rows.{turned}
+use Rattle.list_watch.specs.Rows.{row_turned}
 use Rattle.list_watch.proofs.watch.turn_all.Given as goal
 
 abbrev pub invariant-loop-row : goal.invariant-loop-row
 invariant-loop-row l =
-    (take l.row-index l.row-items ≡ map (turned l.header l.full) (take l.row-index l.initial.row-items))
+    (take l.row-index l.row-items ≡ map (row_turned l.header l.full) (take l.row-index l.initial.row-items))
     × (drop l.row-index l.row-items ≡ drop l.row-index l.initial.row-items)

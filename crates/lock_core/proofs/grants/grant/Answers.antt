@@ -1,6 +1,6 @@
 use Rattle.std.proofs.Common.{◌≡◌, ◌++◌, ◌∷◌, [], List, length, append_assoc, append-nil, sym, ap, ◌∙◌, arith}
 use Rattle.cf_types.specs.declared.events.Letter.{Letter}
-use Rattle.lock_model.specs.Grants.{Left, grant, sent_before, left_so, granted_letter}
+use Rattle.lock_model.specs.Grants.{Settlement, grant, with_letters_before, settlement_of, granted_letter}
 use Rattle.lock_core.proofs.GrantLaws.{next-waits, grant-next, grant-none}
 use Rattle.lock_core.proofs.grants.grant.Goals as goal
 
@@ -14,13 +14,14 @@ loop-w-preserved c =
     let w = c.in-Some.w in
     let old = c.loop-w.locks.content in
     let new = c.grant_one.new.self.content in
-    let step : grant r old ≡ sent_before (granted_letter w ∷ []) (grant r new) =
+    let step : grant r old ≡ with_letters_before (granted_letter w ∷ []) (grant r new) =
     rw c.grant_one.ensures.content (grant-next old r w c.next.ensures.queue (sym c.in-Some.ensures.next)) in
-    let letters : (grant r old).letters ≡ granted_letter w ∷ (grant r new).letters = ap (λ (l : Left). l.letters) step
+    let letters : (grant r old).letters ≡ granted_letter w ∷ (grant r new).letters =
+    ap (λ (l : Settlement). l.letters) step
     in
     let many : length (grant r old).letters ≡ length (granted_letter w ∷ (grant r new).letters) = ap
     (λ (l : List Letter). length l) letters in (
-      ap (λ (l : Left). l.content) (sym step) ∙ c.loop-w.invariant.0,
+      ap (λ (l : Settlement). l.content) (sym step) ∙ c.loop-w.invariant.0,
       ap (λ (l : List Letter). l ++ (grant r new).letters) c.grant_one.ensures.mail
           ∙ append_assoc c.loop-w.out.mail.items (granted_letter w ∷ []) (grant r new).letters
           ∙ ap (λ (l : List Letter). c.loop-w.out.mail.items ++ l) (sym letters)
@@ -34,22 +35,22 @@ loop-w-preserved c =
 pub returns-clause-content : goal.returns-clause-content
 returns-clause-content c =
     let r = c.args.r.now in
-    let none : grant r c.loop-w.locks.content ≡ left_so c.loop-w.locks.content =
+    let none : grant r c.loop-w.locks.content ≡ settlement_of c.loop-w.locks.content =
     grant-none c.loop-w.locks.content r (sym c.next.ensures.next ∙ c.in_default.is) in
-    ap (λ (l : Left). l.content) (sym none) ∙ c.loop-w.invariant.0
+    ap (λ (l : Settlement). l.content) (sym none) ∙ c.loop-w.invariant.0
 
 pub returns-clause-mail : goal.returns-clause-mail
 returns-clause-mail c =
     let r = c.args.r.now in
-    let none : grant r c.loop-w.locks.content ≡ left_so c.loop-w.locks.content =
+    let none : grant r c.loop-w.locks.content ≡ settlement_of c.loop-w.locks.content =
     grant-none c.loop-w.locks.content r (sym c.next.ensures.next ∙ c.in_default.is) in
-    sym (append-nil c.loop-w.out.mail.items) ∙ ap (λ (l : Left). c.loop-w.out.mail.items ++ l.letters) (sym none)
+    sym (append-nil c.loop-w.out.mail.items) ∙ ap (λ (l : Settlement). c.loop-w.out.mail.items ++ l.letters) (sym none)
     ∙ c.loop-w.invariant.1
 
 pub returns-clause-letters : goal.returns-clause-letters
 returns-clause-letters c =
     let r = c.args.r.now in
-    let none : grant r c.loop-w.locks.content ≡ left_so c.loop-w.locks.content =
+    let none : grant r c.loop-w.locks.content ≡ settlement_of c.loop-w.locks.content =
     grant-none c.loop-w.locks.content r (sym c.next.ensures.next ∙ c.in_default.is) in
-    let many : length (grant r c.loop-w.locks.content).letters ≡ 0 = ap (λ (l : Left). length l.letters) none in
+    let many : length (grant r c.loop-w.locks.content).letters ≡ 0 = ap (λ (l : Settlement). length l.letters) none in
     omega (arith, many, c.loop-w.invariant.2)

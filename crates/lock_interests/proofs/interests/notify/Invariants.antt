@@ -1,5 +1,5 @@
 use Rattle.std.proofs.Common.{◌≡◌, ◌+◌, ◌≤◌, ◌++◌, drop, length}
-use Rattle.lock_interests.specs.Owned.{letters_told}
+use Rattle.lock_interests.specs.InterestsView.{letters_told}
 use Rattle.lock_interests.proofs.interests.notify.Given as goal
 
 abbrev pub invariant-loop-held : goal.invariant-loop-held

@@ -1,5 +1,5 @@
 use Rattle.std.proofs.Common.{◌≡◌, ◌++◌, drop}
-use Rattle.lock_interests.specs.Owned.{records_read}
+use Rattle.lock_interests.specs.InterestsView.{records_read}
 use Rattle.lock_interests.proofs.interests.read.Given as goal
 
 abbrev pub invariant-loop-held : goal.invariant-loop-held

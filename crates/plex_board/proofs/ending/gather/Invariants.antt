@@ -1,11 +1,11 @@
 use Rattle.std.proofs.Common.{◌≡◌}
 use Rattle.std.specs.Vec.Iter.{into_iter_items}
-use Rattle.plex_board.specs.Rests.{homes_shown, AllFit, gathered}
+use Rattle.plex_board.specs.Rests.{homes_shown, AllFit, homes_gathered}
 use Rattle.plex_board.proofs.ending.gather.Given as goal
 
 abbrev pub invariant-loop-desk : goal.invariant-loop-desk
 invariant-loop-desk l = record {
   fits : AllFit (into_iter_items l.desk-iterator) (homes_shown l.homes.items);
-  homes : gathered (into_iter_items l.desk-iterator) (homes_shown l.homes.items)
-      ≡ gathered (into_iter_items l.initial.desk-iterator) (homes_shown l.fn.homes.items);
+  homes : homes_gathered (into_iter_items l.desk-iterator) (homes_shown l.homes.items)
+      ≡ homes_gathered (into_iter_items l.initial.desk-iterator) (homes_shown l.fn.homes.items);
 }

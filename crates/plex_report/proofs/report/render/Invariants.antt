@@ -1,9 +1,9 @@
 use Rattle.std.proofs.Common.{◌≡◌, take}
 use Rattle.std.specs.List.{flat_map}
-use Rattle.plex_spell.specs.Words.{ended}
+use Rattle.plex_spell.specs.Words.{line_text}
 use Rattle.plex_report.specs.Report.{report_lines}
 use Rattle.plex_report.proofs.report.render.Given as goal
 
 -- the lines before this one stand there
 abbrev pub invariant-loop-k : goal.invariant-loop-k
-invariant-loop-k l = l.text.items ≡ flat_map ended (take l.k (report_lines l.script l.histories l.transcripts))
+invariant-loop-k l = l.text.items ≡ flat_map line_text (take l.k (report_lines l.script l.histories l.transcripts))

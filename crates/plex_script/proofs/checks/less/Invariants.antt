@@ -1,8 +1,8 @@
 use Rattle.std.proofs.Common.{◌≡◌, drop}
 use Rattle.plex_script.specs.Causes.{units_of}
-use Rattle.plex_script.specs.Reading.{minus}
+use Rattle.plex_script.specs.Reading.{remainder}
 use Rattle.plex_script.proofs.checks.less.Given as goal
 
 abbrev pub invariant-loop-pref : goal.invariant-loop-pref
-invariant-loop-pref l = minus l.left (units_of (drop l.pref-index l.prefs) l.cf) ≡ minus l.units
+invariant-loop-pref l = remainder l.left (units_of (drop l.pref-index l.prefs) l.cf) ≡ remainder l.units
     (units_of l.prefs l.cf)

@@ -1,11 +1,11 @@
 use Rattle.std.proofs.Common.{◌≡◌, ◌++◌, drop, map}
 use Rattle.std.specs.List.{flat_map}
-use Rattle.plex_spell.specs.Words.{ended}
+use Rattle.plex_spell.specs.Words.{line_text}
 use Rattle.plex_plain.specs.PolicyLines.{connector_line}
 use Rattle.plex_script.proofs.printer.put_connectors.Given as goal
 
 -- with the lines that are left the text is what it is to be
 abbrev pub invariant-loop-name : goal.invariant-loop-name
 invariant-loop-name l =
-    l.text.items ++ flat_map ended (map connector_line (drop l.name-index l.connectors))
-    ≡ l.initial.text.items ++ flat_map ended (map connector_line l.connectors)
+    l.text.items ++ flat_map line_text (map connector_line (drop l.name-index l.connectors))
+    ≡ l.initial.text.items ++ flat_map line_text (map connector_line l.connectors)

@@ -1,11 +1,11 @@
 use Rattle.std.proofs.Common.{◌≡◌, ◌++◌, drop, map}
 use Rattle.std.specs.List.{flat_map}
-use Rattle.plex_spell.specs.Words.{ended}
+use Rattle.plex_spell.specs.Words.{line_text}
 use Rattle.plex_script.specs.Printed.{body_line}
 use Rattle.plex_script.proofs.printer.put_lines.Given as goal
 
 -- with the lines that are left the text is what it is to be
 abbrev pub invariant-loop-line : goal.invariant-loop-line
 invariant-loop-line l =
-    l.text.items ++ flat_map ended (map (body_line l.script) (drop l.line-index l.lines))
-    ≡ l.initial.text.items ++ flat_map ended (map (body_line l.script) l.lines)
+    l.text.items ++ flat_map line_text (map (body_line l.script) (drop l.line-index l.lines))
+    ≡ l.initial.text.items ++ flat_map line_text (map (body_line l.script) l.lines)

@@ -1,11 +1,11 @@
 use Rattle.std.proofs.Common.{◌≡◌, ◌++◌, drop, map}
 use Rattle.std.specs.List.{flat_map}
-use Rattle.plex_spell.specs.Words.{ended}
+use Rattle.plex_spell.specs.Words.{line_text}
 use Rattle.plex_plain.specs.PolicyLines.{pref_line}
 use Rattle.plex_script.proofs.printer.put_prefs.Given as goal
 
 -- with the lines that are left the text is what it is to be
 abbrev pub invariant-loop-pref : goal.invariant-loop-pref
 invariant-loop-pref l =
-    l.text.items ++ flat_map ended (map (pref_line l.form) (drop l.pref-index l.prefs))
-    ≡ l.initial.text.items ++ flat_map ended (map (pref_line l.form) l.prefs)
+    l.text.items ++ flat_map line_text (map (pref_line l.form) (drop l.pref-index l.prefs))
+    ≡ l.initial.text.items ++ flat_map line_text (map (pref_line l.form) l.prefs)

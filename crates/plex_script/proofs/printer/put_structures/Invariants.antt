@@ -1,11 +1,11 @@
 use Rattle.std.proofs.Common.{◌≡◌, ◌++◌, drop}
 use Rattle.std.specs.List.{flat_map}
-use Rattle.plex_spell.specs.Words.{ended}
+use Rattle.plex_spell.specs.Words.{line_text}
 use Rattle.plex_plain.specs.PolicyLines.{structure_lines}
 use Rattle.plex_script.proofs.printer.put_structures.Given as goal
 
 -- with the lines that are left the text is what it is to be
 abbrev pub invariant-loop-form : goal.invariant-loop-form
 invariant-loop-form l =
-    l.text.items ++ flat_map ended (flat_map structure_lines (drop l.form-index l.structures))
-    ≡ l.initial.text.items ++ flat_map ended (flat_map structure_lines l.structures)
+    l.text.items ++ flat_map line_text (flat_map structure_lines (drop l.form-index l.structures))
+    ≡ l.initial.text.items ++ flat_map line_text (flat_map structure_lines l.structures)

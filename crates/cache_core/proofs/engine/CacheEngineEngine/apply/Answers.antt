@@ -5,14 +5,15 @@ use Rattle.cache_model.specs.Contents.{Content, IsContent}
 use Rattle.cache_model.specs.Step.{after, victims}
 use Rattle.cache_model.proofs.ContentLaws.{content-done}
 use Rattle.cache_core.specs.Plans.{plan_for}
-use Rattle.cache_core.specs.Seen.{Seen, content_of}
+use Rattle.cache_core.specs.EngineView.{EngineView, content_of}
 use Rattle.cache_core.proofs.PlanLaws.{plan_taken, plan_accepted, spared_victims}
 use Rattle.cache_core.proofs.engine.CacheEngineEngine.apply.Goals as goal
 
 pub act-requires-clause-spared : goal.act-requires-clause-spared
 act-requires-clause-spared c =
     let e = c.self.inside in
-    let planned = subst (λ (s : Seen). s.plan ≡ Some (plan_for s.held.shape.vector s.held.caps s.held.state c.args.by
+    let planned = subst (λ (s : EngineView). s.plan ≡ Some (plan_for s.held.shape.vector s.held.caps s.held.state
+    c.args.by
     c.args.cmd.now)) (sym c.self.view_is) c.requires.ready.planned in
     let is = plan_taken c.take.result e.plan c.in-Some.plan (plan_for e.shape.vector e.caps (content_of e) c.args.by
     c.args.cmd.now) c.take.ensures.value c.in-Some.is planned in
@@ -24,7 +25,8 @@ act-requires-clause-spared c =
 pub act-requires-clause-copied : goal.act-requires-clause-copied
 act-requires-clause-copied c =
     let e = c.self.inside in
-    let planned = subst (λ (s : Seen). s.plan ≡ Some (plan_for s.held.shape.vector s.held.caps s.held.state c.args.by
+    let planned = subst (λ (s : EngineView). s.plan ≡ Some (plan_for s.held.shape.vector s.held.caps s.held.state
+    c.args.by
     c.args.cmd.now)) (sym c.self.view_is) c.requires.ready.planned in
     let is = plan_taken c.take.result e.plan c.in-Some.plan (plan_for e.shape.vector e.caps (content_of e) c.args.by
     c.args.cmd.now) c.take.ensures.value c.in-Some.is planned in
@@ -34,7 +36,8 @@ act-requires-clause-copied c =
 pub invariant_of-self : goal.invariant_of-self
 invariant_of-self c =
     let e = c.self.inside in
-    let planned = subst (λ (s : Seen). s.plan ≡ Some (plan_for s.held.shape.vector s.held.caps s.held.state c.args.by
+    let planned = subst (λ (s : EngineView). s.plan ≡ Some (plan_for s.held.shape.vector s.held.caps s.held.state
+    c.args.by
     c.args.cmd.now)) (sym c.self.view_is) c.requires.ready.planned in
     let is = plan_taken c.take.result e.plan c.in-Some.plan (plan_for e.shape.vector e.caps (content_of e) c.args.by
     c.args.cmd.now) c.take.ensures.value c.in-Some.is planned in

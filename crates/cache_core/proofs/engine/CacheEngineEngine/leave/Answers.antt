@@ -2,13 +2,14 @@ use Rattle.std.proofs.Common.{◌≤◌, length, sym, subst, arith}
 use Rattle.list_laws.proofs.FilterLaws.{length-filter-le}
 use Rattle.cache_regs.specs.Registrations.{is_of}
 use Rattle.cache_model.proofs.ContentLaws.{content-without}
-use Rattle.cache_core.specs.Seen.{Seen, content_of}
+use Rattle.cache_core.specs.EngineView.{EngineView, content_of}
 use Rattle.cache_core.proofs.engine.CacheEngineEngine.leave.Goals as goal
 
 pub drop_conn-requires : goal.drop_conn-requires
 drop_conn-requires c =
     let room : length c.self.inside.regs.regs ≤ c.args.out.now.bits.room =
-    subst (λ (e : Seen). length e.held.state.regs ≤ c.args.out.now.bits.room) (sym c.self.view_is) c.requires.ready in
+    subst (λ (e : EngineView). length e.held.state.regs ≤ c.args.out.now.bits.room)
+    (sym c.self.view_is) c.requires.ready in
     omega (arith, room, length-filter-le (is_of c.args.conn) c.self.inside.regs.regs)
 
 pub invariant_of-self : goal.invariant_of-self

@@ -4,7 +4,7 @@ use Rattle.cache_model.specs.declared.items.CacheItem.{CacheItem}
 use Rattle.cache_model.specs.Rows.{may_precede, names_apart}
 use Rattle.cache_model.specs.Contents.{IsContent}
 use Rattle.cache_model.proofs.EngineLaws.{alone-next, content-next}
-use Rattle.cache_core.specs.Seen.{Seen, content_of}
+use Rattle.cache_core.specs.EngineView.{EngineView, content_of}
 use Rattle.cache_core.proofs.NextLaws.{before_next}
 use Rattle.cache_core.proofs.PlanLaws.{either_way}
 use Rattle.cache_core.proofs.engine.CacheEngineEngine.place.Goals as goal
@@ -13,7 +13,7 @@ pub push-requires-clause-last : goal.push-requires-clause-last
 push-requires-clause-last c =
     let next = c.requires.next in
     let first : next.whole.rows ≡ c.self.inside.rows.rows ++ c.args.item ∷ next.others =
-    subst (λ (e : Seen). next.whole.rows ≡ e.held.state.rows ++ c.args.item ∷ next.others)
+    subst (λ (e : EngineView). next.whole.rows ≡ e.held.state.rows ++ c.args.item ∷ next.others)
     (sym c.self.view_is) next.first in
     before_next may_precede c.self.inside.rows.rows c.args.item next.others
     (subst (λ (l : List CacheItem). pairwise may_precede l ≡ true) first next.content.directory.ordered)
@@ -22,7 +22,7 @@ pub push-requires-clause-alone : goal.push-requires-clause-alone
 push-requires-clause-alone c =
     let next = c.requires.next in
     let first : next.whole.rows ≡ c.self.inside.rows.rows ++ c.args.item ∷ next.others =
-    subst (λ (e : Seen). next.whole.rows ≡ e.held.state.rows ++ c.args.item ∷ next.others)
+    subst (λ (e : EngineView). next.whole.rows ≡ e.held.state.rows ++ c.args.item ∷ next.others)
     (sym c.self.view_is) next.first in
     alone-next c.self.inside.rows.rows next.others c.args.item
     (subst (λ (l : List CacheItem). pairwise names_apart l ≡ true) first next.content.directory.one_for_name)
@@ -31,9 +31,9 @@ pub invariant_of-self : goal.invariant_of-self
 invariant_of-self c =
     let next = c.requires.next in
     let first : next.whole.rows ≡ c.self.inside.rows.rows ++ c.args.item ∷ next.others =
-    subst (λ (e : Seen). next.whole.rows ≡ e.held.state.rows ++ c.args.item ∷ next.others)
+    subst (λ (e : EngineView). next.whole.rows ≡ e.held.state.rows ++ c.args.item ∷ next.others)
     (sym c.self.view_is) next.first in
-    let whole : IsContent c.self.inside.caps next.whole = subst (λ (e : Seen). IsContent e.held.caps next.whole)
+    let whole : IsContent c.self.inside.caps next.whole = subst (λ (e : EngineView). IsContent e.held.caps next.whole)
     (sym c.self.view_is) next.content in
     record {
       cache = c.self.invariant.cache;

@@ -1,4 +1,4 @@
-use Rattle.cache_core.specs.Seen.{content_of}
+use Rattle.cache_core.specs.EngineView.{content_of}
 use Rattle.cache_model.proofs.EngineLaws.{content-without_last}
 use Rattle.cache_core.proofs.engine.CacheEngineEngine.unplace.Goals as goal
 

@@ -1,5 +1,5 @@
 use Rattle.std.proofs.Common.{rules, [], ap, ◌∙◌}
-use Rattle.cf_turn.specs.Turns.{waiting}
+use Rattle.cf_turn.specs.Turns.{stand_waiting}
 use Rattle.cf_turn.proofs.Steps.{enters}
 use Rattle.cf_turn.proofs.key_lock.KeyLock.enter.Goals as goal
 
@@ -15,5 +15,5 @@ returns g c =
     let made = c.load_new_seat.ensures in
     record {
       name = made.0 ∙ ap (λ l. l.name) c.self.view_is;
-      waits = (λ k. (made.2 k, made.1 k)) ∙ ap (λ l. (waiting l.key, [])) c.self.view_is;
+      waits = (λ k. (made.2 k, made.1 k)) ∙ ap (λ l. (stand_waiting l.key, [])) c.self.view_is;
     }

@@ -1,7 +1,7 @@
 use Rattle.std.proofs.Common.{refl}
-use Rattle.cf_types.specs.Connections.{unconnected}
+use Rattle.cf_types.specs.Connections.{no_connections}
 use Rattle.conn_core.proofs.conns.Conns.new.Goals as goal
 
 pub returns : goal.returns
-unfolding unconnected
+unfolding no_connections
 returns c = refl

@@ -1,7 +1,7 @@
 use Rattle.std.proofs.Common.{ap, ◌∙◌}
 use Rattle.cf_types.specs.declared.numbers.EntryId.{EntryId}
 use Rattle.list_store.specs.Lists.{Lists, record_of, lists_without}
-use Rattle.list_kept.specs.Keeping.{put_back}
+use Rattle.list_kept.specs.ContentView.{put_back}
 use Rattle.list_kept.proofs.ToldLaws.{content_at}
 use Rattle.list_core.proofs.FoundLaws.{found-any, found-put_back}
 use Rattle.list_core.proofs.commands.move_record.act.Goals as goal

@@ -3,7 +3,7 @@ use Rattle.cf_types.proofs.GainsLaws.{gains_none}
 use Rattle.list_model.specs.Contents.{Content, IsContent}
 use Rattle.list_model.proofs.ContentLaws.{content-done}
 use Rattle.list_core.specs.Plans.{plan_for}
-use Rattle.list_core.specs.Seen.{Seen}
+use Rattle.list_core.specs.EngineView.{EngineView}
 use Rattle.list_core.proofs.PlanLaws.{plan_taken, plan_accepted, possible}
 use Rattle.list_core.proofs.engine.ListEngineEngine.apply.Goals.{in-Some-1, in-None-1}
 use Rattle.list_core.proofs.engine.ListEngineEngine.apply.Goals as goal
@@ -11,7 +11,7 @@ use Rattle.list_core.proofs.engine.ListEngineEngine.apply.Goals as goal
 pub act-requires-clause-possible : goal.act-requires-clause-possible
 act-requires-clause-possible c =
     let e = c.self.inside in
-    let planned = subst (λ (s : Seen). s.plan ≡ Some (plan_for s.held.shape s.held.caps s.held.state c.args.by
+    let planned = subst (λ (s : EngineView). s.plan ≡ Some (plan_for s.held.shape s.held.caps s.held.state c.args.by
     c.args.cmd.now)) (sym c.self.view_is) c.requires.ready.planned in
     let is = plan_taken c.take.result e.plan c.in-Some.plan (plan_for e.shape e.caps e.kept.content c.args.by
     c.args.cmd.now) c.take.ensures.value c.in-Some.is planned in
@@ -22,7 +22,7 @@ act-requires-clause-possible c =
 pub act-requires-clause-copied : goal.act-requires-clause-copied
 act-requires-clause-copied c =
     let e = c.self.inside in
-    let planned = subst (λ (s : Seen). s.plan ≡ Some (plan_for s.held.shape s.held.caps s.held.state c.args.by
+    let planned = subst (λ (s : EngineView). s.plan ≡ Some (plan_for s.held.shape s.held.caps s.held.state c.args.by
     c.args.cmd.now)) (sym c.self.view_is) c.requires.ready.planned in
     let is = plan_taken c.take.result e.plan c.in-Some.plan (plan_for e.shape e.caps e.kept.content c.args.by
     c.args.cmd.now) c.take.ensures.value c.in-Some.is planned in
@@ -32,7 +32,7 @@ act-requires-clause-copied c =
 pub invariant_of-self : goal.invariant_of-self
 invariant_of-self c =
     let e = c.self.inside in
-    let planned = subst (λ (s : Seen). s.plan ≡ Some (plan_for s.held.shape s.held.caps s.held.state c.args.by
+    let planned = subst (λ (s : EngineView). s.plan ≡ Some (plan_for s.held.shape s.held.caps s.held.state c.args.by
     c.args.cmd.now)) (sym c.self.view_is) c.requires.ready.planned in
     let is = plan_taken c.take.result e.plan c.in-Some.plan (plan_for e.shape e.caps e.kept.content c.args.by
     c.args.cmd.now) c.take.ensures.value c.in-Some.is planned in

@@ -9,7 +9,7 @@ use Rattle.list_model.specs.Items.{content_with}
 use Rattle.list_model.specs.Meaning.{list_meaning}
 use Rattle.list_model.proofs.EngineLaws.{content-place, next-fits}
 use Rattle.list_core.specs.Rows.{IsPlaceable}
-use Rattle.list_core.specs.Seen.{Seen}
+use Rattle.list_core.specs.EngineView.{EngineView}
 use Rattle.list_core.proofs.PlanLaws.{either_way}
 use Rattle.list_core.proofs.engine.ListEngineEngine.place.Goals as goal
 
@@ -23,14 +23,14 @@ placeable shape caps content (Row header id name key body adj) comes =
 pub place_item-requires : goal.place_item-requires
 place_item-requires c =
     let e = c.self.inside in
-    let next = subst (λ (s : Seen). IsNextItem list_meaning (IsContent s.held.shape s.held.caps) s.held.shape
+    let next = subst (λ (s : EngineView). IsNextItem list_meaning (IsContent s.held.shape s.held.caps) s.held.shape
     s.held.state c.args.item) (sym c.self.view_is) c.requires.next in
     placeable e.shape e.caps e.kept.content c.args.item next
 
 pub invariant_of-self : goal.invariant_of-self
 invariant_of-self c =
     let e = c.self.inside in
-    let next = subst (λ (s : Seen). IsNextItem list_meaning (IsContent s.held.shape s.held.caps) s.held.shape
+    let next = subst (λ (s : EngineView). IsNextItem list_meaning (IsContent s.held.shape s.held.caps) s.held.shape
     s.held.state c.args.item) (sym c.self.view_is) c.requires.next in
     record {
       list = c.self.invariant.list;

@@ -10,7 +10,7 @@ use Rattle.list_watch.specs.Rows.{monitors_of, rows_turned}
 use Rattle.list_watch.proofs.BitLaws.{monitors-turned}
 use Rattle.list_model.specs.Contents.{has_records}
 use Rattle.list_model.proofs.StoreLaws.{full-others}
-use Rattle.list_kept.specs.Keeping.{Keeping}
+use Rattle.list_kept.specs.ContentView.{ContentView}
 use Rattle.list_kept.specs.Told.{is_told}
 use Rattle.list_kept.proofs.ToldLaws.{told-one, gains-told, sym_test, content_at}
 use Rattle.list_kept.proofs.keeping.Kept.remove.Goals as goal
@@ -35,7 +35,7 @@ pub unreachable-requires : goal.unreachable-requires
 unreachable-requires c =
     let lists = c.self.inside.store.lists in
     let there : list_any (is_id c.args.id) (all_records lists) ≡ true =
-    subst (λ (k : Keeping). list_any (is_id c.args.id) (all_records k.content.lists) ≡ true) (sym c.self.view_is)
+    subst (λ (k : ContentView). list_any (is_id c.args.id) (all_records k.content.lists) ≡ true) (sym c.self.view_is)
     c.requires.there in
     false≢true (sym (unplaced c.args.id lists (sym c.whereabouts.ensures.spot ∙ c.in-None.is))
     ∙ sym (any_all (is_id c.args.id) lists) ∙ there)

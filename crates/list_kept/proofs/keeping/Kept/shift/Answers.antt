@@ -9,7 +9,7 @@ use Rattle.list_watch.specs.declared.monitors.Watched.{Watched}
 use Rattle.list_watch.specs.Rows.{monitors_of, rows_turned}
 use Rattle.list_watch.proofs.BitLaws.{monitors-turned, gains_two}
 use Rattle.list_model.specs.Contents.{has_records}
-use Rattle.list_kept.specs.Keeping.{Keeping}
+use Rattle.list_kept.specs.ContentView.{ContentView}
 use Rattle.list_kept.specs.Told.{is_told}
 use Rattle.list_kept.proofs.ToldLaws.{told-two, gains-told, content_at, full-put_back}
 use Rattle.list_kept.proofs.keeping.Kept.shift.Goals as goal
@@ -39,7 +39,7 @@ pub unreachable-requires : goal.unreachable-requires
 unreachable-requires c =
     let lists = c.self.inside.store.lists in
     let there : list_any (is_id c.args.id) (all_records lists) ≡ true =
-    subst (λ (k : Keeping). list_any (is_id c.args.id) (all_records k.content.lists) ≡ true) (sym c.self.view_is)
+    subst (λ (k : ContentView). list_any (is_id c.args.id) (all_records k.content.lists) ≡ true) (sym c.self.view_is)
     c.requires.there in
     false≢true (sym (unplaced c.args.id lists (sym c.whereabouts.ensures.spot ∙ c.in-None.is))
     ∙ sym (any_all (is_id c.args.id) lists) ∙ there)

@@ -6,7 +6,7 @@ use Rattle.std.specs.declared.alloc.Global.{Global}
 use Rattle.list_laws.specs.Pairwise.{pairwise}
 use Rattle.list_store.specs.declared.records.Rec.{Rec}
 use Rattle.list_store.specs.Lists.{all_records, ids_apart}
-use Rattle.list_store.specs.Stored.{lists_in, is_few}
+use Rattle.list_store.specs.StoreView.{lists_in, is_few}
 use Rattle.list_store.proofs.store.Store.copy.Goals as goal
 
 pub invariant_of-result : goal.invariant_of-result

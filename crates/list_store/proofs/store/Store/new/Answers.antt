@@ -6,7 +6,7 @@ use Rattle.std.specs.declared.alloc.Global.{Global}
 use Rattle.list_laws.specs.Pairwise.{pairwise}
 use Rattle.list_store.specs.declared.records.Rec.{Rec}
 use Rattle.list_store.specs.Lists.{all_records, ids_apart}
-use Rattle.list_store.specs.Stored.{lists_in, is_few}
+use Rattle.list_store.specs.StoreView.{lists_in, is_few}
 use Rattle.list_store.proofs.VecLaws.{few-replicate, all-replicate}
 use Rattle.list_store.proofs.store.Store.new.Goals as goal
 

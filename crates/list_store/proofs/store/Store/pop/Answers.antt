@@ -4,7 +4,7 @@ use Rattle.std.proofs.lemmas.List.{length-take}
 use Rattle.list_laws.specs.Pairwise.{pairwise}
 use Rattle.list_store.specs.declared.records.Rec.{Rec}
 use Rattle.list_store.specs.Lists.{all_records, ids_apart}
-use Rattle.list_store.specs.Stored.{lists_in, is_few, IsLastFull}
+use Rattle.list_store.specs.StoreView.{lists_in, is_few, IsLastFull}
 use Rattle.list_store.proofs.RecordLaws.{list_of}
 use Rattle.list_store.proofs.VecLaws.{few-less}
 use Rattle.list_store.proofs.PlaceLaws.{first_records, popped, apart-first}

@@ -3,7 +3,7 @@ use Rattle.std.specs.List.{list_any}
 use Rattle.list_laws.specs.Pairwise.{pairwise}
 use Rattle.list_store.specs.declared.records.Rec.{Rec}
 use Rattle.list_store.specs.Lists.{is_id, all_records, ids_apart}
-use Rattle.list_store.specs.Stored.{Stored, lists_in}
+use Rattle.list_store.specs.StoreView.{StoreView, lists_in}
 use Rattle.list_store.proofs.PlaceLaws.{apart-pushed}
 use Rattle.list_store.proofs.RecordLaws.{list_of}
 use Rattle.list_store.proofs.store.Store.push.Goals as goal
@@ -16,10 +16,10 @@ either (Err rec) P old pushed new ok err h k = subst P (sym err) h
 pub invariant_of-self : goal.invariant_of-self
 invariant_of-self c =
     let lists = lists_in c.self.inside.lists.items in
-    let header : c.args.header < length lists = subst (λ (s : Stored). c.args.header < length s.lists)
+    let header : c.args.header < length lists = subst (λ (s : StoreView). c.args.header < length s.lists)
     (sym c.self.view_is) c.requires.header in
     let alone : list_any (is_id c.args.rec.id) (all_records lists) ≡ false =
-    subst (λ (s : Stored). list_any (is_id c.args.rec.id) (all_records s.lists) ≡ false) (sym c.self.view_is)
+    subst (λ (s : StoreView). list_any (is_id c.args.rec.id) (all_records s.lists) ≡ false) (sym c.self.view_is)
     c.requires.alone in
     record {
       apart =

@@ -6,7 +6,7 @@ use Rattle.cf_types.specs.declared.numbers.EntryId.{EntryId}
 use Rattle.list_laws.specs.Pairwise.{pairwise}
 use Rattle.list_store.specs.declared.records.Rec.{Rec}
 use Rattle.list_store.specs.Lists.{is_id, all_records, lists_replaced, ids_apart}
-use Rattle.list_store.specs.Stored.{Stored, lists_in, is_few}
+use Rattle.list_store.specs.StoreView.{StoreView, lists_in, is_few}
 use Rattle.list_store.proofs.RecordLaws.{list_of, has_any, any_all, apart-changed}
 use Rattle.list_store.proofs.VecLaws.{few-less}
 use Rattle.list_store.proofs.PlaceLaws.{IsPlaced, placed_from, unplaced_from, record_there, replaced_there}
@@ -57,7 +57,7 @@ unreachable-requires c =
     unplaced_from c.args.id c.self.inside.lists.items (rw c.as_slice.ensures.value at (sym c.places_of.ensures
     ∙ c.in-None.is)) in
     let there : list_any (is_id c.args.id) (all_records lists) ≡ true =
-    subst (λ (s : Stored). list_any (is_id c.args.id) (all_records s.lists) ≡ true) (sym c.self.view_is)
+    subst (λ (s : StoreView). list_any (is_id c.args.id) (all_records s.lists) ≡ true) (sym c.self.view_is)
     c.requires.there in
     false≢true (sym absent ∙ sym (any_all (is_id c.args.id) lists) ∙ there)
 

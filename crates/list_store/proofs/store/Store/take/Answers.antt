@@ -5,7 +5,7 @@ use Rattle.list_laws.specs.Pairwise.{pairwise}
 use Rattle.list_laws.proofs.FilterLaws.{find_none}
 use Rattle.list_store.specs.declared.records.Rec.{Rec}
 use Rattle.list_store.specs.Lists.{is_id, all_records, lists_without, ids_apart}
-use Rattle.list_store.specs.Stored.{lists_in, is_few}
+use Rattle.list_store.specs.StoreView.{lists_in, is_few}
 use Rattle.list_store.proofs.RecordLaws.{list_of, has_any, any_all, apart-without}
 use Rattle.list_store.proofs.VecLaws.{few-less}
 use Rattle.list_store.proofs.PlaceLaws.{IsPlaced, placed_from, unplaced_from, record_there, taken_there, without_absent}

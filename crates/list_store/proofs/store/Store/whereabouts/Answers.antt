@@ -1,6 +1,6 @@
 use Rattle.std.proofs.Common.{◌≡◌, Some, None, option_map, length, [], sym, ap, ◌∙◌, arith}
 use Rattle.std.proofs.lemmas.Bool.{ltb-true}
-use Rattle.list_store.specs.Stored.{lists_in, places_of, is_few}
+use Rattle.list_store.specs.StoreView.{lists_in, places_of, is_few}
 use Rattle.list_store.proofs.RecordLaws.{list_of, list_of-get_or, list_all-get_or}
 use Rattle.list_store.proofs.PlaceLaws.{placed_from, spot-places, as_spot}
 use Rattle.list_store.proofs.store.Store.whereabouts.Goals as goal

@@ -3,14 +3,14 @@ use Rattle.list_laws.proofs.FilterLaws.{length-filter-le}
 use Rattle.list_watch.specs.declared.monitors.Watched.{Watched}
 use Rattle.list_watch.specs.Monitors.{is_of, AreMonitors}
 use Rattle.list_watch.specs.Rows.{monitors_of}
-use Rattle.list_watch.specs.Watching.{Watching}
+use Rattle.list_watch.specs.WatchView.{WatchView}
 use Rattle.list_watch.proofs.MonitorLaws.{monitors-filter}
 use Rattle.list_watch.proofs.watch.Watch.drop_conn.Goals as goal
 
 pub end-requires-clause-room : goal.end-requires-clause-room
 end-requires-clause-room c =
     let room : length c.self.inside.rows.items ≤ c.args.out.now.bits.room =
-    subst (λ (w : Watching). length w.rows ≤ c.args.out.now.bits.room) (sym c.self.view_is) c.requires in
+    subst (λ (w : WatchView). length w.rows ≤ c.args.out.now.bits.room) (sym c.self.view_is) c.requires in
     omega (
       arith,
       room,

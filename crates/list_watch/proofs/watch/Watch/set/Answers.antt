@@ -1,7 +1,7 @@
 use Rattle.std.proofs.Common.{◌≡◌, ◌≤◌, sym, subst, arith}
 use Rattle.list_watch.specs.declared.monitors.Watched.{Watched}
 use Rattle.list_watch.specs.Rows.{rows_with}
-use Rattle.list_watch.specs.Watching.{Watching}
+use Rattle.list_watch.specs.WatchView.{WatchView}
 use Rattle.list_watch.proofs.BitLaws.{gains_with}
 use Rattle.list_watch.proofs.MonitorLaws.{one_elsewhere, rows-with, monitors-with}
 use Rattle.list_watch.proofs.watch.Watch.set.Goals as goal
@@ -32,7 +32,7 @@ set_there c = rw (c.put.ensures.rows, c.end.ensures.rows) (rows-with c.args.conn
 
 pub invariant_of-self : goal.invariant_of-self
 invariant_of-self c =
-    let place : 1 ≤ _ = subst (λ (w : Watching). 1 ≤ w.room) (sym c.self.view_is) c.requires.place in
+    let place : 1 ≤ _ = subst (λ (w : WatchView). 1 ≤ w.room) (sym c.self.view_is) c.requires.place in
     record {
       monitors = rw (set_there c) (monitors-with c.args.conn c.args.index c.args.header c.args.full
           c.self.inside.rows.items c.self.invariant.monitors);

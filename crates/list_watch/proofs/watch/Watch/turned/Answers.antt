@@ -4,7 +4,7 @@ use Rattle.list_watch.specs.declared.monitors.Watched.{Watched}
 use Rattle.list_watch.specs.Monitors.{AreMonitors}
 use Rattle.list_watch.specs.Rows.{monitors_of}
 use Rattle.list_watch.specs.Ends.{is_turned}
-use Rattle.list_watch.specs.Watching.{Watching}
+use Rattle.list_watch.specs.WatchView.{WatchView}
 use Rattle.list_watch.proofs.BitLaws.{gains_turned}
 use Rattle.list_watch.proofs.MonitorLaws.{monitors-turn}
 use Rattle.list_watch.proofs.watch.Watch.turned.Goals as goal
@@ -20,7 +20,7 @@ invariant_of-self c =
 pub tell-requires : goal.tell-requires
 tell-requires c =
     let room : length c.self.inside.rows.items ≤ c.args.out.now.bits.room =
-    subst (λ (w : Watching). length w.rows ≤ c.args.out.now.bits.room) (sym c.self.view_is) c.requires in
+    subst (λ (w : WatchView). length w.rows ≤ c.args.out.now.bits.room) (sym c.self.view_is) c.requires in
     rw c.deref.ensures.value (omega (
       arith,
       room,

@@ -2,7 +2,7 @@ use Rattle.std.proofs.Common.{◌≡◌, ◌<◌, ◌+◌, length, Some, None, s
 use Rattle.lock_model.specs.Step.{cause}
 use Rattle.lock_model.proofs.CommandLaws.{content-done, items-done}
 use Rattle.lock_core.specs.Plans.{plan_for}
-use Rattle.lock_core.specs.Seen.{Seen}
+use Rattle.lock_core.specs.EngineView.{EngineView}
 use Rattle.lock_core.proofs.EngineLaws.{taken_is, plan_accepted}
 use Rattle.lock_core.proofs.engine.LockEngineEngine.apply.Goals as goal
 
@@ -13,10 +13,10 @@ invariant_of-self-in-None-refusal c =
     let cmd = c.args.cmd.now in
     let content = e.locks.content in
     let planned : e.plan ≡ Some (plan_for e.caps content by cmd) =
-    subst (λ (s : Seen). s.plan ≡ Some (plan_for s.held.caps s.stock.content by cmd)) (sym c.self.view_is)
+    subst (λ (s : EngineView). s.plan ≡ Some (plan_for s.held.caps s.stock.content by cmd)) (sym c.self.view_is)
     c.requires.ready.planned in
     let counted : length content.interests + length content.waiters < 4294967295 =
-    subst (λ (s : Seen). length s.stock.content.interests + length s.stock.content.waiters < 4294967295)
+    subst (λ (s : EngineView). length s.stock.content.interests + length s.stock.content.waiters < 4294967295)
     (sym c.self.view_is) c.requires.ready.counted in
     let is = taken_is c.take.result e.plan c.in-Some.plan (plan_for e.caps content by cmd) c.take.ensures.value
     c.in-Some.is planned in

@@ -4,10 +4,10 @@ use Rattle.lock_model.specs.Contents.{Content, IsContent}
 use Rattle.lock_queue.specs.declared.waiters.Waiter.{Waiter}
 use Rattle.lock_queue.specs.Waiters.{waiters_without_conn}
 use Rattle.lock_model.specs.Interests.{Interest}
-use Rattle.lock_model.specs.Departures.{departed, interests_left, resources_of}
+use Rattle.lock_model.specs.Departures.{departure_of, interests_left, resources_of}
 use Rattle.lock_model.specs.Grants.{grant_each}
 use Rattle.lock_model.proofs.DepartureLaws.{led_departed}
-use Rattle.lock_core.specs.Seen.{Seen, IsCounted}
+use Rattle.lock_core.specs.EngineView.{EngineView, IsCounted}
 use Rattle.lock_core.proofs.EngineLaws.{taken_is}
 use Rattle.lock_core.proofs.engine.LockEngineEngine.leave.Goals as goal
 
@@ -16,7 +16,7 @@ invariant_of-self c =
     let e = c.self.inside in
     let content = e.locks.content in
     let planned : e.leaving ≡ Some (resources_of c.args.conn content) =
-    subst (λ (s : Seen). s.leaving ≡ Some (resources_of c.args.conn s.stock.content)) (sym c.self.view_is)
+    subst (λ (s : EngineView). s.leaving ≡ Some (resources_of c.args.conn s.stock.content)) (sym c.self.view_is)
     c.requires.ready.planned in
     let rs = resources_of c.args.conn content in
     let same : c.in-Some.resources ≡ rs = taken_is c.take.result e.leaving c.in-Some.resources rs c.take.ensures.value
@@ -28,7 +28,7 @@ invariant_of-self c =
     (waiters_without_conn c.args.conn content.waiters) =
     ap (λ (l : List Interest). content_of l c.leave.new.self.content.waiters) c.leave.ensures.interests
     ∙ ap (content_of (interests_left c.args.conn c.args.keep content.interests)) c.leave.ensures.waiters in
-    let left : c.grant_each.new.locks.content ≡ (departed c.args.conn c.args.keep content).content =
+    let left : c.grant_each.new.locks.content ≡ (departure_of c.args.conn c.args.keep content).content =
     c.grant_each.ensures.content
     ∙ ap (λ (l : List Resource). (grant_each l c.leave.new.self.content).content) (c.items.ensures ∙ same)
     ∙ ap (λ (k : Content). (grant_each rs k).content) parted in

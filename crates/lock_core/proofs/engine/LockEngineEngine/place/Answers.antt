@@ -2,7 +2,7 @@ use Rattle.std.proofs.Common.{◌≡◌, ◌++◌, ◌∷◌, sym, ap, subst, �
 use Rattle.engine_api.specs.Meaning.{Held}
 use Rattle.lock_model.specs.Contents.{Content, IsContent, items}
 use Rattle.lock_model.proofs.ItemLaws.{content-next}
-use Rattle.lock_core.specs.Seen.{Seen}
+use Rattle.lock_core.specs.EngineView.{EngineView}
 use Rattle.lock_core.proofs.EngineLaws.{placed-next, kept_either, ok_weaker}
 use Rattle.lock_core.proofs.engine.LockEngineEngine.place.Goals as goal
 
@@ -11,9 +11,9 @@ invariant_of-self c =
     let e = c.self.inside in
     let next = c.requires.next in
     let first : items next.whole ≡ items e.locks.content ++ c.args.item ∷ next.others =
-    subst (λ (s : Seen). items next.whole ≡ items s.held.state ++ c.args.item ∷ next.others) (sym c.self.view_is)
+    subst (λ (s : EngineView). items next.whole ≡ items s.held.state ++ c.args.item ∷ next.others) (sym c.self.view_is)
     next.first in
-    let whole : IsContent e.caps next.whole = subst (λ (s : Seen). IsContent s.held.caps next.whole)
+    let whole : IsContent e.caps next.whole = subst (λ (s : EngineView). IsContent s.held.caps next.whole)
     (sym c.self.view_is) next.content in
     let placed = placed-next e.caps e.locks.content next.whole c.args.item next.others whole first in
     let kept = kept_either e.caps c.place.result e.locks.content c.place.new.self.content c.args.item
@@ -33,9 +33,9 @@ returns-clause-ok c =
     let e = c.self.inside in
     let next = c.requires.next in
     let first : items next.whole ≡ items e.locks.content ++ c.args.item ∷ next.others =
-    subst (λ (s : Seen). items next.whole ≡ items s.held.state ++ c.args.item ∷ next.others) (sym c.self.view_is)
+    subst (λ (s : EngineView). items next.whole ≡ items s.held.state ++ c.args.item ∷ next.others) (sym c.self.view_is)
     next.first in
-    let whole : IsContent e.caps next.whole = subst (λ (s : Seen). IsContent s.held.caps next.whole)
+    let whole : IsContent e.caps next.whole = subst (λ (s : EngineView). IsContent s.held.caps next.whole)
     (sym c.self.view_is) next.content in
     let placed = placed-next e.caps e.locks.content next.whole c.args.item next.others whole first in
     let held : Content → Held Content = λ (k : Content). record { shape = e.shape; caps = e.caps; state = k } in

@@ -2,7 +2,7 @@ use Rattle.std.proofs.Common.{◌≡◌, filter, rules}
 use Rattle.std.proofs.lemmas.Fn.{filter_same}
 use Rattle.lock_table.specs.declared.holdings.Held.{Held}
 use Rattle.lock_model.specs.Departures.{stays}
-use Rattle.lock_interests.specs.Owned.{with_record}
+use Rattle.lock_interests.specs.InterestsView.{with_record}
 use Rattle.lock_interests.proofs.JoinLaws.{joined-kept, joined-gone}
 use Rattle.lock_interests.proofs.interests.Interests.leave.Goals as goal
 

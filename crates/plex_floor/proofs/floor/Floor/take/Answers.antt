@@ -2,7 +2,7 @@ use Rattle.std.proofs.Common.{List, Option, set, sym, ◌∙◌, ap, subst, arit
 use Rattle.any_cell.specs.Passes.{NoteShown}
 use Rattle.desk_model.specs.Boards.{IsTrayOf, note_in}
 use Rattle.desk_model.specs.Turns.{AtWork}
-use Rattle.desk_model.specs.Floors.{Floor, worker_of, with_worker, taken}
+use Rattle.desk_model.specs.Floors.{Floor, worker_of, with_worker, worker_after_take}
 use Rattle.plex_floor.specs.Standing.{floor_of}
 use Rattle.plex_floor.proofs.FloorLaws.{desk_inside, shown_inside, desk_fits, worker_is, changed_only, changed_fits, tray_is, on_ok}
 use Rattle.plex_floor.proofs.floor.Floor.take.Goals as goal
@@ -46,13 +46,13 @@ returns-clause-took g c =
     c.self.inside.last.items
     c.self.view_is c.self.invariant c.args.by c.from-at.result c.take.new.desk c.take.new.shown c.from-at.ensures
     ∙ ap (λ (w : AtWork). with_worker c.args.by w c.args.self.now) (took
-    ∙ ap (λ (w : AtWork). taken c.args.on (note_in c.self.inside.tray c.args.on) w)
+    ∙ ap (λ (w : AtWork). worker_after_take c.args.on (note_in c.self.inside.tray c.args.on) w)
     (sym (worker_is c.args.self.now c.self.inside.desks.items c.self.inside.shown.items c.self.inside.tray
     c.self.inside.last.items
     c.self.view_is c.self.invariant c.args.board.now c.requires.floor c.args.by c.from-at.result c.requires.by
     c.from-at.ensures _ _
     c.index_mut.ensures.value c.index_mut-2.ensures.value))
-    ∙ ap (λ (t : List (Option NoteShown)). taken c.args.on (note_in t c.args.on)
+    ∙ ap (λ (t : List (Option NoteShown)). worker_after_take c.args.on (note_in t c.args.on)
     (worker_of c.args.self.now c.args.by)) (tray_is c.args.self.now c.self.inside.desks.items
     c.self.inside.shown.items c.self.inside.tray c.self.inside.last.items
     c.self.view_is c.self.invariant)))

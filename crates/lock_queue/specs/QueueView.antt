@@ -6,12 +6,12 @@ use Rattle.lock_queue.specs.declared.queue.Queue.TheInside.{Inside}
 use Rattle.lock_queue.specs.Waiters.{IsQueue}
 
 -- the waiters, and for how many more there is room
-pub record Waiting : Type 0 where
+pub record QueueView : Type 0 where
   pub waiters : List Waiter
   pub room : ℕ
 
-abbrev pub waiting : Inside → Waiting
-waiting q =
+abbrev pub queue_view : Inside → QueueView
+queue_view q =
     record {
       waiters = q.waiters.items;
       room = min (vec_capacity q.waiters - vec_len q.waiters) (4294967295 - vec_len q.waiters);

@@ -6,13 +6,13 @@ use Rattle.list_model.specs.Keys.{key_up_to}
 use Rattle.list_watch.specs.Rows.{monitors_of}
 use Rattle.list_store.specs.Lists.{Lists}
 use Rattle.list_model.specs.Lists.{with_record}
-use Rattle.list_model.specs.Commands.Move.{moved}
+use Rattle.list_model.specs.Commands.Move.{with_new_key}
 use Rattle.list_model.specs.Contents.{Content}
 use Rattle.list_kept.specs.declared.keeping.Kept.TheInside.{Inside}
 use Rattle.list_kept.specs.Told.{AreTold}
 
 -- the content, and for how many more records and monitors there is room
-pub record Keeping : Type 0 where
+pub record ContentView : Type 0 where
   pub content : Content
   pub record_room : ℕ
   pub monitor_room : ℕ
@@ -27,8 +27,8 @@ content_of k =
       next = k.next;
     }
 
-abbrev pub keeping : Inside → Keeping
-keeping k =
+abbrev pub content_view : Inside → ContentView
+content_view k =
     record { content = content_of k; record_room = k.store.room; monitor_room = k.watch.room }
 
 -- each connector was told of the header that it monitors
@@ -36,7 +36,7 @@ abbrev pub IsKept : Inside → Type 0
 IsKept k = AreTold k.store.lists k.watch.rows
 
 -- there is room for a record, a monitor and the bits that change, and an id
-pub record IsRoomy (k : Keeping) (bit_room : ℕ) : Type 0 where
+pub record IsRoomy (k : ContentView) (bit_room : ℕ) : Type 0 where
   pub records : 1 ≤ k.record_room
   pub monitors : 1 ≤ k.monitor_room
   pub bits : length k.content.monitors + length k.content.monitors + 2 ≤ bit_room
@@ -50,4 +50,4 @@ comes_behind head key other =
 -- a record that was taken out comes to its place in a header, with a new key if one is given
 abbrev pub put_back : Bool → ℕ → Option Key16 → Option Rec → Lists → Lists
 put_back head header key None lists = lists
-put_back head header key (Some rec) lists = with_record head header (moved key rec) lists
+put_back head header key (Some rec) lists = with_record head header (with_new_key key rec) lists

@@ -6,12 +6,12 @@ use Rattle.lock_table.specs.declared.table.Table.TheInside.{Inside}
 use Rattle.lock_table.specs.Holdings.{IsOwners}
 
 -- the interests, and for how many more there is room
-pub record Standing : Type 0 where
+pub record TableView : Type 0 where
   pub owners : List Held
   pub room : ℕ
 
-abbrev pub standing : Inside → Standing
-standing t =
+abbrev pub table_view : Inside → TableView
+table_view t =
     record {
       owners = t.owners.items;
       room = min (vec_capacity t.owners - vec_len t.owners) (4294967295 - vec_len t.owners);

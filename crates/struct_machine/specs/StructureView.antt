@@ -5,13 +5,13 @@ use Rattle.cf_types.specs.declared.numbers.ConnId.{ConnId}
 use Rattle.engine_api.specs.Meaning.{Meaning}
 use Rattle.engine_api.specs.Machine.{Machine, opening}
 
-pub record Standing (S : Type 0) : Type 0 where
+pub record StructureView (S : Type 0) : Type 0 where
   pub form : StrForm
   pub machine : Machine S
 
 -- before the first call
-abbrev pub opened : {C R I S : Type 0} → Meaning C R I S → StrForm → Standing S
-opened meaning form = record { form = form; machine = opening meaning form }
+abbrev pub new_structure : {C R I S : Type 0} → Meaning C R I S → StrForm → StructureView S
+new_structure meaning form = record { form = form; machine = opening meaning form }
 
 -- the bit of a connector's vector
 abbrev pub stands_at : {C R I S : Type 0} → Meaning C R I S → Machine S → ConnId → ℕ → Bool

@@ -7,12 +7,12 @@ use Rattle.list_watch.specs.Monitors.{AreMonitors}
 use Rattle.list_watch.specs.Rows.{monitors_of}
 
 -- the monitors with the bits that were told, and for how many more there is room
-pub record Watching : Type 0 where
+pub record WatchView : Type 0 where
   pub rows : List Watched
   pub room : ℕ
 
-abbrev pub watching : Inside → Watching
-watching w =
+abbrev pub watch_view : Inside → WatchView
+watch_view w =
     record { rows = w.rows.items; room = min (vec_capacity w.rows - vec_len w.rows) (4294967295 - vec_len w.rows) }
 
 -- fewer than 2^32, so that their number is one of 32 bits

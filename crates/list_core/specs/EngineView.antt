@@ -8,17 +8,17 @@ use Rattle.engine_api.specs.Meaning.Wish.{ForCmd, ForLeave, ForForget}
 use Rattle.list_core.specs.declared.plans.Plan.{Plan}
 use Rattle.list_core.specs.declared.engine.ListEngine.TheInside.{Inside}
 use Rattle.list_model.specs.Contents.{Content, IsContent}
-use Rattle.list_kept.specs.Keeping.{Keeping, IsRoomy}
+use Rattle.list_kept.specs.ContentView.{ContentView, IsRoomy}
 use Rattle.list_core.specs.Plans.{plan_for}
 
 -- what it holds, what it is ready for, and its content as it is kept, with room for more
-pub record Seen : Type 0 where
+pub record EngineView : Type 0 where
   pub held : Held Content
   pub plan : Option Plan
-  pub kept : Keeping
+  pub kept : ContentView
 
-abbrev pub seen : Inside → Seen
-seen e =
+abbrev pub view_of : Inside → EngineView
+view_of e =
     record {
       held = record { shape = e.shape; caps = e.caps; state = e.kept.content };
       plan = e.plan;
@@ -31,11 +31,11 @@ pub record IsKept (e : Inside) : Type 0 where
   pub content : IsContent e.shape e.caps e.kept.content
 
 -- the plan is that for the command, and there is room for what it brings
-pub record IsReadyFor (e : Seen) (plan : Plan) (out : Effects) : Type 0 where
+pub record IsReadyFor (e : EngineView) (plan : Plan) (out : Effects) : Type 0 where
   pub planned : e.plan ≡ Some plan
   pub room : IsRoomy e.kept out.bits.room
 
-abbrev pub IsReady : Seen → Wish ListCmd → Effects → Type 0
+abbrev pub IsReady : EngineView → Wish ListCmd → Effects → Type 0
 IsReady e (ForCmd by cmd) out =
     IsReadyFor e (plan_for e.held.shape e.held.caps e.held.state by cmd) out
 IsReady e (ForLeave conn) out = length e.held.state.monitors ≤ out.bits.room

@@ -14,14 +14,14 @@ use Rattle.lock_core.specs.Plans.{plan_for}
 use Rattle.lock_core.specs.Stock.{Stock, HasRoom}
 
 -- what it holds, what it is ready for, and its locks with their room
-pub record Seen : Type 0 where
+pub record EngineView : Type 0 where
   pub held : Held Content
   pub plan : Option Plan
   pub leaving : Option (List Resource)
   pub stock : Stock
 
-abbrev pub seen : Inside → Seen
-seen e =
+abbrev pub view_of : Inside → EngineView
+view_of e =
     record {
       held = record { shape = e.shape; caps = e.caps; state = e.locks.content };
       plan = e.plan;
@@ -41,7 +41,7 @@ pub record IsKept (e : Inside) : Type 0 where
   pub counted : IsCounted e.locks.content
 
 -- the plan is that for the command, and there is room for all that it can do, with one item more
-pub record IsReadyFor (e : Seen) (plan : Plan) (out : Effects) : Type 0 where
+pub record IsReadyFor (e : EngineView) (plan : Plan) (out : Effects) : Type 0 where
   pub planned : e.plan ≡ Some plan
   pub room : HasRoom 1 e.stock out
   pub waiter : 1 ≤ e.stock.waiter_room
@@ -49,11 +49,11 @@ pub record IsReadyFor (e : Seen) (plan : Plan) (out : Effects) : Type 0 where
   pub counted : length e.stock.content.interests + length e.stock.content.waiters < 4294967295
 
 -- the resources of the connector are there, and there is room for all that wait
-pub record IsReadyToLeave (e : Seen) (resources : List Resource) (out : Effects) : Type 0 where
+pub record IsReadyToLeave (e : EngineView) (resources : List Resource) (out : Effects) : Type 0 where
   pub planned : e.leaving ≡ Some resources
   pub room : HasRoom 0 e.stock out
 
-abbrev pub IsReady : Seen → Wish LockCmd → Effects → Type 0
+abbrev pub IsReady : EngineView → Wish LockCmd → Effects → Type 0
 IsReady e (ForCmd by cmd) out = IsReadyFor e (plan_for e.held.caps e.stock.content by cmd) out
 IsReady e (ForLeave conn) out = IsReadyToLeave e (resources_of conn e.stock.content) out
 IsReady e ForForget out = Unit {0}

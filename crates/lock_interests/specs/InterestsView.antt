@@ -14,7 +14,7 @@ use Rattle.lock_interests.specs.declared.interests.Interests.TheInside.{Inside}
 
 -- the interests; for how many more interests and record data there is room; and how many record
 -- data there may be
-pub record Owned : Type 0 where
+pub record InterestsView : Type 0 where
   pub interests : List Interest
   pub owner_room : ℕ
   pub record_room : ℕ
@@ -23,13 +23,13 @@ pub record Owned : Type 0 where
 abbrev pub with_record : List Record → Held → Interest
 with_record records held = record { held = held; rec = record_of held.r held.conn records }
 
-abbrev pub joined : List Held → List Record → List Interest
-joined owners records = map (with_record records) owners
+abbrev pub interests_of : List Held → List Record → List Interest
+interests_of owners records = map (with_record records) owners
 
-abbrev pub owned : Inside → Owned
-owned i =
+abbrev pub interests_view : Inside → InterestsView
+interests_view i =
     record {
-      interests = joined i.owners.owners i.records.records;
+      interests = interests_of i.owners.owners i.records.records;
       owner_room = i.owners.room;
       record_room = i.records.room;
       limit = i.records.limit;

@@ -11,7 +11,7 @@ use Rattle.list_store.specs.declared.store.Store.TheInside.{Inside}
 use Rattle.list_store.specs.Lists.{all_records, records_of, is_id, ids_apart}
 
 -- a list for each header, and for how many records more there is room in each of them: 0 or 1
-pub record Stored : Type 0 where
+pub record StoreView : Type 0 where
   pub lists : List (List Rec)
   pub room : ℕ
 
@@ -40,8 +40,8 @@ pub record IsLastFull (header : ℕ) (lists : List (List Rec)) : Type 0 where
   pub full : 0 < length (records_of lists header)
   pub last : all_records (drop (suc header) lists) ≡ []
 
-abbrev pub stored : Inside → Stored
-stored s =
+abbrev pub store_view : Inside → StoreView
+store_view s =
     record {
       lists = lists_in s.lists.items;
       room = if list_all has_place s.lists.items then 1 else 0;

@@ -11,7 +11,7 @@ use Rattle.cache_model.specs.Contents.{Content, IsContent}
 use Rattle.cache_core.specs.Plans.{plan_for}
 
 -- what it holds, what it is ready for, and for how many rows and registrations it has room
-pub record Seen : Type 0 where
+pub record EngineView : Type 0 where
   pub held : Held Content
   pub plan : Option Plan
   pub row_room : ℕ
@@ -20,8 +20,8 @@ pub record Seen : Type 0 where
 abbrev pub content_of : Inside → Content
 content_of e = record { rows = e.rows.rows; regs = e.regs.regs }
 
-abbrev pub seen : Inside → Seen
-seen e =
+abbrev pub view_of : Inside → EngineView
+view_of e =
     record {
       held = record { shape = e.shape; caps = e.caps; state = content_of e };
       plan = e.plan;
@@ -35,13 +35,13 @@ pub record IsKept (e : Inside) : Type 0 where
   pub content : IsContent e.caps (content_of e)
 
 -- the plan is that for the command, and there is room for a row, a registration and the bits that change
-pub record IsReadyFor (e : Seen) (plan : Plan) (out : Effects) : Type 0 where
+pub record IsReadyFor (e : EngineView) (plan : Plan) (out : Effects) : Type 0 where
   pub planned : e.plan ≡ Some plan
   pub row : 1 ≤ e.row_room
   pub reg : 1 ≤ e.reg_room
   pub bits : length e.held.state.regs + 3 ≤ out.bits.room
 
-abbrev pub IsReady : Seen → Wish CacheCmd → Effects → Type 0
+abbrev pub IsReady : EngineView → Wish CacheCmd → Effects → Type 0
 IsReady e (ForCmd by cmd) out = IsReadyFor e (plan_for e.held.shape.vector e.held.caps e.held.state by cmd) out
 IsReady e (ForLeave conn) out = length e.held.state.regs ≤ out.bits.room
 IsReady e ForForget out = length e.held.state.regs ≤ out.bits.room
