@@ -1,6 +1,7 @@
 //! A cell of whatever type of structure.
 ghost use Rattle.std.specs.Prelude.{◌≡◌, ◌≢◌, ◌+◌, ◌<◌, ◌≤◌, ◌++◌, ◌∷◌, [], IfOk, IfErr, All, map, max};
 ghost use Rattle.std.specs.List.{range_with_len};
+ghost use Rattle.cf_types.specs.declared.limits.TheConstants.{CONNECTORS};
 ghost use Rattle.cf_types.specs.Forms.{IsForm};
 ghost use Rattle.plex_script.specs.Heard.{any_calls, any_length, own_calls};
 ghost use Rattle.struct_cell.specs.declared.refused.CallRefused.TheVariants as refused;
@@ -48,7 +49,7 @@ impl<L: Link> AnyCell<L> {
         links: Links<L>,
     ) -> Result<(AnyCell<L>, AnyPasses), Links<L>>
         requires formed { IsForm form }
-        requires callers { callers ≤ 32 }
+        requires callers { callers ≤ CONNECTORS }
         requires limit { (1 ≤ limit) × (limit ≤ 4294967000) }
         ensures cell { IfOk result (λ r. cell_shown r.0 ≡ record {
           str_type = type_of_kind form.kind;

@@ -1,5 +1,6 @@
 -- The events of a structure's connectors: those that wait, and those taken that are to be answered.
-use Rattle.std.specs.Prelude.{Bool, true, false, ◌==◌, if◌then◌else◌, List, [], ◌∷◌, ◌++◌, fold, filter, map, drop, replicate, Option, None, unwrap_or, slice_get, slice_set}
+use Rattle.std.specs.Prelude.{◌+◌, Bool, true, false, ◌==◌, if◌then◌else◌, List, [], ◌∷◌, ◌++◌, fold, filter, map, drop, replicate, Option, None, unwrap_or, slice_get, slice_set}
+use Rattle.cf_types.specs.declared.limits.TheConstants.{CONNECTORS}
 use Rattle.cf_types.specs.declared.numbers.ConnId.{ConnId}
 use Rattle.cf_types.specs.declared.events.Event.{Event}
 use Rattle.cf_types.specs.declared.events.Event.TheVariants.{NewConn, DiscFail, Quiesce, RebuildConnect, ConnectsDone, Cleanup, Complete, Stop, StopDone, LostConn, StrFail, Contention, Notify, Granted, Denied}
@@ -19,7 +20,7 @@ abbrev pub no_events : Mailbox
 no_events = record { waiting = []; owed = [] }
 
 unfoldable pub empty_mail : Mailboxes
-empty_mail = replicate 33 no_events
+empty_mail = replicate (CONNECTORS + 1) no_events
 
 abbrev pub mailbox_of : Mailboxes → ConnId → Mailbox
 mailbox_of mail conn = unwrap_or (slice_get mail conn.0) no_events

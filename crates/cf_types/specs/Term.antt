@@ -2,6 +2,7 @@
 use Rattle.std.specs.Prelude.{if◌then◌else◌, ◌≡◌, ℕ, ◌-◌, ◌≤◌, ◌<◌, Bool, IsTrue, not, ◌||◌, ◌==◌, List, ◌++◌, length, Option, Some, position, replicate, take_while}
 use Rattle.std.specs.List.{list_all}
 use Rattle.std.specs.Char.{is_ascii_alphanumeric}
+use Rattle.cf_types.specs.declared.limits.TheConstants.{NAME_BYTES}
 use Rattle.cf_types.specs.declared.names.NameFault.{NameFault}
 use Rattle.cf_types.specs.declared.names.NameFault.TheVariants.{BadName, TooLong}
 
@@ -26,7 +27,7 @@ IsFaultOf limit text (BadName at) = (length text ≤ limit) × (fault_at text �
 
 -- names and keys have 16 bytes: the text, then blanks
 abbrev pub block_of : List ℕ → List ℕ
-block_of text = text ++ replicate (16 - length text) 32
+block_of text = text ++ replicate (NAME_BYTES - length text) 32
 
 -- the text of a name or a key of 16 bytes
 abbrev pub text_in_block : List ℕ → List ℕ
@@ -34,4 +35,4 @@ text_in_block bytes = take_while (λ b. not (b == 32)) bytes
 
 -- 16 bytes that are a name or a key
 abbrev pub IsPadded : List ℕ → Type 0
-IsPadded bytes = IsTerm 16 (text_in_block bytes) × (bytes ≡ block_of (text_in_block bytes))
+IsPadded bytes = IsTerm NAME_BYTES (text_in_block bytes) × (bytes ≡ block_of (text_in_block bytes))

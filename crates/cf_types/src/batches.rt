@@ -34,6 +34,13 @@ impl<T> Batch<T> {
         }
     }
 
+    /// The items of a `Vec`, with the room that it has.
+    pub fn from_vec(items: Vec<T>) -> Batch<T>
+        ensures { result.items ≡ items.items }
+    {
+        Batch { items }
+    }
+
     /// Takes room for so many items more. Want of memory changes nothing.
     pub fn reserve(&mut self, count: usize) -> Result<(), NoMemory>
         ensures room { OnOk result (count ≤ self.new.room) }
@@ -59,6 +66,14 @@ impl<T> Batch<T> {
         ensures { result.now ≡ self.now.items }
     {
         self.items.as_slice()
+    }
+
+    /// The items as a `Vec`.
+    pub fn into_vec(self) -> Vec<T>
+        ensures { result.items ≡ self.items }
+    {
+        let Batch { items } = self;
+        items
     }
 
     /// How many more items there is room for.

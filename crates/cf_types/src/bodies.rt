@@ -1,14 +1,13 @@
 ghost use Rattle.std.specs.Prelude.{◌≡◌, ℕ, ◌≤◌, length, OnOk, IfOk, IfErr};
+ghost use Rattle.cf_types.specs.declared.limits.TheConstants.{BODY_BYTES};
 ghost use Rattle.cf_types.specs.Term.{IsTerm};
 ghost use Rattle.cf_types.specs.Stored.{IsBodyFaultOf};
 
+use crate::limits::BODY_BYTES;
 use crate::memory::NoMemory;
 use crate::names::{NameFault, checked};
 use std::alloc::Global;
 use std::marker::Model;
-
-/// The greatest length of a body, in bytes.
-const BODY_LIMIT: usize = 4096;
 
 /// The data of a cache entry or a list record: 1 to 4,096 bytes.
 #[derive(Debug, Drop)]
@@ -18,12 +17,13 @@ pub struct Body {
 
 impl Model for Body {
     ghost use Rattle.std.specs.Prelude.{ℕ, List, length, ◌≤◌};
+    ghost use Rattle.cf_types.specs.declared.limits.TheConstants.{BODY_BYTES};
 
     ghost Value = { List ℕ };
 
     ghost view = { λ b. b.bytes.items };
 
-    ghost invariant = { λ b. (1 ≤ length b.bytes.items) × (length b.bytes.items ≤ 4096) };
+    ghost invariant = { λ b. (1 ≤ length b.bytes.items) × (length b.bytes.items ≤ BODY_BYTES) };
 }
 
 /// What is wrong with a text that should be data.
@@ -42,7 +42,7 @@ impl Body {
     pub fn bytes(&self) -> &[u8]
         ensures value { result.now ≡ self.now }
         ensures nonempty { 1 ≤ length self.now }
-        ensures short { length self.now ≤ 4096 }
+        ensures short { length self.now ≤ BODY_BYTES }
     {
         self.bytes.as_slice()
     }
@@ -50,11 +50,11 @@ impl Body {
 
 /// Reads data: 1 to 4,096 term characters.
 pub fn parse_body(alloc: Global, text: &[u8]) -> Result<Body, BodyFault>
-    ensures term { OnOk result (IsTerm 4096 text.now) }
+    ensures term { OnOk result (IsTerm BODY_BYTES text.now) }
     ensures body { IfOk result (λ body. body ≡ text.now) }
     ensures fault { IfErr result (IsBodyFaultOf text.now) }
 {
-    match checked(text, BODY_LIMIT) {
+    match checked(text, BODY_BYTES) {
         Err(NameFault::BadName { at }) => Err(BodyFault::BadName { at }),
         Err(NameFault::TooLong { len }) => Err(BodyFault::TooLong { len }),
         Ok(()) => match Vec::from_slice(alloc, text) {

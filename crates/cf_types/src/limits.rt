@@ -1,4 +1,4 @@
-//! The greatest numbers of a policy and of a structure.
+//! The greatest numbers of a script, a policy and a structure.
 
 /// Facilities, `CF1` to `CF4`.
 pub const FACILITIES: u8 = 4;
@@ -22,3 +22,15 @@ pub const CASTOUT_CLASSES: u32 = 16;
 pub const STORAGE_CLASSES: u32 = 8;
 /// Items that one COPY command asks for.
 pub const COPY_ITEMS: u32 = 4096;
+/// Bytes of a name or a key.
+pub const NAME_BYTES: usize = 16;
+/// Bytes of an adjunct, or of a lock's record data.
+pub const ADJUNCT_BYTES: usize = 64;
+/// Bytes of data.
+pub const BODY_BYTES: usize = 4096;
+/// Bytes of a line of a script.
+pub const LINE_BYTES: usize = 8192;
+/// Links of a plex: one for each structure and facility.
+pub const LINKS: usize = 64;
+/// How often a line's call may be asked again.
+pub const RETRIES: u32 = 1000;

@@ -1,15 +1,18 @@
 ghost use Rattle.std.specs.Prelude.{◌≡◌, ◌↔◌, ℕ, ◌≤◌, length, not, position, IsOk, IfOk, IfErr};
+ghost use Rattle.cf_types.specs.declared.limits.TheConstants.{NAME_BYTES};
 ghost use Rattle.cf_types.specs.Term.{IsTerm, IsFaultOf, block_of, term_byte};
+
+use crate::limits::NAME_BYTES;
 
 /// A name of 1 to 16 term characters, padded with blanks to 16 bytes. Names stand in the order of
 /// their bytes.
 #[derive(Clone, Copy, Debug, PartialEq, Eq, PartialOrd, Ord)]
-pub struct Name16(pub [u8; 16]);
+pub struct Name16(pub [u8; NAME_BYTES]);
 
 /// A list key of 1 to 16 term characters, padded with blanks to 16 bytes. Keys stand in the order
 /// of their bytes.
 #[derive(Clone, Copy, Debug, PartialEq, Eq, PartialOrd, Ord)]
-pub struct Key16(pub [u8; 16]);
+pub struct Key16(pub [u8; NAME_BYTES]);
 
 /// What is wrong with a text that should be a name, a key or an adjunct.
 #[derive(Clone, Copy, Debug, PartialEq, Eq)]
@@ -52,11 +55,11 @@ pub(crate) fn checked(text: &[u8], limit: usize) -> Result<(), NameFault>
 }
 
 // The text, which has at most 16 bytes, and blanks behind it.
-fn padded_bytes(text: &[u8]) -> [u8; 16]
-    requires { length text.now ≤ 16 }
+fn padded_bytes(text: &[u8]) -> [u8; NAME_BYTES]
+    requires { length text.now ≤ NAME_BYTES }
     ensures { result ≡ block_of text.now }
 {
-    let mut bytes = [b' '; 16];
+    let mut bytes = [b' '; NAME_BYTES];
     let (front, _) = bytes.split_at_mut(text.len());
     front.copy_from_slice(text);
     bytes
@@ -64,20 +67,20 @@ fn padded_bytes(text: &[u8]) -> [u8; 16]
 
 /// Reads a name of a cache entry or a list record: 1 to 16 term characters.
 pub fn parse_name(text: &[u8]) -> Result<Name16, NameFault>
-    ensures term { IsOk result ↔ IsTerm 16 text.now }
+    ensures term { IsOk result ↔ IsTerm NAME_BYTES text.now }
     ensures name { IfOk result (λ name. name.0 ≡ block_of text.now) }
-    ensures fault { IfErr result (IsFaultOf 16 text.now) }
+    ensures fault { IfErr result (IsFaultOf NAME_BYTES text.now) }
 {
-    checked(text, 16)?;
+    checked(text, NAME_BYTES)?;
     Ok(Name16(padded_bytes(text)))
 }
 
 /// Reads a list key: 1 to 16 term characters.
 pub fn parse_key(text: &[u8]) -> Result<Key16, NameFault>
-    ensures term { IsOk result ↔ IsTerm 16 text.now }
+    ensures term { IsOk result ↔ IsTerm NAME_BYTES text.now }
     ensures key { IfOk result (λ key. key.0 ≡ block_of text.now) }
-    ensures fault { IfErr result (IsFaultOf 16 text.now) }
+    ensures fault { IfErr result (IsFaultOf NAME_BYTES text.now) }
 {
-    checked(text, 16)?;
+    checked(text, NAME_BYTES)?;
     Ok(Key16(padded_bytes(text)))
 }

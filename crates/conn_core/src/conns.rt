@@ -1,13 +1,15 @@
 ghost use Rattle.std.specs.Prelude.{◌≡◌, ◌↔◌, ◌<◌, ◌≤◌, ◌||◌, IsTrue};
+ghost use Rattle.cf_types.specs.declared.limits.TheConstants.{CONNECTORS};
 ghost use Rattle.cf_types.specs.Forms.{IsConnector};
 ghost use Rattle.cf_types.specs.Connections.{no_connections, state_of, is_active, is_failed, is_gone, actives, defined_count, with_connect, with_departure, with_answer, with_forced, AreConnections};
 
 use crate::departures::{departed_state, excuse, excused_state};
+use cf_types::limits::CONNECTORS;
 use cf_types::{ConnId, ConnSet, ConnState};
 use std::marker::Model;
 
 /// How many connectors a structure may have, the operator counted among them.
-const PLACES: usize = 33;
+const PLACES: usize = CONNECTORS as usize + 1;
 
 /// The connections of a structure. Contracts see the list of their states by the connectors'
 /// numbers, from 0, which is the operator's and stays empty.
@@ -80,8 +82,8 @@ impl Conns {
     /// A connector has answered the departure of another (IXLEERSP). Where that one isn't leaving,
     /// or doesn't await the answer, nothing changes.
     pub fn answered(&mut self, by: ConnId, about: ConnId)
-        requires by { by.0 ≤ 32 }
-        requires about { about.0 ≤ 32 }
+        requires by { by.0 ≤ CONNECTORS }
+        requires about { about.0 ≤ CONNECTORS }
         ensures { self.new ≡ with_answer by about self.old }
     {
         let state = &mut self.states[usize::from(about.0)];

@@ -2,6 +2,7 @@
 -- at the end.
 use Rattle.std.specs.Prelude.{◌≡◌, ℕ, ◌≤◌, List, [], ◌∷◌, ◌++◌, length, map, replicate, slice_get, slice_index_or, Option, None, Some, All}
 use Rattle.std.specs.List.{flat_map}
+use Rattle.cf_types.specs.declared.limits.TheConstants.{STRUCTURES, CONNECTORS}
 use Rattle.cf_types.specs.declared.numbers.ConnId.{ConnId}
 use Rattle.cf_types.specs.declared.numbers.StrNo.{StrNo}
 use Rattle.cf_types.specs.Forms.{IsForm}
@@ -37,8 +38,8 @@ links_of board = flat_map (λ cell. four_of cell.links) board.cells ++ board.spa
 
 -- the structures and connectors of a script are as many as may be, and the forms are right
 pub record IsPolicy (script : Script) : Type 0 where
-  pub structures : length script.structures ≤ 16
-  pub connectors : length script.connectors ≤ 32
+  pub structures : length script.structures ≤ STRUCTURES
+  pub connectors : length script.connectors ≤ CONNECTORS
   pub forms : All IsForm script.structures
 
 -- a cell as it begins

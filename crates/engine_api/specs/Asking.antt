@@ -1,5 +1,6 @@
 -- Who may ask what of a structure.
 use Rattle.std.specs.Prelude.{◌≡◌, ◌≤◌, IsTrue}
+use Rattle.cf_types.specs.declared.limits.TheConstants.{COPY_ITEMS}
 use Rattle.cf_types.specs.declared.numbers.ConnId.{ConnId}
 use Rattle.cf_types.specs.declared.shell_commands.ShellCmd.{ShellCmd}
 use Rattle.cf_types.specs.declared.shell_commands.ShellCmd.TheVariants as cmd
@@ -22,7 +23,7 @@ MayCommand by cmd.Respond = IsCaller by
 MayCommand by (cmd.RebuildStart caps) = IsCaller by × IsCapacity caps
 MayCommand by cmd.RebuildStop = IsCaller by
 MayCommand by cmd.RebuildConnect = IsConnector by
-MayCommand by (cmd.Copy n) = IsConnector by × (1 ≤ n) × (n ≤ 4096)
+MayCommand by (cmd.Copy n) = IsConnector by × (1 ≤ n) × (n ≤ COPY_ITEMS)
 MayCommand by cmd.RebuildComplete = IsConnector by
 MayCommand by (cmd.ForceConn other) = IsOperator by × IsConnector other
 MayCommand by cmd.ForceStr = IsOperator by

@@ -6,6 +6,7 @@ mod asks;
 mod deeds;
 mod engine;
 mod histories;
+mod laws;
 mod shapes;
 mod told;
 
@@ -13,5 +14,6 @@ pub use asks::{Ask, Reply, What};
 pub use deeds::Deeds;
 pub use engine::Engine;
 pub use histories::{Entry, History};
+pub use laws::refused_changes_nothing;
 pub use shapes::Shape;
 pub use told::Told;

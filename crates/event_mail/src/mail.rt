@@ -1,14 +1,16 @@
 ghost use Rattle.std.specs.Prelude.{◌≡◌, ◌+◌, ◌<◌, ◌≤◌, ℕ, OnOk, IfOk, All, length, slice_index_or};
+ghost use Rattle.cf_types.specs.declared.limits.TheConstants.{CONNECTORS};
 ghost use Rattle.cf_types.specs.Mailboxes.{empty_mail, with_letter, next_event, owed_event, with_taken, with_response, with_cleared};
 ghost use Rattle.event_mail.specs.Post.{Box, mailboxes_of};
 
 use crate::letterbox::Letterbox;
+use cf_types::limits::CONNECTORS;
 use cf_types::{ConnId, Event, Letter, NoMemory};
 use std::alloc::Global;
 use std::marker::Model;
 
 /// How many mailboxes there are: the operator's, which stays empty, and one for each connector.
-const PLACES: usize = 33;
+const PLACES: usize = CONNECTORS as usize + 1;
 
 /// For how many letters a connector's mailbox has room at the start.
 const FIRST_LETTERS: usize = 8;
@@ -78,7 +80,7 @@ impl Mail {
 
     // A letter waits for its connector, behind the others.
     fn put_letter(&mut self, letter: Letter)
-        requires to { letter.to.0 ≤ 32 }
+        requires to { letter.to.0 ≤ CONNECTORS }
         requires room { 0 < self.old.room }
         ensures boxes { self.new.boxes ≡ with_letter self.old.boxes letter }
         ensures room { self.new.room + 1 ≡ self.old.room }
@@ -90,7 +92,7 @@ impl Mail {
 
     // A letter to a number that is no connector's reaches nobody.
     fn lose_letter(&mut self, letter: Letter)
-        requires to { 32 < letter.to.0 }
+        requires to { CONNECTORS < letter.to.0 }
         requires room { 0 < self.old.room }
         ensures boxes { self.new.boxes ≡ with_letter self.old.boxes letter }
         ensures room { self.new.room + 1 ≡ self.old.room }
@@ -105,7 +107,7 @@ impl Mail {
         ensures boxes { self.new.boxes ≡ with_letter self.old.boxes letter }
         ensures room { self.new.room + 1 ≡ self.old.room }
     {
-        if letter.to.0 <= 32 {
+        if letter.to.0 <= CONNECTORS {
             self.put_letter(letter);
         } else {
             self.lose_letter(letter);
@@ -114,7 +116,7 @@ impl Mail {
 
     /// The first event that waits for a connector, none exactly where none waits.
     pub fn waiting(&self, conn: ConnId) -> Option<Event>
-        requires { conn.0 ≤ 32 }
+        requires { conn.0 ≤ CONNECTORS }
         ensures { result ≡ next_event self.now.boxes conn }
     {
         let mailbox = &self.boxes[usize::from(conn.0)];
@@ -123,7 +125,7 @@ impl Mail {
 
     /// The oldest event that a connector owes, none exactly where it owes none.
     pub fn owed(&self, conn: ConnId) -> Option<Event>
-        requires { conn.0 ≤ 32 }
+        requires { conn.0 ≤ CONNECTORS }
         ensures { result ≡ owed_event self.now.boxes conn }
     {
         let mailbox = &self.boxes[usize::from(conn.0)];
@@ -133,7 +135,7 @@ impl Mail {
     /// Takes the first event that waits for a connector, none exactly where none waits. An event
     /// that is to be answered is owed from now on.
     pub fn next(&mut self, conn: ConnId) -> Option<Event>
-        requires { conn.0 ≤ 32 }
+        requires { conn.0 ≤ CONNECTORS }
         ensures event { result ≡ next_event self.old.boxes conn }
         ensures boxes { self.new.boxes ≡ with_taken conn self.old.boxes }
         ensures room { self.new.room ≡ self.old.room }
@@ -144,7 +146,7 @@ impl Mail {
 
     /// Answers the oldest event that a connector owes (IXLEERSP), none exactly where it owes none.
     pub fn respond(&mut self, conn: ConnId) -> Option<Event>
-        requires { conn.0 ≤ 32 }
+        requires { conn.0 ≤ CONNECTORS }
         ensures event { result ≡ owed_event self.old.boxes conn }
         ensures boxes { self.new.boxes ≡ with_response conn self.old.boxes }
         ensures room { self.new.room ≡ self.old.room }
@@ -155,7 +157,7 @@ impl Mail {
 
     /// Ends a connector's events, those that wait and those that it owes.
     pub fn clear(&mut self, conn: ConnId)
-        requires { conn.0 ≤ 32 }
+        requires { conn.0 ≤ CONNECTORS }
         ensures boxes { self.new.boxes ≡ with_cleared conn self.old.boxes }
         ensures room { self.new.room ≡ self.old.room }
     {

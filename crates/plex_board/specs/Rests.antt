@@ -1,6 +1,7 @@
 -- What a board keeps for its end, and how passes go home.
 use Rattle.std.specs.Prelude.{◌≡◌, ℕ, ◌+◌, ◌*◌, ◌≤◌, ◌<◌, List, [], ◌∷◌, ◌++◌, length, map, All}
 use Rattle.std.specs.Vec.{vec_capacity}
+use Rattle.cf_types.specs.declared.limits.TheConstants.{STRUCTURES, CONNECTORS}
 use Rattle.plex_script.specs.declared.asks.AnyHistory.{AnyHistory}
 use Rattle.any_cell.specs.declared.any_pass.AnyPasses.{AnyPasses}
 use Rattle.any_model.specs.Types.{StrType}
@@ -92,8 +93,8 @@ pub record IsRoomy {L : Type 0} (structures : ℕ) (rest : Rest L) : Type 0 wher
   pub link_room : 4 * structures + length rest.spare.items ≤ vec_capacity rest.links
 
 pub record IsReady {L : Type 0} (cells : List (CellShown L)) (callers : ℕ) (rest : Rest L) : Type 0 where
-  pub few : length cells ≤ 16
-  pub few_callers : callers ≤ 32
+  pub few : length cells ≤ STRUCTURES
+  pub few_callers : callers ≤ CONNECTORS
   pub homes : AreHomes (callers + 1) cells (homes_shown rest.homes.items)
   pub empty : AreEmpty (homes_shown rest.homes.items)
   pub room : IsRoomy (length cells) rest

@@ -2,6 +2,7 @@
 ghost use Rattle.std.specs.Prelude.{◌≡◌, ◌≢◌, ◌+◌, ◌<◌, ◌≤◌, ◌++◌, ◌∷◌, [], IfOk, IfErr, IfSome, All, length, map, slice_set, Some};
 ghost use Rattle.std.specs.Vec.{vec_len};
 ghost use Rattle.std.specs.List.{range_with_len};
+ghost use Rattle.cf_types.specs.declared.limits.TheConstants.{LINKS};
 ghost use Rattle.struct_cell.specs.declared.refused.CallRefused.TheVariants as refused;
 ghost use Rattle.vec_words.specs.Logged.{words_of, indices_of, sight};
 ghost use Rattle.any_model.specs.Types.{type_of_kind};
@@ -71,7 +72,7 @@ impl<L: Link> Board<L> {
     ) -> Result<(Board<L>, Vec<Desk>), Vec<L>>
         requires policy { IsPolicy script.now }
         requires limit { (1 ≤ limit) × (limit ≤ 4294967000) }
-        requires links { vec_len links ≡ 64 }
+        requires links { vec_len links ≡ LINKS }
         ensures forms { IfOk result (λ r. map (λ cell. cell.form) r.0.cells
             ≡ script.now.structures) }
         ensures cells { IfOk result (λ r. All

@@ -3,6 +3,7 @@ ghost use Rattle.std.specs.Prelude.{◌≡◌, ◌+◌, ◌*◌, ◌<◌, ◌≤
 ghost use Rattle.std.specs.List.{flat_map, range_with_len};
 ghost use Rattle.std.specs.Vec.{vec_len};
 ghost use Rattle.std.specs.Vec.Iter.{into_iter_items, into_iter_len};
+ghost use Rattle.cf_types.specs.declared.limits.TheConstants.{CONNECTORS, STRUCTURES, LINKS};
 ghost use Rattle.cf_types.specs.Forms.{IsForm};
 ghost use Rattle.any_cell.specs.Passes.{PassShown, passes_shown, type_of_passes, room_of};
 ghost use Rattle.desk_model.specs.Boards.{four_of};
@@ -16,6 +17,7 @@ use crate::rest::Rest;
 use any_cell::AnyPasses;
 use cf_link::{Link, Links};
 use cf_turn::KeyLock;
+use cf_types::limits::{LINKS, STRUCTURES};
 use cf_types::{ConnId, NoMemory, StrForm};
 use plex_shell::copy_form;
 use plex_station::{Place, Station};
@@ -23,11 +25,6 @@ use std::alloc::Global;
 use std::mem::drop;
 use std::sync::Wait;
 use std::vec::IntoIter;
-
-// How many structures and links there are at most.
-const STRUCTURES: usize = 16;
-
-const LINKS: usize = 64;
 
 /// A board as its structures are made, one after the other.
 #[derive(Drop)]
@@ -40,15 +37,15 @@ pub(crate) struct Opening<L: Link> {
 impl<L: Link> Opening<L> {
     /// All memory that doesn't need links, and desks without places.
     pub(crate) fn new(alloc: Global, callers: u8) -> Result<Opening<L>, NoMemory>
-        requires { callers ≤ 32 }
+        requires { callers ≤ CONNECTORS }
         ensures opening { IfOk result (λ opening. (limit : ℕ) → IsOpening callers limit opening) }
         ensures none { IfOk result (λ opening. opening.stations.items ≡ []) }
     {
         Ok(Opening {
-            stations: Vec::with_capacity(alloc, STRUCTURES)?,
+            stations: Vec::with_capacity(alloc, STRUCTURES as usize)?,
             rest: Rest {
-                homes: Vec::with_capacity(alloc, STRUCTURES)?,
-                histories: Vec::with_capacity(alloc, STRUCTURES)?,
+                homes: Vec::with_capacity(alloc, STRUCTURES as usize)?,
+                histories: Vec::with_capacity(alloc, STRUCTURES as usize)?,
                 links: Vec::with_capacity(alloc, LINKS)?,
                 spare: Vec::with_capacity(alloc, LINKS)?,
             },
@@ -71,10 +68,10 @@ impl<L: Link> Opening<L> {
         links: Links<L>,
     ) -> Result<(), Links<L>>
         requires formed { IsForm form.now }
-        requires callers { callers ≤ 32 }
+        requires callers { callers ≤ CONNECTORS }
         requires limit { (1 ≤ limit) × (limit ≤ 4294967000) }
         requires opening { IsOpening callers limit self.old }
-        requires few { length self.old.stations.items < 16 }
+        requires few { length self.old.stations.items < STRUCTURES }
         ensures opening { OnOk result (IsOpening callers limit self.new) }
         ensures forms { OnOk result (map (λ cell. cell.form) self.new.stations.items
             ≡ map (λ cell. cell.form) self.old.stations.items ++ form.now ∷ []) }
@@ -111,7 +108,7 @@ impl<L: Link> Opening<L> {
         left: IntoIter<L>,
     ) -> Vec<L>
         requires begun { IsBegun callers self.stations.items self.rest }
-        requires links { 4 * length self.stations.items + 4 + into_iter_len left ≤ 64 }
+        requires links { 4 * length self.stations.items + 4 + into_iter_len left ≤ LINKS }
         ensures { result.items ≡ flat_map (λ cell. four_of cell.links) self.stations.items
             ++ four_of four ++ into_iter_items left }
     {
@@ -139,10 +136,10 @@ impl<L: Link> Opening<L> {
         limit: u32,
         left: IntoIter<L>,
     ) -> Result<(Board<L>, Vec<Desk>), Vec<L>>
-        requires callers { callers ≤ 32 }
+        requires callers { callers ≤ CONNECTORS }
         requires opening { IsOpening callers limit self }
-        requires few { length self.stations.items ≤ 16 }
-        requires links { 4 * length self.stations.items + into_iter_len left ≤ 64 }
+        requires few { length self.stations.items ≤ STRUCTURES }
+        requires links { 4 * length self.stations.items + into_iter_len left ≤ LINKS }
         ensures board { IfOk result (λ r. r.0 ≡ record {
           cells = self.stations.items;
           callers = callers;
@@ -172,7 +169,7 @@ impl<L: Link> Opening<L> {
 
 // A desk without places for each caller from the operator, 0, on.
 fn new_desks(alloc: Global, callers: u8) -> Result<Vec<Desk>, NoMemory>
-    requires { callers ≤ 32 }
+    requires { callers ≤ CONNECTORS }
     ensures { IfOk result (λ desks. desks.items
         ≡ map bare_desk (range_with_len 0 (callers + 1))) }
 {

@@ -1,5 +1,6 @@
 -- What goes with a board, of a floor: its callers' desks, its tray, and who acted last.
 use Rattle.std.specs.Prelude.{◌≡◌, ◌≢◌, ℕ, ◌+◌, ◌≤◌, List, [], ◌∷◌, length, map, slice_get, slice_index_or, Option, Some, All}
+use Rattle.cf_types.specs.declared.limits.TheConstants.{CONNECTORS}
 use Rattle.cf_types.specs.declared.numbers.ConnId.{ConnId}
 use Rattle.plex_script.specs.declared.scripts.Act.{Act}
 use Rattle.plex_script.specs.declared.scripts.Act.TheVariants as act
@@ -33,7 +34,7 @@ pub record AreDesksOf {L : Type 0} (board : BoardShown L) (desks : List DeskShow
 
 pub record IsFloorOf {L : Type 0} (board : BoardShown L) (floor : Floor) : Type 0 where
   pub callers : length floor.workers ≡ board.callers + 1
-  pub few : board.callers ≤ 32
+  pub few : board.callers ≤ CONNECTORS
   pub desks : (c : ℕ) (worker : AtWork) → slice_get floor.workers c ≡ Some worker
       → IsDeskOf board worker.desk × (worker.desk.owner.0 ≡ c)
   pub tray : IsTrayOf board floor.tray

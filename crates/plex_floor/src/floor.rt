@@ -1,6 +1,7 @@
 //! The callers of a script, at work one after another.
 ghost use Rattle.std.specs.Prelude.{◌≡◌, ◌≢◌, ◌+◌, ◌<◌, ◌≤◌, if◌then◌else◌, IfOk, IfErr, IfSome, OnOk, All, Some, length, map, replicate, slice_set};
 ghost use Rattle.std.specs.List.{range_with_len};
+ghost use Rattle.cf_types.specs.declared.limits.TheConstants.{CONNECTORS};
 ghost use Rattle.cf_types.specs.Forms.{IsConnector};
 ghost use Rattle.plex_script.specs.declared.scripts.Act.TheVariants as act;
 ghost use Rattle.plex_script.specs.declared.transcripts.AgentEnd.TheVariants as ended;
@@ -395,7 +396,7 @@ impl Floor {
     ) -> Result<Floor, Vec<Desk>>
         requires desks { desks.items
             ≡ map (new_desk board.now) (range_with_len 0 (board.now.callers + 1)) }
-        requires few { board.now.callers ≤ 32 }
+        requires few { board.now.callers ≤ CONNECTORS }
         ensures new { IfOk result (λ floor. floor ≡ new_floor board.now) }
         ensures of_board { IfOk result (IsFloorOf board.now) }
         ensures memory { IfOk result HasMemory }

@@ -2,6 +2,7 @@
 ghost use Rattle.std.specs.Prelude.{◌≡◌, ◌+◌, ◌≤◌, IfOk, OnOk, IsOk, All, length, map};
 ghost use Rattle.std.specs.Vec.{vec_len};
 ghost use Rattle.std.specs.List.{range_with_len};
+ghost use Rattle.cf_types.specs.declared.limits.TheConstants.{CONNECTORS};
 ghost use Rattle.serial_model.specs.Runnable.{IsRunnable};
 ghost use Rattle.serial_model.specs.Serial.{serial_run};
 ghost use Rattle.desk_model.specs.Boards.{new_desk};
@@ -34,7 +35,7 @@ fn play<L: Link>(
 ) -> (Result<Vec<Transcript>, NoMemory>, Vec<Desk>)
     requires desks { desks.items
         ≡ map (new_desk board.now) (range_with_len 0 (board.now.callers + 1)) }
-    requires few { board.now.callers ≤ 32 }
+    requires few { board.now.callers ≤ CONNECTORS }
     requires lines { All (IsPlayable board.now) script.now.lines }
     requires connectors { board.now.callers ≡ length script.now.connectors }
     ensures played { IfOk result.0

@@ -1,5 +1,6 @@
 -- Values that a line of a script can say: texts in their form, numbers in their range, names that are declared.
 use Rattle.std.specs.Prelude.{ℕ, ◌<◌, ◌≤◌, ◌≢◌, IsTrue, List, [], ◌∷◌, length, All, AllPairs}
+use Rattle.cf_types.specs.declared.limits.TheConstants.{ADJUNCT_BYTES, BODY_BYTES}
 use Rattle.cf_types.specs.declared.names.Name16.{Name16}
 use Rattle.cf_types.specs.declared.numbers.ConnId.{ConnId}
 use Rattle.cf_types.specs.Forms.{IsFacility}
@@ -24,8 +25,8 @@ abbrev pub IsWithin : Declared → Token → Type 0
 IsWithin declared (Literal text) = Unit {0}
 IsWithin declared (Number low high n) = (low ≤ n) × (n ≤ high)
 IsWithin declared (Term bytes) = IsPadded bytes
-IsWithin declared (Short text) = IsTerm 64 text
-IsWithin declared (Data text) = IsTerm 4096 text
+IsWithin declared (Short text) = IsTerm ADJUNCT_BYTES text
+IsWithin declared (Data text) = IsTerm BODY_BYTES text
 IsWithin declared (OnResource r) = IsPadded r.name.0 × (r.hash ≤ 4294967295)
 IsWithin declared (Record id) = (1 ≤ id.0) × (id.0 ≤ 4294967295)
 IsWithin declared (OfFacility cf) = IsFacility cf × IsTrue (is_declared declared.facilities cf)

@@ -1,6 +1,7 @@
 ghost use Rattle.std.specs.Prelude.{◌≡◌, ◌≢◌, ◌⊎◌, ◌↔◌, ℕ, ◌≤◌, ◌<◌, ◌++◌, ◌^◌, length, IfSome, IfOk, OnOk, OnErr};
 ghost use Rattle.std.specs.Io.KnownBytes.{Appends, IsAtEnd};
 ghost use Rattle.std.specs.Vec.{vec_len};
+ghost use Rattle.cf_types.specs.declared.limits.TheConstants.{LINKS};
 ghost use Rattle.cf_io.specs.Count.{Rises};
 ghost use Rattle.plex_script.specs.declared.scripts.Script.{Script};
 ghost use Rattle.serial_model.specs.Runnable.{IsRunnable};
@@ -74,7 +75,7 @@ fn run_by<R: Threads + Wait + Sync, L: Link, G: Gate>(
     gate: &G,
 ) -> (Result<Finished, NoMemory>, Vec<L>)
     requires script { IsRunnable script.now }
-    requires links { vec_len links ≡ 64 }
+    requires links { vec_len links ≡ LINKS }
     ensures run { IfOk result.0 (λ it. IsRunOf way script.now (reading_of it)) }
     ensures links { result.1.items ≡ links.items }
 {
@@ -95,7 +96,7 @@ fn run_over<R: Threads + Wait + Sync, L: Link, G: Gate>(
     gate: &G,
 ) -> Result<Finished, NoMemory>
     requires script { IsRunnable script.now }
-    requires links { vec_len links.old ≡ 64 }
+    requires links { vec_len links.old ≡ LINKS }
     ensures run { IfOk result (λ it. IsRunOf way script.now (reading_of it)) }
     ensures links { links.new.items ≡ links.old.items }
 {
@@ -144,7 +145,7 @@ fn run_script<R: Threads + Wait + Sync, L: Link, G: Gate>(
     gate: &G,
 ) -> Result<Answer, NoMemory>
     requires script { IsRunnable script.now }
-    requires links { vec_len links.old ≡ 64 }
+    requires links { vec_len links.old ≡ LINKS }
     ensures answer { IfOk result (λ it.
         IsAnswerOf way script.now it.status it.heading.items it.report.items) }
     ensures links { links.new.items ≡ links.old.items }
@@ -164,7 +165,7 @@ fn reported<R: Threads + Wait + Sync, K: Sink, L: Link, G: Gate>(
     gate: &G,
 ) -> u8
     requires script { IsRunnable script.now }
-    requires links { vec_len links.old ≡ 64 }
+    requires links { vec_len links.old ≡ LINKS }
     ensures whole { (result ≡ 0) ⊎ (result ≡ 8)
         → WritesRun way script.now result (K.held sink.old) (K.held sink.new) }
     ensures sink_fault { result ≡ 5 → Rises (K.faults sink.old) (K.faults sink.new)
@@ -216,7 +217,7 @@ fn judged<R: Threads + Wait + Sync, K: Sink, L: Link, G: Gate>(
     links: &mut Vec<L>,
     gate: &G,
 ) -> u8
-    requires links { vec_len links.old ≡ 64 }
+    requires links { vec_len links.old ≡ LINKS }
     ensures served { way ≡ ways.InTurn → result ≡ 0
         → WritesReport (K.held sink.old) (K.held sink.new) text.now }
     ensures full { way ≡ ways.InTurn → result ≡ 8
@@ -273,7 +274,7 @@ fn served<R: Threads + Wait + Sync, S: Source, K: Sink, L: Link, G: Gate>(
     links: &mut Vec<L>,
     gate: &G,
 ) -> u8
-    requires links { vec_len links.old ≡ 64 }
+    requires links { vec_len links.old ≡ LINKS }
     ensures served { way ≡ ways.InTurn → result ≡ 0 → IfSome (S.left source.old)
         (WritesReport (K.held sink.old) (K.held sink.new)) }
     ensures full { way ≡ ways.InTurn → result ≡ 8 → IfSome (S.left source.old)
@@ -359,7 +360,7 @@ pub fn run<R: Threads + Wait + Sync, S: Source, K: Sink, L: Link, G: Gate>(
     links: &mut Vec<L>,
     gate: &G,
 ) -> u8
-    requires links { vec_len links.old ≡ 64 }
+    requires links { vec_len links.old ≡ LINKS }
 
     // With `serial` the bytes that the source had left are a script that is built, and what is
     // written is the report of its run on one thread, whole and nothing else; a full journal is

@@ -1,6 +1,7 @@
 -- What a caller asks in the work of one line: its call, again after an event round while it is refused for the stage
 -- of a rebuild; or an event round alone.
-use Rattle.std.specs.Prelude.{◌≡◌, ℕ, zero, suc, ◌+◌, ◌*◌, if◌then◌else◌, Option, None, Some}
+use Rattle.std.specs.Prelude.{◌≡◌, ℕ, zero, suc, ◌+◌, ◌-◌, ◌*◌, if◌then◌else◌, Option, None, Some}
+use Rattle.plex_script.specs.declared.agents.TheConstants.{ROUND, ROUND_ASKS}
 use Rattle.cf_types.specs.declared.forms.Kind.{Kind}
 use Rattle.cf_types.specs.declared.forms.Kind.TheVariants as kind
 use Rattle.cf_types.specs.declared.shell_commands.ShellCmd.{ShellCmd}
@@ -14,10 +15,10 @@ use Rattle.plex_script.specs.declared.scripts.AnyAsk.TheVariants as any
 use Rattle.plex_script.specs.declared.scripts.Act.{Act}
 use Rattle.plex_script.specs.declared.scripts.Act.TheVariants as act
 
--- what a line begins with. A round takes 64 events at most
+-- what a line begins with. A round takes so many events at most
 abbrev pub first_step : Act → ℕ → Step
 first_step (act.Call asked) retry = Call retry
-first_step act.Events retry = Next 63 None
+first_step act.Events retry = Next (ROUND - 1) None
 first_step (act.Test index) retry = Rest
 first_step (act.TestWord word) retry = Rest
 first_step act.Post retry = Rest
@@ -37,7 +38,7 @@ round_step (suc left) behind = Next left behind
 -- events, and answers those that owe a response
 abbrev pub step_after : Step → Told → Step
 step_after (Call zero) told = Rest
-step_after (Call (suc asks)) told = if told.again then Next 63 (Some asks) else Rest
+step_after (Call (suc asks)) told = if told.again then Next (ROUND - 1) (Some asks) else Rest
 step_after (Next left behind) told =
     if told.owes then Respond left behind else if told.event then round_step left behind else after_round behind
 step_after (Respond left behind) told = round_step left behind
@@ -46,10 +47,10 @@ step_after Rest told = Rest
 -- how many asks are left at most
 abbrev pub asks_behind : Option ℕ → ℕ
 asks_behind None = 0
-asks_behind (Some asks) = 1 + 129 * asks
+asks_behind (Some asks) = 1 + ROUND_ASKS * asks
 
 abbrev pub most_asks : Step → ℕ
-most_asks (Call asks) = 1 + 129 * asks
+most_asks (Call asks) = 1 + ROUND_ASKS * asks
 most_asks (Next left behind) = 2 * left + 2 + asks_behind behind
 most_asks (Respond left behind) = 2 * left + 1 + asks_behind behind
 most_asks Rest = 0

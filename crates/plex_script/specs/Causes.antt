@@ -2,6 +2,7 @@
 use Rattle.std.specs.Prelude.{ℕ, ◌+◌, ◌<◌, ◌==◌, ◌&&◌, ◌||◌, Bool, false, not, IsTrue, MatchBool, if◌then◌else◌, List, [], ◌∷◌, length, Option, Some, codes, nat_lt, nat_le, slice_get, sum_by, ◌⊎◌}
 use Rattle.std.specs.List.{list_any, flat_map}
 use Rattle.std.specs.Option.{MatchOption, option_map_or}
+use Rattle.cf_types.specs.declared.limits.TheConstants.{LINE_BYTES, NAME_BYTES, STRUCTURES, CONNECTORS}
 use Rattle.cf_types.specs.declared.names.Name16.{Name16}
 use Rattle.cf_types.specs.declared.numbers.ConnId.{ConnId}
 use Rattle.cf_types.specs.declared.numbers.CfId.{CfId}
@@ -46,13 +47,13 @@ caller_of connectors word = if same_word word (codes "OP") then Some (record { 0
 
 -- ---- sorts of lines
 
--- a line of more than 8,192 bytes
+-- a line that is too long
 abbrev pub is_long : List ℕ → Bool
-is_long line = nat_lt 8192 (length line)
+is_long line = nat_lt LINE_BYTES (length line)
 
--- more than 16 bytes
+-- a word that is too long for a name
 abbrev pub is_long_name : List ℕ → Bool
-is_long_name word = nat_lt 16 (length word)
+is_long_name word = nat_lt NAME_BYTES (length word)
 
 abbrev pub is_comment : List ℕ → Bool
 is_comment [] = false
@@ -69,8 +70,8 @@ is_policy_word word = list_any (same_word word) policy_words
 -- one more structure, or connector, than there may be
 abbrev pub is_full : Script → List ℕ → Bool
 is_full script word =
-    (same_word word (codes "STRUCTURE") && nat_le 16 (length script.structures))
-    || (same_word word (codes "CONNECTOR") && nat_le 32 (length script.connectors))
+    (same_word word (codes "STRUCTURE") && nat_le STRUCTURES (length script.structures))
+    || (same_word word (codes "CONNECTOR") && nat_le CONNECTORS (length script.connectors))
 
 abbrev pub has_pref : List StrForm → StrNo → CfId → Bool
 has_pref structures on cf = option_map_or (λ (form : StrForm). is_declared form.prefs cf) (slice_get structures on.0)

@@ -1,5 +1,6 @@
 -- The scripts that keep the forms, the ranges and the limits of the language.
 use Rattle.std.specs.Prelude.{◌≡◌, ◌≢◌, ◌≤◌, IsTrue, List, length, map, slice_get, Some, All, AllPairs}
+use Rattle.cf_types.specs.declared.limits.TheConstants.{STRUCTURES, CONNECTORS}
 use Rattle.cf_types.specs.declared.numbers.CfId.{CfId}
 use Rattle.cf_types.specs.declared.forms.Pref.{Pref}
 use Rattle.cf_types.specs.declared.forms.StrForm.{StrForm}
@@ -33,13 +34,13 @@ pub record IsLineIn (script : Script) (line : Line) : Type 0 where
   pub allowed : MayDo line.by form.kind (class_in line.act) line.act line.retry
   pub within : AreWithin (declared_in script) (line_tokens line)
 
--- at most 16 structures, and at most 32 connectors
+-- as many structures and connectors as there may be at most
 pub record KeepsLimits (script : Script) : Type 0 where
   pub facilities : AreFacilities script.facilities
-  pub few_structures : length script.structures ≤ 16
+  pub few_structures : length script.structures ≤ STRUCTURES
   pub structures : All (IsStructureIn script.facilities) script.structures
   pub structure_names : AreNames (map (λ (form : StrForm). form.name) script.structures)
-  pub few_connectors : length script.connectors ≤ 32
+  pub few_connectors : length script.connectors ≤ CONNECTORS
   pub connectors : AreNames script.connectors
   pub room : HasRoom script
   pub lines : All (IsLineIn script) script.lines

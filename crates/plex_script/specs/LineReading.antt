@@ -1,5 +1,6 @@
 -- What a reader makes of the words of a line, behind who and structure.
 use Rattle.std.specs.Prelude.{ℕ, ◌||◌, Bool, if◌then◌else◌, List, [], ◌∷◌, Option, None, Some, option_map, codes, unwrap_or}
+use Rattle.cf_types.specs.declared.limits.TheConstants.{RETRIES}
 use Rattle.cf_types.specs.declared.numbers.ConnId.{ConnId}
 use Rattle.cf_types.specs.declared.forms.Kind.{Kind}
 use Rattle.cf_types.specs.declared.forms.Kind.TheVariants as kind
@@ -49,7 +50,7 @@ any_ask_at rigour declared by kind.Lock words = option_map (λ read. (any.Lock r
     (lock_ask_at rigour declared by words)
 
 abbrev pub retry_at : Rigour → List (List ℕ) → Option (Option ℕ × List (List ℕ))
-retry_at rigour words = option_at (codes "RETRY") (on_first (number_of rigour 1 1000)) words
+retry_at rigour words = option_at (codes "RETRY") (on_first (number_of rigour 1 RETRIES)) words
 
 abbrev pub call_at : Rigour → Declared → ConnId → Kind → List (List ℕ) → Option ((Act × ℕ) × List (List ℕ))
 call_at rigour declared by kind words =

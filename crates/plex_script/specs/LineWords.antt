@@ -1,5 +1,6 @@
 -- The words of the lines that do something, behind who and structure.
 use Rattle.std.specs.Prelude.{◌≡◌, ℕ, ◌==◌, Bool, true, false, not, IsTrue, if◌then◌else◌, List, [], ◌∷◌, ◌++◌, Option, None, codes}
+use Rattle.cf_types.specs.declared.limits.TheConstants.{RETRIES}
 use Rattle.cf_types.specs.declared.numbers.ConnId.{ConnId}
 use Rattle.cf_types.specs.declared.forms.Kind.{Kind}
 use Rattle.cf_types.specs.declared.forms.Kind.TheVariants as kind
@@ -36,7 +37,7 @@ act_tokens given Events = Literal (codes "EVENTS") ∷ []
 
 -- a call that is asked again while a rebuild holds it up
 abbrev pub retry_tokens : ℕ → List Token
-retry_tokens retry = if retry == 0 then [] else Literal (codes "RETRY") ∷ Number 1 1000 retry ∷ []
+retry_tokens retry = if retry == 0 then [] else Literal (codes "RETRY") ∷ Number 1 RETRIES retry ∷ []
 
 -- who may ask it; each content command comes from a connector
 abbrev pub MayAsk : ConnId → Option ℕ → AnyAsk → Type 0

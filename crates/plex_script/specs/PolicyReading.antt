@@ -1,5 +1,6 @@
 -- What a reader makes of the words of a line of a policy.
 use Rattle.std.specs.Prelude.{ℕ, if◌then◌else◌, List, [], ◌∷◌, Option, None, codes}
+use Rattle.cf_types.specs.declared.limits.TheConstants.{CAPACITY, CONNECTORS, VECTOR_BITS, HEADERS, LIST_LOCKS, UNITS}
 use Rattle.cf_types.specs.declared.names.Name16.{Name16}
 use Rattle.cf_types.specs.declared.forms.Kind.TheVariants as kind
 use Rattle.plex_spell.specs.declared.rigour.Rigour.{Rigour}
@@ -13,7 +14,7 @@ use Rattle.plex_script.specs.declared.declarations.Declaration.TheVariants.{Faci
 use Rattle.plex_script.specs.LineReading.{whole_read}
 
 abbrev pub some_units : Place
-some_units = Amount 1 1000000
+some_units = Amount 1 UNITS
 
 abbrev pub facility_places : List Place
 facility_places = ANewFacility ∷ some_units ∷ []
@@ -31,7 +32,7 @@ abbrev pub a_disposition : Place
 a_disposition = Either (codes "KEEP") (codes "DELETE")
 
 abbrev pub cache_places : List Place
-cache_places = Amount 1 4096 ∷ Amount 1 4096 ∷ Amount 1 32 ∷ Amount 1 1024 ∷ a_disposition ∷ []
+cache_places = Amount 1 CAPACITY ∷ Amount 1 CAPACITY ∷ Amount 1 CONNECTORS ∷ Amount 1 VECTOR_BITS ∷ a_disposition ∷ []
 
 abbrev pub cache_from : Name16 → Values cache_places → Declaration
 cache_from name v =
@@ -46,8 +47,8 @@ cache_from name v =
     })
 
 abbrev pub list_places : List Place
-list_places = Amount 1 4096 ∷ Amount 1 4096 ∷ Amount 1 32 ∷ Amount 1 1024 ∷ a_disposition ∷ Amount 1 64 ∷ Amount 0 64
-    ∷ SomeRefs ∷ []
+list_places = Amount 1 CAPACITY ∷ Amount 1 CAPACITY ∷ Amount 1 CONNECTORS ∷ Amount 1 VECTOR_BITS ∷ a_disposition
+    ∷ Amount 1 HEADERS ∷ Amount 0 LIST_LOCKS ∷ SomeRefs ∷ []
 
 abbrev pub list_from : Name16 → Values list_places → Declaration
 list_from name v =
@@ -62,7 +63,7 @@ list_from name v =
     })
 
 abbrev pub lock_places : List Place
-lock_places = Amount 1 4096 ∷ Amount 1 4096 ∷ Amount 1 32 ∷ a_disposition ∷ []
+lock_places = Amount 1 CAPACITY ∷ Amount 1 CAPACITY ∷ Amount 1 CONNECTORS ∷ a_disposition ∷ []
 
 abbrev pub lock_from : Name16 → Values lock_places → Declaration
 lock_from name v =

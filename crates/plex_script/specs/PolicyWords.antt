@@ -1,5 +1,6 @@
 -- The words of the lines of a policy.
 use Rattle.std.specs.Prelude.{◌≡◌, ℕ, List, [], ◌∷◌, codes}
+use Rattle.cf_types.specs.declared.limits.TheConstants.{UNITS}
 use Rattle.cf_types.specs.declared.forms.Kind.{Kind}
 use Rattle.cf_types.specs.declared.forms.Kind.TheVariants as kind
 use Rattle.plex_spell.specs.declared.rigour.Rigour.{Rigour}
@@ -11,7 +12,7 @@ use Rattle.plex_script.specs.declared.declarations.Declaration.TheVariants.{Faci
 
 -- units of a facility
 abbrev pub units : ℕ → Token
-units n = Number 1 1000000 n
+units n = Number 1 UNITS n
 
 abbrev pub declaration_tokens : Declaration → List Token
 declaration_tokens (Facility pref) = Literal (codes "FACILITY") ∷ NewFacility pref.cf ∷ units pref.units ∷ []

@@ -1,6 +1,7 @@
 -- What a reader of lines answers.
 use Rattle.std.specs.Prelude.{◌≡◌, ℕ, ◌-◌, ◌<◌, nat_le, if◌then◌else◌, length, List, Bool, true, false, Option, None, Some, Result, Ok, Err}
 use Rattle.std.specs.Option.{is_some}
+use Rattle.cf_types.specs.declared.limits.TheConstants.{STRUCTURES, CONNECTORS}
 use Rattle.plex_script.specs.declared.declarations.Declaration.{Declaration}
 use Rattle.plex_script.specs.declared.declarations.Declaration.TheVariants as declaration
 use Rattle.plex_script.specs.Causes.{IsFirst}
@@ -52,9 +53,9 @@ IsFaultBy holds NoMemory = Unit {0}
 -- there is a place for what is declared
 abbrev pub HasRoom : Script → Declaration → Type 0
 HasRoom script (declaration.Facility pref) = Unit {0}
-HasRoom script (declaration.Structure form) = length script.structures < 16
+HasRoom script (declaration.Structure form) = length script.structures < STRUCTURES
 HasRoom script (declaration.Pref on pref) = Unit {0}
-HasRoom script (declaration.Connector name) = length script.connectors < 32
+HasRoom script (declaration.Connector name) = length script.connectors < CONNECTORS
 
 -- what is left where so much is taken away, if it is there
 abbrev pub remainder : ℕ → ℕ → Option ℕ

@@ -1,6 +1,7 @@
 -- What holds of each script: its forms are forms, and each line is one of a caller of the script at a structure of
 -- the script.
 use Rattle.std.specs.Prelude.{◌≡◌, ◌≤◌, IsTrue, length, slice_get, Some, All}
+use Rattle.cf_types.specs.declared.limits.TheConstants.{STRUCTURES, CONNECTORS, RETRIES}
 use Rattle.cf_types.specs.declared.forms.Kind.{Kind}
 use Rattle.cf_types.specs.declared.forms.StrForm.{StrForm}
 use Rattle.cf_types.specs.declared.numbers.ConnId.{ConnId}
@@ -34,11 +35,11 @@ pub record IsLineOf (script : Script) (line : Line) : Type 0 where
   pub known : slice_get script.structures line.on.0 ≡ Some form
   pub caller : line.by.0 ≤ length script.connectors
   pub act : IsActOf form.kind line.by line.act
-  pub retry : line.retry ≤ 1000
+  pub retry : line.retry ≤ RETRIES
 
--- at most 16 structures, and at most 32 connectors
+-- as many structures and connectors as there may be at most
 pub record IsWellFormed (script : Script) : Type 0 where
-  pub structures : length script.structures ≤ 16
-  pub connectors : length script.connectors ≤ 32
+  pub structures : length script.structures ≤ STRUCTURES
+  pub connectors : length script.connectors ≤ CONNECTORS
   pub forms : All IsForm script.structures
   pub lines : All (IsLineOf script) script.lines

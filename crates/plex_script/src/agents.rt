@@ -12,6 +12,9 @@ use std::alloc::Global;
 /// How many events one round takes at most.
 pub const ROUND: u32 = 64;
 
+/// How many asks one more RETRY brings at most: NEXT and RESPOND for each event of a round, and the call.
+pub const ROUND_ASKS: u64 = 2 * ROUND as u64 + 1;
+
 /// What a caller asks next in the work of one line.
 #[derive(Clone, Copy, Debug, PartialEq, Eq)]
 pub enum Step {
@@ -46,7 +49,7 @@ impl Step {
         ensures { result ≡ most_asks self }
     {
         match self {
-            Step::Call { asks } => 1 + 129 * u64::from(asks),
+            Step::Call { asks } => 1 + ROUND_ASKS * u64::from(asks),
             Step::Next { left, then } => 2 * u64::from(left) + 2 + asks_behind(then),
             Step::Respond { left, then } => 2 * u64::from(left) + 1 + asks_behind(then),
             Step::Rest => 0,
@@ -106,7 +109,7 @@ fn asks_behind(then: Option<u32>) -> u64
 {
     match then {
         None => 0,
-        Some(asks) => 1 + 129 * u64::from(asks),
+        Some(asks) => 1 + ROUND_ASKS * u64::from(asks),
     }
 }
 

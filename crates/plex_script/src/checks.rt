@@ -7,21 +7,22 @@ ghost use Rattle.plex_script.specs.Reading.{script_of, remainder};
 
 use crate::declarations::Declaration;
 use crate::draft::Draft;
+use cf_types::limits::{CONNECTORS, LINE_BYTES, NAME_BYTES, STRUCTURES};
 use cf_types::{CfId, ConnId, Kind, Name16, Pref, StrForm, StrNo};
 use plex_spell::{connector_number, is, is_about, name_text};
 
-/// Whether a line is too long: more than 8,192 bytes.
+/// Whether a line is too long.
 pub(crate) fn is_long(line: &[u8]) -> bool
     ensures { result ≡ is_long line.now }
 {
-    line.len() > 8192
+    line.len() > LINE_BYTES
 }
 
-/// Whether a word is too long for a name: more than 16 bytes.
+/// Whether a word is too long for a name.
 pub(crate) fn is_long_name(word: &[u8]) -> bool
     ensures { result ≡ is_long_name word.now }
 {
-    word.len() > 16
+    word.len() > NAME_BYTES
 }
 
 /// Whether the first word of a line makes it a comment.
@@ -65,8 +66,8 @@ pub(crate) fn kind_of(structures: &[StrForm], on: StrNo) -> Kind
 pub(crate) fn is_full(draft: &Draft, word: &[u8]) -> bool
     ensures { result ≡ is_full (script_of draft.now) word.now }
 {
-    (is(word, b"STRUCTURE") && draft.structures.len() >= 16)
-        || (is(word, b"CONNECTOR") && draft.connectors.len() >= 32)
+    (is(word, b"STRUCTURE") && draft.structures.len() >= STRUCTURES as usize)
+        || (is(word, b"CONNECTOR") && draft.connectors.len() >= CONNECTORS as usize)
 }
 
 fn is_structure(structures: &[StrForm], name: &Name16) -> bool

@@ -4,6 +4,7 @@ ghost use Rattle.plex_spell.specs.Places.{Gives, Reads, names_of};
 ghost use Rattle.plex_script.specs.PolicyReading.{cache_places, cache_from, list_places, list_from, lock_places, lock_from, form_at, structure_at, declared_at, declaration_at};
 
 use crate::declarations::Declaration;
+use cf_types::limits::{CAPACITY, CONNECTORS, HEADERS, LIST_LOCKS, UNITS, VECTOR_BITS};
 use cf_types::{Caps, Kind, Listing, Name16, Pref, StrForm};
 use plex_spell::{Judge, Miss, Words, fields, is};
 use std::alloc::Global;
@@ -19,10 +20,10 @@ fn cache_form(
         (cache_from name) words.old) }
 {
     let rigour = judge.rigour;
-    let entries = fields::bounded(rigour, words, 1, 4096)?;
-    let elements = fields::bounded(rigour, words, 1, 4096)?;
-    let conns = fields::bounded(rigour, words, 1, 32)?;
-    let vector = fields::bounded(rigour, words, 1, 1024)?;
+    let entries = fields::bounded(rigour, words, 1, CAPACITY)?;
+    let elements = fields::bounded(rigour, words, 1, CAPACITY)?;
+    let conns = fields::bounded(rigour, words, 1, u32::from(CONNECTORS))?;
+    let vector = fields::bounded(rigour, words, 1, VECTOR_BITS)?;
     let keep = fields::either(words, b"KEEP", b"DELETE")?;
     Ok(Declaration::Structure(StrForm {
         name,
@@ -46,13 +47,13 @@ fn list_form(
         (list_from name) words.old) }
 {
     let rigour = judge.rigour;
-    let entries = fields::bounded(rigour, words, 1, 4096)?;
-    let elements = fields::bounded(rigour, words, 1, 4096)?;
-    let conns = fields::bounded(rigour, words, 1, 32)?;
-    let vector = fields::bounded(rigour, words, 1, 1024)?;
+    let entries = fields::bounded(rigour, words, 1, CAPACITY)?;
+    let elements = fields::bounded(rigour, words, 1, CAPACITY)?;
+    let conns = fields::bounded(rigour, words, 1, u32::from(CONNECTORS))?;
+    let vector = fields::bounded(rigour, words, 1, VECTOR_BITS)?;
     let keep = fields::either(words, b"KEEP", b"DELETE")?;
-    let headers = fields::bounded(rigour, words, 1, 64)?;
-    let locks = fields::bounded(rigour, words, 0, 64)?;
+    let headers = fields::bounded(rigour, words, 1, HEADERS)?;
+    let locks = fields::bounded(rigour, words, 0, LIST_LOCKS)?;
     let refs = fields::references(words)?;
     Ok(Declaration::Structure(StrForm {
         name,
@@ -80,9 +81,9 @@ fn lock_form(
         (lock_from name) words.old) }
 {
     let rigour = judge.rigour;
-    let entries = fields::bounded(rigour, words, 1, 4096)?;
-    let elements = fields::bounded(rigour, words, 1, 4096)?;
-    let conns = fields::bounded(rigour, words, 1, 32)?;
+    let entries = fields::bounded(rigour, words, 1, CAPACITY)?;
+    let elements = fields::bounded(rigour, words, 1, CAPACITY)?;
+    let conns = fields::bounded(rigour, words, 1, u32::from(CONNECTORS))?;
     let keep = fields::either(words, b"KEEP", b"DELETE")?;
     Ok(Declaration::Structure(StrForm {
         name,
@@ -126,7 +127,7 @@ fn declared(alloc: Global, judge: &Judge, words: &mut Words) -> Result<Declarati
     let verb = words.next().ok_or(Miss::NoForm)?;
     if is(verb, b"FACILITY") {
         let cf = fields::new_facility(words)?;
-        let units = fields::bounded(judge.rigour, words, 1, 1_000_000)?;
+        let units = fields::bounded(judge.rigour, words, 1, UNITS)?;
         return Ok(Declaration::Facility(Pref { cf, units }));
     }
     if is(verb, b"STRUCTURE") {
@@ -135,7 +136,7 @@ fn declared(alloc: Global, judge: &Judge, words: &mut Words) -> Result<Declarati
     if is(verb, b"PREF") {
         let on = fields::structure(judge, words)?;
         let cf = fields::facility(judge, words)?;
-        let units = fields::bounded(judge.rigour, words, 1, 1_000_000)?;
+        let units = fields::bounded(judge.rigour, words, 1, UNITS)?;
         return Ok(Declaration::Pref {
             on,
             pref: Pref { cf, units },

@@ -1,4 +1,5 @@
 ghost use Rattle.std.specs.Prelude.{◌≡◌, ◌≤◌, ◌<◌, ◌+◌, ◌∷◌, [], IsTrue, IfOk, OnOk};
+ghost use Rattle.cf_types.specs.declared.limits.TheConstants.{CONNECTORS};
 ghost use Rattle.cf_types.specs.Forms.{IsForm, IsCaller};
 ghost use Rattle.engine_api.specs.Asking.{MayAsk, MayCommand, IsBuilt};
 ghost use Rattle.engine_api.specs.Shell.{opening_shell, shell_cause, shell_done, leaver, is_kept, with_posted, is_built, no_deeds};
@@ -55,7 +56,7 @@ impl Shell {
     /// greatest number of a connector, 32 at most.
     pub fn start(alloc: Global, form: &StrForm, callers: u8) -> Result<Shell, NoMemory>
         requires form { IsForm form.now }
-        requires callers { callers ≤ 32 }
+        requires callers { callers ≤ CONNECTORS }
         ensures form { IfOk result (λ shell. shell.form ≡ form.now) }
         ensures shell { IfOk result (λ shell. shell.shell ≡ opening_shell) }
     {

@@ -2,6 +2,7 @@
 use Rattle.std.specs.Prelude.{◌≡◌, ℕ, ◌*◌, ◌==◌, ◌&&◌, Bool, true, false, not, List, [], ◌∷◌, length, take, Option, None, Some, option_map, option_and_then, nat_le, if◌then◌else◌, Result, Ok, Err}
 use Rattle.std.specs.List.{list_any, repeat, before_first, after_first}
 use Rattle.std.specs.Str.Parse.{digits_value}
+use Rattle.cf_types.specs.declared.limits.TheConstants.{NAME_BYTES, BODY_BYTES}
 use Rattle.cf_types.specs.declared.names.Name16.{Name16}
 use Rattle.cf_types.specs.declared.names.Key16.{Key16}
 use Rattle.cf_types.specs.declared.numbers.CfId.{CfId}
@@ -64,11 +65,11 @@ text_of rigour limit word = if is_term word then within_limits rigour (nat_le (l
 
 abbrev pub name_of : Rigour → List ℕ → Option Name16
 name_of rigour word = option_map (λ text. (let name : Name16 = record { 0 = block_of text } in name))
-    (text_of rigour 16 word)
+    (text_of rigour NAME_BYTES word)
 
 abbrev pub key_of : Rigour → List ℕ → Option Key16
 key_of rigour word = option_map (λ text. (let key : Key16 = record { 0 = block_of text } in key))
-    (text_of rigour 16 word)
+    (text_of rigour NAME_BYTES word)
 
 abbrev pub stands_in : ℕ → List ℕ → Bool
 stands_in at word = list_any (λ b. b == at) word
@@ -76,15 +77,15 @@ stands_in at word = list_any (λ b. b == at) word
 abbrev pub repeated_of : Rigour → List ℕ → List ℕ → Option (List ℕ)
 repeated_of rigour piece times =
     if is_term piece
-    then number_of rigour 1 4096 times >>= (λ n. within_limits rigour (nat_le (n * length piece) 4096) (repeat n piece)
-    (take 1 piece))
+    then number_of rigour 1 BODY_BYTES times
+    >>= (λ n. within_limits rigour (nat_le (n * length piece) BODY_BYTES) (repeat n piece) (take 1 piece))
     else None
 
 abbrev pub data_of : Rigour → List ℕ → Option (List ℕ)
 data_of rigour word =
     if stands_in 42 word
     then repeated_of rigour (before_first (λ b. b == 42) word) (after_first (λ b. b == 42) word)
-    else text_of rigour 4096 word
+    else text_of rigour BODY_BYTES word
 
 abbrev pub resource_in : Rigour → List ℕ → List ℕ → Option Resource
 resource_in rigour name hash =

@@ -1,5 +1,6 @@
 -- What a reader makes of the words of a command that structures of every kind share.
 use Rattle.std.specs.Prelude.{ℕ, List, [], ◌∷◌, Option, None, Some, codes, if◌then◌else◌}
+use Rattle.cf_types.specs.declared.limits.TheConstants.{CAPACITY}
 use Rattle.cf_types.specs.declared.shell_commands.ShellCmd.{ShellCmd}
 use Rattle.cf_types.specs.declared.shell_commands.ShellCmd.TheVariants.{Connect, Disconnect, Fail, Next, Respond, RebuildStart, RebuildStop, RebuildConnect, Copy, RebuildComplete, ForceConn, ForceStr, LoseConn, RestoreConn, Vary, DuplexStart, DuplexStop}
 use Rattle.plex_spell.specs.declared.rigour.Rigour.{Rigour}
@@ -9,7 +10,7 @@ use Rattle.plex_spell.specs.Patterns.{Place, Values, values_at}
 use Rattle.plex_spell.specs.Patterns.Place.{Amount, AFacility, AConnector, Either}
 
 abbrev pub an_amount : Place
-an_amount = Amount 1 4096
+an_amount = Amount 1 CAPACITY
 
 abbrev pub caps_places : List Place
 caps_places = an_amount ∷ an_amount ∷ []

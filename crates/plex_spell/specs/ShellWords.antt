@@ -1,5 +1,6 @@
 -- The words of the commands that structures of every kind share.
 use Rattle.std.specs.Prelude.{ℕ, ◌==◌, Bool, true, not, List, [], ◌∷◌, codes}
+use Rattle.cf_types.specs.declared.limits.TheConstants.{CAPACITY}
 use Rattle.cf_types.specs.declared.numbers.ConnId.{ConnId}
 use Rattle.cf_types.specs.declared.shell_commands.ShellCmd.{ShellCmd}
 use Rattle.cf_types.specs.declared.shell_commands.ShellCmd.TheVariants.{Connect, Disconnect, Fail, Next, Respond, RebuildStart, RebuildStop, RebuildConnect, Copy, RebuildComplete, ForceConn, ForceStr, LoseConn, RestoreConn, Vary, DuplexStart, DuplexStop}
@@ -7,9 +8,9 @@ use Rattle.plex_spell.specs.Tokens.{Token}
 use Rattle.plex_spell.specs.Tokens.Token.{Literal, Number, OfFacility, OfConnector}
 use Rattle.plex_spell.specs.Fields.{one_of_two, disposition}
 
--- of entries, elements, records and items there are 1 to 4,096
+-- of entries, elements, records and items there are as many as a capacity has, from 1 on
 abbrev pub amount : ℕ → Token
-amount n = Number 1 4096 n
+amount n = Number 1 CAPACITY n
 
 abbrev pub shell_tokens : ShellCmd → List Token
 shell_tokens (Connect keep) = Literal (codes "CONNECT") ∷ disposition keep ∷ []

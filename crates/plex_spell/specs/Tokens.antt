@@ -3,6 +3,7 @@ use Rattle.std.specs.Prelude.{◌≡◌, ℕ, ◌+◌, ◌≤◌, ◌==◌, ◌&
 use Rattle.std.specs.List.{list_all, list_any, repeat}
 use Rattle.std.specs.Char.{is_ascii_uppercase, is_ascii_digit}
 use Rattle.std.specs.Fmt.{decimal}
+use Rattle.cf_types.specs.declared.limits.TheConstants.{NAME_BYTES, ADJUNCT_BYTES, BODY_BYTES}
 use Rattle.plex_spell.specs.Words.{same_word}
 use Rattle.cf_types.specs.declared.names.Name16.{Name16}
 use Rattle.cf_types.specs.declared.numbers.CfId.{CfId}
@@ -127,18 +128,18 @@ pub record IsRepeated (rigour : Rigour) (text word : List ℕ) : Type 0 where
   pub cut : IsCut 42 word piece times
   pub term : IsTrue (is_term piece)
   pub count : ℕ
-  pub numeral : IsNumber rigour 1 4096 count times
-  pub whole : AtLimits rigour (Unit {0}) ((text ≡ repeat count piece) × (length text ≤ 4096))
+  pub numeral : IsNumber rigour 1 BODY_BYTES count times
+  pub whole : AtLimits rigour (Unit {0}) ((text ≡ repeat count piece) × (length text ≤ BODY_BYTES))
 
 abbrev pub IsData : Rigour → List ℕ → List ℕ → Type 0
-IsData rigour text word = IsText rigour 4096 text word ⊎ IsRepeated rigour text word
+IsData rigour text word = IsText rigour BODY_BYTES text word ⊎ IsRepeated rigour text word
 
 -- a resource: its name, `@` and its hash value
 pub record IsResource (rigour : Rigour) (resource : Resource) (word : List ℕ) : Type 0 where
   pub name : List ℕ
   pub hash : List ℕ
   pub cut : IsCut 64 word name hash
-  pub named : IsText rigour 16 name name
+  pub named : IsText rigour NAME_BYTES name name
   pub padded : AtLimits rigour (Unit {0}) (resource.name.0 ≡ block_of name)
   pub numeral : IsNumber rigour 0 4294967295 resource.hash hash
 
@@ -147,17 +148,17 @@ abbrev pub IsRecord : Rigour → ℕ → List ℕ → Type 0
 IsRecord rigour id [] = ⊥
 IsRecord rigour id (b ∷ number) = (b ≡ 35) × IsNumber rigour 1 4294967295 id number
 
--- a name: 16 characters at most
+-- a name
 abbrev pub IsName : Rigour → List ℕ → Type 0
-IsName rigour word = IsTrue (is_name word) × AtLimits rigour (Unit {0}) (length word ≤ 16)
+IsName rigour word = IsTrue (is_name word) × AtLimits rigour (Unit {0}) (length word ≤ NAME_BYTES)
 
 -- the word stands for this
 abbrev pub IsWord : Rigour → Declared → Token → List ℕ → Type 0
 IsWord rigour declared (Literal text) word = word ≡ text
 IsWord rigour declared (Number low high n) word = IsNumber rigour low high n word
 IsWord rigour declared (Term bytes) word =
-    IsTrue (is_term word) × AtLimits rigour (Unit {0}) ((length word ≤ 16) × (bytes ≡ block_of word))
-IsWord rigour declared (Short text) word = IsText rigour 64 text word
+    IsTrue (is_term word) × AtLimits rigour (Unit {0}) ((length word ≤ NAME_BYTES) × (bytes ≡ block_of word))
+IsWord rigour declared (Short text) word = IsText rigour ADJUNCT_BYTES text word
 IsWord rigour declared (Data text) word = IsData rigour text word
 IsWord rigour declared (OnResource resource) word = IsResource rigour resource word
 IsWord rigour declared (Record id) word = IsRecord rigour id.0 word

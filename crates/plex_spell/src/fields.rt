@@ -1,4 +1,5 @@
 ghost use Rattle.std.specs.Prelude.{◌≡◌, ◌≤◌, IfOk, codes, option_map};
+ghost use Rattle.cf_types.specs.declared.limits.TheConstants.{ADJUNCT_BYTES, RETRIES};
 ghost use Rattle.cf_types.specs.declared.list_commands.At.TheVariants as at;
 ghost use Rattle.plex_spell.specs.Tokens.{facility_of};
 ghost use Rattle.plex_spell.specs.Places.{Gives, names_of, on_first, number_of, name_of, key_of, text_of, data_of, resource_of, record_of, new_name_of, facility_in, connector_in, structure_in};
@@ -10,6 +11,7 @@ use crate::misses::Miss;
 use crate::rigour::Rigour;
 use crate::words::{Words, is};
 use crate::{numerals, singles};
+use cf_types::limits::RETRIES;
 use cf_types::{
     Adjunct, At, Body, CfId, Cond, ConnId, Decision, Key16, Name16, Refs, Resource, StrNo,
 };
@@ -49,7 +51,7 @@ pub(crate) fn key(rigour: Rigour, words: &mut Words) -> Result<Key16, Miss>
 
 /// Takes an adjunct, or record data.
 pub(crate) fn short(rigour: Rigour, words: &mut Words) -> Result<Adjunct, Miss>
-    ensures { Gives result words.new (on_first (text_of rigour 64) words.old) }
+    ensures { Gives result words.new (on_first (text_of rigour ADJUNCT_BYTES) words.old) }
 {
     let word = words.next().ok_or(Miss::NoForm)?;
     singles::short(rigour, word).ok_or(Miss::NoForm)
@@ -288,7 +290,8 @@ pub(crate) fn short_option(
     words: &mut Words,
     word: &[u8],
 ) -> Result<Option<Adjunct>, Miss>
-    ensures { Gives result words.new (option_at word.now (on_first (text_of rigour 64)) words.old) }
+    ensures { Gives result words.new
+        (option_at word.now (on_first (text_of rigour ADJUNCT_BYTES)) words.old) }
 {
     if words.skip(word) {
         Ok(Some(short(rigour, words)?))
@@ -325,13 +328,13 @@ pub(crate) fn key_option(rigour: Rigour, words: &mut Words) -> Result<Option<Key
     }
 }
 
-/// Takes RETRY and a number from 1 to 1,000, where they are there.
+/// Takes RETRY and a number from 1 on, where they are there.
 pub fn retry(rigour: Rigour, words: &mut Words) -> Result<Option<u32>, Miss>
     ensures { Gives result words.new (option_at (codes "RETRY") (on_first
-        (number_of rigour 1 1000)) words.old) }
+        (number_of rigour 1 RETRIES)) words.old) }
 {
     if words.skip(b"RETRY") {
-        Ok(Some(bounded(rigour, words, 1, 1000)?))
+        Ok(Some(bounded(rigour, words, 1, RETRIES)?))
     } else {
         Ok(None)
     }

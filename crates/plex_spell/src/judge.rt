@@ -1,4 +1,5 @@
 ghost use Rattle.std.specs.Prelude.{◌≤◌, length};
+ghost use Rattle.cf_types.specs.declared.limits.TheConstants.{STRUCTURES, CONNECTORS};
 
 use crate::rigour::Rigour;
 use cf_types::{Name16, Pref, StrForm};
@@ -13,6 +14,6 @@ pub struct Judge<'a> {
     pub structures: &'a [StrForm],
     /// The connectors that are declared before the words, at most 32.
     pub connectors: &'a [Name16],
-    ghost few_structures: { length structures.now ≤ 16 },
-    ghost few_connectors: { length connectors.now ≤ 32 },
+    ghost few_structures: { length structures.now ≤ STRUCTURES },
+    ghost few_connectors: { length connectors.now ≤ CONNECTORS },
 }

@@ -6,6 +6,7 @@ use crate::fields::{bounded, connector, either, facility};
 use crate::judge::Judge;
 use crate::misses::Miss;
 use crate::words::{Words, is};
+use cf_types::limits::{CAPACITY, COPY_ITEMS};
 use cf_types::{Caps, ShellCmd};
 
 // What stands behind REBUILD.
@@ -13,8 +14,8 @@ fn rebuild(judge: &Judge, words: &mut Words) -> Result<ShellCmd, Miss>
     ensures { Gives result words.new (rebuild_at judge.now.rigour (names_of judge.now) words.old) }
 {
     if words.skip(b"START") {
-        let entries = bounded(judge.rigour, words, 1, 4096)?;
-        let elements = bounded(judge.rigour, words, 1, 4096)?;
+        let entries = bounded(judge.rigour, words, 1, CAPACITY)?;
+        let elements = bounded(judge.rigour, words, 1, CAPACITY)?;
         return Ok(ShellCmd::RebuildStart {
             caps: Caps { entries, elements },
         });
@@ -102,7 +103,7 @@ pub fn shell(judge: &Judge, words: &mut Words) -> Result<ShellCmd, Miss>
         return rebuild(judge, words);
     }
     if is(verb, b"COPY") {
-        let n = bounded(judge.rigour, words, 1, 4096)?;
+        let n = bounded(judge.rigour, words, 1, COPY_ITEMS)?;
         return Ok(ShellCmd::Copy { n });
     }
     operator_command(judge, verb, words)

@@ -1,5 +1,6 @@
 ghost use Rattle.std.specs.Prelude.{◌≡◌, ◌==◌, ◌≤◌, ◌<◌, ◌∷◌, true, length, position, Some, None, List, ℕ, Option, ◌*◌, nat_le};
 ghost use Rattle.std.specs.List.{list_any, repeat};
+ghost use Rattle.cf_types.specs.declared.limits.TheConstants.{ADJUNCT_BYTES, BODY_BYTES, CONNECTORS, STRUCTURES};
 ghost use Rattle.cf_types.specs.Term.{IsTerm};
 ghost use Rattle.plex_spell.specs.Words.{same_word};
 ghost use Rattle.plex_spell.specs.Tokens.{is_term, name_word, facility_of, is_declared, connector_of, structure_of};
@@ -12,6 +13,7 @@ use crate::numerals::number;
 use crate::rigour::Rigour;
 use crate::texts::{cut, is_name, is_term, name_text, text};
 use crate::words::is;
+use cf_types::limits::{ADJUNCT_BYTES, BODY_BYTES, NAME_BYTES};
 use cf_types::{
     Adjunct, Body, BodyFault, CfId, ConnId, EntryId, Key16, Name16, Pref, Resource, StrForm, StrNo,
     parse_adjunct, parse_body, parse_key, parse_name,
@@ -22,7 +24,7 @@ use std::alloc::Global;
 pub(crate) fn name(rigour: Rigour, word: &[u8]) -> Option<Name16>
     ensures { result ≡ name_of rigour word.now }
 {
-    let text = text(rigour, word, 16)?;
+    let text = text(rigour, word, NAME_BYTES)?;
     parse_name(text).ok()
 }
 
@@ -30,21 +32,21 @@ pub(crate) fn name(rigour: Rigour, word: &[u8]) -> Option<Name16>
 pub(crate) fn key(rigour: Rigour, word: &[u8]) -> Option<Key16>
     ensures { result ≡ key_of rigour word.now }
 {
-    let text = text(rigour, word, 16)?;
+    let text = text(rigour, word, NAME_BYTES)?;
     parse_key(text).ok()
 }
 
 /// Reads an adjunct, or record data.
 pub(crate) fn short(rigour: Rigour, word: &[u8]) -> Option<Adjunct>
-    ensures { result ≡ text_of rigour 64 word.now }
+    ensures { result ≡ text_of rigour ADJUNCT_BYTES word.now }
 {
-    let text = text(rigour, word, 64)?;
+    let text = text(rigour, word, ADJUNCT_BYTES)?;
     parse_adjunct(text).ok()
 }
 
 // Data of these bytes.
 fn body(alloc: Global, text: &[u8]) -> Result<Body, Miss>
-    requires { IsTerm 4096 text.now }
+    requires { IsTerm BODY_BYTES text.now }
     ensures { Reads result (Some text.now) }
 {
     match parse_body(alloc, text) {
@@ -57,30 +59,30 @@ fn body(alloc: Global, text: &[u8]) -> Result<Body, Miss>
 
 // Data that stand there as they are.
 fn plain_data(alloc: Global, rigour: Rigour, word: &[u8]) -> Result<Body, Miss>
-    ensures { Reads result (text_of rigour 4096 word.now) }
+    ensures { Reads result (text_of rigour BODY_BYTES word.now) }
 {
-    let text = text(rigour, word, 4096).ok_or(Miss::NoForm)?;
+    let text = text(rigour, word, BODY_BYTES).ok_or(Miss::NoForm)?;
     body(alloc, text)
 }
 
-// A text of term characters so many times, 4,096 bytes at most.
+// A text of term characters so many times, as long as data may be.
 fn copies(alloc: Global, piece: &[u8], count: u32) -> Result<Body, Miss>
     requires term { is_term piece.now ≡ true }
     requires some { 0 < count }
-    requires short { count * length piece.now ≤ 4096 }
+    requires short { count * length piece.now ≤ BODY_BYTES }
     ensures { Reads result (Some (repeat count piece.now)) }
 {
     let text = piece.repeat(alloc, count as usize)?;
     body(alloc, text.as_slice())
 }
 
-// Whether so many copies have 4,096 bytes at most.
+// Whether so many copies are as long as data may be.
 fn fits(piece: &[u8], count: u32) -> bool
     requires some { 0 < count }
-    requires few { count ≤ 4096 }
-    ensures { result ≡ nat_le (count * length piece.now) 4096 }
+    requires few { count ≤ BODY_BYTES }
+    ensures { result ≡ nat_le (count * length piece.now) BODY_BYTES }
 {
-    piece.len() <= 4096 && count as usize * piece.len() <= 4096
+    piece.len() <= BODY_BYTES && count as usize * piece.len() <= BODY_BYTES
 }
 
 // Data that stand there as a text and how many times it counts.
@@ -90,7 +92,7 @@ fn repeated_data(alloc: Global, rigour: Rigour, piece: &[u8], times: &[u8]) -> R
     if !is_term(piece) {
         return Err(Miss::NoForm);
     }
-    let count = number(rigour, times, 1, 4096).ok_or(Miss::NoForm)?;
+    let count = number(rigour, times, 1, BODY_BYTES as u32).ok_or(Miss::NoForm)?;
     if fits(piece, count) {
         return copies(alloc, piece, count);
     }
@@ -203,7 +205,7 @@ fn connector_place(connectors: &[Name16], word: &[u8]) -> Option<usize>
 
 /// The number of the connector that a word names.
 pub fn connector_number(connectors: &[Name16], word: &[u8]) -> Option<ConnId>
-    requires { length connectors.now ≤ 32 }
+    requires { length connectors.now ≤ CONNECTORS }
     ensures { result ≡ connector_of connectors.now word.now }
 {
     let place = connector_place(connectors, word)?;
@@ -232,7 +234,7 @@ fn structure_place(structures: &[StrForm], word: &[u8]) -> Option<usize>
 
 /// The number of the structure that a word names.
 pub fn structure_number(structures: &[StrForm], word: &[u8]) -> Option<StrNo>
-    requires { length structures.now ≤ 16 }
+    requires { length structures.now ≤ STRUCTURES }
     ensures { result ≡ structure_of structures.now word.now }
 {
     let place = structure_place(structures, word)?;

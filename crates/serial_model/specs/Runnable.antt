@@ -1,5 +1,6 @@
 -- The scripts whose run is built: each line of theirs has a command that is built.
 use Rattle.std.specs.Prelude.{◌≡◌, ◌≤◌, length, slice_get, Some, All}
+use Rattle.cf_types.specs.declared.limits.TheConstants.{STRUCTURES, CONNECTORS}
 use Rattle.cf_types.specs.declared.forms.StrForm.{StrForm}
 use Rattle.cf_types.specs.declared.numbers.ConnId.{ConnId}
 use Rattle.cf_types.specs.Forms.{IsForm, IsConnector}
@@ -25,7 +26,7 @@ pub record IsRunnableLine (script : Script) (line : Line) : Type 0 where
   pub act : IsRunnableAct form line.by line.act
 
 pub record IsRunnable (script : Script) : Type 0 where
-  pub structures : length script.structures ≤ 16
-  pub connectors : length script.connectors ≤ 32
+  pub structures : length script.structures ≤ STRUCTURES
+  pub connectors : length script.connectors ≤ CONNECTORS
   pub forms : All IsForm script.structures
   pub lines : All (IsRunnableLine script) script.lines

@@ -1,6 +1,7 @@
 //! The cell.
 ghost use Rattle.std.specs.Prelude.{◌≡◌, ◌+◌, ◌<◌, ◌≤◌, ◌++◌, ◌≢◌, ℕ, [], ◌∷◌, IsTrue, IfOk, IfErr, IfSome, Err, None, All, length, map, max, is_some};
 ghost use Rattle.std.specs.List.{range_with_len};
+ghost use Rattle.cf_types.specs.declared.limits.TheConstants.{CONNECTORS};
 ghost use Rattle.cf_types.specs.Forms.{IsForm};
 ghost use Rattle.engine_api.specs.Asking.{MayAsk, IsBuilt};
 ghost use Rattle.engine_api.specs.History.{calls, own, replay, IsLegal};
@@ -43,7 +44,7 @@ impl<E: Engine, L: Link> Model for Cell<E, L> {
     ghost view = { λ c. c.lock.key };
 
     ghost invariant = { λ c. (c.lock.key.words ≡ c.vectors) × (c.lock.key.limit ≤ 4294967000)
-        × (c.lock.key.callers ≤ 32) × IsForm c.lock.key.form };
+        × (c.lock.key.callers ≤ CONNECTORS) × IsForm c.lock.key.form };
 }
 
 impl<E: Engine, L: Link> Cell<E, L> {
@@ -58,7 +59,7 @@ impl<E: Engine, L: Link> Cell<E, L> {
     ) -> Result<(Cell<E, L>, Vec<Pass<(Ask<E::Cmd>, Reply<E::Reply>)>>), Links<L>>
         requires formed { IsForm form }
         requires kind { IsTrue (E.is_kind form.kind) }
-        requires callers { callers ≤ 32 }
+        requires callers { callers ≤ CONNECTORS }
         requires limit { (1 ≤ limit) × (limit ≤ 4294967000) }
         ensures cell { IfOk result (λ r. r.0 ≡ record {
           form = form;

@@ -1,4 +1,5 @@
 ghost use Rattle.std.specs.Prelude.{◌≡◌, ◌/◌, ◌<◌, ◌≤◌, ℕ, [], true, false, IfOk, OnOk, All};
+ghost use Rattle.cf_types.specs.declared.limits.TheConstants.{VECTOR_BITS};
 ghost use Rattle.cf_types.specs.Gains.{is_for};
 ghost use Rattle.cf_types.specs.declared.numbers.ConnId.{ConnId};
 ghost use Rattle.struct_machine.specs.Changes.{IsUntouched};
@@ -45,7 +46,7 @@ impl Model for Touched {
 impl Touched {
     /// No word, of vectors of `len` bits for connectors 1 to `conns`.
     pub(crate) fn none(alloc: Global, conns: u8, len: u32) -> Result<Touched, NoMemory>
-        requires { len ≤ 1024 }
+        requires { len ≤ VECTOR_BITS }
         ensures { IfOk result (λ touched.
             touched ≡ record { conns = conns; len = len; places = [] }) }
     {
@@ -140,7 +141,7 @@ fn name_one(named: &mut Vec<Place>, conns: u8, len: u32, change: &BitChange) -> 
 
 // Every word of vectors of `len` bits for connectors 1 to `conns`.
 fn every_word(alloc: Global, conns: u8, len: u32) -> Result<Vec<Place>, NoMemory>
-    requires { len ≤ 1024 }
+    requires { len ≤ VECTOR_BITS }
     ensures within { IfOk result (λ places. All (IsWithin conns len) places.items) }
     ensures distinct { IfOk result (λ places. AreDistinct places.items) }
     ensures every { IfOk result (λ places. IsEvery conns len places.items) }
@@ -155,7 +156,7 @@ fn every_word(alloc: Global, conns: u8, len: u32) -> Result<Vec<Place>, NoMemory
 // The words of one connector's vector, behind others.
 fn put_words(places: &mut Vec<Place>, conns: u8, len: u32, conn: ConnId) -> Result<(), NoMemory>
     requires conn { (0 < conn.0) × (conn.0 ≤ conns) }
-    requires len { len ≤ 1024 }
+    requires len { len ≤ VECTOR_BITS }
     requires within { All (IsWithin conns len) places.old.items }
     requires distinct { AreDistinct places.old.items }
     ensures within { OnOk result (All (IsWithin conns len) places.new.items) }

@@ -1,4 +1,5 @@
 ghost use Rattle.std.specs.Prelude.{◌≡◌, ◌*◌, ◌+◌, ◌^◌, ◌<◌, ◌≤◌, ◌++◌, ◌∷◌, [], ℕ, All};
+ghost use Rattle.cf_types.specs.declared.limits.TheConstants.{CONNECTORS, VECTOR_BITS};
 ghost use Rattle.cf_types.specs.Forms.{IsCaller};
 ghost use Rattle.vec_world.specs.Log.{HasStore};
 ghost use Rattle.vec_words.specs.Logged.{steps_of, word_number};
@@ -19,8 +20,8 @@ pub(crate) fn store_words<E: Engine, D>(
 )
     requires table { seat.old.table ≡ vectors.now }
     requires begun { 0 < seat.old.number }
-    requires conns { vectors.now.conns ≤ 32 }
-    requires len { vectors.now.len ≤ 1024 }
+    requires conns { vectors.now.conns ≤ CONNECTORS }
+    requires len { vectors.now.len ≤ VECTOR_BITS }
     requires within { All (IsWithin vectors.now.conns vectors.now.len) places.now }
     requires distinct { AreDistinct places.now }
     requires fresh { (word : ℕ) → ¬ HasStore (steps_of seat.old.log) word seat.old.number }
@@ -41,8 +42,8 @@ fn store_one<E: Engine, D>(
 )
     requires table { seat.old.table ≡ vectors.now }
     requires begun { 0 < seat.old.number }
-    requires conns { vectors.now.conns ≤ 32 }
-    requires len { vectors.now.len ≤ 1024 }
+    requires conns { vectors.now.conns ≤ CONNECTORS }
+    requires len { vectors.now.len ≤ VECTOR_BITS }
     requires within { IsWithin vectors.now.conns vectors.now.len place.now }
     requires once { ¬ HasStore (steps_of seat.old.log)
         (word_number vectors.now.len place.now.conn.0 place.now.word) seat.old.number }
