@@ -6,6 +6,7 @@ pub mod PolicyLaws
 pub mod CauseLaws
 pub mod ReadLaws
 pub mod LineLaws
+pub mod FaultLaws
 pub mod DecidedLaws
 pub mod FormLaws
 pub mod KeptAll

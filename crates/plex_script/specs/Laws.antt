@@ -15,6 +15,11 @@ abbrev pub IsDecided : Type 0
 IsDecided = (text : List ℕ)
     → ((script : Script) × IsScript text script) ⊎ ((number : ℕ) × (why : Why) × IsFault text number why)
 
+-- a text has one fault
+abbrev pub HasOneFault : Type 0
+HasOneFault = (text : List ℕ) (number other : ℕ) (why another : Why) → IsFault text number why
+    → IsFault text other another → (number ≡ other) × (why ≡ another)
+
 -- and not both
 abbrev pub IsExclusive : Type 0
 IsExclusive = (text : List ℕ) (script : Script) (number : ℕ) (why : Why) → IsScript text script

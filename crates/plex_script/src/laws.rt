@@ -1,4 +1,4 @@
-ghost use Rattle.plex_script.specs.Laws.{SaysOne, IsDecided, IsExclusive, IsReadBack, KeepLimits};
+ghost use Rattle.plex_script.specs.Laws.{SaysOne, IsDecided, HasOneFault, IsExclusive, IsReadBack, KeepLimits};
 ghost use Rattle.plex_script.specs.Scripts.{IsScript};
 ghost use Rattle.plex_script.specs.WellFormed.{IsWellFormed};
 
@@ -12,6 +12,11 @@ pub fn one_script()
 /// Each text is a script, or has a first line that is wrong, with a cause.
 pub fn script_or_fault()
     ensures { IsDecided }
+{}
+
+/// A text has one first line that is wrong, with one cause.
+pub fn one_fault()
+    ensures { HasOneFault }
 {}
 
 /// No script has a line that is wrong.

@@ -24,7 +24,9 @@ pub use asks::AnyHistory;
 pub use copies::copy_ask;
 pub use declarations::Declaration;
 pub use faults::{ReadFault, Why};
-pub use laws::{keeps_limits, never_both, one_script, read_back, script_or_fault, well_formed};
+pub use laws::{
+    keeps_limits, never_both, one_fault, one_script, read_back, script_or_fault, well_formed,
+};
 pub use printer::print;
 pub use reader::read;
 pub use scripts::{Act, AnyAsk, Line, Script};

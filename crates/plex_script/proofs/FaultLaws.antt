@@ -1,0 +1,98 @@
+-- A text has one fault.
+use Rattle.std.proofs.Common.{◌≡◌, ℕ, ◌+◌, ◌<◌, Bool, true, false, nat_lt, List, [], ◌∷◌, ◌++◌, drop, length, refl, sym, ap, subst, ◌∙◌, arith}
+use Rattle.std.proofs.lemmas.Bool.Decides.{nat_tests}
+use Rattle.plex_spell.specs.Words.{lines_of}
+use Rattle.plex_script.specs.declared.faults.Why.{Why}
+use Rattle.plex_script.specs.declared.faults.Why.TheVariants.{Late, Syntax, Limit, Unknown, Twice, Space}
+use Rattle.plex_script.specs.declared.scripts.Script.{Script}
+use Rattle.plex_script.specs.Causes.{IsFirst, IsCause, LineCause, rank}
+use Rattle.plex_script.specs.Scripts.{Adds, AddsAll, IsFault, empty_script, line_number}
+use Rattle.plex_script.proofs.LineLaws.{adds-one, line-clean}
+
+-- the cause that has a rank
+why_at : ℕ → Why
+why_at 0 = Late
+why_at 1 = Syntax
+why_at 2 = Limit
+why_at 3 = Unknown
+why_at 4 = Twice
+why_at n = Space
+
+why_at-rank : (why : Why) → why_at (rank why) ≡ why
+why_at-rank Late = refl
+why_at-rank Syntax = refl
+why_at-rank Limit = refl
+why_at-rank Unknown = refl
+why_at-rank Twice = refl
+why_at-rank Space = refl
+
+rank-one : (one other : Why) → rank one ≡ rank other → one ≡ other
+rank-one one other same = sym (why_at-rank one) ∙ ap why_at same ∙ why_at-rank other
+
+-- of some causes one is the first
+first-one : (holds : Why → Type 0) (one other : Why) → IsFirst holds one → IsFirst holds other → one ≡ other
+first-one holds one other f g = by_rank (nat_lt (rank one) (rank other)) refl (nat_lt (rank other) (rank one)) refl
+  where
+    by_rank : (p : Bool) → nat_lt (rank one) (rank other) ≡ p → (q : Bool) → nat_lt (rank other) (rank one) ≡ q
+        → one ≡ other
+    by_rank true less q k =
+        let below : rank one < rank other = grind (arith, nat_tests) in absurd (g.none one below f.here)
+    by_rank false e true less =
+        let below : rank other < rank one = grind (arith, nat_tests) in absurd (f.none other below g.here)
+    by_rank false e false k =
+        let same : rank one ≡ rank other = grind (arith, nat_tests) in rank-one one other same
+
+-- ---- the first line that is wrong
+
+line_at : List (List ℕ) → List ℕ
+line_at [] = []
+line_at (line ∷ lines) = line
+
+same_line : (line other : List ℕ) (lines others : List (List ℕ)) → line ∷ lines ≡ other ∷ others → line ≡ other
+same_line line other lines others e = ap line_at e
+
+same_lines : (line other : List ℕ) (lines others : List (List ℕ)) → line ∷ lines ≡ other ∷ others → lines ≡ others
+same_lines line other lines others e = ap (λ (l : List (List ℕ)). drop 1 l) e
+
+-- no line that is wrong leads on
+clean_line : (script next before : Script) (at : ℕ) (line other : List ℕ) (why : Why) → line ≡ other
+    → before ≡ script → Adds script at line next → IsCause before other why → ⊥
+clean_line script next before at line other why same is adds cause =
+    let here : LineCause script line why = rw (same, sym is) cause.here in
+    line-clean script next at line why adds here
+
+-- after fronts of one text the lines that are wrong, with their causes, are the same
+one-wrong : (front other : List (List ℕ)) (script : Script) (count : ℕ) (line line' : List ℕ)
+    (behind behind' : List (List ℕ)) (before before' : Script) (why why' : Why)
+    → front ++ line ∷ behind ≡ other ++ line' ∷ behind'
+    → AddsAll script count front before → AddsAll script count other before' → IsCause before line why
+    → IsCause before' line' why' → (length front ≡ length other) × (why ≡ why')
+one-wrong [] [] script count line line' behind behind' before before' why why' whole f g cause cause' =
+    let here : IsCause script line why = subst (λ (s : Script). IsCause s line why) f cause in
+    let there : IsCause script line why' =
+    subst (λ (l : List ℕ). IsCause script l why') (sym (same_line line line' behind behind' whole))
+    (subst (λ (s : Script). IsCause s line' why') g cause') in
+    (refl, first-one (LineCause script line) why why' here there)
+one-wrong [] (l ∷ other) script count line line' behind behind' before before' why why' whole f g cause cause' =
+    let same : l ≡ line = sym (same_line line l behind (other ++ line' ∷ behind') whole) in
+    absurd (clean_line script g.0 before (line_number (count + 1)) l line why same f g.1 cause)
+one-wrong (l ∷ front) [] script count line line' behind behind' before before' why why' whole f g cause cause' =
+    let same : l ≡ line' = same_line l line' (front ++ line ∷ behind) behind' whole in
+    absurd (clean_line script f.0 before' (line_number (count + 1)) l line' why' same g f.1 cause')
+one-wrong (l ∷ front) (m ∷ other) script count line line' behind behind' before before' why why' whole f g cause
+    cause' =
+    let same : l ≡ m = same_line l m (front ++ line ∷ behind) (other ++ line' ∷ behind') whole in
+    let adds : Adds script (line_number (count + 1)) l g.0 = rw same g.1 in
+    let one : f.0 ≡ g.0 = adds-one script (line_number (count + 1)) l f.0 g.0 f.1 adds in
+    let on : AddsAll f.0 (count + 1) other before' = rw one g.2 in
+    let rest = one-wrong front other f.0 (count + 1) line line' behind behind' before before' why why'
+    (same_lines l m (front ++ line ∷ behind) (other ++ line' ∷ behind') whole) f.2 on cause cause' in
+    (ap (λ n. n + 1) rest.0, rest.1)
+
+-- a text has one fault
+pub one-fault : (text : List ℕ) (number other : ℕ) (why why' : Why) → IsFault text number why
+    → IsFault text other why' → (number ≡ other) × (why ≡ why')
+one-fault text number other why why' f g =
+    let one = one-wrong f.front g.front empty_script 0 f.line g.line f.behind g.behind f.before g.before why why'
+    (sym f.whole ∙ g.whole) f.fine g.fine f.cause g.cause in
+    (f.here ∙ ap (λ n. line_number (n + 1)) one.0 ∙ sym g.here, one.1)
