@@ -99,17 +99,17 @@ one_reading held held_now text script reading served only shows none short appen
     (script, (reading, served, shows, is, the, appends))
 
 -- the status 0 tells that no journal got full
-pub reading_written : (held held_now : Option (List ℕ)) (text : List ℕ) (by : Way) (script : Script) (status : ℕ)
-    → IsServed text script
-    → IsOnlyReading → status ≡ 0 → WritesRun by script status held held_now → WritesOneReading held held_now text
-reading_written held held_now text by script status served only none wrote =
+pub reading_written : (held held_now : Option (List ℕ)) (faults faults_now : ℕ) (text : List ℕ) (by : Way)
+    (script : Script) (status : ℕ) → IsServed text script → IsOnlyReading → status ≡ 0
+    → WritesRun by script status held held_now faults faults_now → WritesOneReading held held_now text
+reading_written held held_now faults faults_now text by script status served only none wrote =
     by_full (full_of script wrote.reading) refl
   where
     by_full : (full : Option Name16) → full_of script wrote.reading ≡ full → WritesOneReading held held_now text
     by_full None fine =
         let same : run_text script wrote.reading ≡ report_of script wrote.reading = rw fine refl in
         one_reading held held_now text script wrote.reading served only wrote.run.shows fine wrote.short
-        (subst (Appends held held_now) same wrote.wrote)
+        (subst (Appends held held_now) same (wrote.wrote.1 none))
     by_full (Some name) full =
         let eight : run_status script wrote.reading ≡ 8 = rw full refl in
         absurd (omega (arith, none, wrote.status_right, eight))

@@ -1,5 +1,5 @@
 -- What a run of the program means: which script came in, what goes out, and what each status says.
-use Rattle.std.specs.Prelude.{◌≡◌, ◌⊎◌, ◌↔◌, ℕ, ◌≤◌, ◌<◌, ◌==◌, if◌then◌else◌, List, [], ◌∷◌, ◌++◌, ◌^◌, length, map, slice_get, Option, None, Some, IfSome, is_some, codes, String, string_bytes, nat_eq, IsTrue}
+use Rattle.std.specs.Prelude.{◌≡◌, ◌⊎◌, ◌↔◌, ℕ, Bool, ◌≤◌, ◌<◌, ◌==◌, if◌then◌else◌, List, [], ◌∷◌, ◌++◌, ◌^◌, length, map, slice_get, Option, None, Some, IfSome, is_some, codes, String, string_bytes, nat_eq, IsTrue}
 use Rattle.std.specs.List.{list_any}
 use Rattle.std.specs.Io.KnownBytes.{Appends}
 use Rattle.cf_types.specs.declared.forms.StrForm.{StrForm}
@@ -20,7 +20,7 @@ use Rattle.plex_run.specs.declared.way.Way.TheVariants as ways
 use Rattle.plex_run.specs.Written.{Gains, GainsPrefix}
 use Rattle.plex_run.specs.NotYet.{not_yet}
 use Rattle.plex_run.specs.Full.{full_structure}
-use Rattle.plex_run.specs.StatusLines.{why_word, script_line, full_line, memory_line}
+use Rattle.plex_run.specs.StatusLines.{why_word, script_line, full_line, memory_line, too_long_line}
 
 -- the greatest length of a script, in bytes
 abbrev pub script_limit : ℕ
@@ -48,7 +48,7 @@ status_line status =
     if status == 2 then Some (codes "USAGE plexrun serial or threads or load N\n")
     else if status == 4 then Some (codes "FAULT READ\n")
     else if status == 6 then Some memory_line
-    else if status == 7 then Some (codes "TOOLONG 1048576\n")
+    else if status == 7 then Some too_long_line
     else None
 
 -- ---- texts
@@ -118,11 +118,11 @@ pub record IsRunOf (by : Way) (script : Script) (reading : Reading) : Type 0 whe
   pub shows : ShowsRun script reading
   pub in_turn : by ≡ ways.InTurn → reading ≡ serial_reading script
 
--- the answer of a script's run: the status, the line of a structure whose journal got full, and the report
-pub record IsAnswerOf (by : Way) (script : Script) (status : ℕ) (heading told : List ℕ) : Type 0 where
+-- the answer of a script's run: whether a journal got full, the line of its structure, and the report
+pub record IsAnswerOf (by : Way) (script : Script) (full : Bool) (heading told : List ℕ) : Type 0 where
   pub reading : Reading
   pub run : IsRunOf by script reading
-  pub status_right : status ≡ run_status script reading
+  pub full_right : full ≡ is_some (full_of script reading)
   pub heading_right : heading ≡ full_line (full_of script reading)
   pub report_right : told ≡ report_of script reading
   pub short : length told < 2 ^ 64
@@ -135,21 +135,28 @@ WritesReport held held_now text =
     (script : Script) × IsServed text script × (full_in_run script ≡ None) × Appends held held_now
     (serial_report script)
 
--- a journal got full: its structure is told, and then the report of the text's script was written, whole and nothing
--- else
-abbrev pub WritesFull : Option (List ℕ) → Option (List ℕ) → List ℕ → Type 0
-WritesFull held held_now text =
+-- a journal got full: its structure is told, and then the report of the text's script was written; whole and nothing
+-- else, unless the count of faults rose, and then a prefix of it
+abbrev pub WritesFull : Option (List ℕ) → Option (List ℕ) → ℕ → ℕ → List ℕ → Type 0
+WritesFull held held_now faults faults_now text =
     (script : Script) × (name : Name16) × IsServed text script × (full_in_run script ≡ Some name)
-    × Appends held held_now (full_line (Some name) ++ serial_report script)
+    × Gains held held_now faults faults_now (full_line (Some name) ++ serial_report script)
+
+-- the text of a run with this status was written, whole and nothing else; where a journal got full a prefix of it, if
+-- the count of faults rose
+abbrev pub WritesText : ℕ → Option (List ℕ) → Option (List ℕ) → ℕ → ℕ → List ℕ → Type 0
+WritesText status held held_now faults faults_now text =
+    Gains held held_now faults faults_now text × (status ≡ 0 → Appends held held_now text)
 
 -- what was written shows histories: each is legal and holds each caller's calls once and in their order; each test
 -- tells what stood at a numbered point of it; and a test of a cache that tells VALID tells a fresh copy at that
 -- point. The status says whether a journal got full, and then the script can fill it.
-abbrev pub WritesHistories : ℕ → Option (List ℕ) → Option (List ℕ) → List ℕ → Type 0
-WritesHistories status held held_now text =
+abbrev pub WritesHistories : ℕ → Option (List ℕ) → Option (List ℕ) → ℕ → ℕ → List ℕ → Type 0
+WritesHistories status held held_now faults faults_now text =
     (script : Script) × ((reading : Reading) × IsServed text script × ShowsRun script reading
     × ShowsFresh script reading.histories reading.transcripts × CanFill script (full_of script reading)
-    × (status ≡ run_status script reading) × Appends held held_now (run_text script reading))
+    × (status ≡ run_status script reading)
+    × WritesText status held held_now faults faults_now (run_text script reading))
 
 -- the report was written of histories and transcripts of a run in which each caller's work was done, and of no others
 -- of the script could it have been, whatever their tests tell
@@ -158,31 +165,34 @@ WritesOneReading held held_now text =
     (script : Script) × ((reading : Reading) × IsServed text script × ShowsRun script reading
     × IsReading script reading × IsTheReading script reading × Appends held held_now (report_of script reading))
 
--- a front of what is written of a run that shows histories, as above, was written
+-- a front of the report of a run that shows histories, as above, was written; no journal got full
 abbrev pub WritesFront : Option (List ℕ) → Option (List ℕ) → List ℕ → Type 0
 WritesFront held held_now text =
     (script : Script) × ((reading : Reading) × IsServed text script × ShowsRun script reading
-    × ShowsFresh script reading.histories reading.transcripts × CanFill script (full_of script reading)
-    × GainsPrefix held held_now (run_text script reading))
+    × ShowsFresh script reading.histories reading.transcripts × (full_of script reading ≡ None)
+    × GainsPrefix held held_now (report_of script reading))
 
--- a front of what is written of the run on one thread was written
+-- a front of the report of the run on one thread was written; no journal got full
 abbrev pub WritesSerialFront : Option (List ℕ) → Option (List ℕ) → List ℕ → Type 0
-WritesSerialFront held held_now text = (script : Script) × IsServed text script × GainsPrefix held held_now
-    (served_text script)
+WritesSerialFront held held_now text =
+    (script : Script) × IsServed text script × (full_in_run script ≡ None)
+    × GainsPrefix held held_now (serial_report script)
 
--- what a script's run leaves was written, whole and nothing else
-pub record WritesRun (by : Way) (script : Script) (status : ℕ) (held held_now : Option (List ℕ)) : Type 0 where
+-- what a script's run leaves was written
+pub record WritesRun (by : Way) (script : Script) (status : ℕ) (held held_now : Option (List ℕ))
+    (faults faults_now : ℕ) : Type 0 where
   pub reading : Reading
   pub run : IsRunOf by script reading
   pub status_right : status ≡ run_status script reading
   pub short : length (report_of script reading) < 2 ^ 64
-  pub wrote : Appends held held_now (run_text script reading)
+  pub wrote : WritesText status held held_now faults faults_now (run_text script reading)
 
--- a front of what a script's run leaves was written
+-- a front of the report of a script's run was written; no journal got full
 pub record WritesRunFront (by : Way) (script : Script) (held held_now : Option (List ℕ)) : Type 0 where
   pub reading : Reading
   pub run : IsRunOf by script reading
-  pub front : GainsPrefix held held_now (run_text script reading)
+  pub none_full : full_of script reading ≡ None
+  pub front : GainsPrefix held held_now (report_of script reading)
 
 -- the line of the text that isn't served was told, and why
 abbrev pub WritesRefusal : Option (List ℕ) → Option (List ℕ) → ℕ → ℕ → List ℕ → Type 0
@@ -197,10 +207,14 @@ abbrev pub IsExact : List ℕ → ℕ → Type 0
 IsExact text status =
     ((status ≡ 7) ↔ (script_limit < length text)) × ((status ≡ 3) ↔ ((length text ≤ script_limit) × IsUnserved text))
 
--- a script that is built has the status 0, or 8 where a journal got full
+-- the status of the run on one thread: 8 where a journal got full, and else 0, or 5
+abbrev pub EndsRight : Script → ℕ → Type 0
+EndsRight script status = (status ≡ served_status script) ⊎ ((status ≡ 5) × (full_in_run script ≡ None))
+
+-- a script that is built ends so
 abbrev pub IsComplete : List ℕ → ℕ → Type 0
 IsComplete text status = (script : Script) → IsServed text script → length text ≤ script_limit
-    → status ≡ served_status script
+    → EndsRight script status
 
 -- a script that is built, run on threads, has the status 0, or 8 where a journal got full
 abbrev pub IsCompleteOnThreads : List ℕ → ℕ → Type 0

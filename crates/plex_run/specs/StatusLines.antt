@@ -1,6 +1,7 @@
 -- The lines that tell how a run ended.
 use Rattle.std.specs.Prelude.{ℕ, List, [], ◌∷◌, ◌++◌, Option, None, Some, codes}
 use Rattle.std.specs.Fmt.{decimal}
+use Rattle.plex_run.specs.declared.program.TheConstants.{SCRIPT_LIMIT, JOURNAL_LIMIT}
 use Rattle.cf_types.specs.declared.names.Name16.{Name16}
 use Rattle.plex_spell.specs.Tokens.{name_word}
 use Rattle.plex_script.specs.declared.faults.Why.{Why}
@@ -21,7 +22,11 @@ script_line number why = codes "SCRIPT " ++ decimal number ++ 32 ∷ [] ++ why +
 -- the structure whose journal got full is told before the report
 abbrev pub full_line : Option Name16 → List ℕ
 full_line None = []
-full_line (Some name) = codes "JOURNALFULL " ++ name_word name ++ codes " 65536\n"
+full_line (Some name) = codes "JOURNALFULL " ++ name_word name ++ 32 ∷ decimal JOURNAL_LIMIT ++ 10 ∷ []
+
+-- a text that is too long
+abbrev pub too_long_line : List ℕ
+too_long_line = codes "TOOLONG " ++ decimal SCRIPT_LIMIT ++ 10 ∷ []
 
 abbrev pub memory_line : List ℕ
 memory_line = codes "NOMEMORY\n"

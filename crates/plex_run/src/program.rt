@@ -1,4 +1,4 @@
-ghost use Rattle.std.specs.Prelude.{◌≡◌, ◌≢◌, ◌⊎◌, ◌↔◌, ℕ, ◌≤◌, ◌<◌, ◌++◌, ◌^◌, length, IfSome, IfOk, OnOk, OnErr};
+ghost use Rattle.std.specs.Prelude.{◌≡◌, ◌≢◌, ◌⊎◌, ◌↔◌, ℕ, true, false, is_some, ◌≤◌, ◌<◌, ◌++◌, ◌^◌, length, IfSome, IfOk, OnOk, OnErr};
 ghost use Rattle.std.specs.Io.KnownBytes.{Appends, IsAtEnd};
 ghost use Rattle.std.specs.Vec.{vec_len};
 ghost use Rattle.cf_types.specs.declared.limits.TheConstants.{LINKS};
@@ -9,7 +9,7 @@ ghost use Rattle.plex_reading.specs.Readings.{report_of};
 ghost use Rattle.plex_run.specs.declared.way.Way.TheVariants as ways;
 ghost use Rattle.plex_run.specs.StatusLines.{script_line, full_line};
 ghost use Rattle.plex_run.specs.Written.{Gains, GainsPrefix};
-ghost use Rattle.plex_run.specs.Outcome.{IsSerial, IsThreads, IsStatus, status_line, script_limit, served_status, full_of, run_status, reading_of, IsRunOf, IsAnswerOf, WritesRun, WritesRunFront, WritesReport, WritesFull, WritesHistories, WritesOneReading, WritesFront, WritesSerialFront, WritesRefusal, IsServed, IsUnserved, IsExact, IsComplete, IsCompleteOnThreads};
+ghost use Rattle.plex_run.specs.Outcome.{IsSerial, IsThreads, IsStatus, status_line, script_limit, full_of, reading_of, IsRunOf, IsAnswerOf, WritesRun, WritesRunFront, WritesReport, WritesFull, WritesHistories, WritesOneReading, WritesFront, WritesSerialFront, WritesRefusal, IsServed, IsUnserved, EndsRight, IsExact, IsComplete, IsCompleteOnThreads};
 
 use crate::full::full_structure;
 use crate::not_yet::not_yet;
@@ -36,7 +36,7 @@ use std::thread::Threads;
 const SCRIPT_LIMIT: usize = 1_048_576;
 
 /// How many calls a journal takes.
-const JOURNAL_LIMIT: u32 = 65_536;
+pub(crate) const JOURNAL_LIMIT: u32 = 65_536;
 
 // Writes a line that tells how the run ended. A failing write changes nothing else.
 fn say<K: Sink>(sink: &mut K, line: &[u8])
@@ -106,11 +106,11 @@ fn run_over<R: Threads + Wait + Sync, L: Link, G: Gate>(
     finished
 }
 
-// What a script's run answers: the status, the line of the structure whose journal got full, and
-// the report.
+// What a script's run answers: whether a journal got full, the line of its structure, and the
+// report.
 #[derive(Drop)]
 struct Answer {
-    status: u8,
+    full: bool,
     heading: Vec<u8>,
     report: Vec<u8>,
 }
@@ -118,8 +118,8 @@ struct Answer {
 // Answers a script's run.
 fn answer_of(alloc: Global, script: &Script, finished: &Finished) -> Result<Answer, NoMemory>
     requires script { IsRunnable script.now }
-    ensures status { IfOk result (λ it.
-        it.status ≡ run_status script.now (reading_of finished.now)) }
+    ensures full { IfOk result (λ it.
+        it.full ≡ is_some (full_of script.now (reading_of finished.now))) }
     ensures heading { IfOk result (λ it.
         it.heading.items ≡ full_line (full_of script.now (reading_of finished.now))) }
     ensures report { IfOk result (λ it.
@@ -129,7 +129,7 @@ fn answer_of(alloc: Global, script: &Script, finished: &Finished) -> Result<Answ
     let transcripts = finished.transcripts.items();
     let full = full_structure(script.structures.items(), transcripts);
     Ok(Answer {
-        status: if full.is_some() { 8 } else { 0 },
+        full: full.is_some(),
         heading: full_line(alloc, full)?,
         report: render(alloc, script, finished.histories.items(), transcripts)?,
     })
@@ -147,11 +147,35 @@ fn run_script<R: Threads + Wait + Sync, L: Link, G: Gate>(
     requires script { IsRunnable script.now }
     requires links { vec_len links.old ≡ LINKS }
     ensures answer { IfOk result (λ it.
-        IsAnswerOf way script.now it.status it.heading.items it.report.items) }
+        IsAnswerOf way script.now it.full it.heading.items it.report.items) }
     ensures links { links.new.items ≡ links.old.items }
 {
     let finished = run_over(rt, alloc, way, script, links, gate)?;
     answer_of(alloc, script, &finished)
+}
+
+// Writes an answer, and tells the status. Where a journal got full, a failing write changes
+// nothing else.
+fn written<K: Sink>(sink: &mut K, answer: &Answer) -> u8
+    ensures whole { result ≡ 0 → (answer.now.full ≡ false) × Appends (K.held sink.old)
+        (K.held sink.new) (answer.now.heading.items ++ answer.now.report.items) }
+    ensures told { result ≡ 8 → (answer.now.full ≡ true) × Gains (K.held sink.old) (K.held sink.new)
+        (K.faults sink.old) (K.faults sink.new)
+        (answer.now.heading.items ++ answer.now.report.items) }
+    ensures front { result ≡ 5 → (answer.now.full ≡ false) × GainsPrefix (K.held sink.old)
+        (K.held sink.new) (answer.now.heading.items ++ answer.now.report.items) }
+    ensures cause { result ≡ 5 → Rises (K.faults sink.old) (K.faults sink.new) }
+    ensures statuses { (result ≡ 0) ⊎ ((result ≡ 8) ⊎ (result ≡ 5)) }
+    ensures faults { K.faults sink.old ≤ K.faults sink.new }
+{
+    let wrote = write_both(sink, &answer.heading, &answer.report);
+    if answer.full {
+        return 8;
+    }
+    match wrote {
+        Ok(()) => 0,
+        Err(Failed) => 5,
+    }
 }
 
 // Runs a script in this way and writes its report.
@@ -167,9 +191,11 @@ fn reported<R: Threads + Wait + Sync, K: Sink, L: Link, G: Gate>(
     requires script { IsRunnable script.now }
     requires links { vec_len links.old ≡ LINKS }
     ensures whole { (result ≡ 0) ⊎ (result ≡ 8)
-        → WritesRun way script.now result (K.held sink.old) (K.held sink.new) }
-    ensures sink_fault { result ≡ 5 → Rises (K.faults sink.old) (K.faults sink.new)
-        × WritesRunFront way script.now (K.held sink.old) (K.held sink.new) }
+        → WritesRun way script.now result (K.held sink.old) (K.held sink.new)
+        (K.faults sink.old) (K.faults sink.new) }
+    ensures sink_fault { result ≡ 5 → Rises (K.faults sink.old) (K.faults sink.new) }
+    ensures front { result ≡ 5
+        → WritesRunFront way script.now (K.held sink.old) (K.held sink.new) }
     ensures line { IfSome (status_line result)
         (Gains (K.held sink.old) (K.held sink.new) (K.faults sink.old) (K.faults sink.new)) }
     ensures statuses { (result ≡ 0) ⊎ ((result ≡ 8) ⊎ ((result ≡ 5) ⊎ (result ≡ 6))) }
@@ -180,10 +206,7 @@ fn reported<R: Threads + Wait + Sync, K: Sink, L: Link, G: Gate>(
         say(sink, b"NOMEMORY\n");
         return 6;
     };
-    match write_both(sink, &answer.heading, &answer.report) {
-        Ok(()) => answer.status,
-        Err(_) => 5,
-    }
+    written(sink, &answer)
 }
 
 // Tells the line of a text that isn't served, and why.
@@ -221,9 +244,11 @@ fn judged<R: Threads + Wait + Sync, K: Sink, L: Link, G: Gate>(
     ensures served { way ≡ ways.InTurn → result ≡ 0
         → WritesReport (K.held sink.old) (K.held sink.new) text.now }
     ensures full { way ≡ ways.InTurn → result ≡ 8
-        → WritesFull (K.held sink.old) (K.held sink.new) text.now }
+        → WritesFull (K.held sink.old) (K.held sink.new) (K.faults sink.old)
+        (K.faults sink.new) text.now }
     ensures headline { (result ≡ 0) ⊎ (result ≡ 8)
-        → WritesHistories result (K.held sink.old) (K.held sink.new) text.now }
+        → WritesHistories result (K.held sink.old) (K.held sink.new) (K.faults sink.old)
+        (K.faults sink.new) text.now }
     ensures reading { result ≡ 0
         → WritesOneReading (K.held sink.old) (K.held sink.new) text.now }
     ensures refused { result ≡ 3 → WritesRefusal (K.held sink.old) (K.held sink.new)
@@ -235,8 +260,8 @@ fn judged<R: Threads + Wait + Sync, K: Sink, L: Link, G: Gate>(
     ensures line { IfSome (status_line result)
         (Gains (K.held sink.old) (K.held sink.new) (K.faults sink.old) (K.faults sink.new)) }
     ensures exact { result ≢ 6 → (result ≡ 3) ↔ IsUnserved text.now }
-    ensures complete { way ≡ ways.InTurn → result ≢ 5 → result ≢ 6 → (script : Script)
-        → IsServed text.now script → result ≡ served_status script }
+    ensures complete { way ≡ ways.InTurn → result ≢ 6 → (script : Script)
+        → IsServed text.now script → EndsRight script result }
     ensures ends { result ≢ 5 → result ≢ 6 → (script : Script) → IsServed text.now script
         → (result ≡ 0) ⊎ (result ≡ 8) }
     ensures statuses { (result ≡ 0) ⊎ ((result ≡ 8) ⊎ ((result ≡ 5)
@@ -278,9 +303,10 @@ fn served<R: Threads + Wait + Sync, S: Source, K: Sink, L: Link, G: Gate>(
     ensures served { way ≡ ways.InTurn → result ≡ 0 → IfSome (S.left source.old)
         (WritesReport (K.held sink.old) (K.held sink.new)) }
     ensures full { way ≡ ways.InTurn → result ≡ 8 → IfSome (S.left source.old)
-        (WritesFull (K.held sink.old) (K.held sink.new)) }
+        (WritesFull (K.held sink.old) (K.held sink.new) (K.faults sink.old) (K.faults sink.new)) }
     ensures headline { (result ≡ 0) ⊎ (result ≡ 8) → IfSome (S.left source.old)
-        (WritesHistories result (K.held sink.old) (K.held sink.new)) }
+        (WritesHistories result (K.held sink.old) (K.held sink.new) (K.faults sink.old)
+        (K.faults sink.new)) }
     ensures reading { result ≡ 0 → IfSome (S.left source.old)
         (WritesOneReading (K.held sink.old) (K.held sink.new)) }
     ensures read_fault { result ≡ 4 → Rises (S.faults source.old) (S.faults source.new) }
@@ -299,7 +325,7 @@ fn served<R: Threads + Wait + Sync, S: Source, K: Sink, L: Link, G: Gate>(
         → IsAtEnd (S.left source.new) }
     ensures exact { result ≢ 4 → result ≢ 6
         → IfSome (S.left source.old) (λ text. IsExact text result) }
-    ensures complete { way ≡ ways.InTurn → result ≢ 4 → result ≢ 5 → result ≢ 6
+    ensures complete { way ≡ ways.InTurn → result ≢ 4 → result ≢ 6
         → IfSome (S.left source.old) (λ text. IsComplete text result) }
     ensures ends { result ≢ 4 → result ≢ 5 → result ≢ 6
         → IfSome (S.left source.old) (λ text. IsCompleteOnThreads text result) }
@@ -342,15 +368,15 @@ fn served<R: Threads + Wait + Sync, S: Source, K: Sink, L: Link, G: Gate>(
 /// | 2 | the words are not the one word `serial` or `threads` | `USAGE plexrun serial or threads or load N` |
 /// | 3 | the text is no script, or not all of it is built yet | `SCRIPT line why` |
 /// | 4 | a read failed | `FAULT READ` |
-/// | 5 | a write failed while the report was written | a front of what belongs to 0 or 8 |
+/// | 5 | a write failed while a report that belongs to 0 was written | a front of it |
 /// | 6 | there was no memory | `NOMEMORY` |
 /// | 7 | more than 1,048,576 bytes came | `TOOLONG 1048576` |
-/// | 8 | a journal of 65,536 calls got full | `JOURNALFULL structure 65536`, and the report |
+/// | 8 | a journal of 65,536 calls got full | `JOURNALFULL structure 65536`, and the report: whole unless a write failed |
 ///
 /// With 3 the line is the first faulty one, and why is LATE, SYNTAX, LIMIT, UNKNOWN, TWICE or
 /// SPACE; or else the first line that isn't built, and NOTYET. With 8 the structure is the first in
 /// the policy whose journal got full. Lines are counted from 1. The causes are tried in the order
-/// 2, 4, 7, 3, 5, 8; want of memory may stand in place of any but 2.
+/// 2, 4, 7, 3, 8, 5; want of memory may stand in place of any but 2.
 pub fn run<R: Threads + Wait + Sync, S: Source, K: Sink, L: Link, G: Gate>(
     rt: &R,
     alloc: Global,
@@ -364,13 +390,13 @@ pub fn run<R: Threads + Wait + Sync, S: Source, K: Sink, L: Link, G: Gate>(
 
     // With `serial` the bytes that the source had left are a script that is built, and what is
     // written is the report of its run on one thread, whole and nothing else; a full journal is
-    // told before it.
+    // told before it, and then a prefix of both is written where a write failed.
     ensures served { IsSerial words.now → result ≡ 0 → IfSome (S.left source.old)
         (WritesReport (K.held sink.old) (K.held sink.new)) }
     ensures full { IsSerial words.now → result ≡ 8 → IfSome (S.left source.old)
-        (WritesFull (K.held sink.old) (K.held sink.new)) }
-    // With either word the bytes are such a script, and the report that is written, whole and
-    // nothing else, shows a legal history of each structure, each caller's calls in them once and
+        (WritesFull (K.held sink.old) (K.held sink.new) (K.faults sink.old) (K.faults sink.new)) }
+    // With either word the bytes are such a script, and the report that is written, as above,
+    // shows a legal history of each structure, each caller's calls in them once and
     // in their order, and tests that tell what stood at a numbered point; where a cache's test
     // tells VALID, the connector's copy was fresh there. The status is 8 where one of the
     // transcripts ends at a full journal, which is told before the report, and else 0. And 8 comes
@@ -378,7 +404,8 @@ pub fn run<R: Threads + Wait + Sync, S: Source, K: Sink, L: Link, G: Gate>(
     // often as each may ask again, their event rounds, and one departure of each connector come to
     // 65,536 calls or more.
     ensures headline { (result ≡ 0) ⊎ (result ≡ 8) → IfSome (S.left source.old)
-        (WritesHistories result (K.held sink.old) (K.held sink.new)) }
+        (WritesHistories result (K.held sink.old) (K.held sink.new) (K.faults sink.old)
+        (K.faults sink.new)) }
     // With 0 every caller's work was done, and no other legal histories, with transcripts that
     // follow the script to their ends, have that report, whatever the tests in them tell. Only
     // the width of what a test shows counts: a number of at most 64 bits, or a word of 32.
@@ -399,11 +426,12 @@ pub fn run<R: Threads + Wait + Sync, S: Source, K: Sink, L: Link, G: Gate>(
         (WritesSerialFront (K.held sink.old) (K.held sink.new)) }
     ensures statuses { IsStatus result }
 
-    // Where no read failed and memory was found, the text decides; where no write failed either, a
-    // script that is built is served.
+    // Where no read failed and memory was found, the text decides: a script that is built is served.
+    // With `serial` the status is 8 exactly where its run on one thread meets a full journal, and
+    // else 0, or 5 where a write failed.
     ensures exact { IsSerial words.now ⊎ IsThreads words.now → result ≢ 4 → result ≢ 6
         → IfSome (S.left source.old) (λ text. IsExact text result) }
-    ensures complete { IsSerial words.now → result ≢ 4 → result ≢ 5 → result ≢ 6
+    ensures complete { IsSerial words.now → result ≢ 4 → result ≢ 6
         → IfSome (S.left source.old) (λ text. IsComplete text result) }
     ensures complete_threads { IsThreads words.now → result ≢ 4 → result ≢ 5 → result ≢ 6
         → IfSome (S.left source.old) (λ text. IsCompleteOnThreads text result) }

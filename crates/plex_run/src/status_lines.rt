@@ -2,6 +2,7 @@ ghost use Rattle.std.specs.Prelude.{◌≡◌, ◌++◌, IfOk, OnOk};
 ghost use Rattle.std.specs.Fmt.{decimal};
 ghost use Rattle.plex_run.specs.StatusLines.{why_word, script_line, full_line};
 
+use crate::program::JOURNAL_LIMIT;
 use cf_types::{Name16, NoMemory};
 use itoa::Buffer;
 use plex_script::Why;
@@ -59,6 +60,8 @@ pub(crate) fn full_line(alloc: Global, full: Option<Name16>) -> Result<Vec<u8>, 
     };
     let mut line = Vec::from_slice(alloc, b"JOURNALFULL ")?;
     put_text(&mut line, name_text(&name))?;
-    put_text(&mut line, b" 65536\n")?;
+    put_text(&mut line, b" ")?;
+    put_number(&mut line, JOURNAL_LIMIT)?;
+    put_text(&mut line, b"\n")?;
     Ok(line)
 }

@@ -1,5 +1,6 @@
 -- A text has one fault.
-use Rattle.std.proofs.Common.{◌≡◌, ℕ, ◌+◌, ◌<◌, Bool, true, false, nat_lt, List, [], ◌∷◌, ◌++◌, drop, length, refl, sym, ap, subst, ◌∙◌, arith}
+use Rattle.std.proofs.Common.{◌≡◌, ℕ, suc, ◌+◌, ◌<◌, ◌==◌, Bool, true, false, nat_lt, List, [], ◌∷◌, ◌++◌, drop, length, refl, sym, ap, subst, ◌∙◌, arith}
+use Rattle.std.specs.Prelude.{if◌then◌else◌}
 use Rattle.std.proofs.lemmas.Bool.Decides.{nat_tests}
 use Rattle.plex_spell.specs.Words.{lines_of}
 use Rattle.plex_script.specs.declared.faults.Why.{Why}
@@ -10,13 +11,11 @@ use Rattle.plex_script.specs.Scripts.{Adds, AddsAll, IsFault, empty_script, line
 use Rattle.plex_script.proofs.LineLaws.{adds-one, line-clean}
 
 -- the cause that has a rank
-why_at : ℕ → Why
-why_at 0 = Late
-why_at 1 = Syntax
-why_at 2 = Limit
-why_at 3 = Unknown
-why_at 4 = Twice
-why_at n = Space
+abbrev why_at : ℕ → Why
+why_at n =
+    if n == 0 then Late else if n == 1 then Syntax else if n == 2 then Limit else if n == 3 then Unknown
+    else if n == 4 then Twice
+    else Space
 
 why_at-rank : (why : Why) → why_at (rank why) ≡ why
 why_at-rank Late = refl
@@ -44,7 +43,7 @@ first-one holds one other f g = by_rank (nat_lt (rank one) (rank other)) refl (n
 
 -- ---- the first line that is wrong
 
-line_at : List (List ℕ) → List ℕ
+abbrev line_at : List (List ℕ) → List ℕ
 line_at [] = []
 line_at (line ∷ lines) = line
 
@@ -87,7 +86,7 @@ one-wrong (l ∷ front) (m ∷ other) script count line line' behind behind' bef
     let on : AddsAll f.0 (count + 1) other before' = rw one g.2 in
     let rest = one-wrong front other f.0 (count + 1) line line' behind behind' before before' why why'
     (same_lines l m (front ++ line ∷ behind) (other ++ line' ∷ behind') whole) f.2 on cause cause' in
-    (ap (λ n. n + 1) rest.0, rest.1)
+    (ap (λ n. suc n) rest.0, rest.1)
 
 -- a text has one fault
 pub one-fault : (text : List ℕ) (number other : ℕ) (why why' : Why) → IsFault text number why

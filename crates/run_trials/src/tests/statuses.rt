@@ -48,6 +48,19 @@ fn steady(alloc: Global) -> Result<Vec<Steady>, AllocError>
     vec![in alloc; Steady; 64]
 }
 
+// The status of a run by this word over these lines behind a policy, into this sink.
+fn run_into<R: Threads + Wait + Sync>(
+    rt: &R,
+    alloc: Global,
+    word: &str,
+    mut source: MemSource,
+    sink: &mut MemSink,
+) -> Result<u8, Fail> {
+    let words = words_of(alloc, word)?;
+    let mut links = steady(alloc)?;
+    Ok(run(rt, alloc, &words, &mut source, sink, &mut links, &OpenGate))
+}
+
 // The status of a run by this word over these lines behind the policy, and what it wrote.
 fn ran<R: Threads + Wait + Sync>(
     rt: &R,
@@ -55,20 +68,90 @@ fn ran<R: Threads + Wait + Sync>(
     word: &str,
     lines: &str,
 ) -> Result<(u8, Vec<u8>), Fail> {
-    let mut source = source_of(alloc, POLICY, lines, &[])?;
+    let source = source_of(alloc, POLICY, lines, &[])?;
     let mut sink = sink_of(alloc, 64, &[])?;
-    let words = words_of(alloc, word)?;
-    let mut links = steady(alloc)?;
-    let status = run(
-        rt,
-        alloc,
-        &words,
-        &mut source,
-        &mut sink,
-        &mut links,
-        &OpenGate,
-    );
+    let status = run_into(rt, alloc, word, source, &mut sink)?;
     Ok((status, sink.bytes))
+}
+
+// What the report of a policy without lines has behind it.
+const NO_LINES: &[u8] = b"HISTORY GBP 0\nTRANSCRIPT OP 0\nTRANSCRIPT A 0\nTRANSCRIPT B 0\nEND\n";
+
+#[test]
+fn policy_alone(rt: HostRuntime) -> Result<(), Fail> {
+    let (status, text) = ran(&rt, rt.alloc(), "serial", "")?;
+    assert_eq!(rt; status, 0);
+    assert!(rt; text.as_slice().starts_with(POLICY.as_bytes()));
+    assert_eq!(rt; text.as_slice()[POLICY.len()..], *NO_LINES);
+    Ok(())
+}
+
+#[test]
+fn failing_sink(rt: HostRuntime) -> Result<(), Fail> {
+    let source = source_of(rt.alloc(), POLICY, "", &[])?;
+    let mut sink = sink_of(rt.alloc(), 10, &[2])?;
+    let status = run_into(&rt, rt.alloc(), "serial", source, &mut sink)?;
+    assert_eq!(rt; status, 5);
+    assert_eq!(rt; sink.bytes.as_slice(), b"FACILITY C".as_slice());
+    Ok(())
+}
+
+// A full journal is told by the status, whatever the sink does.
+#[test]
+fn full_journal_and_a_failing_sink(rt: HostRuntime) -> Result<(), Fail> {
+    let mut source = source_of(rt.alloc(), POLICY, "A GBP CONNECT DELETE\n", &[])?;
+    let events = b"A GBP EVENTS\n".repeat(rt.alloc(), 65_536)?;
+    source.bytes.extend_from_slice(events.as_slice())?;
+    let mut sink = sink_of(rt.alloc(), 64, &[2])?;
+    let status = run_into(&rt, rt.alloc(), "serial", source, &mut sink)?;
+    assert_eq!(rt; status, 8);
+    assert_eq!(rt;
+        sink.bytes.as_slice(),
+        b"JOURNALFULL GBP 65536\n".as_slice()
+    );
+    Ok(())
+}
+
+#[test]
+fn no_facility_is_large_enough(rt: HostRuntime) -> Result<(), Fail> {
+    let source = source_of(
+        rt.alloc(),
+        "FACILITY CF1 100\nSTRUCTURE GBP CACHE 8 8 4 64 DELETE\nPREF GBP CF1 10\nCONNECTOR A\n",
+        "A GBP CONNECT DELETE\n",
+        &[],
+    )?;
+    let mut sink = sink_of(rt.alloc(), 64, &[])?;
+    let status = run_into(&rt, rt.alloc(), "serial", source, &mut sink)?;
+    assert_eq!(rt; status, 0);
+    assert!(rt;
+        sink.bytes.as_slice().ends_with(
+            b"HISTORY GBP 1\n1 A CONNECT DELETE -> REFUSED 65 NOSPACE 16 10\n\
+          TRANSCRIPT OP 0\nTRANSCRIPT A 1\nGBP 1\nEND\n"
+        )
+    );
+    Ok(())
+}
+
+#[test]
+fn one_connection_at_most(rt: HostRuntime) -> Result<(), Fail> {
+    let source = source_of(
+        rt.alloc(),
+        "FACILITY CF1 100\nSTRUCTURE GBP CACHE 8 8 1 64 DELETE\nPREF GBP CF1 40\n\
+         CONNECTOR A\nCONNECTOR B\n",
+        "A GBP CONNECT DELETE\nB GBP CONNECT DELETE\n",
+        &[],
+    )?;
+    let mut sink = sink_of(rt.alloc(), 64, &[])?;
+    let status = run_into(&rt, rt.alloc(), "serial", source, &mut sink)?;
+    assert_eq!(rt; status, 0);
+    assert!(rt;
+        sink.bytes.as_slice().ends_with(
+            b"HISTORY GBP 3\n1 A CONNECT DELETE -> OK NEW CF1\n\
+          2 B CONNECT DELETE -> REFUSED 62 TOOMANYCONNS 1\n3 A DISCONNECT -> OK\n\
+          TRANSCRIPT OP 0\nTRANSCRIPT A 2\nGBP 1\nGBP 3\nTRANSCRIPT B 1\nGBP 2\nEND\n"
+        )
+    );
+    Ok(())
 }
 
 // One connector's lines, and the end of their report.
@@ -145,17 +228,7 @@ fn oversized_source(rt: HostRuntime) -> Result<(), Fail> {
     let mut source = source_of(rt.alloc(), "", "", &[])?;
     source.bytes = vec![in rt.alloc(); b'*'; 1_048_577]?;
     let mut sink = sink_of(rt.alloc(), 64, &[])?;
-    let words = words_of(rt.alloc(), "serial")?;
-    let mut links = steady(rt.alloc())?;
-    let status = run(
-        &rt,
-        rt.alloc(),
-        &words,
-        &mut source,
-        &mut sink,
-        &mut links,
-        &OpenGate,
-    );
+    let status = run_into(&rt, rt.alloc(), "serial", source, &mut sink)?;
     assert_eq!(rt; status, 7);
     assert_eq!(rt; sink.bytes.as_slice(), b"TOOLONG 1048576\n".as_slice());
     Ok(())
@@ -163,19 +236,9 @@ fn oversized_source(rt: HostRuntime) -> Result<(), Fail> {
 
 #[test]
 fn failing_source(rt: HostRuntime) -> Result<(), Fail> {
-    let mut source = source_of(rt.alloc(), POLICY, "", &[1])?;
+    let source = source_of(rt.alloc(), POLICY, "", &[1])?;
     let mut sink = sink_of(rt.alloc(), 64, &[])?;
-    let words = words_of(rt.alloc(), "serial")?;
-    let mut links = steady(rt.alloc())?;
-    let status = run(
-        &rt,
-        rt.alloc(),
-        &words,
-        &mut source,
-        &mut sink,
-        &mut links,
-        &OpenGate,
-    );
+    let status = run_into(&rt, rt.alloc(), "serial", source, &mut sink)?;
     assert_eq!(rt; status, 4);
     assert_eq!(rt; sink.bytes.as_slice(), b"FAULT READ\n".as_slice());
     Ok(())

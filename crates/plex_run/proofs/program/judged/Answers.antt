@@ -2,7 +2,7 @@ use Rattle.std.proofs.Common.{inl, inr, sym, ◌∙◌}
 use Rattle.plex_run.specs.Outcome.{IsServed}
 use Rattle.plex_run.proofs.RunnableLaws.{runnable}
 use Rattle.plex_run.proofs.ReadingLaws.{reading_written}
-use Rattle.plex_run.proofs.OutcomeLaws.{fault_exactly, told_fault, not_yet_exactly, served_exactly, in_turn_status, in_turn_text, report_written, full_written, histories_written, front_written, serial_front_written, run_ends, served_once}
+use Rattle.plex_run.proofs.OutcomeLaws.{fault_exactly, told_fault, not_yet_exactly, served_exactly, in_turn_status, in_turn_text, report_written, full_written, histories_written, front_written, serial_front_written, run_ends, ends_right, served_once}
 use Rattle.plex_run.proofs.program.judged.Goals as goal
 
 pub returns-in-Err-Script-clause-exact : goal.returns-in-Err-Script-clause-exact
@@ -25,48 +25,46 @@ returns-clause-served g c = λ turn zero.
     let served : IsServed c.args.text.now c.in-Ok.script =
     record { says = c.in-Ok.ensures.script; built = sym c.not_yet.ensures ∙ c.in_default.is } in
     let wrote = c.reported.ensures.whole (inl zero) in
-    report_written _ _ c.args.text.now c.in-Ok.script c.reported.result served zero
-    (in_turn_status _ _ c.args.way c.in-Ok.script c.reported.result turn wrote)
-    (in_turn_text _ _ c.args.way c.in-Ok.script c.reported.result turn wrote)
+    report_written _ _ _ _ c.args.text.now c.in-Ok.script c.reported.result served zero
+    (in_turn_status _ _ _ _ c.args.way c.in-Ok.script c.reported.result turn wrote)
+    (in_turn_text _ _ _ _ c.args.way c.in-Ok.script c.reported.result turn wrote)
 
 pub returns-clause-full : goal.returns-clause-full
 returns-clause-full g c = λ turn eight.
     let served : IsServed c.args.text.now c.in-Ok.script =
     record { says = c.in-Ok.ensures.script; built = sym c.not_yet.ensures ∙ c.in_default.is } in
     let wrote = c.reported.ensures.whole (inr eight) in
-    full_written _ _ c.args.text.now c.in-Ok.script c.reported.result served eight
-    (in_turn_status _ _ c.args.way c.in-Ok.script c.reported.result turn wrote)
-    (in_turn_text _ _ c.args.way c.in-Ok.script c.reported.result turn wrote)
+    full_written _ _ _ _ c.args.text.now c.in-Ok.script c.reported.result served eight
+    (in_turn_status _ _ _ _ c.args.way c.in-Ok.script c.reported.result turn wrote)
+    (in_turn_text _ _ _ _ c.args.way c.in-Ok.script c.reported.result turn wrote)
 
 pub returns-clause-headline : goal.returns-clause-headline
 returns-clause-headline g c = λ is.
     let served : IsServed c.args.text.now c.in-Ok.script =
     record { says = c.in-Ok.ensures.script; built = sym c.not_yet.ensures ∙ c.in_default.is } in
-    histories_written _ _ c.args.text.now c.args.way c.in-Ok.script c.reported.result served c.valid_is_fresh.ensures
+    histories_written _ _ _ _ c.args.text.now c.args.way c.in-Ok.script c.reported.result served c.valid_is_fresh.ensures
     c.within_script.ensures (c.reported.ensures.whole is)
 
 pub returns-clause-reading : goal.returns-clause-reading
 returns-clause-reading g c = λ zero.
     let served : IsServed c.args.text.now c.in-Ok.script =
     record { says = c.in-Ok.ensures.script; built = sym c.not_yet.ensures ∙ c.in_default.is } in
-    reading_written _ _ c.args.text.now c.args.way c.in-Ok.script c.reported.result served c.only_reading.ensures zero
+    reading_written _ _ _ _ c.args.text.now c.args.way c.in-Ok.script c.reported.result served c.only_reading.ensures zero
     (c.reported.ensures.whole (inl zero))
 
 pub returns-clause-sink_fault : goal.returns-clause-sink_fault
 returns-clause-sink_fault g c = λ five.
     let served : IsServed c.args.text.now c.in-Ok.script =
     record { says = c.in-Ok.ensures.script; built = sym c.not_yet.ensures ∙ c.in_default.is } in
-    let fault = c.reported.ensures.sink_fault five in
     let wrote = front_written _ _ c.args.text.now c.args.way c.in-Ok.script served c.valid_is_fresh.ensures
-    c.within_script.ensures fault.1 in
-    (fault.0, wrote)
+    (c.reported.ensures.front five) in
+    (c.reported.ensures.sink_fault five, wrote)
 
 pub returns-clause-front : goal.returns-clause-front
 returns-clause-front g c = λ turn five.
     let served : IsServed c.args.text.now c.in-Ok.script =
     record { says = c.in-Ok.ensures.script; built = sym c.not_yet.ensures ∙ c.in_default.is } in
-    serial_front_written _ _ c.args.text.now c.args.way c.in-Ok.script served turn
-    (c.reported.ensures.sink_fault five).1
+    serial_front_written _ _ c.args.text.now c.args.way c.in-Ok.script served turn (c.reported.ensures.front five)
 
 pub returns-clause-exact : goal.returns-clause-exact
 returns-clause-exact g c = λ other.
@@ -76,12 +74,12 @@ returns-clause-exact g c = λ other.
     c.reported.ensures.statuses
 
 pub returns-clause-complete : goal.returns-clause-complete
-returns-clause-complete g c = λ turn written memory script again.
+returns-clause-complete g c = λ turn memory script again.
     let served : IsServed c.args.text.now c.in-Ok.script =
     record { says = c.in-Ok.ensures.script; built = sym c.not_yet.ensures ∙ c.in_default.is } in
-    let ends = run_ends c.reported.result c.reported.ensures.statuses written memory in
     served_once c.args.text.now c.in-Ok.script script c.reported.result c.one_script.ensures served again
-    (in_turn_status _ _ c.args.way c.in-Ok.script c.reported.result turn (c.reported.ensures.whole ends))
+    (ends_right _ _ _ _ c.args.way c.in-Ok.script c.reported.result turn c.reported.ensures.statuses memory
+    c.reported.ensures.whole c.reported.ensures.front)
 
 pub returns-clause-ends : goal.returns-clause-ends
 returns-clause-ends g c = λ written memory script again.

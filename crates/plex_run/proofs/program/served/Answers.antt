@@ -12,13 +12,15 @@ returns-clause-served g c = λ turn is.
 pub returns-clause-full : goal.returns-clause-full
 returns-clause-full g c = λ turn is.
     of_left (g.S.Source.left c.args.source.now) c.in-Ok.text.items c.deref.result.now
-    (WritesFull (g.K.Sink.held c.args.sink.now) (g.K.Sink.held c.judged.new.sink))
+    (WritesFull (g.K.Sink.held c.args.sink.now) (g.K.Sink.held c.judged.new.sink) (g.K.Sink.faults c.args.sink.now)
+    (g.K.Sink.faults c.judged.new.sink))
     c.deref.ensures.value c.in-Ok.ensures.whole (c.judged.ensures.full turn is)
 
 pub returns-clause-headline : goal.returns-clause-headline
 returns-clause-headline g c = λ is.
     of_left (g.S.Source.left c.args.source.now) c.in-Ok.text.items c.deref.result.now
-    (WritesHistories c.judged.result (g.K.Sink.held c.args.sink.now) (g.K.Sink.held c.judged.new.sink))
+    (WritesHistories c.judged.result (g.K.Sink.held c.args.sink.now) (g.K.Sink.held c.judged.new.sink)
+    (g.K.Sink.faults c.args.sink.now) (g.K.Sink.faults c.judged.new.sink))
     c.deref.ensures.value c.in-Ok.ensures.whole (c.judged.ensures.headline is)
 
 pub returns-clause-refused : goal.returns-clause-refused
@@ -58,11 +60,11 @@ returns-clause-front g c = λ turn is.
     c.deref.ensures.value c.in-Ok.ensures.whole (c.judged.ensures.front turn is)
 
 pub returns-clause-complete : goal.returns-clause-complete
-returns-clause-complete g c = λ turn read wrote memory.
+returns-clause-complete g c = λ turn read memory.
     of_left (g.S.Source.left c.args.source.now) c.in-Ok.text.items c.deref.result.now
     (λ text. IsComplete text c.judged.result)
     c.deref.ensures.value c.in-Ok.ensures.whole
-    (λ script served short. c.judged.ensures.complete turn wrote memory script served)
+    (λ script served short. c.judged.ensures.complete turn memory script served)
 
 pub returns-clause-ends : goal.returns-clause-ends
 returns-clause-ends g c = λ read wrote memory.
