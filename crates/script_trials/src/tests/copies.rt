@@ -1,30 +1,50 @@
-use cf_types::{At, ListCmd, parse_body};
-use engine_api::Ask;
-use plex_script::{AnyAsk, copy_ask};
+use super::printing::PLAIN;
+use cf_types::{Listing, NoMemory};
+use plex_script::{Act, Line, Script, copy_ask, print, read};
+use std::alloc::Global;
 use std::test::Fail;
 
-#[test]
-fn calls_are_copied(rt: HostRuntime) -> Result<(), Fail> {
-    let body = parse_body(rt.alloc(), b"abc").ok();
-    let update = ListCmd::Update {
-        at: At::Head(3),
-        body,
-        adj: None,
-        cond: None,
+// The line, with a copy of its call.
+fn with_copy(alloc: Global, line: Line) -> Result<Line, NoMemory> {
+    let Line {
+        at,
+        by,
+        on,
+        act,
+        retry,
+    } = line;
+    let act = match act {
+        Act::Call(ask) => Act::Call(copy_ask(alloc, &ask)?),
+        other => other,
     };
-    let copy = copy_ask(rt.alloc(), &AnyAsk::List(Ask::Content(update)))?;
-    match copy {
-        AnyAsk::List(
-            Ask::Content(
-                ListCmd::Update {
-                    body: Some(body),
-                    ..
-                },
-            ),
-        ) => {
-            assert_eq!(rt; body.bytes(), b"abc".as_slice());
-        }
-        _ => return Err("another call".into()),
+    Ok(Line {
+        at,
+        by,
+        on,
+        act,
+        retry,
+    })
+}
+
+#[test]
+fn each_call_is_copied(rt: HostRuntime) -> Result<(), Fail> {
+    let alloc = rt.alloc();
+    let Script {
+        facilities,
+        structures,
+        connectors,
+        lines,
+    } = read(alloc, PLAIN)?;
+    let mut copies = Vec::new(alloc);
+    for line in lines.into_vec() {
+        copies.push(with_copy(alloc, line)?)?;
     }
+    let copy = Script {
+        facilities,
+        structures,
+        connectors,
+        lines: Listing::from_vec(copies),
+    };
+    assert_eq!(rt; print(alloc, &copy)?.as_slice(), PLAIN);
     Ok(())
 }
