@@ -36,6 +36,7 @@ pub struct Cell<E: Engine, L: Link> {
 
 impl<E: Engine, L: Link> Model for Cell<E, L> {
     ghost use Rattle.std.specs.Prelude.{◌≡◌, ◌≤◌};
+    ghost use Rattle.cf_types.specs.declared.limits.TheConstants.{CONNECTORS};
     ghost use Rattle.cf_types.specs.Forms.{IsForm};
     ghost use Rattle.struct_cell.specs.declared.inside.CellKey.{CellKey};
 
