@@ -50,17 +50,17 @@ module _ {C R I S : Type 0} (meaning : Meaning C R I S) (of : Ask C → AnyAsk) 
     no : call.no ≡ length before + 1
     number : call.told.no ≡ call.no
     next : after ≡ next meaning form before call.by asked
-    told_of : call.told ≡ told_of (length before + 1) asked (next_reply meaning form before call.by asked)
+    told : call.told ≡ told_of (length before + 1) asked (next_reply meaning form before call.by asked)
 
   -- an entry that continues a history is such a call
   abbrev TellsCall : List (Entry C R) → Entry C R → What C → Type 0
-  TellsCall before entry told_of =
-      (call : Call C R) × (call_told entry.no entry.by entry.reply told_of ≡ Some call)
+  TellsCall before entry told =
+      (call : Call C R) × (call_told entry.no entry.by entry.reply told ≡ Some call)
       × IsCalled before (before ++ entry ∷ []) (any_call of call)
 
-  tells_call : (before : List (Entry C R)) (entry : Entry C R) (told_of : What C) → IsNextAs meaning form before entry
-      told_of
-      → TellsCall before entry told_of
+  tells_call : (before : List (Entry C R)) (entry : Entry C R) (told : What C) → IsNextAs meaning form before entry
+      told
+      → TellsCall before entry told
   tells_call before entry (what.Call asked) e = (
     record { no = entry.no; by = entry.by; ask = asked; reply = entry.reply },
     refl,
