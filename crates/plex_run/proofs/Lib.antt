@@ -1,4 +1,5 @@
 pub mod Written
+pub mod StatusLaws
 pub mod Found
 pub mod RunnableLaws
 pub mod FullLaws

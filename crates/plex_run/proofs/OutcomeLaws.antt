@@ -1,5 +1,5 @@
 -- Which texts are served, and what their status tells.
-use Rattle.std.proofs.Common.{◌≡◌, ◌≢◌, ℕ, ◌≤◌, ◌<◌, ◌^◌, ◌⊎◌, inl, inr, ◌↔◌, Bool, true, false, List, ◌++◌, length, Option, Some, None, IfSome, refl, sym, ap, ◌∙◌, subst, arith}
+use Rattle.std.proofs.Common.{◌≡◌, ◌≢◌, ℕ, ◌≤◌, ◌<◌, ◌^◌, ◌⊎◌, inl, inr, ◌↔◌, Bool, true, false, List, ◌++◌, length, Option, Some, None, IfSome, refl, sym, ◌∙◌, subst, arith}
 use Rattle.std.specs.Prelude.{is_some, if◌then◌else◌}
 use Rattle.std.specs.Io.KnownBytes.{Appends}
 use Rattle.cf_types.specs.declared.names.Name16.{Name16}
@@ -193,7 +193,10 @@ none_of (Some x) e = absurd (cc)
 run_zero : (script : Script) (reading : Reading) → full_of script reading ≡ None → run_status script reading ≡ 0
 run_zero script reading none = rw none refl
 
-run_eight : (found : Option Name16) → true ≡ is_some found → (if is_some found then 8 else 0) ≡ 8
+abbrev status_of : Option Name16 → ℕ
+status_of found = if is_some found then 8 else 0
+
+run_eight : (found : Option Name16) → true ≡ is_some found → status_of found ≡ 8
 run_eight None e = absurd (cc)
 run_eight (Some name) e = refl
 

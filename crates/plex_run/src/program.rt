@@ -7,7 +7,7 @@ ghost use Rattle.plex_script.specs.declared.scripts.Script.{Script};
 ghost use Rattle.serial_model.specs.Runnable.{IsRunnable};
 ghost use Rattle.plex_reading.specs.Readings.{report_of};
 ghost use Rattle.plex_run.specs.declared.way.Way.TheVariants as ways;
-ghost use Rattle.plex_run.specs.StatusLines.{script_line, full_line};
+ghost use Rattle.plex_run.specs.StatusLines.{script_line, full_line, too_long_line};
 ghost use Rattle.plex_run.specs.Written.{Gains, GainsPrefix};
 ghost use Rattle.plex_run.specs.Outcome.{IsSerial, IsThreads, IsStatus, status_line, script_limit, full_of, reading_of, IsRunOf, IsAnswerOf, WritesRun, WritesRunFront, WritesReport, WritesFull, WritesHistories, WritesOneReading, WritesFront, WritesSerialFront, WritesRefusal, IsServed, IsUnserved, EndsRight, IsExact, IsComplete, IsCompleteOnThreads};
 
@@ -45,6 +45,15 @@ fn say<K: Sink>(sink: &mut K, line: &[u8])
     ensures faults { K.faults sink.old ≤ K.faults sink.new }
 {
     let _ = write_all(sink, line);
+}
+
+// Tells of a text that is too long.
+fn say_too_long<K: Sink>(sink: &mut K)
+    ensures gains { Gains (K.held sink.old) (K.held sink.new) (K.faults sink.old)
+        (K.faults sink.new) too_long_line }
+    ensures faults { K.faults sink.old ≤ K.faults sink.new }
+{
+    say(sink, b"TOOLONG 1048576\n");
 }
 
 // Writes one text, and then another.
@@ -341,7 +350,7 @@ fn served<R: Threads + Wait + Sync, S: Source, K: Sink, L: Link, G: Gate>(
             return 4;
         }
         Err(ReadEnd::TooLong { .. }) => {
-            say(sink, b"TOOLONG 1048576\n");
+            say_too_long(sink);
             return 7;
         }
         Err(ReadEnd::NoMemory) => {

@@ -1,0 +1,9 @@
+-- The lines that tell how a run ended, as they are spelled.
+use Rattle.std.proofs.Common.{◌≡◌, ◌++◌, ◌∷◌, [], refl, ap, arith}
+use Rattle.std.specs.Prelude.{codes}
+use Rattle.plex_spell.proofs.NumberLaws.{decimal-numeral}
+use Rattle.plex_run.specs.StatusLines.{too_long_line}
+
+pub too_long-spelled : codes "TOOLONG 1048576\n" ≡ too_long_line
+too_long-spelled =
+    ap (λ digits. codes "TOOLONG " ++ digits ++ 10 ∷ []) (decimal-numeral (codes "1048576") refl (omega arith))
