@@ -56,12 +56,11 @@ fn write_of(alloc: Global) -> Option<CacheCmd> {
     })
 }
 
-// Whether a page that one connector writes is read by another.
-fn is_read_as_written(
-    alloc: Global,
-    engine: &mut CacheEngine,
-    out: &mut Effects,
-) -> Result<bool, Fail> {
+#[test]
+fn what_is_written_is_read(rt: HostRuntime) -> Result<(), Fail> {
+    let alloc = rt.alloc();
+    let mut engine = cache_of(alloc)?;
+    let mut out = Effects::new(alloc);
     let write = write_of(alloc).ok_or("no data")?;
     let read = CacheCmd::Read {
         name: NAME,
@@ -69,56 +68,47 @@ fn is_read_as_written(
         old: None,
         stg: 1,
     };
-    let _ = call(engine, ConnId(1), &write, out)?;
-    Ok(match call(engine, ConnId(2), &read, out)? {
-        Ok(CacheReply::Data { body, changed, .. }) => changed && body.bytes() == b"data".as_slice(),
-        _ => false,
-    })
-}
-
-// Whether a departure in a copy leaves the engine that was copied as it was.
-fn is_apart(alloc: Global, engine: &CacheEngine, out: &mut Effects) -> Result<bool, NoMemory> {
+    let _ = call(&mut engine, ConnId(1), &write, &mut out)?;
+    let Ok(CacheReply::Data { body, changed, .. }) = call(&mut engine, ConnId(2), &read, &mut out)?
+    else {
+        panic!(rt; "no data are read")
+    };
+    assert_eq!(rt; body.bytes(), b"data".as_slice());
+    assert!(rt; changed);
     let mut copy = engine.copy(alloc)?;
-    copy.leave_ready(ConnId(2), out)?;
-    copy.leave(ConnId(2), false, out);
-    Ok(engine.stands(ConnId(2), 3) && !copy.stands(ConnId(2), 3))
-}
-
-#[test]
-fn what_is_written_is_read(rt: HostRuntime) -> Result<(), Fail> {
-    let mut engine = cache_of(rt.alloc())?;
-    let mut out = Effects::new(rt.alloc());
-    assert!(rt; is_read_as_written(rt.alloc(), &mut engine, &mut out)?);
-    assert!(rt; is_apart(rt.alloc(), &engine, &mut out)?);
+    copy.leave_ready(ConnId(2), &mut out)?;
+    copy.leave(ConnId(2), false, &mut out);
+    assert!(rt; engine.stands(ConnId(2), 3) && !copy.stands(ConnId(2), 3));
     assert_eq!(rt; out.bits.items().len(), 3);
     Ok(())
 }
 
-// Whether a changed page stands in its class, and is cast out.
-fn is_cast_out(alloc: Global, engine: &mut CacheEngine, out: &mut Effects) -> Result<bool, Fail> {
-    let write = write_of(alloc).ok_or("no data")?;
-    let _ = call(engine, ConnId(1), &write, out)?;
-    let is_named = match call(engine, ConnId(1), &CacheCmd::CoClass { class: 1 }, out)? {
-        Ok(CacheReply::Names(names)) => names.items() == [NAME].as_slice(),
-        _ => false,
-    };
-    let castout = CacheCmd::Castout { name: NAME };
-    Ok(match call(engine, ConnId(1), &castout, out)? {
-        Ok(CacheReply::CastData { body, .. }) => is_named && body.bytes() == b"data".as_slice(),
-        _ => false,
-    })
-}
-
 #[test]
 fn a_changed_row_is_cast_out(rt: HostRuntime) -> Result<(), Fail> {
-    let mut engine = cache_of(rt.alloc())?;
-    let mut out = Effects::new(rt.alloc());
-    assert!(rt; is_cast_out(rt.alloc(), &mut engine, &mut out)?);
+    let alloc = rt.alloc();
+    let mut engine = cache_of(alloc)?;
+    let mut out = Effects::new(alloc);
+    let write = write_of(alloc).ok_or("no data")?;
+    let castout = CacheCmd::Castout { name: NAME };
+    let of_class = CacheCmd::CoClass { class: 1 };
+    let _ = call(&mut engine, ConnId(1), &write, &mut out)?;
+    let Ok(CacheReply::Names(names)) = call(&mut engine, ConnId(1), &of_class, &mut out)? else {
+        panic!(rt; "no names")
+    };
+    assert_eq!(rt; names.items(), [NAME].as_slice());
+    let Ok(CacheReply::CastData { body, .. }) = call(&mut engine, ConnId(1), &castout, &mut out)?
+    else {
+        panic!(rt; "no data are cast out")
+    };
+    assert_eq!(rt; body.bytes(), b"data".as_slice());
     Ok(())
 }
 
-// Whether a third page takes the place of the first one, which nobody used since.
-fn is_reclaimed(engine: &mut CacheEngine, out: &mut Effects) -> Result<bool, NoMemory> {
+#[test]
+fn the_least_recently_used_row_goes(rt: HostRuntime) -> Result<(), Fail> {
+    let alloc = rt.alloc();
+    let mut engine = cache_of(alloc)?;
+    let mut out = Effects::new(alloc);
     for letter in 65..68u8 {
         let read = CacheCmd::Read {
             name: Name16([letter; 16]),
@@ -126,26 +116,22 @@ fn is_reclaimed(engine: &mut CacheEngine, out: &mut Effects) -> Result<bool, NoM
             old: Some(Name16([letter.saturating_sub(1); 16])),
             stg: 1,
         };
-        let _ = call(engine, ConnId(1), &read, out)?;
+        let _ = call(&mut engine, ConnId(1), &read, &mut out)?;
     }
-    let first = CacheCmd::DirInfo { name: NAME };
-    Ok(matches!(call(engine, ConnId(1), &first, out)?, Err(Refusal::NoEntry)))
-}
-
-// Whether no row is changed.
-fn has_no_changed_row(engine: &mut CacheEngine, out: &mut Effects) -> Result<bool, NoMemory> {
-    Ok(match call(engine, ConnId(1), &CacheCmd::CoStats, out)? {
-        Ok(CacheReply::Stats(stats)) => stats.items().is_empty(),
-        _ => false,
-    })
-}
-
-#[test]
-fn the_least_recently_used_row_goes(rt: HostRuntime) -> Result<(), Fail> {
-    let mut engine = cache_of(rt.alloc())?;
-    let mut out = Effects::new(rt.alloc());
-    assert!(rt; is_reclaimed(&mut engine, &mut out)?);
+    let first = call(
+        &mut engine,
+        ConnId(1),
+        &CacheCmd::DirInfo {
+            name: Name16([65; 16]),
+        },
+        &mut out,
+    )?;
+    assert!(rt; matches!(&first, Err(Refusal::NoEntry)));
     assert!(rt; engine.count() == 2);
-    assert!(rt; has_no_changed_row(&mut engine, &mut out)?);
+    let Ok(CacheReply::Stats(stats)) = call(&mut engine, ConnId(1), &CacheCmd::CoStats, &mut out)?
+    else {
+        panic!(rt; "no counts")
+    };
+    assert!(rt; stats.items().is_empty());
     Ok(())
 }
