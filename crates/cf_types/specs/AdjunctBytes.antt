@@ -16,8 +16,8 @@ pub record IsFilled (a : Inside) : Type 0 where
 abbrev pub adjunct_inside : List ℕ → Inside
 adjunct_inside text = record { bytes = adjunct_block text; len = length text }
 
-pub refilled-take : (a : Inside) → IsFilled a → adjunct_inside (take a.len a.bytes) ≡ a
-refilled-take a h =
+pub adjunct_inside-take : (a : Inside) → IsFilled a → adjunct_inside (take a.len a.bytes) ≡ a
+adjunct_inside-take a h =
     let len : length (take a.len a.bytes) ≡ a.len = omega (arith, length-take a.len a.bytes, h.short, h.whole) in
     let bytes : take a.len a.bytes ++ replicate (ADJUNCT_BYTES - a.len) 0 ≡ a.bytes = rw (← h.zeros)
     (take-append-drop a.len a.bytes) in

@@ -20,7 +20,7 @@ impl Model for Adjunct {
 
     ghost Value = { List ℕ };
 
-    ghost use Rattle.cf_types.specs.AdjunctBytes.{IsFilled, adjunct_inside, refilled-take};
+    ghost use Rattle.cf_types.specs.AdjunctBytes.{IsFilled, adjunct_inside, adjunct_inside-take};
 
     ghost view = { λ a. take a.len a.bytes };
 
@@ -28,7 +28,7 @@ impl Model for Adjunct {
 
     ghost inverse = { adjunct_inside };
 
-    ghost inverse_ok = { refilled-take };
+    ghost inverse_ok = { adjunct_inside-take };
 }
 
 impl Adjunct {

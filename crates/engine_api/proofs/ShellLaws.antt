@@ -419,8 +419,8 @@ module _ {C R I S : Type 0} (meaning : Meaning C R I S) (form : StrForm) where
   length-conns-step machine by (ask.Content command) =
       ap (λ (c : Connections). length c) (conns-content machine by command (content_cause machine.shell by))
 
-  length-conns-after : (machine : Machine S) (by : ConnId) (told_of : What C)
-      → length (after_what meaning form machine by told_of).shell.conns ≡ length machine.shell.conns
+  length-conns-after : (machine : Machine S) (by : ConnId) (told : What C)
+      → length (after_what meaning form machine by told).shell.conns ≡ length machine.shell.conns
   length-conns-after machine by (what.Call asked) = length-conns-step machine by asked
   length-conns-after machine by (what.Lost cf) = refl
 

@@ -435,9 +435,9 @@ pub fn run<R: Threads + Wait + Sync, S: Source, K: Sink, L: Link, G: Gate>(
         (WritesSerialFront (K.held sink.old) (K.held sink.new)) }
     ensures statuses { IsStatus result }
 
-    // Where no read failed and memory was found, the text decides: a script that is built is served.
-    // With `serial` the status is 8 exactly where its run on one thread meets a full journal, and
-    // else 0, or 5 where a write failed.
+    // Where no read failed and memory was found, the text decides: a script that is built is
+    // served. With `serial` the status is 8 exactly where its run on one thread meets a full
+    // journal, and else 0, or 5 where a write failed.
     ensures exact { IsSerial words.now ⊎ IsThreads words.now → result ≢ 4 → result ≢ 6
         → IfSome (S.left source.old) (λ text. IsExact text result) }
     ensures complete { IsSerial words.now → result ≢ 4 → result ≢ 6

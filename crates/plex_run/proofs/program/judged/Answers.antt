@@ -42,15 +42,15 @@ pub returns-clause-headline : goal.returns-clause-headline
 returns-clause-headline g c = λ is.
     let served : IsServed c.args.text.now c.in-Ok.script =
     record { says = c.in-Ok.ensures.script; built = sym c.not_yet.ensures ∙ c.in_default.is } in
-    histories_written _ _ _ _ c.args.text.now c.args.way c.in-Ok.script c.reported.result served c.valid_is_fresh.ensures
-    c.within_script.ensures (c.reported.ensures.whole is)
+    histories_written _ _ _ _ c.args.text.now c.args.way c.in-Ok.script c.reported.result served
+    c.valid_is_fresh.ensures c.within_script.ensures (c.reported.ensures.whole is)
 
 pub returns-clause-reading : goal.returns-clause-reading
 returns-clause-reading g c = λ zero.
     let served : IsServed c.args.text.now c.in-Ok.script =
     record { says = c.in-Ok.ensures.script; built = sym c.not_yet.ensures ∙ c.in_default.is } in
-    reading_written _ _ _ _ c.args.text.now c.args.way c.in-Ok.script c.reported.result served c.only_reading.ensures zero
-    (c.reported.ensures.whole (inl zero))
+    reading_written _ _ _ _ c.args.text.now c.args.way c.in-Ok.script c.reported.result served
+    c.only_reading.ensures zero (c.reported.ensures.whole (inl zero))
 
 pub returns-clause-sink_fault : goal.returns-clause-sink_fault
 returns-clause-sink_fault g c = λ five.
