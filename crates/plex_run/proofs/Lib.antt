@@ -4,4 +4,5 @@ pub mod Found
 pub mod RunnableLaws
 pub mod FullLaws
 pub mod OutcomeLaws
+pub mod ReportLaws
 pub mod ReadingLaws

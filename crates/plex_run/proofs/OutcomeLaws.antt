@@ -1,27 +1,26 @@
 -- Which texts are served, and what their status tells.
-use Rattle.std.proofs.Common.{◌≡◌, ◌≢◌, ℕ, ◌≤◌, ◌<◌, ◌^◌, ◌⊎◌, inl, inr, ◌↔◌, Bool, true, false, List, ◌++◌, length, Option, Some, None, IfSome, refl, sym, ◌∙◌, subst, arith}
-use Rattle.std.specs.Prelude.{is_some, if◌then◌else◌}
-use Rattle.std.specs.Io.KnownBytes.{Appends}
-use Rattle.cf_types.specs.declared.names.Name16.{Name16}
+use Rattle.std.proofs.Common.{◌≡◌, ◌≢◌, ℕ, ◌≤◌, ◌⊎◌, inl, inr, true, false, List, ◌++◌, length, Option, Some, None, refl, sym, ◌∙◌, subst, arith}
+use Rattle.std.specs.Prelude.{is_some}
 use Rattle.plex_script.specs.declared.faults.Why.{Why}
 use Rattle.plex_script.specs.declared.faults.ReadFault.{ReadFault}
 use Rattle.plex_script.specs.declared.faults.ReadFault.TheVariants as read
 use Rattle.plex_script.specs.Reading.{TellsFault}
 use Rattle.plex_script.specs.declared.scripts.Script.{Script}
-use Rattle.plex_script.specs.Scripts.{IsScript, IsFault}
+use Rattle.plex_script.specs.Scripts.{IsFault}
 use Rattle.plex_script.specs.Laws.{SaysOne, IsExclusive}
 use Rattle.plex_script.specs.declared.asks.AnyHistory.{AnyHistory}
 use Rattle.plex_script.specs.declared.transcripts.Transcript.{Transcript}
 use Rattle.serial_model.specs.Headline.{ShowsHistories}
 use Rattle.plex_valid.specs.Valid.{ShowsFresh}
-use Rattle.plex_reading.specs.Readings.{Reading, report_of}
+use Rattle.plex_reading.specs.Readings.{Reading, IsOnlyReading, report_of}
 use Rattle.plex_run.specs.declared.way.Way.{Way}
 use Rattle.plex_run.specs.declared.way.Way.TheVariants as ways
-use Rattle.plex_run.specs.Written.{Gains, GainsPrefix}
+use Rattle.plex_run.specs.Written.{Output, Writes, WritesFront, Gains}
 use Rattle.plex_run.specs.NotYet.{not_yet}
-use Rattle.plex_run.specs.StatusLines.{why_word, full_line}
-use Rattle.plex_run.specs.Outcome.{IsServed, IsRefused, IsUnserved, IsExact, WritesRun, WritesRunFront, WritesReport, WritesFull, WritesText, WritesHistories, WritesFront, WritesSerialFront, IsAnswerOf, EndsRight, script_limit, journal_limit, serial_report, full_of, full_in_run, run_text, run_status, served_text, served_status}
+use Rattle.plex_run.specs.StatusLines.{script_line, full_line, memory_line}
+use Rattle.plex_run.specs.Outcome.{IsServed, IsRefused, IsRun, WritesRun, EndsRun, WritesReport, WritesFull, WritesReportFront, TellsNoMemory, EndsRight, IsSerialStatus, script_limit, journal_limit, full_of, full_in_run, serial_status, run_text}
 use Rattle.plex_run.proofs.FullLaws.{AreWithin, can_fill}
+use Rattle.plex_run.proofs.ReadingLaws.{one_reading}
 
 -- whatever a run shows, tests that tell VALID tell fresh copies
 abbrev pub AreFresh : Type 0
@@ -29,39 +28,12 @@ AreFresh =
     (limit : ℕ) (script : Script) (histories : List AnyHistory) (transcripts : List Transcript)
     → ShowsHistories limit script histories transcripts → ShowsFresh script histories transcripts
 
--- ---- words
-
--- where the words say a way, they are one of both words
-pub said_by : (serial threads : Type 0) (said : Option Way) (by : Way) → said ≡ Some by → (said ≡ Some ways.InTurn)
-    ↔ serial
-    → (said ≡ Some ways.OnThreads) ↔ threads → serial ⊎ threads
-said_by serial threads said ways.InTurn is first second = inl (first.0 is)
-said_by serial threads said ways.OnThreads is first second = inr (second.0 is)
-
 -- ---- texts that aren't served
-
-refused_exactly : (text : List ℕ) (line : ℕ) (told : List ℕ) (status : ℕ) → IsRefused text line told
-    → (status ≡ 3) ⊎ (status ≡ 6) → status ≢ 6
-    → (status ≡ 3) ↔ IsUnserved text
-refused_exactly text line told status refused (inl e) other = (λ is. (line, told, refused), λ unserved. e)
-refused_exactly text line told status refused (inr e) other = absurd (other e)
-
--- a faulty text is refused
-pub fault_exactly : (text : List ℕ) (line : ℕ) (why : Why) (status : ℕ) → IsFault text line why
-    → (status ≡ 3) ⊎ (status ≡ 6) → status ≢ 6
-    → (status ≡ 3) ↔ IsUnserved text
-fault_exactly text line why status fault = refused_exactly text line (why_word why) status (inl (why, fault, refl))
 
 -- what is told of a fault
 pub told_fault : (text : List ℕ) (line : ℕ) (why : Why) (fault : ReadFault) → fault ≡ read.Script line why
     → TellsFault text fault → IsFault text line why
 told_fault text line why fault e tells = subst (TellsFault text) e tells
-
--- and a script that isn't built
-pub not_yet_exactly : (text : List ℕ) (line : ℕ) (script : Script) (status : ℕ) → IsScript text script
-    → not_yet script ≡ Some line
-    → (status ≡ 3) ⊎ (status ≡ 6) → status ≢ 6 → (status ≡ 3) ↔ IsUnserved text
-not_yet_exactly text line script status says e = refused_exactly text line _ status (inr (script, says, e, refl))
 
 served_unrefused : (text : List ℕ) (script : Script) (line : ℕ) (told : List ℕ) → SaysOne → IsExclusive
     → IsServed text script → IsRefused text line told → ⊥
@@ -73,241 +45,172 @@ served_unrefused text script line told one never served (inr other) =
     let some : not_yet other.0 ≡ Some line = other.2 in
     absurd (cc)
 
--- a served text has another status
-pub served_exactly : (text : List ℕ) (script : Script) (status : ℕ) → SaysOne → IsExclusive → IsServed text script
-    → (status ≡ 0) ⊎ ((status ≡ 8) ⊎ ((status ≡ 5) ⊎ (status ≡ 6))) → (status ≡ 3) ↔ IsUnserved text
-served_exactly text script status one never served statuses = (
-  λ is. absurd (other statuses is),
-  λ unserved. absurd (served_unrefused text script unserved.0 unserved.1 one never
-      served unserved.2),
-)
-  where
-    other : (status ≡ 0) ⊎ ((status ≡ 8) ⊎ ((status ≡ 5) ⊎ (status ≡ 6))) → status ≡ 3 → ⊥
-    other (inl e) is = omega arith
-    other (inr (inl e)) is = omega arith
-    other (inr (inr (inl e))) is = omega arith
-    other (inr (inr (inr e))) is = omega arith
+-- ---- ends without a report
 
--- ---- runs in turn
+-- there was no memory
+pub memory_ends : (by : Way) (text : List ℕ) (out : Output) (status : ℕ) → status ≡ 6 → TellsNoMemory by text out
+    → EndsRight by text out status
+memory_ends by text out status six tells = record {
+  served = λ is. absurd (let wrong : 6 ≡ 0 = sym six ∙ is in omega (arith, wrong));
+  full = λ is. absurd (let wrong : 6 ≡ 8 = sym six ∙ is in omega (arith, wrong));
+  front = λ is. absurd (let wrong : 6 ≡ 5 = sym six ∙ is in omega (arith, wrong));
+  no_memory = λ is. tells;
+  refused = λ is. absurd (let wrong : 6 ≡ 3 = sym six ∙ is in omega (arith, wrong));
+  exact = λ read memory. absurd (memory six);
+  complete = λ turn read memory. absurd (memory six);
+  whole = λ read memory. absurd (memory six);
+}
 
--- what is written of a run in turn is what is written of the run on one thread
-pub in_turn_status : (held held_now : Option (List ℕ)) (faults faults_now : ℕ) (by : Way) (script : Script)
-    (status : ℕ) → by ≡ ways.InTurn → WritesRun by script status held held_now faults faults_now
-    → status ≡ served_status script
-in_turn_status held held_now faults faults_now by script status turn wrote =
-    subst (λ (r : Reading). status ≡ run_status script r) (wrote.run.in_turn turn) wrote.status_right
+-- a text isn't served
+pub refused_ends : (by : Way) (text : List ℕ) (line : ℕ) (told : List ℕ) (out : Output) (status : ℕ) → SaysOne
+    → IsExclusive → length text ≤ script_limit → IsRefused text line told
+    → (status ≡ 3 → Gains out (script_line line told)) → (status ≡ 6 → Gains out memory_line)
+    → (status ≡ 3) ⊎ (status ≡ 6) → EndsRight by text out status
+refused_ends by text line told out status one never short refused wrote memory (inr six) =
+    memory_ends by text out status six (inl (memory six))
+refused_ends by text line told out status one never short refused wrote memory (inl three) = record {
+  served = λ is. absurd (let wrong : 3 ≡ 0 = sym three ∙ is in omega (arith, wrong));
+  full = λ is. absurd (let wrong : 3 ≡ 8 = sym three ∙ is in omega (arith, wrong));
+  front = λ is. absurd (let wrong : 3 ≡ 5 = sym three ∙ is in omega (arith, wrong));
+  no_memory = λ is. absurd (let wrong : 3 ≡ 6 = sym three ∙ is in omega (arith, wrong));
+  refused = λ is. (line, told, refused, wrote is);
+  exact = λ read other. (
+    (
+      λ is. absurd (let wrong : 3 ≡ 7 = sym three ∙ is in omega (arith, wrong)),
+      λ long. absurd (omega (arith, short, long)),
+    ),
+    (λ is. (short, (line, told, refused)), λ un. three),
+  );
+  complete = λ turn read other script served fits.
+      absurd (served_unrefused text script line told one never served refused);
+  whole = λ read other script served fits.
+      absurd (served_unrefused text script line told one never served refused);
+}
 
-pub in_turn_text : (held held_now : Option (List ℕ)) (faults faults_now : ℕ) (by : Way) (script : Script)
-    (status : ℕ) → by ≡ ways.InTurn → WritesRun by script status held held_now faults faults_now
-    → WritesText status held held_now faults faults_now (served_text script)
-in_turn_text held held_now faults faults_now by script status turn wrote =
-    subst (λ (r : Reading). WritesText status held held_now faults faults_now (run_text script r))
-    (wrote.run.in_turn turn) wrote.wrote
-
--- the status 0 tells that no journal got full
-pub report_written : (held held_now : Option (List ℕ)) (faults faults_now : ℕ) (text : List ℕ) (script : Script)
-    (status : ℕ) → IsServed text script → status ≡ 0 → status ≡ served_status script
-    → WritesText status held held_now faults faults_now (served_text script) → WritesReport held held_now text
-report_written held held_now faults faults_now text script status served none is gains =
-    at_full (full_in_run script) refl
-  where
-    at_full : (full : Option Name16) → full_in_run script ≡ full → WritesReport held held_now text
-    at_full None e =
-        let same : served_text script ≡ serial_report script = rw e refl in
-        (script, served, e, subst (Appends held held_now) same (gains.1 none))
-    at_full (Some name) e = absurd (let eight : served_status script ≡ 8 = rw e refl in omega arith)
-
--- the status 8 tells that a journal got full
-pub full_written : (held held_now : Option (List ℕ)) (faults faults_now : ℕ) (text : List ℕ) (script : Script)
-    (status : ℕ) → IsServed text script → status ≡ 8 → status ≡ served_status script
-    → WritesText status held held_now faults faults_now (served_text script)
-    → WritesFull held held_now faults faults_now text
-full_written held held_now faults faults_now text script status served eight is gains =
-    at_full (full_in_run script) refl
-  where
-    at_full : (full : Option Name16) → full_in_run script ≡ full → WritesFull held held_now faults faults_now text
-    at_full None e = absurd (let none : served_status script ≡ 0 = rw e refl in omega arith)
-    at_full (Some name) e = (
-      script,
-      name,
-      served,
-      e,
-      subst (λ full. Gains held held_now faults faults_now (full_line full ++ serial_report script)) e
-          gains.0,
-    )
-
--- ---- runs in either way
-
--- what was written of a run shows histories
-pub histories_written : (held held_now : Option (List ℕ)) (faults faults_now : ℕ) (text : List ℕ) (by : Way)
-    (script : Script) (status : ℕ) → IsServed text script → AreFresh → AreWithin
-    → WritesRun by script status held held_now faults faults_now
-    → WritesHistories status held held_now faults faults_now text
-histories_written held held_now faults faults_now text by script status served fresh within wrote =
-    let shows = wrote.run.shows in (
-      script,
-      (
-        wrote.reading,
-        served,
-        shows,
-        fresh journal_limit script wrote.reading.histories wrote.reading.transcripts shows,
-        can_fill script wrote.reading within shows,
-        wrote.status_right,
-        wrote.wrote,
-      ),
-    )
-
-pub front_written : (held held_now : Option (List ℕ)) (text : List ℕ) (by : Way) (script : Script)
-    → IsServed text script → AreFresh → WritesRunFront by script held held_now
-    → WritesFront held held_now text
-front_written held held_now text by script served fresh wrote =
-    let shows = wrote.run.shows in (
-      script,
-      (
-        wrote.reading,
-        served,
-        shows,
-        fresh journal_limit script wrote.reading.histories wrote.reading.transcripts shows,
-        wrote.none_full,
-        wrote.front,
-      ),
-    )
-
-pub serial_front_written : (held held_now : Option (List ℕ)) (text : List ℕ) (by : Way) (script : Script)
-    → IsServed text script → by ≡ ways.InTurn → WritesRunFront by script held held_now
-    → WritesSerialFront held held_now text
-serial_front_written held held_now text by script served turn wrote = (
-  script,
-  served,
-  subst (λ (r : Reading). full_of script r ≡ None) (wrote.run.in_turn turn) wrote.none_full,
-  subst (λ (r : Reading). GainsPrefix held held_now (report_of script r)) (wrote.run.in_turn turn) wrote.front,
-)
-
--- ---- an answer that is written
+-- ---- runs
 
 -- whether there is a value
-none_of : {X : Type 0} (found : Option X) → false ≡ is_some found → found ≡ None
+none_of : {X : Type 0} (found : Option X) → is_some found ≡ false → found ≡ None
 none_of None e = refl
 none_of (Some x) e = absurd (cc)
 
-run_zero : (script : Script) (reading : Reading) → full_of script reading ≡ None → run_status script reading ≡ 0
-run_zero script reading none = rw none refl
+some_of : {X : Type 0} (found : Option X) → is_some found ≡ true → (x : X) × (found ≡ Some x)
+some_of None e = absurd (cc)
+some_of (Some x) e = (x, refl)
 
-abbrev status_of : Option Name16 → ℕ
-status_of found = if is_some found then 8 else 0
+module _ (by : Way) (text : List ℕ) (script : Script) (reading : Reading) (out : Output) (status : ℕ)
+    (run : IsRun by text script reading) (wrote : WritesRun script reading out status) where
+  none_full : (status ≡ 0) ⊎ (status ≡ 5) → full_of script reading ≡ None
+  none_full fine = none_of (full_of script reading) (wrote.none_full fine)
 
-run_eight : (found : Option Name16) → true ≡ is_some found → status_of found ≡ 8
-run_eight None e = absurd (cc)
-run_eight (Some name) e = refl
+  report_alone : (status ≡ 0) ⊎ (status ≡ 5) → run_text script reading ≡ report_of script reading
+  report_alone fine = rw (none_full fine) refl
 
--- an answer without a full journal: a front of the report was written
-pub front_of_answer : (by : Way) (script : Script) (full : Bool) (heading told : List ℕ)
-    (held held_now : Option (List ℕ)) → IsAnswerOf by script full heading told → full ≡ false
-    → GainsPrefix held held_now (heading ++ told) → WritesRunFront by script held held_now
-front_of_answer by script full heading told held held_now answer fine front =
-    let none : full_of script answer.reading ≡ None =
-    none_of (full_of script answer.reading) (sym fine ∙ answer.full_right) in
-    let same : heading ++ told ≡ report_of script answer.reading =
-    rw (answer.heading_right, answer.report_right, none) refl in
+  report_written : IsOnlyReading → status ≡ 0 → WritesReport by text out
+  report_written only zero =
+      let none = none_full (inl zero) in
+      let one = one_reading text script reading run.served only run.shows none (wrote.short zero) in (
+        script,
+        (reading, run, none, one.0, one.1, subst (Writes out) (report_alone (inl zero)) (wrote.whole zero)),
+      )
+
+  full_written : status ≡ 8 → WritesFull by text out
+  full_written eight =
+      let gains = wrote.full eight in
+      let some = some_of (full_of script reading) gains.0 in (
+        script,
+        (
+          reading,
+          (
+            some.0,
+            run,
+            some.1,
+            subst (λ full. Gains out (full_line full ++ report_of script reading)) some.1 gains.1,
+          ),
+        ),
+      )
+
+  front_written : status ≡ 5 → WritesReportFront by text out
+  front_written five = (
+    script,
+    (
+      reading,
+      run,
+      none_full (inr five),
+      subst (WritesFront out) (report_alone (inr five)) (wrote.front five).1,
+    ),
+  )
+
+  none_in_run : by ≡ ways.InTurn → (status ≡ 0) ⊎ (status ≡ 5) → full_in_run script ≡ None
+  none_in_run turn fine =
+      subst (λ (r : Reading). full_of script r ≡ None) (run.in_turn turn) (none_full fine)
+
+  some_in_run : by ≡ ways.InTurn → status ≡ 8 → is_some (full_in_run script) ≡ true
+  some_in_run turn eight =
+      subst (λ (r : Reading). is_some (full_of script r) ≡ true) (run.in_turn turn) (wrote.full eight).0
+
+  -- in turn it is the status of the run on one thread
+  serial_right : by ≡ ways.InTurn → (status ≡ 0) ⊎ ((status ≡ 8) ⊎ ((status ≡ 5) ⊎ (status ≡ 6))) → status ≢ 6
+      → IsSerialStatus script status
+  serial_right turn (inl zero) memory =
+      let same : serial_status script ≡ 0 = rw (none_in_run turn (inl zero)) refl in inl (zero ∙ sym same)
+  serial_right turn (inr (inl eight)) memory =
+      let same : serial_status script ≡ 8 = rw (some_in_run turn eight) refl in inl (eight ∙ sym same)
+  serial_right turn (inr (inr (inl five))) memory = inr (five, none_in_run turn (inr five))
+  serial_right turn (inr (inr (inr six))) memory = absurd (memory six)
+
+whole_status : (status : ℕ) → (status ≡ 0) ⊎ ((status ≡ 8) ⊎ ((status ≡ 5) ⊎ (status ≡ 6))) → status ≢ 6
+    → (status ≡ 0) ⊎ ((status ≡ 5) ⊎ (status ≡ 8))
+whole_status status (inl zero) memory = inl zero
+whole_status status (inr (inl eight)) memory = inr (inr eight)
+whole_status status (inr (inr (inl five))) memory = inr (inl five)
+whole_status status (inr (inr (inr six))) memory = absurd (memory six)
+
+-- no run has another status
+not_three : (status : ℕ) → (status ≡ 0) ⊎ ((status ≡ 8) ⊎ ((status ≡ 5) ⊎ (status ≡ 6))) → status ≡ 3 → ⊥
+not_three status (inl e) is = omega (arith, e, is)
+not_three status (inr (inl e)) is = omega (arith, e, is)
+not_three status (inr (inr (inl e))) is = omega (arith, e, is)
+not_three status (inr (inr (inr e))) is = omega (arith, e, is)
+
+not_seven : (status : ℕ) → (status ≡ 0) ⊎ ((status ≡ 8) ⊎ ((status ≡ 5) ⊎ (status ≡ 6))) → status ≡ 7 → ⊥
+not_seven status (inl e) is = omega (arith, e, is)
+not_seven status (inr (inl e)) is = omega (arith, e, is)
+not_seven status (inr (inr (inl e))) is = omega (arith, e, is)
+not_seven status (inr (inr (inr e))) is = omega (arith, e, is)
+
+-- the run of a script that the text says ends right
+pub run_ends : (by : Way) (text : List ℕ) (script : Script) (out : Output) (status : ℕ) → SaysOne → IsExclusive
+    → AreFresh → AreWithin → IsOnlyReading → length text ≤ script_limit → IsServed text script
+    → EndsRun by script out status → (status ≡ 0) ⊎ ((status ≡ 8) ⊎ ((status ≡ 5) ⊎ (status ≡ 6)))
+    → EndsRight by text out status
+run_ends by text script out status one never fresh within only short served (inl (six, gains)) statuses =
+    memory_ends by text out status six (inl gains)
+run_ends by text script out status one never fresh within only short served (inr (reading, run_of, wrote)) statuses =
     record {
-      reading = answer.reading;
-      run = answer.run;
-      none_full = none;
-      front = subst (GainsPrefix held held_now) same front;
+      served = report_written by text script reading out status run wrote only;
+      full = full_written by text script reading out status run wrote;
+      front = front_written by text script reading out status run wrote;
+      no_memory = λ six. inr (script, (reading, run, wrote.broken_off six));
+      refused = λ is. absurd (not_three status statuses is);
+      exact = λ read memory. (
+        (λ is. absurd (not_seven status statuses is), λ long. absurd (omega (arith, short, long))),
+        (
+          λ is. absurd (not_three status statuses is),
+          λ un. absurd (served_unrefused text script un.1.0 un.1.1 one never served un.1.2),
+        ),
+      );
+      complete = λ turn read memory other again fits.
+          subst (λ (s : Script). IsSerialStatus s status) (one text script other served.says again.says)
+          (serial_right by text script reading out status run wrote turn statuses memory);
+      whole = λ read memory other again fits. whole_status status statuses memory;
     }
-
--- an answer was written, as its status says
-pub run_of_answer : (by : Way) (script : Script) (full : Bool) (heading told : List ℕ)
-    (held held_now : Option (List ℕ)) (faults faults_now status : ℕ) → IsAnswerOf by script full heading told
-    → (status ≡ 0 → (full ≡ false) × Appends held held_now (heading ++ told))
-    → (status ≡ 8 → (full ≡ true) × Gains held held_now faults faults_now (heading ++ told))
-    → (status ≡ 0) ⊎ (status ≡ 8) → WritesRun by script status held held_now faults faults_now
-run_of_answer by script full heading told held held_now faults faults_now status answer whole gained ends =
-    by_end ends
   where
-    same : heading ++ told ≡ run_text script answer.reading
-    same = rw (answer.heading_right, answer.report_right) refl
-
-    short : length (report_of script answer.reading) < 2 ^ 64
-    short = rw (← answer.report_right) answer.short
-
-    by_end : (status ≡ 0) ⊎ (status ≡ 8) → WritesRun by script status held held_now faults faults_now
-    by_end (inl zero) =
-        let wrote = whole zero in
-        let none : full_of script answer.reading ≡ None =
-        none_of (full_of script answer.reading) (sym wrote.0 ∙ answer.full_right) in
-        let all : Appends held held_now (run_text script answer.reading) =
-        subst (Appends held held_now) same wrote.1 in
-        record {
-          reading = answer.reading;
-          run = answer.run;
-          status_right = zero ∙ sym (run_zero script answer.reading none);
-          short = short;
-          wrote = (inl all, λ is. all);
-        }
-    by_end (inr eight) =
-        let wrote = gained eight in
-        record {
-          reading = answer.reading;
-          run = answer.run;
-          status_right = eight ∙ sym (run_eight (full_of script answer.reading) (sym wrote.0 ∙ answer.full_right));
-          short = short;
-          wrote = (
-            subst (Gains held held_now faults faults_now) same wrote.1,
-            λ zero. absurd (let wrong : 8 ≡ 0 = sym eight ∙ zero in omega (arith, wrong)),
-          );
-        }
-
--- ---- which status
-
--- where no write failed and memory was found, a run was written
-pub run_ends : (status : ℕ) → (status ≡ 0) ⊎ ((status ≡ 8) ⊎ ((status ≡ 5) ⊎ (status ≡ 6))) → status ≢ 5
-    → status ≢ 6 → (status ≡ 0) ⊎ (status ≡ 8)
-run_ends status (inl e) written memory = inl e
-run_ends status (inr (inl e)) written memory = inr e
-run_ends status (inr (inr (inl e))) written memory = absurd (written e)
-run_ends status (inr (inr (inr e))) written memory = absurd (memory e)
-
--- a text that is served is served as one script
-pub served_once : (text : List ℕ) (script other : Script) (status : ℕ) → SaysOne → IsServed text script
-    → IsServed text other → EndsRight script status → EndsRight other status
-served_once text script other status one served again =
-    subst (λ (s : Script). EndsRight s status) (one text script other served.says again.says)
-
--- the run on one thread ends with its status, or with 5 where no journal got full
-pub ends_right : (held held_now : Option (List ℕ)) (faults faults_now : ℕ) (by : Way) (script : Script) (status : ℕ)
-    → by ≡ ways.InTurn → (status ≡ 0) ⊎ ((status ≡ 8) ⊎ ((status ≡ 5) ⊎ (status ≡ 6))) → status ≢ 6
-    → ((status ≡ 0) ⊎ (status ≡ 8) → WritesRun by script status held held_now faults faults_now)
-    → (status ≡ 5 → WritesRunFront by script held held_now) → EndsRight script status
-ends_right held held_now faults faults_now by script status turn (inl zero) memory wrote front =
-    inl (in_turn_status held held_now faults faults_now by script status turn (wrote (inl zero)))
-ends_right held held_now faults faults_now by script status turn (inr (inl eight)) memory wrote front =
-    inl (in_turn_status held held_now faults faults_now by script status turn (wrote (inr eight)))
-ends_right held held_now faults faults_now by script status turn (inr (inr (inl five))) memory wrote front =
-    let part = front five in
-    inr (five, subst (λ (r : Reading). full_of script r ≡ None) (part.run.in_turn turn) part.none_full)
-ends_right held held_now faults faults_now by script status turn (inr (inr (inr six))) memory wrote front =
-    absurd (memory six)
-
--- ---- the text that a source had left
-
--- what holds of the text that was read
-pub of_left : (left : Option (List ℕ)) (text seen : List ℕ) (P : List ℕ → Type 0) → seen ≡ text
-    → IfSome left (λ bytes. text ≡ bytes) → P seen → IfSome left P
-of_left None text seen P e whole p = tt
-of_left (Some bytes) text seen P e whole p = subst P (e ∙ whole) p
-
-pub exactly_short : (text : List ℕ) (status : ℕ) → length text ≤ script_limit
-    → (status ≡ 0) ⊎ ((status ≡ 8) ⊎ ((status ≡ 5) ⊎ ((status ≡ 6) ⊎ (status ≡ 3))))
-    → (status ≡ 3) ↔ IsUnserved text → IsExact text status
-exactly_short text status short statuses iff = (
-  (λ is. absurd (other statuses is), λ long. absurd (omega arith)),
-  (λ is. (short, iff.0 is), λ unserved. iff.1 unserved.1),
-)
-  where
-    other : (status ≡ 0) ⊎ ((status ≡ 8) ⊎ ((status ≡ 5) ⊎ ((status ≡ 6) ⊎ (status ≡ 3)))) → status ≡ 7 → ⊥
-    other (inl e) is = omega arith
-    other (inr (inl e)) is = omega arith
-    other (inr (inr (inl e))) is = omega arith
-    other (inr (inr (inr (inl e)))) is = omega arith
-    other (inr (inr (inr (inr e)))) is = omega arith
+    run : IsRun by text script reading
+    run = record {
+      served = served;
+      shows = run_of.shows;
+      fresh = fresh journal_limit script reading.histories reading.transcripts run_of.shows;
+      can_fill = can_fill script reading within run_of.shows;
+      in_turn = run_of.in_turn;
+    }

@@ -1,13 +1,11 @@
 -- Where no journal got full each caller's work was done, and the report can be read in one way.
-use Rattle.std.proofs.Common.{◌≡◌, ℕ, zero, suc, ◌+◌, ◌<◌, ◌==◌, ◌^◌, Bool, true, false, List, [], ◌∷◌, length, Option, Some, None, slice_get, get_or, refl, sym, ap, subst, ◌∙◌, arith}
+use Rattle.std.proofs.Common.{◌≡◌, ℕ, zero, suc, ◌+◌, ◌<◌, ◌==◌, ◌^◌, Bool, true, false, List, [], ◌∷◌, length, Some, None, slice_get, get_or, refl, sym, ap, ◌∙◌, arith}
 use Rattle.std.specs.Prelude.{find, if◌then◌else◌}
 use Rattle.std.specs.List.{enumerate_from}
-use Rattle.std.specs.Io.KnownBytes.{Appends}
 use Rattle.std.proofs.lemmas.Bool.Decides.{nat_tests}
 use Rattle.std.proofs.lemmas.List.Folds.{list_any_at}
 use Rattle.std.proofs.lemmas.Option.{get_or_from_slice_get, slice_get_within}
 use Rattle.cf_types.specs.declared.forms.StrForm.{StrForm}
-use Rattle.cf_types.specs.declared.names.Name16.{Name16}
 use Rattle.plex_script.specs.declared.asks.AnyHistory.{AnyHistory}
 use Rattle.plex_script.specs.declared.scripts.Script.{Script}
 use Rattle.plex_script.specs.declared.transcripts.AgentEnd.{AgentEnd}
@@ -17,9 +15,8 @@ use Rattle.plex_script.specs.Heard.{length_on}
 use Rattle.serial_model.specs.Headline.{ShowsHistories, EndsRight}
 use Rattle.plex_reading.specs.Readings.{Reading, IsReading, IsTheReading, IsOnlyReading, report_of}
 use Rattle.plex_reading.proofs.Tests.{is_reading}
-use Rattle.plex_run.specs.declared.way.Way.{Way}
 use Rattle.plex_run.specs.Full.{ends_full_at, is_full_at, full_structure}
-use Rattle.plex_run.specs.Outcome.{IsServed, WritesOneReading, WritesRun, ShowsRun, full_of, run_text, run_status, journal_limit}
+use Rattle.plex_run.specs.Outcome.{IsServed, ShowsRun, full_of, journal_limit}
 use Rattle.plex_run.proofs.RunnableLaws.{none_mapped}
 
 -- a place within the list that passes is found
@@ -86,30 +83,10 @@ all_done limit script histories transcripts some shows none c transcript there =
         (ap (is_full_at transcripts) (sym place) ∙ found) nowhere)
 
 -- the report of a run can be read in one way
-pub one_reading : (held held_now : Option (List ℕ)) (text : List ℕ) (script : Script) (reading : Reading)
-    → IsServed text script
-    → IsOnlyReading → ShowsRun script reading → full_of script reading ≡ None → length (report_of script reading) < 2
-    ^ 64
-    → Appends held held_now (report_of script reading) → WritesOneReading held held_now text
-one_reading held held_now text script reading served only shows none short appends =
+pub one_reading : (text : List ℕ) (script : Script) (reading : Reading) → IsServed text script → IsOnlyReading
+    → ShowsRun script reading → full_of script reading ≡ None → length (report_of script reading) < 2 ^ 64
+    → IsReading script reading × IsTheReading script reading
+one_reading text script reading served only shows none short =
     let done = all_done journal_limit script reading.histories reading.transcripts (omega arith) shows none in
     let is : IsReading script reading = is_reading journal_limit script reading shows done short in
-    let the : IsTheReading script reading =
-    λ other other_is same. sym (only text script reading other served.says is other_is short (sym same)) in
-    (script, (reading, served, shows, is, the, appends))
-
--- the status 0 tells that no journal got full
-pub reading_written : (held held_now : Option (List ℕ)) (faults faults_now : ℕ) (text : List ℕ) (by : Way)
-    (script : Script) (status : ℕ) → IsServed text script → IsOnlyReading → status ≡ 0
-    → WritesRun by script status held held_now faults faults_now → WritesOneReading held held_now text
-reading_written held held_now faults faults_now text by script status served only none wrote =
-    by_full (full_of script wrote.reading) refl
-  where
-    by_full : (full : Option Name16) → full_of script wrote.reading ≡ full → WritesOneReading held held_now text
-    by_full None fine =
-        let same : run_text script wrote.reading ≡ report_of script wrote.reading = rw fine refl in
-        one_reading held held_now text script wrote.reading served only wrote.run.shows fine wrote.short
-        (subst (Appends held held_now) same (wrote.wrote.1 none))
-    by_full (Some name) full =
-        let eight : run_status script wrote.reading ≡ 8 = rw full refl in
-        absurd (omega (arith, none, wrote.status_right, eight))
+    (is, λ other other_is same. sym (only text script reading other served.says is other_is short (sym same)))

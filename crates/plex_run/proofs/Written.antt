@@ -1,10 +1,13 @@
 -- What a sink gains by several writes.
-use Rattle.std.proofs.Common.{◌≡◌, ℕ, List, ◌++◌, length, take, drop, Option, sym, ap, ◌∙◌, subst, append_assoc}
+use Rattle.std.proofs.Common.{◌≡◌, ℕ, ◌-◌, ◌^◌, ◌<◌, ◌≤◌, ◌⊎◌, inl, inr, List, ◌++◌, length, take, drop, Option, sym, ap, ◌∙◌, subst, append_assoc, arith}
 use Rattle.std.proofs.Math.Seq.{take-append_seam}
 use Rattle.std.proofs.lemmas.List.{take-append-drop}
 use Rattle.std.proofs.KnownBytes.{Appends-trans}
+use Rattle.std.proofs.lemmas.Bool.{cases_lt}
 use Rattle.std.specs.Io.KnownBytes.{Appends}
-use Rattle.plex_run.specs.Written.{GainsPrefix}
+use Rattle.std.specs.Prelude.{Result, Ok, Err, OnOk, OnErr}
+use Rattle.cf_io.specs.Count.{Rises}
+use Rattle.plex_run.specs.Written.{Output, GainsPrefix, Gains, BreaksOff}
 
 -- a part that a text begins with is a prefix of it
 pub GainsPrefix-part : (old new : Option (List ℕ)) (part rest text : List ℕ) → text ≡ part ++ rest
@@ -31,6 +34,41 @@ GainsPrefix-before old new first second part =
     (take-append-drop part.count first)))
     part.gained
 
-pub GainsPrefix-cut : (old new : Option (List ℕ)) (n : ℕ) (text : List ℕ) → Appends old new (take n text)
-    → GainsPrefix old new text
-GainsPrefix-cut old new n text gains = record { count = n; gained = gains }
+-- a count rises over all that it goes through where it rises over the end
+pub Rises-behind : (old mid new : ℕ) → old ≤ mid → mid ≤ new → Rises mid new → Rises old new
+Rises-behind old mid new low up rises = λ few. by_end few (cases_lt mid (2 ^ 64 - 1))
+  where
+    by_end : old < 2 ^ 64 - 1 → (mid < 2 ^ 64 - 1) ⊎ (2 ^ 64 - 1 ≤ mid) → old < new
+    by_end few (inl below) = omega (arith, low, rises below)
+    by_end few (inr above) = omega (arith, few, above, up)
+
+-- a front of a text, and then a line
+pub broken_off : (out : Output) (mid : Option (List ℕ)) (faults : ℕ) (text line : List ℕ) → out.faults ≤ faults
+    → faults ≤ out.faults_now → GainsPrefix out.held mid text
+    → Gains (record { held = mid; held_now = out.held_now; faults = faults; faults_now = out.faults_now }) line
+    → BreaksOff out text line
+broken_off out mid faults text line low up front (inl whole) = record {
+  count = front.count;
+  gained = inl (Appends-trans out.held mid out.held_now (take front.count text) line front.gained whole);
+}
+broken_off out mid faults text line low up front (inr (failed, part)) = record {
+  count = front.count;
+  gained = inr (
+    Rises-behind out.faults faults out.faults_now low up failed,
+    GainsPrefix-after out.held mid out.held_now (take front.count text) line front.gained part,
+  );
+}
+
+-- what holds whatever the answer is
+pub OnErr-always : {T E : Type 0} (result : Result T E) (P : Type 0) → P → OnErr result P
+OnErr-always (Ok x) P p = tt
+OnErr-always (Err e) P p = p
+
+-- what follows of an answer
+pub OnErr-so : {T E : Type 0} (result : Result T E) (P Q : Type 0) → (P → Q) → OnErr result P → OnErr result Q
+OnErr-so (Ok x) P Q so p = tt
+OnErr-so (Err e) P Q so p = so p
+
+pub OnOk-so : {T E : Type 0} (result : Result T E) (P Q : Type 0) → (P → Q) → OnOk result P → OnOk result Q
+OnOk-so (Ok x) P Q so p = so p
+OnOk-so (Err e) P Q so p = tt

@@ -1,7 +1,6 @@
 -- What a run of the program means: which script came in, what goes out, and what each status says.
-use Rattle.std.specs.Prelude.{◌≡◌, ◌⊎◌, ◌↔◌, ℕ, Bool, ◌≤◌, ◌<◌, ◌==◌, if◌then◌else◌, List, [], ◌∷◌, ◌++◌, ◌^◌, length, map, slice_get, Option, None, Some, IfSome, is_some, codes, String, string_bytes, nat_eq, IsTrue}
+use Rattle.std.specs.Prelude.{◌≡◌, ◌≢◌, ◌⊎◌, ◌↔◌, ℕ, ◌≤◌, ◌<◌, ◌==◌, if◌then◌else◌, List, [], ◌∷◌, ◌++◌, ◌^◌, length, map, slice_get, Option, None, Some, IfSome, is_some, codes, String, string_bytes, nat_eq, true, false, IsTrue}
 use Rattle.std.specs.List.{list_any}
-use Rattle.std.specs.Io.KnownBytes.{Appends}
 use Rattle.cf_types.specs.declared.forms.StrForm.{StrForm}
 use Rattle.cf_types.specs.declared.names.Name16.{Name16}
 use Rattle.cf_types.specs.declared.numbers.StrNo.{StrNo}
@@ -17,7 +16,7 @@ use Rattle.plex_reading.specs.Readings.{Reading, IsReading, IsTheReading, report
 use Rattle.plex_run.specs.declared.program.TheConstants.{SCRIPT_LIMIT, JOURNAL_LIMIT}
 use Rattle.plex_run.specs.declared.way.Way.{Way}
 use Rattle.plex_run.specs.declared.way.Way.TheVariants as ways
-use Rattle.plex_run.specs.Written.{Gains, GainsPrefix}
+use Rattle.plex_run.specs.Written.{Output, HasFailed, Writes, WritesFront, Gains, BreaksOff}
 use Rattle.plex_run.specs.NotYet.{not_yet}
 use Rattle.plex_run.specs.Full.{full_structure}
 use Rattle.plex_run.specs.StatusLines.{why_word, script_line, full_line, memory_line, too_long_line}
@@ -38,16 +37,20 @@ IsSerial words = map string_bytes words ≡ codes "serial" ∷ []
 abbrev pub IsThreads : {A : Type 0} → List (String A) → Type 0
 IsThreads words = map string_bytes words ≡ codes "threads" ∷ []
 
+-- the words say this way of running a script
+abbrev pub Say : {A : Type 0} → List (String A) → Way → Type 0
+Say words ways.InTurn = IsSerial words
+Say words ways.OnThreads = IsThreads words
+
 -- the statuses of the program
 abbrev pub IsStatus : ℕ → Type 0
 IsStatus status = IsTrue (list_any (nat_eq status) (0 ∷ 2 ∷ 3 ∷ 4 ∷ 5 ∷ 6 ∷ 7 ∷ 8 ∷ []))
 
--- what is written with the statuses whose line is always the same
+-- what is written with the statuses whose line is always the same, and stands alone
 abbrev pub status_line : ℕ → Option (List ℕ)
 status_line status =
     if status == 2 then Some (codes "USAGE plexrun serial or threads or load N\n")
     else if status == 4 then Some (codes "FAULT READ\n")
-    else if status == 6 then Some memory_line
     else if status == 7 then Some too_long_line
     else None
 
@@ -84,25 +87,17 @@ CanFill script full =
 abbrev pub run_text : Script → Reading → List ℕ
 run_text script reading = full_line (full_of script reading) ++ report_of script reading
 
-abbrev pub run_status : Script → Reading → ℕ
-run_status script reading = if is_some (full_of script reading) then 8 else 0
-
 -- what the run on one thread leaves
 abbrev pub serial_reading : Script → Reading
 serial_reading script =
     let run = serial_run journal_limit script in record { histories = run.histories; transcripts = run.transcripts }
 
-abbrev pub serial_report : Script → List ℕ
-serial_report script = report_of script (serial_reading script)
-
 abbrev pub full_in_run : Script → Option Name16
 full_in_run script = full_of script (serial_reading script)
 
-abbrev pub served_text : Script → List ℕ
-served_text script = run_text script (serial_reading script)
-
-abbrev pub served_status : Script → ℕ
-served_status script = run_status script (serial_reading script)
+-- the status of the run on one thread, where no write fails
+abbrev pub serial_status : Script → ℕ
+serial_status script = if is_some (full_in_run script) then 8 else 0
 
 -- legal histories of the structures, each caller's calls in them once and in their order, and tests that tell what
 -- stood
@@ -118,105 +113,98 @@ pub record IsRunOf (by : Way) (script : Script) (reading : Reading) : Type 0 whe
   pub shows : ShowsRun script reading
   pub in_turn : by ≡ ways.InTurn → reading ≡ serial_reading script
 
--- the answer of a script's run: whether a journal got full, the line of its structure, and the report
-pub record IsAnswerOf (by : Way) (script : Script) (full : Bool) (heading told : List ℕ) : Type 0 where
-  pub reading : Reading
-  pub run : IsRunOf by script reading
-  pub full_right : full ≡ is_some (full_of script reading)
-  pub heading_right : heading ≡ full_line (full_of script reading)
-  pub report_right : told ≡ report_of script reading
-  pub short : length told < 2 ^ 64
+-- what is written of a script's run with each status
+pub record WritesRun (script : Script) (reading : Reading) (out : Output) (status : ℕ) : Type 0 where
+  pub whole : status ≡ 0 → Writes out (run_text script reading)
+  pub none_full : (status ≡ 0) ⊎ (status ≡ 5) → is_some (full_of script reading) ≡ false
+  pub full : status ≡ 8 → (is_some (full_of script reading) ≡ true) × Gains out (run_text script reading)
+  pub front : status ≡ 5 → HasFailed out × WritesFront out (run_text script reading)
+  pub broken_off : status ≡ 6 → BreaksOff out (run_text script reading) memory_line
+  pub short : status ≡ 0 → length (report_of script reading) < 2 ^ 64
 
--- ---- what is written
+-- how the run of a script ends: without memory for it, or with what is written of it
+abbrev pub EndsRun : Way → Script → Output → ℕ → Type 0
+EndsRun by script out status =
+    ((status ≡ 6) × Gains out memory_line)
+    ⊎ ((reading : Reading) × IsRunOf by script reading × WritesRun script reading out status)
 
--- the report of the text's script was written, whole and nothing else; no journal got full
-abbrev pub WritesReport : Option (List ℕ) → Option (List ℕ) → List ℕ → Type 0
-WritesReport held held_now text =
-    (script : Script) × IsServed text script × (full_in_run script ≡ None) × Appends held held_now
-    (serial_report script)
+-- ---- what each status says of the text that came
 
--- a journal got full: its structure is told, and then the report of the text's script was written; whole and nothing
--- else, unless the count of faults rose, and then a prefix of it
-abbrev pub WritesFull : Option (List ℕ) → Option (List ℕ) → ℕ → ℕ → List ℕ → Type 0
-WritesFull held held_now faults faults_now text =
-    (script : Script) × (name : Name16) × IsServed text script × (full_in_run script ≡ Some name)
-    × Gains held held_now faults faults_now (full_line (Some name) ++ serial_report script)
+-- the text says this script, and a run of it in this way left this reading. Its histories are legal and hold each
+-- caller's calls once and in their order; each test tells what stood at a numbered point of them; a test of a cache
+-- that tells VALID tells a fresh copy at that point; a journal got full only where the script can fill it; and in
+-- turn it is what the run on one thread leaves.
+pub record IsRun (by : Way) (text : List ℕ) (script : Script) (reading : Reading) : Type 0 where
+  pub served : IsServed text script
+  pub shows : ShowsRun script reading
+  pub fresh : ShowsFresh script reading.histories reading.transcripts
+  pub can_fill : CanFill script (full_of script reading)
+  pub in_turn : by ≡ ways.InTurn → reading ≡ serial_reading script
 
--- the text of a run with this status was written, whole and nothing else; where a journal got full a prefix of it, if
--- the count of faults rose
-abbrev pub WritesText : ℕ → Option (List ℕ) → Option (List ℕ) → ℕ → ℕ → List ℕ → Type 0
-WritesText status held held_now faults faults_now text =
-    Gains held held_now faults faults_now text × (status ≡ 0 → Appends held held_now text)
+-- the report of a run in which no journal got full was written, whole and nothing else. Each caller's work was done,
+-- and of no other reading of the script could it have been the report, whatever the tests in it tell.
+abbrev pub WritesReport : Way → List ℕ → Output → Type 0
+WritesReport by text out =
+    (script : Script) × ((reading : Reading) × IsRun by text script reading × (full_of script reading ≡ None)
+    × IsReading script reading × IsTheReading script reading × Writes out (report_of script reading))
 
--- what was written shows histories: each is legal and holds each caller's calls once and in their order; each test
--- tells what stood at a numbered point of it; and a test of a cache that tells VALID tells a fresh copy at that
--- point. The status says whether a journal got full, and then the script can fill it.
-abbrev pub WritesHistories : ℕ → Option (List ℕ) → Option (List ℕ) → ℕ → ℕ → List ℕ → Type 0
-WritesHistories status held held_now faults faults_now text =
-    (script : Script) × ((reading : Reading) × IsServed text script × ShowsRun script reading
-    × ShowsFresh script reading.histories reading.transcripts × CanFill script (full_of script reading)
-    × (status ≡ run_status script reading)
-    × WritesText status held held_now faults faults_now (run_text script reading))
+-- a run's report was written behind the line of the first structure whose journal got full; whole and nothing else,
+-- unless a write failed, and then a front of both
+abbrev pub WritesFull : Way → List ℕ → Output → Type 0
+WritesFull by text out =
+    (script : Script) × ((reading : Reading) × ((name : Name16) × IsRun by text script reading
+    × (full_of script reading ≡ Some name) × Gains out (full_line (Some name) ++ report_of script reading)))
 
--- the report was written of histories and transcripts of a run in which each caller's work was done, and of no others
--- of the script could it have been, whatever their tests tell
-abbrev pub WritesOneReading : Option (List ℕ) → Option (List ℕ) → List ℕ → Type 0
-WritesOneReading held held_now text =
-    (script : Script) × ((reading : Reading) × IsServed text script × ShowsRun script reading
-    × IsReading script reading × IsTheReading script reading × Appends held held_now (report_of script reading))
+-- a write failed, and a front of the report of a run in which no journal got full was written
+abbrev pub WritesReportFront : Way → List ℕ → Output → Type 0
+WritesReportFront by text out =
+    (script : Script) × ((reading : Reading) × IsRun by text script reading × (full_of script reading ≡ None)
+    × WritesFront out (report_of script reading))
 
--- a front of the report of a run that shows histories, as above, was written; no journal got full
-abbrev pub WritesFront : Option (List ℕ) → Option (List ℕ) → List ℕ → Type 0
-WritesFront held held_now text =
-    (script : Script) × ((reading : Reading) × IsServed text script × ShowsRun script reading
-    × ShowsFresh script reading.histories reading.transcripts × (full_of script reading ≡ None)
-    × GainsPrefix held held_now (report_of script reading))
+-- that there was no memory was told, alone or behind a front of what is written of a run
+abbrev pub TellsNoMemory : Way → List ℕ → Output → Type 0
+TellsNoMemory by text out =
+    Gains out memory_line
+    ⊎ ((script : Script) × ((reading : Reading) × IsRun by text script reading
+    × BreaksOff out (run_text script reading) memory_line))
 
--- a front of the report of the run on one thread was written; no journal got full
-abbrev pub WritesSerialFront : Option (List ℕ) → Option (List ℕ) → List ℕ → Type 0
-WritesSerialFront held held_now text =
-    (script : Script) × IsServed text script × (full_in_run script ≡ None)
-    × GainsPrefix held held_now (serial_report script)
-
--- what a script's run leaves was written
-pub record WritesRun (by : Way) (script : Script) (status : ℕ) (held held_now : Option (List ℕ))
-    (faults faults_now : ℕ) : Type 0 where
-  pub reading : Reading
-  pub run : IsRunOf by script reading
-  pub status_right : status ≡ run_status script reading
-  pub short : length (report_of script reading) < 2 ^ 64
-  pub wrote : WritesText status held held_now faults faults_now (run_text script reading)
-
--- a front of the report of a script's run was written; no journal got full
-pub record WritesRunFront (by : Way) (script : Script) (held held_now : Option (List ℕ)) : Type 0 where
-  pub reading : Reading
-  pub run : IsRunOf by script reading
-  pub none_full : full_of script reading ≡ None
-  pub front : GainsPrefix held held_now (report_of script reading)
+-- a line was written, whatever stands before it: whole, unless a write failed, and then a front of both
+abbrev pub EndsWith : Output → List ℕ → Type 0
+EndsWith out line = (front : List ℕ) × Gains out (front ++ line)
 
 -- the line of the text that isn't served was told, and why
-abbrev pub WritesRefusal : Option (List ℕ) → Option (List ℕ) → ℕ → ℕ → List ℕ → Type 0
-WritesRefusal held held_now faults faults_now text =
-    (line : ℕ) × (told : List ℕ) × IsRefused text line told × Gains held held_now faults faults_now
-    (script_line line told)
-
--- ---- which status
+abbrev pub WritesRefusal : List ℕ → Output → Type 0
+WritesRefusal text out =
+    (line : ℕ) × (told : List ℕ) × IsRefused text line told × Gains out (script_line line told)
 
 -- 7 is the status of exactly the texts that are too long, and 3 of exactly the others that aren't served
 abbrev pub IsExact : List ℕ → ℕ → Type 0
 IsExact text status =
     ((status ≡ 7) ↔ (script_limit < length text)) × ((status ≡ 3) ↔ ((length text ≤ script_limit) × IsUnserved text))
 
--- the status of the run on one thread: 8 where a journal got full, and else 0, or 5
-abbrev pub EndsRight : Script → ℕ → Type 0
-EndsRight script status = (status ≡ served_status script) ⊎ ((status ≡ 5) × (full_in_run script ≡ None))
+-- the status is that of the run on one thread: 8 where a journal got full, and else 0, or 5
+abbrev pub IsSerialStatus : Script → ℕ → Type 0
+IsSerialStatus script status = (status ≡ serial_status script) ⊎ ((status ≡ 5) × (full_in_run script ≡ None))
 
--- a script that is built ends so
+-- a script that is built, run in turn, has that status
 abbrev pub IsComplete : List ℕ → ℕ → Type 0
-IsComplete text status = (script : Script) → IsServed text script → length text ≤ script_limit
-    → EndsRight script status
+IsComplete text status =
+    (script : Script) → IsServed text script → length text ≤ script_limit → IsSerialStatus script status
 
--- a script that is built, run on threads, has the status 0, or 8 where a journal got full
-abbrev pub IsCompleteOnThreads : List ℕ → ℕ → Type 0
-IsCompleteOnThreads text status =
-    (script : Script) → IsServed text script → length text ≤ script_limit → (status ≡ 0) ⊎ (status ≡ 8)
+-- a script that is built has the status 0, or 5, or 8 where a journal got full
+abbrev pub IsRunWhole : List ℕ → ℕ → Type 0
+IsRunWhole text status =
+    (script : Script) → IsServed text script → length text ≤ script_limit
+    → (status ≡ 0) ⊎ ((status ≡ 5) ⊎ (status ≡ 8))
+
+-- the run of a text in this way ends so: what each status says of the text and of what was written, and which status
+-- it is where no read failed and there was memory
+pub record EndsRight (by : Way) (text : List ℕ) (out : Output) (status : ℕ) : Type 0 where
+  pub served : status ≡ 0 → WritesReport by text out
+  pub full : status ≡ 8 → WritesFull by text out
+  pub front : status ≡ 5 → WritesReportFront by text out
+  pub no_memory : status ≡ 6 → TellsNoMemory by text out
+  pub refused : status ≡ 3 → WritesRefusal text out
+  pub exact : status ≢ 4 → status ≢ 6 → IsExact text status
+  pub complete : by ≡ ways.InTurn → status ≢ 4 → status ≢ 6 → IsComplete text status
+  pub whole : status ≢ 4 → status ≢ 6 → IsRunWhole text status

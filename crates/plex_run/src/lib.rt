@@ -5,7 +5,9 @@
 mod full;
 mod not_yet;
 mod program;
+mod running;
 mod status_lines;
 mod way;
+mod writing;
 
 pub use program::run;

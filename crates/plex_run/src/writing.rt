@@ -1,0 +1,128 @@
+//! What a sink is told of a run.
+ghost use Rattle.std.specs.Prelude.{◌≡◌, ◌≤◌, ◌<◌, ◌++◌, ◌^◌, length, Err, OnOk, OnErr};
+ghost use Rattle.plex_reading.specs.Readings.{report_of};
+ghost use Rattle.plex_run.specs.declared.writing.Unwritten.TheVariants as reason;
+ghost use Rattle.plex_run.specs.StatusLines.{full_line, memory_line, too_long_line};
+ghost use Rattle.plex_run.specs.Written.{output, HasFailed, Writes, WritesFront, Gains};
+ghost use Rattle.plex_run.specs.Outcome.{reading_of};
+
+use crate::status_lines::full_line;
+use cf_io::{Sink, write_all};
+use cf_types::{Name16, NoMemory};
+use plex_floor::Finished;
+use plex_report::line;
+use plex_script::Script;
+use std::alloc::Global;
+
+/// Why a text was not written whole.
+#[derive(Clone, Copy)]
+pub(crate) enum Unwritten {
+    /// A write failed.
+    Failed,
+    /// There was no memory for the next line.
+    NoMemory,
+}
+
+impl From<NoMemory> for Unwritten {
+    ghost from_gives = { λ _ unwritten. unwritten ≡ reason.NoMemory };
+
+    fn from(_: NoMemory) -> Self {
+        Unwritten::NoMemory
+    }
+}
+
+/// Writes a line that tells how the run ended. A failing write changes nothing else.
+pub(crate) fn say<K: Sink>(sink: &mut K, line: &[u8])
+    ensures gains { Gains (output K.held K.faults sink.old sink.new) line.now }
+    ensures faults { K.faults sink.old ≤ K.faults sink.new }
+{
+    let _ = write_all(sink, line);
+}
+
+/// Tells that there was no memory.
+pub(crate) fn say_no_memory<K: Sink>(sink: &mut K)
+    ensures gains { Gains (output K.held K.faults sink.old sink.new) memory_line }
+    ensures faults { K.faults sink.old ≤ K.faults sink.new }
+{
+    say(sink, b"NOMEMORY\n");
+}
+
+/// Tells of a text that is too long.
+pub(crate) fn say_too_long<K: Sink>(sink: &mut K)
+    ensures gains { Gains (output K.held K.faults sink.old sink.new) too_long_line }
+    ensures faults { K.faults sink.old ≤ K.faults sink.new }
+{
+    say(sink, b"TOOLONG 1048576\n");
+}
+
+// Writes a text.
+fn write_text<K: Sink>(sink: &mut K, text: &[u8]) -> Result<(), Unwritten>
+    ensures whole { OnOk result (Writes (output K.held K.faults sink.old sink.new) text.now) }
+    ensures front { OnErr result
+        (WritesFront (output K.held K.faults sink.old sink.new) text.now) }
+    ensures cause { result ≡ Err reason.Failed
+        → HasFailed (output K.held K.faults sink.old sink.new) }
+    ensures faults { K.faults sink.old ≤ K.faults sink.new }
+{
+    match write_all(sink, text) {
+        Ok(()) => Ok(()),
+        Err(_) => Err(Unwritten::Failed),
+    }
+}
+
+// Writes the report of a run, with memory for one line at a time.
+fn write_report<K: Sink>(
+    alloc: Global,
+    script: &Script,
+    finished: &Finished,
+    sink: &mut K,
+) -> Result<(), Unwritten>
+    ensures whole { OnOk result (Writes (output K.held K.faults sink.old sink.new)
+        (report_of script.now (reading_of finished.now))) }
+    ensures short { OnOk result
+        (length (report_of script.now (reading_of finished.now)) < 2 ^ 64) }
+    ensures front { OnErr result (WritesFront (output K.held K.faults sink.old sink.new)
+        (report_of script.now (reading_of finished.now))) }
+    ensures cause { result ≡ Err reason.Failed
+        → HasFailed (output K.held K.faults sink.old sink.new) }
+    ensures faults { K.faults sink.old ≤ K.faults sink.new }
+{
+    let histories = finished.histories.items();
+    let transcripts = finished.transcripts.items();
+    let mut bytes = 0u64;
+    for k in 0..u32::MAX {
+        let Some(text) = line(alloc, script, histories, transcripts, k)? else {
+            return Ok(());
+        };
+        bytes = bytes
+            .checked_add(text.len() as u64)
+            .ok_or(Unwritten::NoMemory)?;
+        write_text(sink, &text)?;
+    }
+    // No memory holds what a report of so many lines tells.
+    Err(Unwritten::NoMemory)
+}
+
+/// Writes what a run left: the line of the structure whose journal got full, if one did, and the
+/// report. It ends at the first write that fails.
+pub(crate) fn write_run<K: Sink>(
+    alloc: Global,
+    full: Option<Name16>,
+    script: &Script,
+    finished: &Finished,
+    sink: &mut K,
+) -> Result<(), Unwritten>
+    ensures whole { OnOk result (Writes (output K.held K.faults sink.old sink.new)
+        (full_line full ++ report_of script.now (reading_of finished.now))) }
+    ensures short { OnOk result
+        (length (report_of script.now (reading_of finished.now)) < 2 ^ 64) }
+    ensures front { OnErr result (WritesFront (output K.held K.faults sink.old sink.new)
+        (full_line full ++ report_of script.now (reading_of finished.now))) }
+    ensures cause { result ≡ Err reason.Failed
+        → HasFailed (output K.held K.faults sink.old sink.new) }
+    ensures faults { K.faults sink.old ≤ K.faults sink.new }
+{
+    let heading = full_line(alloc, full)?;
+    write_text(sink, &heading)?;
+    write_report(alloc, script, finished, sink)
+}
