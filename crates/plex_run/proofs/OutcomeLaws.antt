@@ -1,24 +1,23 @@
 -- Which texts are served, and what their status tells.
 use Rattle.std.proofs.Common.{◌≡◌, ◌≢◌, ℕ, ◌≤◌, ◌⊎◌, inl, inr, true, false, List, ◌++◌, length, Option, Some, None, refl, sym, ◌∙◌, subst, arith}
-use Rattle.std.specs.Prelude.{is_some}
+use Rattle.std.specs.Prelude.{is_some, codes}
 use Rattle.plex_script.specs.declared.faults.Why.{Why}
-use Rattle.plex_script.specs.declared.faults.ReadFault.{ReadFault}
-use Rattle.plex_script.specs.declared.faults.ReadFault.TheVariants as read
-use Rattle.plex_script.specs.Reading.{TellsFault}
 use Rattle.plex_script.specs.declared.scripts.Script.{Script}
-use Rattle.plex_script.specs.Scripts.{IsFault}
+use Rattle.plex_script.specs.Scripts.{IsScript}
 use Rattle.plex_script.specs.Laws.{SaysOne, IsExclusive}
 use Rattle.plex_script.specs.declared.asks.AnyHistory.{AnyHistory}
 use Rattle.plex_script.specs.declared.transcripts.Transcript.{Transcript}
 use Rattle.serial_model.specs.Headline.{ShowsHistories}
 use Rattle.plex_valid.specs.Valid.{ShowsFresh}
 use Rattle.plex_reading.specs.Readings.{Reading, IsOnlyReading, report_of}
+use Rattle.plex_run.specs.declared.serving.Unserved.{Unserved}
+use Rattle.plex_run.specs.declared.serving.Unserved.TheVariants as unserved
 use Rattle.plex_run.specs.declared.way.Way.{Way}
 use Rattle.plex_run.specs.declared.way.Way.TheVariants as ways
 use Rattle.plex_run.specs.Written.{Output, Writes, WritesFront, Gains}
 use Rattle.plex_run.specs.NotYet.{not_yet}
-use Rattle.plex_run.specs.StatusLines.{script_line, full_line, memory_line}
-use Rattle.plex_run.specs.Outcome.{IsServed, IsRefused, IsRun, WritesRun, EndsRun, WritesReport, WritesFull, WritesReportFront, TellsNoMemory, EndsRight, IsSerialStatus, script_limit, journal_limit, full_of, full_in_run, serial_status, run_text}
+use Rattle.plex_run.specs.StatusLines.{why_word, script_line, full_line, memory_line}
+use Rattle.plex_run.specs.Outcome.{IsServed, IsRefused, TellsWhy, IsRun, WritesRun, EndsRun, WritesReport, WritesFull, WritesReportFront, TellsNoMemory, EndsRight, IsSerialStatus, script_limit, journal_limit, full_of, full_in_run, serial_status, run_text}
 use Rattle.plex_run.proofs.FullLaws.{AreWithin, can_fill}
 use Rattle.plex_run.proofs.ReadingLaws.{one_reading}
 
@@ -31,9 +30,17 @@ AreFresh =
 -- ---- texts that aren't served
 
 -- what is told of a fault
-pub told_fault : (text : List ℕ) (line : ℕ) (why : Why) (fault : ReadFault) → fault ≡ read.Script line why
-    → TellsFault text fault → IsFault text line why
-told_fault text line why fault e tells = subst (TellsFault text) e tells
+pub fault_told : (text : List ℕ) (line : ℕ) (why : Why) (told : List ℕ) (because : Unserved)
+    → because ≡ unserved.Fault line why → TellsWhy text because → told ≡ why_word why → IsRefused text line told
+fault_told text line why told because e tells spelled = inl (why, subst (TellsWhy text) e tells, spelled)
+
+-- and of a line that isn't built
+pub not_yet_told : (text : List ℕ) (line : ℕ) (because : Unserved) → because ≡ unserved.NotYet line
+    → TellsWhy text because → IsRefused text line (codes "NOTYET")
+not_yet_told text line because e tells =
+    let not_built : (script : Script) × IsScript text script × (not_yet script ≡ Some line) =
+    subst (TellsWhy text) e tells in
+    inr (not_built.0, not_built.1, not_built.2, refl)
 
 served_unrefused : (text : List ℕ) (script : Script) (line : ℕ) (told : List ℕ) → SaysOne → IsExclusive
     → IsServed text script → IsRefused text line told → ⊥

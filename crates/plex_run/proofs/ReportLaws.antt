@@ -1,5 +1,5 @@
 -- A report that is written line by line.
-use Rattle.std.proofs.Common.{◌≡◌, ℕ, zero, suc, ◌+◌, List, [], ◌∷◌, ◌++◌, take, drop, map, Option, None, Some, refl, sym, ap, ◌∙◌, subst}
+use Rattle.std.proofs.Common.{◌≡◌, ℕ, zero, suc, ◌+◌, ◌<◌, List, [], ◌∷◌, ◌++◌, length, length-append, take, drop, map, Option, None, Some, refl, sym, ap, ◌∙◌, subst, arith}
 use Rattle.std.specs.List.{flat_map, slice_get}
 use Rattle.std.specs.Io.KnownBytes.{Appends}
 use Rattle.std.proofs.KnownBytes.{Appends-trans}
@@ -31,6 +31,17 @@ pub text_whole : (lines : List (List ℕ)) (k : ℕ) → slice_get (map line_tex
     → text_of k lines ≡ flat_map line_text lines
 text_whole lines k past = ap (λ (l : List (List ℕ)). flat_map line_text l) (all_lines lines k past)
 
+pub all_written : (old new : Option (List ℕ)) (lines : List (List ℕ)) (k : ℕ) → Appends old new (text_of k lines)
+    → slice_get (map line_text lines) k ≡ None → Appends old new (flat_map line_text lines)
+all_written old new lines k gains past = subst (Appends old new) (text_whole lines k past) gains
+
+pub all_short : (lines : List (List ℕ)) (k n m : ℕ) → n ≡ length (text_of k lines) → n < m
+    → slice_get (map line_text lines) k ≡ None → length (flat_map line_text lines) < m
+all_short lines k n m is low past =
+    let same : length (text_of k lines) ≡ length (flat_map line_text lines) =
+    ap (λ (l : List ℕ). length l) (text_whole lines k past) in
+    omega (arith, is, low, same)
+
 -- so many lines are a front of the text
 pub text_front : (old new : Option (List ℕ)) (lines : List (List ℕ)) (k : ℕ) → Appends old new (text_of k lines)
     → GainsPrefix old new (flat_map line_text lines)
@@ -57,3 +68,8 @@ pub text_longer : (old mid new : Option (List ℕ)) (lines : List (List ℕ)) (k
 text_longer old mid new lines k line next before after =
     subst (Appends old new) (sym (text_more lines k line next))
     (Appends-trans old mid new (text_of k lines) line before after)
+
+pub length_longer : (lines : List (List ℕ)) (k : ℕ) (line : List ℕ) → slice_get (map line_text lines) k ≡ Some line
+    → length (text_of (k + 1) lines) ≡ length (text_of k lines) + length line
+length_longer lines k line next =
+    ap (λ (l : List ℕ). length l) (text_more lines k line next) ∙ length-append (text_of k lines) line

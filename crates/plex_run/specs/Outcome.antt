@@ -14,6 +14,8 @@ use Rattle.plex_bounds.specs.Bounds.{most_calls}
 use Rattle.plex_floor.specs.declared.runs.Finished.{Finished}
 use Rattle.plex_reading.specs.Readings.{Reading, IsReading, IsTheReading, report_of}
 use Rattle.plex_run.specs.declared.program.TheConstants.{SCRIPT_LIMIT, JOURNAL_LIMIT}
+use Rattle.plex_run.specs.declared.serving.Unserved.{Unserved}
+use Rattle.plex_run.specs.declared.serving.Unserved.TheVariants as unserved
 use Rattle.plex_run.specs.declared.way.Way.{Way}
 use Rattle.plex_run.specs.declared.way.Way.TheVariants as ways
 use Rattle.plex_run.specs.Written.{Output, HasFailed, Writes, WritesFront, Gains, BreaksOff}
@@ -66,6 +68,12 @@ abbrev pub IsRefused : List ℕ → ℕ → List ℕ → Type 0
 IsRefused text line told =
     ((why : Why) × IsFault text line why × (told ≡ why_word why))
     ⊎ ((script : Script) × IsScript text script × (not_yet script ≡ Some line) × (told ≡ codes "NOTYET"))
+
+-- why a text isn't served: this line is the first faulty one, or the first that isn't built; or there was no memory
+abbrev pub TellsWhy : List ℕ → Unserved → Type 0
+TellsWhy text (unserved.Fault line why) = IsFault text line why
+TellsWhy text (unserved.NotYet line) = (script : Script) × IsScript text script × (not_yet script ≡ Some line)
+TellsWhy text unserved.NoMemory = Unit {0}
 
 -- the text is no script, or not all of it is built
 abbrev pub IsUnserved : List ℕ → Type 0

@@ -6,6 +6,7 @@ mod full;
 mod not_yet;
 mod program;
 mod running;
+mod serving;
 mod status_lines;
 mod way;
 mod writing;

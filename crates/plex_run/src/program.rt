@@ -9,8 +9,8 @@ ghost use Rattle.plex_run.specs.StatusLines.{script_line, memory_line};
 ghost use Rattle.plex_run.specs.Written.{output, HasFailed, Gains};
 ghost use Rattle.plex_run.specs.Outcome.{IsSerial, IsThreads, Say, IsStatus, status_line, script_limit, EndsWith, EndsRight};
 
-use crate::not_yet::not_yet;
 use crate::running::reported;
+use crate::serving::{Unserved, served};
 use crate::status_lines::{script_line, why_text};
 use crate::way::{Way, way_of};
 use crate::writing::{say, say_no_memory, say_too_long};
@@ -20,7 +20,7 @@ use cf_types::NoMemory;
 use plex_agent::Gate;
 use plex_bounds::within_script;
 use plex_reading::only_reading;
-use plex_script::{ReadFault, never_both, one_script, read, well_formed};
+use plex_script::{never_both, one_script, well_formed};
 use plex_valid::valid_is_fresh;
 use std::alloc::Global;
 use std::sync::Wait;
@@ -76,17 +76,15 @@ fn judged<R: Threads + Wait + Sync, K: Sink, L: Link, G: Gate>(
 {
     one_script();
     never_both();
-    let script = match read(alloc, text) {
+    let script = match served(alloc, text) {
         Ok(script) => script,
-        Err(ReadFault::Script { line, why }) => return refused(alloc, line, why_text(why), sink),
-        Err(ReadFault::NoMemory) => {
+        Err(Unserved::Fault { line, why }) => return refused(alloc, line, why_text(why), sink),
+        Err(Unserved::NotYet { line }) => return refused(alloc, line, b"NOTYET", sink),
+        Err(Unserved::NoMemory) => {
             say_no_memory(sink);
             return 6;
         }
     };
-    if let Some(line) = not_yet(&script) {
-        return refused(alloc, line, b"NOTYET", sink);
-    }
     well_formed(text, &script);
     valid_is_fresh();
     within_script();

@@ -71,6 +71,7 @@ fn write_text<K: Sink>(sink: &mut K, text: &[u8]) -> Result<(), Unwritten>
 }
 
 // Writes the report of a run, with memory for one line at a time.
+#[tactic(auto, using(crate::proofs::ReportLaws::all_written, crate::proofs::ReportLaws::all_short, crate::proofs::ReportLaws::text_front, crate::proofs::ReportLaws::text_front_more, crate::proofs::ReportLaws::text_longer, crate::proofs::ReportLaws::length_longer))]
 fn write_report<K: Sink>(
     alloc: Global,
     script: &Script,
