@@ -163,7 +163,7 @@ WritesFull by text out =
     (script : Script) × ((reading : Reading) × ((name : Name16) × IsRun by text script reading
     × (full_of script reading ≡ Some name) × Gains out (full_line (Some name) ++ report_of script reading)))
 
--- a write failed, and a front of the report of a run in which no journal got full was written
+-- a front of the report of a run in which no journal got full was written
 abbrev pub WritesReportFront : Way → List ℕ → Output → Type 0
 WritesReportFront by text out =
     (script : Script) × ((reading : Reading) × IsRun by text script reading × (full_of script reading ≡ None)
