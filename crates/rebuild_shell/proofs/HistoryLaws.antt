@@ -1,0 +1,68 @@
+-- The rebuild that the machine keeps is the one that its history tells of.
+use Rattle.std.proofs.Common.{◌≡◌, List, [], ◌∷◌, ◌++◌, refl, sym, ap, ◌∙◌, subst, arith}
+use Rattle.std.specs.Prelude.{fold}
+use Rattle.std.proofs.lemmas.List.Sums.{fold_push}
+use Rattle.cf_types.specs.declared.forms.StrForm.{StrForm}
+use Rattle.cf_types.specs.declared.numbers.ConnId.{ConnId}
+use Rattle.cf_types.specs.Connections.{actives}
+use Rattle.cf_types.specs.Forms.{IsCaller}
+use Rattle.engine_api.specs.declared.asks.Ask.{Ask}
+use Rattle.engine_api.specs.declared.asks.Reply.{Reply}
+use Rattle.engine_api.specs.declared.asks.What.{What}
+use Rattle.engine_api.specs.declared.asks.What.TheVariants as what
+use Rattle.engine_api.specs.declared.histories.Entry.{Entry}
+use Rattle.engine_api.specs.Meaning.{Meaning}
+use Rattle.rebuild_reading.specs.Tellings.{telling_of, telling_entry}
+use Rattle.rebuild_reading.specs.Readings.{rebuild_told}
+use Rattle.rebuild_reading.specs.Steps.{rebuild_next, rebuild_kept, MayBeTold, MayAllBeTold}
+use Rattle.rebuild_reading.proofs.ReadingLaws.{kept-is-told}
+use Rattle.rebuild_shell.specs.Machine.{Machine, opening, step}
+use Rattle.rebuild_shell.specs.History.{after_what, machine_after, replay, actives_after, AreCalls}
+use Rattle.rebuild_shell.proofs.StepLaws.{rebuild-step, may-step}
+
+module _ {C R I S : Type 0} (meaning : Meaning C R I S) (form : StrForm) where
+  -- what a call's entry tells is what the machine keeps
+  kept_next : (machine : Machine S) (by : ConnId) (call : What C) (answer : Reply R) (asked : Ask C)
+      → call ≡ what.Call asked → answer ≡ (step meaning form machine by asked).reply
+      → rebuild_next (actives machine.shell.conns) by (telling_of call answer) machine.shell.rebuild
+      ≡ (after_what meaning form machine by call).shell.rebuild
+  kept_next machine by call answer asked is answered =
+      rw (is, answered) (sym (rebuild-step meaning form machine by asked))
+
+  may_next : (machine : Machine S) (by : ConnId) (call : What C) (answer : Reply R) (asked : Ask C) → IsCaller by
+      → call ≡ what.Call asked → answer ≡ (step meaning form machine by asked).reply
+      → MayBeTold (actives machine.shell.conns) (telling_of call answer) machine.shell.rebuild
+  may_next machine by call answer asked caller is answered =
+      rw (is, answered) (may-step meaning form machine by (omega (arith, caller)) asked)
+
+  replay-more : (before : List (Entry C R)) (entry : Entry C R)
+      → replay meaning form (before ++ entry ∷ []) ≡ machine_after meaning form (replay meaning form before) entry
+  replay-more before entry = fold_push (machine_after meaning form) (opening meaning form) before entry
+
+  kept : (before entries : List (Entry C R)) → AreCalls meaning form (replay meaning form before) entries
+      → (rebuild_kept (actives_after meaning form) before entries (replay meaning form before).shell.rebuild
+      ≡ (fold (machine_after meaning form) (replay meaning form before) entries).shell.rebuild)
+      × MayAllBeTold (actives_after meaning form) before entries (replay meaning form before).shell.rebuild
+  kept before [] calls = (refl, tt)
+  kept before (entry ∷ entries) calls =
+      let machine = replay meaning form before in
+      let call = calls.0 in
+      let next = kept_next machine entry.by entry.what entry.reply call.asked call.call call.answered in
+      let may = may_next machine entry.by entry.what entry.reply call.asked call.caller call.call call.answered in
+      let more = replay-more before entry in
+      let behind = kept (before ++ entry ∷ []) entries
+      (subst (λ (m : Machine S). AreCalls meaning form m entries) (sym more) calls.1) in
+      let same : (replay meaning form (before ++ entry ∷ [])).shell.rebuild
+      ≡ rebuild_next (actives machine.shell.conns) entry.by (telling_entry entry).telling machine.shell.rebuild =
+      ap (λ (m : Machine S). m.shell.rebuild) more ∙ sym next in (
+        ap (rebuild_kept (actives_after meaning form) (before ++ entry ∷ []) entries) (sym same)
+            ∙ behind.0
+            ∙ ap (λ (m : Machine S). (fold (machine_after meaning form) m entries).shell.rebuild) more,
+        (may, subst (MayAllBeTold (actives_after meaning form) (before ++ entry ∷ []) entries) same behind.1),
+      )
+
+  pub rebuild-told : (history : List (Entry C R)) → AreCalls meaning form (opening meaning form) history
+      → (replay meaning form history).shell.rebuild ≡ rebuild_told (actives_after meaning form) history
+  rebuild-told history calls =
+      let all = kept [] history calls in
+      sym all.0 ∙ kept-is-told (actives_after meaning form) history all.1

@@ -1,0 +1,394 @@
+-- What a call does to a rebuild is what its entry tells of it.
+use Rattle.std.proofs.Common.{◌≡◌, ◌<◌, Bool, true, false, List, [], ◌∷◌, Option, None, Some, not, inl, inr, refl, sym, ap, ◌∙◌}
+use Rattle.std.specs.Prelude.{if◌then◌else◌, unwrap_or}
+use Rattle.cf_types.specs.declared.events.Event.{Event}
+use Rattle.cf_types.specs.declared.events.Event.TheVariants as event
+use Rattle.cf_types.specs.declared.events.Stage.{Stage}
+use Rattle.cf_types.specs.declared.events.Stage.TheVariants as stage
+use Rattle.cf_types.specs.declared.forms.StrForm.{StrForm}
+use Rattle.cf_types.specs.declared.numbers.CfId.{CfId}
+use Rattle.cf_types.specs.declared.numbers.ConnId.{ConnId}
+use Rattle.cf_types.specs.declared.refusals.Refusal.{Refusal}
+use Rattle.cf_types.specs.declared.refusals.Refusal.TheVariants as refusal
+use Rattle.cf_types.specs.declared.shell_commands.ShellCmd.{ShellCmd}
+use Rattle.cf_types.specs.declared.shell_commands.ShellCmd.TheVariants as cmd
+use Rattle.cf_types.specs.declared.shell_commands.ShellReply.TheVariants as shown
+use Rattle.cf_types.specs.Connections.{actives, state_of, is_active, with_departure, with_forced}
+use Rattle.cf_types.specs.ConnSets.{is_member}
+use Rattle.cf_types.proofs.ConnectionLaws.{is_member-actives}
+use Rattle.cf_types.specs.Mailboxes.{next_event, owed_event, letters_to, with_cleared, with_response}
+use Rattle.engine_api.specs.declared.asks.Ask.{Ask}
+use Rattle.engine_api.specs.declared.asks.Ask.TheVariants as ask
+use Rattle.engine_api.specs.declared.asks.What.TheVariants as what
+use Rattle.engine_api.specs.Meaning.{Meaning, first_refusal}
+use Rattle.engine_api.specs.Shell.{goes, refusal_when, no_deeds, conns_answered, facility_of, is_kept}
+use Rattle.rebuild_core.specs.declared.rebuild.Rebuild.{Rebuild}
+use Rattle.rebuild_core.specs.Stages.{without_owing, rebuild_without, outcome_of}
+use Rattle.rebuild_reading.specs.Tellings.{Telling, telling, telling_of, is_response, is_awaited}
+use Rattle.rebuild_reading.specs.Tellings.Telling.{Places, Completes, Responds, Departs, Forces, Nothing}
+use Rattle.rebuild_reading.specs.Steps.{IsEarly, MayBeTold, rebuild_next, rebuild_onward, rebuild_given, with_place}
+use Rattle.rebuild_shell.specs.Rebuilds.{is_switch, letters_past}
+use Rattle.rebuild_shell.specs.Shell.{Shell, Room, shell_cause, content_cause, switched, shell_onward, shell_without, unless_gone, deallocated, departing_shell, take_event, response_outcome, responded, rebuild_connect_outcome, complete_outcome, stop_outcome, with_posted, ShellOutcome, shell_done, given_outcome, leaver, unless_active, fresh_made, emptied, is_operator, unless_operator, unless_somebody, is_empty}
+use Rattle.rebuild_shell.specs.Machine.{Machine, CallOutcome, step, unless, command_done, content_done, room_of, departure_from}
+
+nothing_told : (actives : List ConnId) (by : ConnId) (rebuild : Option Rebuild)
+    → rebuild ≡ rebuild_next actives by Nothing rebuild
+nothing_told actives by None = refl
+nothing_told actives by (Some rebuild) = refl
+
+rebuild-switched : (b : Bool) (rebuild : Rebuild) (shell : Shell) → (switched b rebuild shell).rebuild ≡ shell.rebuild
+rebuild-switched false rebuild shell = refl
+rebuild-switched true rebuild shell = refl
+
+rebuild-unless_gone : (form : StrForm) (shell : Shell) → (unless_gone form shell).rebuild ≡ shell.rebuild
+rebuild-unless_gone form shell = go (goes form shell.conns)
+  where
+    go : (b : Bool) → (if b then deallocated form shell else shell).rebuild ≡ shell.rebuild
+    go false = refl
+    go true = refl
+
+rebuild-onward : (rebuild : Rebuild) (shell : Shell) → (shell_onward rebuild shell).rebuild ≡ rebuild_onward rebuild
+rebuild-onward rebuild shell =
+    rebuild-switched (is_switch (outcome_of rebuild)) rebuild
+    (with_posted (letters_past rebuild) (record shell { rebuild = rebuild_onward rebuild }))
+
+rebuild-without : (actives : List ConnId) (by : ConnId) (rebuild : Option Rebuild) (shell : Shell)
+    → shell.rebuild ≡ rebuild → (shell_without by rebuild shell).rebuild ≡ rebuild_next actives by Departs rebuild
+rebuild-without actives by None shell is = is
+rebuild-without actives by (Some rebuild) shell is = rebuild-onward (rebuild_without by rebuild) shell
+
+rebuild-departing : (active : List ConnId) (form : StrForm) (shell : Shell) (by : ConnId) (keep : Bool)
+    → (departing_shell form shell by keep).rebuild ≡ rebuild_next active by Departs shell.rebuild
+rebuild-departing active form shell by keep =
+    let conns = with_departure by keep shell.conns in
+    let cleared : Shell = record shell { mail = with_cleared by shell.mail } in
+    let left : Shell = shell_without by shell.rebuild cleared in
+    let told : Shell = with_posted (letters_to (actives conns) (event.DiscFail by)) (record left { conns = conns }) in
+    rebuild-unless_gone form told ∙ rebuild-without active by shell.rebuild cleared refl
+
+-- a third cause that holds
+never : (first : Option Refusal) (refusal : Refusal) (rest : List (Option Refusal))
+    → first_refusal (first ∷ None ∷ Some refusal ∷ rest) ≡ None → ⊥
+never None refusal rest is = cc
+never (Some other) refusal rest is = cc
+
+-- a response changes the rebuild where its stage waits for it
+rebuild-responded : (active : List ConnId) (by : ConnId) (answered : Event) (rebuild : Option Rebuild) (shell : Shell)
+    → shell.rebuild ≡ rebuild
+    → (responded by answered rebuild shell).shell.rebuild ≡ rebuild_next active by (Responds answered) rebuild
+rebuild-responded active by answered None shell is = is
+rebuild-responded active by answered (Some rebuild) shell is =
+    go (is_response rebuild.stage rebuild.number answered)
+  where
+    given : ShellOutcome
+    given = given_outcome (shown.Responded answered) by rebuild shell
+
+    kept : ShellOutcome
+    kept = record { reply = shown.Responded answered; shell = shell; deeds = no_deeds }
+
+    go : (b : Bool) → (if b then given else kept).shell.rebuild ≡ rebuild_given b by rebuild
+    go true = rebuild-onward (without_owing by rebuild) shell
+    go false = is
+
+rebuild-forced : (active : List ConnId) (by : ConnId) (rebuild : Option Rebuild)
+    → emptied rebuild ≡ rebuild_next active by Forces rebuild
+rebuild-forced active by None = refl
+rebuild-forced active by (Some rebuild) = refl
+
+rebuild-stopped : (active : List ConnId) (by : ConnId) (rebuild : Option Rebuild) (shell : Shell)
+    → shell.rebuild ≡ rebuild
+    → (stop_outcome shell rebuild).shell.rebuild
+    ≡ rebuild_next active by (telling cmd.RebuildStop (stop_outcome shell rebuild).reply) rebuild
+rebuild-stopped active by None shell is = is
+rebuild-stopped active by (Some rebuild) shell is = refl
+
+-- ---- what may be told
+
+first_none : (first : Option Refusal) (rest : List (Option Refusal)) → first_refusal (first ∷ rest) ≡ None
+    → first ≡ None
+first_none None rest fine = refl
+first_none (Some refusal) rest fine = absurd (cc)
+
+second_never : (first : Option Refusal) (refusal : Refusal) (rest : List (Option Refusal))
+    → first_refusal (first ∷ Some refusal ∷ rest) ≡ None → ⊥
+second_never None refusal rest is = cc
+second_never (Some other) refusal rest is = cc
+
+abbrev Somebody : List ConnId → Type 0
+Somebody conns = (conn : ConnId) × ((others : List ConnId) × (conns ≡ conn ∷ others))
+
+somebody : (conns : List ConnId) → refusal_when (is_empty conns) refusal.NotConnected ≡ None → Somebody conns
+somebody [] fine = absurd (cc)
+somebody (conn ∷ others) fine = (conn, (others, refl))
+
+somebody_member : (conn : ConnId) (conns : List ConnId) → is_member conn conns ≡ true → Somebody conns
+somebody_member conn [] is = absurd (cc)
+somebody_member conn (first ∷ others) is = (first, (others, refl))
+
+active_of : (b : Bool) → refusal_when (not b) refusal.NotConnected ≡ None → b ≡ true
+active_of true fine = refl
+active_of false fine = absurd (cc)
+
+somebody_active : (shell : Shell) (by : ConnId) → by.0 < 33 → unless_somebody shell by ≡ None
+    → Somebody (actives shell.conns)
+somebody_active shell by caller fine = go (is_operator by) fine
+  where
+    go : (b : Bool) → (if b then refusal_when (is_empty (actives shell.conns)) refusal.NotConnected
+        else unless_active shell by) ≡ None
+        → Somebody (actives shell.conns)
+    go true fine = somebody (actives shell.conns) fine
+    go false fine =
+        somebody_member by (actives shell.conns)
+        (is_member-actives shell.conns by caller ∙ active_of (is_active shell.conns by) fine)
+
+module _ (form : StrForm) (room : Room) (shell : Shell) (by : ConnId) where
+  connect_stage : (rebuild : Rebuild) (at : Stage) → shell.rebuild ≡ Some rebuild → rebuild.stage ≡ at
+      → shell_cause form room shell by cmd.RebuildConnect ≡ None → rebuild.stage ≡ stage.Connect
+  connect_stage rebuild stage.Quiesce is in_stage fine =
+      absurd (never (unless_active shell by) (refusal.WrongStage stage.Quiesce) _ (rw (is, in_stage) at fine))
+  connect_stage rebuild stage.Connect is in_stage fine = in_stage
+  connect_stage rebuild stage.Copy is in_stage fine =
+      absurd (never (unless_active shell by) (refusal.WrongStage stage.Copy) _ (rw (is, in_stage) at fine))
+  connect_stage rebuild stage.Cleanup is in_stage fine =
+      absurd (never (unless_active shell by) (refusal.WrongStage stage.Cleanup) _ (rw (is, in_stage) at fine))
+  connect_stage rebuild stage.Stopping is in_stage fine =
+      absurd (never (unless_active shell by) (refusal.WrongStage stage.Stopping) _ (rw (is, in_stage) at fine))
+
+  stop_stage : (rebuild : Rebuild) (at : Stage) → shell.rebuild ≡ Some rebuild → rebuild.stage ≡ at
+      → shell_cause form room shell by cmd.RebuildStop ≡ None → IsEarly rebuild.stage
+  stop_stage rebuild stage.Quiesce is in_stage fine = inl in_stage
+  stop_stage rebuild stage.Connect is in_stage fine = inr (inl in_stage)
+  stop_stage rebuild stage.Copy is in_stage fine = inr (inr in_stage)
+  stop_stage rebuild stage.Cleanup is in_stage fine =
+      absurd (never (unless_operator shell by) (refusal.WrongStage stage.Cleanup) [] (rw (is, in_stage) at fine))
+  stop_stage rebuild stage.Stopping is in_stage fine =
+      absurd (never (unless_operator shell by) (refusal.WrongStage stage.Stopping) [] (rw (is, in_stage) at fine))
+
+  complete_stage : (rebuild : Rebuild) (at : Stage) → shell.rebuild ≡ Some rebuild → rebuild.stage ≡ at
+      → shell_cause form room shell by cmd.RebuildComplete ≡ None → rebuild.stage ≡ stage.Copy
+  complete_stage rebuild stage.Quiesce is in_stage fine =
+      absurd (never (unless_active shell by) (refusal.WrongStage stage.Quiesce) _ (rw (is, in_stage) at fine))
+  complete_stage rebuild stage.Connect is in_stage fine =
+      absurd (never (unless_active shell by) (refusal.WrongStage stage.Connect) _ (rw (is, in_stage) at fine))
+  complete_stage rebuild stage.Copy is in_stage fine = in_stage
+  complete_stage rebuild stage.Cleanup is in_stage fine =
+      absurd (never (unless_active shell by) (refusal.WrongStage stage.Cleanup) _ (rw (is, in_stage) at fine))
+  complete_stage rebuild stage.Stopping is in_stage fine =
+      absurd (never (unless_active shell by) (refusal.WrongStage stage.Stopping) _ (rw (is, in_stage) at fine))
+
+  -- where the command isn't refused, the stage waits for it
+  connect_awaited : (rebuild : Rebuild) (cf : CfId) → shell.rebuild ≡ Some rebuild
+      → shell_cause form room shell by cmd.RebuildConnect ≡ None
+      → is_awaited rebuild.stage rebuild.number (Places cf) ≡ true
+  connect_awaited rebuild cf is fine = rw (connect_stage rebuild rebuild.stage is refl fine) refl
+
+  complete_awaited : (rebuild : Rebuild) → shell.rebuild ≡ Some rebuild
+      → shell_cause form room shell by cmd.RebuildComplete ≡ None
+      → is_awaited rebuild.stage rebuild.number Completes ≡ true
+  complete_awaited rebuild is fine = rw (complete_stage rebuild rebuild.stage is refl fine) refl
+
+module _ {C R I S : Type 0} (meaning : Meaning C R I S) (form : StrForm) (machine : Machine S) (by : ConnId) where
+  abbrev active : List ConnId
+  active = actives machine.shell.conns
+
+  abbrev room : Room
+  room = room_of meaning form machine
+
+  -- the shell that acts: the letters of a departure from the content are posted
+  abbrev acting : ShellCmd → Shell
+  acting command =
+      with_posted (departure_from meaning form (leaver machine.shell by command) machine).letters machine.shell
+
+  abbrev done : ShellCmd → ShellOutcome
+  done command = shell_done form room (acting command) by command
+
+  -- what a command does to the rebuild is what its reply tells
+  abbrev Tells : ShellCmd → Type 0
+  Tells command =
+      (done command).shell.rebuild ≡ rebuild_next active by (telling command (done command).reply) machine.shell.rebuild
+
+  quiet : machine.shell.rebuild ≡ rebuild_next active by Nothing machine.shell.rebuild
+  quiet = nothing_told active by machine.shell.rebuild
+
+  tells_next : (taken : Option Event) → (take_event (acting cmd.Next) by taken).shell.rebuild
+      ≡ rebuild_next active by (telling cmd.Next (take_event (acting cmd.Next) by taken).reply) machine.shell.rebuild
+  tells_next None = quiet
+  tells_next (Some taken) = quiet
+
+  tells_response : (owed : Option Event) → (response_outcome (acting cmd.Respond) by owed).shell.rebuild
+      ≡ rebuild_next active by (telling cmd.Respond (response_outcome (acting cmd.Respond) by owed).reply)
+      machine.shell.rebuild
+  tells_response None = quiet
+  tells_response (Some answered) =
+      let shell : Shell = record (acting cmd.Respond) {
+        conns = conns_answered by answered machine.shell.conns;
+        mail = with_response by (acting cmd.Respond).mail;
+      } in
+      rebuild-responded active by answered machine.shell.rebuild shell refl
+      ∙ ap (λ (t : Telling). rebuild_next active by t machine.shell.rebuild)
+      (sym (responds answered machine.shell.rebuild shell))
+    where
+      responds : (answered : Event) (rebuild : Option Rebuild) (shell : Shell)
+          → telling cmd.Respond (responded by answered rebuild shell).reply ≡ Responds answered
+      responds answered None shell = refl
+      responds answered (Some rebuild) shell = go (is_response rebuild.stage rebuild.number answered)
+        where
+          go : (b : Bool)
+              → telling cmd.Respond (if b then given_outcome (shown.Responded answered) by rebuild shell
+              else record { reply = shown.Responded answered; shell = shell; deeds = no_deeds }).reply
+              ≡ Responds answered
+          go true = refl
+          go false = refl
+
+  tells_connection : (rebuild : Option Rebuild) → machine.shell.rebuild ≡ rebuild
+      → shell_cause form room machine.shell by cmd.RebuildConnect ≡ None
+      → (rebuild_connect_outcome form (acting cmd.RebuildConnect) by rebuild).shell.rebuild
+      ≡ rebuild_next active by (telling cmd.RebuildConnect
+      (rebuild_connect_outcome form (acting cmd.RebuildConnect) by rebuild).reply) rebuild
+  tells_connection None is fine = is
+  tells_connection (Some rebuild) is fine =
+      let at : CfId = unwrap_or rebuild.fresh (facility_of (fresh_made form (acting cmd.RebuildConnect) by rebuild)) in
+      let placed : Rebuild = with_place at rebuild in
+      rebuild-onward (without_owing by placed) (acting cmd.RebuildConnect)
+      ∙ ap (λ (b : Bool). rebuild_given b by placed)
+      (sym (connect_awaited form room machine.shell by rebuild at is fine))
+
+  tells_completion : (rebuild : Option Rebuild) → machine.shell.rebuild ≡ rebuild
+      → shell_cause form room machine.shell by cmd.RebuildComplete ≡ None
+      → (complete_outcome (acting cmd.RebuildComplete) by rebuild).shell.rebuild
+      ≡ rebuild_next active by (telling cmd.RebuildComplete
+      (complete_outcome (acting cmd.RebuildComplete) by rebuild).reply) rebuild
+  tells_completion None is fine = is
+  tells_completion (Some rebuild) is fine =
+      rebuild-onward (without_owing by rebuild) (acting cmd.RebuildComplete)
+      ∙ ap (λ (b : Bool). rebuild_given b by rebuild)
+      (sym (complete_awaited form room machine.shell by rebuild is fine))
+
+  tells_command : (command : ShellCmd) → shell_cause form room machine.shell by command ≡ None → Tells command
+  tells_command (cmd.Connect keep) fine = quiet
+  tells_command cmd.Disconnect fine = rebuild-departing active form (acting cmd.Disconnect) by false
+  tells_command cmd.Fail fine =
+      rebuild-departing active form (acting cmd.Fail) by (is_kept (state_of machine.shell.conns by))
+  tells_command cmd.Next fine = tells_next (next_event (acting cmd.Next).mail by)
+  tells_command cmd.Respond fine = tells_response (owed_event (acting cmd.Respond).mail by)
+  tells_command (cmd.RebuildStart caps) fine = refl
+  tells_command cmd.RebuildStop fine =
+      rebuild-stopped active by machine.shell.rebuild (acting cmd.RebuildStop) refl
+  tells_command cmd.RebuildConnect fine = tells_connection machine.shell.rebuild refl fine
+  tells_command (cmd.Copy n) fine = quiet
+  tells_command cmd.RebuildComplete fine = tells_completion machine.shell.rebuild refl fine
+  tells_command (cmd.ForceConn other) fine =
+      let shell : Shell = record (acting (cmd.ForceConn other)) {
+        conns = with_forced other machine.shell.conns;
+        rebuild = emptied machine.shell.rebuild;
+      } in
+      rebuild-unless_gone form shell ∙ rebuild-forced active by machine.shell.rebuild
+  tells_command cmd.ForceStr fine = quiet
+  tells_command (cmd.LoseConn other cf) fine = quiet
+  tells_command (cmd.RestoreConn other cf) fine = quiet
+  tells_command (cmd.Vary cf off) fine = quiet
+  tells_command cmd.DuplexStart fine = quiet
+  tells_command cmd.DuplexStop fine = quiet
+
+  -- ---- a call
+
+  abbrev told : (asked : Ask C) → CallOutcome R S → Telling
+  told asked answered = telling_of (what.Call asked) answered.reply
+
+  pub rebuild-step : (asked : Ask C)
+      → (step meaning form machine by asked).machine.shell.rebuild
+      ≡ rebuild_next active by (told asked (step meaning form machine by asked)) machine.shell.rebuild
+  rebuild-step (ask.Shell command) = go (shell_cause form room machine.shell by command) refl
+    where
+      go : (cause : Option Refusal) → shell_cause form room machine.shell by command ≡ cause
+          → let answered = unless meaning form cause machine (command_done meaning form machine by command) in
+          answered.machine.shell.rebuild
+          ≡ rebuild_next active by (told (ask.Shell command) answered) machine.shell.rebuild
+      go (Some refusal) is = quiet
+      go None is = tells_command command is
+  rebuild-step (ask.Content command) = go (content_cause machine.shell by)
+    where
+      go : (cause : Option Refusal)
+          → let answered = unless meaning form cause machine (content_done meaning form machine by command) in
+          answered.machine.shell.rebuild
+          ≡ rebuild_next active by (told (ask.Content command) answered) machine.shell.rebuild
+      go (Some refusal) = quiet
+      go None = quiet
+
+  -- ---- what a call may tell
+
+  may_next : (taken : Option Event)
+      → MayBeTold active (telling cmd.Next (take_event (acting cmd.Next) by taken).reply) machine.shell.rebuild
+  may_next None = tt
+  may_next (Some taken) = tt
+
+  may_response : (owed : Option Event)
+      → MayBeTold active (telling cmd.Respond (response_outcome (acting cmd.Respond) by owed).reply)
+      machine.shell.rebuild
+  may_response None = tt
+  may_response (Some answered) = by_rebuild machine.shell.rebuild _
+    where
+      by_rebuild : (rebuild : Option Rebuild) (shell : Shell)
+          → MayBeTold active (telling cmd.Respond (responded by answered rebuild shell).reply) machine.shell.rebuild
+      by_rebuild None shell = tt
+      by_rebuild (Some rebuild) shell = go (is_response rebuild.stage rebuild.number answered)
+        where
+          go : (b : Bool)
+              → MayBeTold active (telling cmd.Respond (if b
+              then given_outcome (shown.Responded answered) by rebuild shell
+              else record { reply = shown.Responded answered; shell = shell; deeds = no_deeds }).reply)
+              machine.shell.rebuild
+          go true = tt
+          go false = tt
+
+  may_stop : (rebuild : Option Rebuild) → machine.shell.rebuild ≡ rebuild
+      → shell_cause form room machine.shell by cmd.RebuildStop ≡ None
+      → MayBeTold active (telling cmd.RebuildStop (stop_outcome (acting cmd.RebuildStop) rebuild).reply) rebuild
+  may_stop None is fine =
+      absurd (second_never (unless_operator machine.shell by) refusal.NoRebuild _ (rw is at fine))
+  may_stop (Some rebuild) is fine = stop_stage form room machine.shell by rebuild rebuild.stage is refl fine
+
+  may_connection : (rebuild : Option Rebuild) → machine.shell.rebuild ≡ rebuild
+      → shell_cause form room machine.shell by cmd.RebuildConnect ≡ None
+      → MayBeTold active (telling cmd.RebuildConnect
+      (rebuild_connect_outcome form (acting cmd.RebuildConnect) by rebuild).reply) rebuild
+  may_connection None is fine = tt
+  may_connection (Some rebuild) is fine = connect_stage form room machine.shell by rebuild rebuild.stage is refl fine
+
+  may_completion : (rebuild : Option Rebuild)
+      → MayBeTold active (telling cmd.RebuildComplete (complete_outcome (acting cmd.RebuildComplete) by rebuild).reply)
+      machine.shell.rebuild
+  may_completion None = tt
+  may_completion (Some rebuild) = tt
+
+  may_command : by.0 < 33 → (command : ShellCmd) → shell_cause form room machine.shell by command ≡ None
+      → MayBeTold active (telling command (done command).reply) machine.shell.rebuild
+  may_command caller (cmd.Connect keep) fine = tt
+  may_command caller cmd.Disconnect fine = tt
+  may_command caller cmd.Fail fine = tt
+  may_command caller cmd.Next fine = may_next (next_event (acting cmd.Next).mail by)
+  may_command caller cmd.Respond fine = may_response (owed_event (acting cmd.Respond).mail by)
+  may_command caller (cmd.RebuildStart caps) fine =
+      somebody_active machine.shell by caller (first_none (unless_somebody machine.shell by) _ fine)
+  may_command caller cmd.RebuildStop fine = may_stop machine.shell.rebuild refl fine
+  may_command caller cmd.RebuildConnect fine = may_connection machine.shell.rebuild refl fine
+  may_command caller (cmd.Copy n) fine = tt
+  may_command caller cmd.RebuildComplete fine = may_completion machine.shell.rebuild
+  may_command caller (cmd.ForceConn other) fine = tt
+  may_command caller cmd.ForceStr fine = tt
+  may_command caller (cmd.LoseConn other cf) fine = tt
+  may_command caller (cmd.RestoreConn other cf) fine = tt
+  may_command caller (cmd.Vary cf off) fine = tt
+  may_command caller cmd.DuplexStart fine = tt
+  may_command caller cmd.DuplexStop fine = tt
+
+  pub may-step : by.0 < 33 → (asked : Ask C)
+      → MayBeTold active (told asked (step meaning form machine by asked)) machine.shell.rebuild
+  may-step caller (ask.Shell command) = go (shell_cause form room machine.shell by command) refl
+    where
+      go : (cause : Option Refusal) → shell_cause form room machine.shell by command ≡ cause
+          → MayBeTold active (told (ask.Shell command)
+          (unless meaning form cause machine (command_done meaning form machine by command))) machine.shell.rebuild
+      go (Some refusal) is = tt
+      go None is = may_command caller command is
+  may-step caller (ask.Content command) = tt

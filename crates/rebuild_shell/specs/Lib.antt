@@ -1,0 +1,4 @@
+pub mod Rebuilds
+pub mod Shell
+pub mod Machine
+pub mod History
