@@ -1,3 +1,5 @@
 pub mod Examples
 pub mod StepLaws
 pub mod HistoryLaws
+pub mod MemberLaws
+pub mod FillingLaws

@@ -47,7 +47,7 @@ rebuild-unless_gone form shell = go (goes form shell.conns)
     go false = refl
     go true = refl
 
-rebuild-onward : (rebuild : Rebuild) (shell : Shell) → (shell_onward rebuild shell).rebuild ≡ rebuild_onward rebuild
+pub rebuild-onward : (rebuild : Rebuild) (shell : Shell) → (shell_onward rebuild shell).rebuild ≡ rebuild_onward rebuild
 rebuild-onward rebuild shell =
     rebuild-switched (is_switch (outcome_of rebuild)) rebuild
     (with_posted (letters_past rebuild) (record shell { rebuild = rebuild_onward rebuild }))
@@ -57,7 +57,7 @@ rebuild-without : (actives : List ConnId) (by : ConnId) (rebuild : Option Rebuil
 rebuild-without actives by None shell is = is
 rebuild-without actives by (Some rebuild) shell is = rebuild-onward (rebuild_without by rebuild) shell
 
-rebuild-departing : (active : List ConnId) (form : StrForm) (shell : Shell) (by : ConnId) (keep : Bool)
+pub rebuild-departing : (active : List ConnId) (form : StrForm) (shell : Shell) (by : ConnId) (keep : Bool)
     → (departing_shell form shell by keep).rebuild ≡ rebuild_next active by Departs shell.rebuild
 rebuild-departing active form shell by keep =
     let conns = with_departure by keep shell.conns in
@@ -67,7 +67,7 @@ rebuild-departing active form shell by keep =
     rebuild-unless_gone form told ∙ rebuild-without active by shell.rebuild cleared refl
 
 -- a third cause that holds
-never : (first : Option Refusal) (refusal : Refusal) (rest : List (Option Refusal))
+pub never : (first : Option Refusal) (refusal : Refusal) (rest : List (Option Refusal))
     → first_refusal (first ∷ None ∷ Some refusal ∷ rest) ≡ None → ⊥
 never None refusal rest is = cc
 never (Some other) refusal rest is = cc
@@ -104,7 +104,7 @@ rebuild-stopped active by (Some rebuild) shell is = refl
 
 -- ---- what may be told
 
-first_none : (first : Option Refusal) (rest : List (Option Refusal)) → first_refusal (first ∷ rest) ≡ None
+pub first_none : (first : Option Refusal) (rest : List (Option Refusal)) → first_refusal (first ∷ rest) ≡ None
     → first ≡ None
 first_none None rest fine = refl
 first_none (Some refusal) rest fine = absurd (cc)
@@ -114,18 +114,18 @@ second_never : (first : Option Refusal) (refusal : Refusal) (rest : List (Option
 second_never None refusal rest is = cc
 second_never (Some other) refusal rest is = cc
 
-abbrev Somebody : List ConnId → Type 0
+abbrev pub Somebody : List ConnId → Type 0
 Somebody conns = (conn : ConnId) × ((others : List ConnId) × (conns ≡ conn ∷ others))
 
 somebody : (conns : List ConnId) → refusal_when (is_empty conns) refusal.NotConnected ≡ None → Somebody conns
 somebody [] fine = absurd (cc)
 somebody (conn ∷ others) fine = (conn, (others, refl))
 
-somebody_member : (conn : ConnId) (conns : List ConnId) → is_member conn conns ≡ true → Somebody conns
+pub somebody_member : (conn : ConnId) (conns : List ConnId) → is_member conn conns ≡ true → Somebody conns
 somebody_member conn [] is = absurd (cc)
 somebody_member conn (first ∷ others) is = (first, (others, refl))
 
-active_of : (b : Bool) → refusal_when (not b) refusal.NotConnected ≡ None → b ≡ true
+pub active_of : (b : Bool) → refusal_when (not b) refusal.NotConnected ≡ None → b ≡ true
 active_of true fine = refl
 active_of false fine = absurd (cc)
 
@@ -142,7 +142,7 @@ somebody_active shell by caller fine = go (is_operator by) fine
         (is_member-actives shell.conns by caller ∙ active_of (is_active shell.conns by) fine)
 
 module _ (form : StrForm) (room : Room) (shell : Shell) (by : ConnId) where
-  connect_stage : (rebuild : Rebuild) (at : Stage) → shell.rebuild ≡ Some rebuild → rebuild.stage ≡ at
+  pub connect_stage : (rebuild : Rebuild) (at : Stage) → shell.rebuild ≡ Some rebuild → rebuild.stage ≡ at
       → shell_cause form room shell by cmd.RebuildConnect ≡ None → rebuild.stage ≡ stage.Connect
   connect_stage rebuild stage.Quiesce is in_stage fine =
       absurd (never (unless_active shell by) (refusal.WrongStage stage.Quiesce) _ (rw (is, in_stage) at fine))
@@ -188,18 +188,18 @@ module _ (form : StrForm) (room : Room) (shell : Shell) (by : ConnId) where
   complete_awaited rebuild is fine = rw (complete_stage rebuild rebuild.stage is refl fine) refl
 
 module _ {C R I S : Type 0} (meaning : Meaning C R I S) (form : StrForm) (machine : Machine S) (by : ConnId) where
-  abbrev active : List ConnId
+  abbrev pub active : List ConnId
   active = actives machine.shell.conns
 
-  abbrev room : Room
+  abbrev pub room : Room
   room = room_of meaning form machine
 
   -- the shell that acts: the letters of a departure from the content are posted
-  abbrev acting : ShellCmd → Shell
+  abbrev pub acting : ShellCmd → Shell
   acting command =
       with_posted (departure_from meaning form (leaver machine.shell by command) machine).letters machine.shell
 
-  abbrev done : ShellCmd → ShellOutcome
+  abbrev pub done : ShellCmd → ShellOutcome
   done command = shell_done form room (acting command) by command
 
   -- what a command does to the rebuild is what its reply tells
@@ -264,7 +264,7 @@ module _ {C R I S : Type 0} (meaning : Meaning C R I S) (form : StrForm) (machin
       ∙ ap (λ (b : Bool). rebuild_given b by rebuild)
       (sym (complete_awaited form room machine.shell by rebuild is fine))
 
-  tells_command : (command : ShellCmd) → shell_cause form room machine.shell by command ≡ None → Tells command
+  pub tells_command : (command : ShellCmd) → shell_cause form room machine.shell by command ≡ None → Tells command
   tells_command (cmd.Connect keep) fine = quiet
   tells_command cmd.Disconnect fine = rebuild-departing active form (acting cmd.Disconnect) by false
   tells_command cmd.Fail fine =

@@ -1,12 +1,11 @@
 -- The one-thread machine of a structure: what each call answers, and what it leaves.
-use Rattle.std.specs.Prelude.{ℕ, ◌+◌, ◌-◌, Bool, true, false, if◌then◌else◌, List, [], length, Option, None, Some, is_some}
+use Rattle.std.specs.Prelude.{ℕ, ◌+◌, ◌-◌, Bool, true, false, ◌||◌, if◌then◌else◌, List, [], length, min, Option, None, Some, is_some}
 use Rattle.cf_types.specs.declared.forms.StrForm.{StrForm}
 use Rattle.cf_types.specs.declared.numbers.CfId.{CfId}
 use Rattle.cf_types.specs.declared.numbers.ConnId.{ConnId}
 use Rattle.cf_types.specs.declared.refusals.Refusal.{Refusal}
 use Rattle.cf_types.specs.declared.shell_commands.ShellCmd.{ShellCmd}
-use Rattle.cf_types.specs.declared.shell_commands.ShellReply.{ShellReply}
-use Rattle.cf_types.specs.declared.shell_commands.ShellReply.TheVariants as shown
+use Rattle.cf_types.specs.declared.shell_commands.ShellCmd.TheVariants as cmd
 use Rattle.engine_api.specs.declared.asks.Ask.{Ask}
 use Rattle.engine_api.specs.declared.asks.Ask.TheVariants as ask
 use Rattle.engine_api.specs.declared.asks.Reply.{Reply}
@@ -32,6 +31,16 @@ pub record CallOutcome (R S : Type 0) : Type 0 where
 
 abbrev pub refusal_outcome : {R S : Type 0} → Machine S → Refusal → CallOutcome R S
 refusal_outcome machine refusal = record { reply = reply.Refused refusal; machine = machine }
+
+-- the new instance is emptied, takes the old one's place, or is dropped
+abbrev pub copied_after : Deeds → ℕ → ℕ
+copied_after deeds copied =
+    if deeds.restart || (deeds.switch || (deeds.drop_fresh || deeds.drop_all)) then 0 else copied
+
+-- how many items a command moves
+abbrev pub moved_by : Room → ShellCmd → ℕ
+moved_by room (cmd.Copy n) = min n room.left
+moved_by room _ = 0
 
 module _ {C R I S : Type 0} (meaning : Meaning C R I S) (form : StrForm) where
   abbrev pub opening : Machine S
@@ -87,15 +96,6 @@ module _ {C R I S : Type 0} (meaning : Meaning C R I S) (form : StrForm) where
       else if deeds.switch then meaning.forget made
       else made
 
-  -- the new instance is emptied, takes the old one's place, or is dropped
-  abbrev pub copied_after : Deeds → ℕ → ℕ
-  copied_after deeds copied =
-      if deeds.restart then 0 else if deeds.switch then 0 else if deeds.drop_fresh then 0 else copied
-
-  abbrev pub moved_by : ShellReply → ℕ
-  moved_by (shown.Copied moved left) = moved
-  moved_by answered = 0
-
   abbrev pub command_done : Machine S → ConnId → ShellCmd → CallOutcome R S
   command_done machine by command =
       let gone = departure_from (leaver machine.shell by command) machine in
@@ -105,7 +105,7 @@ module _ {C R I S : Type 0} (meaning : Meaning C R I S) (form : StrForm) where
         machine = record {
           shell = acted.shell;
           content = content_after (is_some machine.shell.rebuild) acted.deeds gone.state;
-          copied = copied_after acted.deeds (machine.copied + moved_by acted.reply);
+          copied = copied_after acted.deeds (machine.copied + moved_by (room_of machine) command);
         };
       }
 

@@ -4,4 +4,7 @@
 
 mod laws;
 
-pub use laws::{keeps_what_is_told, stop_keeps_the_content};
+pub use laws::{
+    content_waits, copies_a_front, fills_in_copy_alone, keeps_what_is_told, members_are_active,
+    stop_keeps_the_content,
+};
