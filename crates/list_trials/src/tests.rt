@@ -57,26 +57,47 @@ fn write_of(alloc: Global) -> Option<ListCmd> {
     })
 }
 
+// Whether the first connector comes to monitor the first header at index 3.
+fn watches(engine: &mut ListEngine, out: &mut Effects) -> Result<bool, NoMemory> {
+    let watch = ListCmd::Monitor {
+        header: 0,
+        index: 3,
+    };
+    let reply = call(engine, ConnId(1), &watch, out)?;
+    Ok(matches!(&reply, Ok(ListReply::Empty)))
+}
+
+// Whether the second connector writes a record.
+fn writes(engine: &mut ListEngine, alloc: Global, out: &mut Effects) -> Result<bool, Fail> {
+    let write = write_of(alloc).ok_or("no data")?;
+    let reply = call(engine, ConnId(2), &write, out)?;
+    Ok(matches!(&reply, Ok(ListReply::Id { .. })))
+}
+
+// Whether the first connector reads the first record.
+fn reads(engine: &mut ListEngine, out: &mut Effects) -> Result<bool, NoMemory> {
+    let at = At::Id(EntryId(1));
+    let reply = call(engine, ConnId(1), &ListCmd::Read { at, cond: None }, out)?;
+    Ok(matches!(&reply, Ok(ListReply::Entry { .. })))
+}
+
+// How many items a copy has.
+fn copied_count(engine: &ListEngine, alloc: Global) -> Result<u32, NoMemory> {
+    let copy = engine.copy(alloc)?;
+    Ok(copy.count())
+}
+
 #[test]
 fn what_is_written_is_read(rt: HostRuntime) -> Result<(), Fail> {
     let alloc = rt.alloc();
     let mut engine = list_of(alloc)?;
     let mut out = Effects::new(alloc);
-    let watch = ListCmd::Monitor {
-        header: 0,
-        index: 3,
-    };
-    let watched = call(&mut engine, ConnId(1), &watch, &mut out)?;
-    assert!(rt; matches!(watched, Ok(ListReply::Empty)));
-    let write = write_of(alloc).ok_or("no data")?;
-    let written = call(&mut engine, ConnId(2), &write, &mut out)?;
-    assert!(rt; matches!(written, Ok(ListReply::Id { .. })));
-    assert!(rt; out.bits.items().len() == 1);
-    let at = At::Id(EntryId(1));
-    let read = ListCmd::Read { at, cond: None };
-    let found = call(&mut engine, ConnId(1), &read, &mut out)?;
-    assert!(rt; matches!(found, Ok(ListReply::Entry { .. })));
-    let copy = engine.copy(alloc)?;
-    assert!(rt; copy.count() == 2);
+    let watched = watches(&mut engine, &mut out)?;
+    let written = writes(&mut engine, alloc, &mut out)?;
+    assert_eq!(rt; out.bits.items().len(), 1);
+    let found = reads(&mut engine, &mut out)?;
+    assert!(rt; watched && written && found);
+    let count = copied_count(&engine, alloc)?;
+    assert_eq!(rt; count, 2);
     Ok(())
 }

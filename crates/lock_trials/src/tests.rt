@@ -62,19 +62,61 @@ fn is_granted_to(out: &Effects, conn: ConnId) -> bool {
     }
 }
 
+// Whether a connector that asks for the resource owns it at once.
+fn obtains(engine: &mut LockEngine, by: ConnId, out: &mut Effects) -> Result<bool, NoMemory>
+    requires { IsCaller by }
+{
+    let reply = call(engine, by, &obtain(), out)?;
+    Ok(matches!(&reply, Ok(LockReply::Granted)))
+}
+
+// Whether a connector that asks for the resource waits, first of all.
+fn waits(engine: &mut LockEngine, by: ConnId, out: &mut Effects) -> Result<bool, NoMemory>
+    requires { IsCaller by }
+{
+    let reply = call(engine, by, &obtain(), out)?;
+    Ok(matches!(&reply, Ok(LockReply::Pending { place: 1 })))
+}
+
+// Whether a connector gives the resource up.
+fn releases(engine: &mut LockEngine, by: ConnId, out: &mut Effects) -> Result<bool, NoMemory>
+    requires { IsCaller by }
+{
+    let reply = call(engine, by, &LockCmd::Release { r: R }, out)?;
+    Ok(matches!(&reply, Ok(LockReply::Ok)))
+}
+
 #[test]
 fn one_that_waits_is_granted(rt: HostRuntime) -> Result<(), Fail> {
     let alloc = rt.alloc();
     let mut engine = locks_of(alloc)?;
     let mut out = Effects::new(alloc);
-    let first = call(&mut engine, ConnId(1), &obtain(), &mut out)?;
-    assert!(rt; matches!(first, Ok(LockReply::Granted)));
-    let second = call(&mut engine, ConnId(2), &obtain(), &mut out)?;
-    assert!(rt; matches!(second, Ok(LockReply::Pending { place: 1 })));
-    let released = call(&mut engine, ConnId(1), &LockCmd::Release { r: R }, &mut out)?;
-    assert!(rt; matches!(released, Ok(LockReply::Ok)));
+    let first = obtains(&mut engine, ConnId(1), &mut out)?;
+    let second = waits(&mut engine, ConnId(2), &mut out)?;
+    let released = releases(&mut engine, ConnId(1), &mut out)?;
+    assert!(rt; first && second && released);
     assert!(rt; is_granted_to(&out, ConnId(2)));
     Ok(())
+}
+
+// The first connector fails, and its records stay.
+fn fail_first(engine: &mut LockEngine, out: &mut Effects) -> Result<(), NoMemory> {
+    engine.leave_ready(ConnId(1), out)?;
+    engine.leave(ConnId(1), true, out);
+    Ok(())
+}
+
+// Whether the second connector reads the records of the first.
+fn reads_records(engine: &mut LockEngine, out: &mut Effects) -> Result<bool, NoMemory> {
+    let read = LockCmd::RtRead { conn: ConnId(1) };
+    let reply = call(engine, ConnId(2), &read, out)?;
+    Ok(matches!(&reply, Ok(LockReply::Records(_))))
+}
+
+// How many interests and waiters a copy has.
+fn copied_count(engine: &LockEngine, alloc: Global) -> Result<u32, NoMemory> {
+    let copy = engine.copy(alloc)?;
+    Ok(copy.count())
 }
 
 #[test]
@@ -82,12 +124,11 @@ fn recorded_locks_outlive_a_failure(rt: HostRuntime) -> Result<(), Fail> {
     let alloc = rt.alloc();
     let mut engine = locks_of(alloc)?;
     let mut out = Effects::new(alloc);
-    let _ = call(&mut engine, ConnId(1), &obtain(), &mut out)?;
-    engine.leave_ready(ConnId(1), &mut out)?;
-    engine.leave(ConnId(1), true, &mut out);
-    let read = LockCmd::RtRead { conn: ConnId(1) };
-    let told = call(&mut engine, ConnId(2), &read, &mut out)?;
-    assert!(rt; matches!(told, Ok(LockReply::Records(_))));
-    assert!(rt; engine.copy(alloc)?.count() == 1);
+    let owned = obtains(&mut engine, ConnId(1), &mut out)?;
+    fail_first(&mut engine, &mut out)?;
+    let told = reads_records(&mut engine, &mut out)?;
+    assert!(rt; owned && told);
+    let count = copied_count(&engine, alloc)?;
+    assert_eq!(rt; count, 1);
     Ok(())
 }
