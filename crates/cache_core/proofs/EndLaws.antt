@@ -16,7 +16,7 @@ use Rattle.list_laws.proofs.FilterLaws.{filter-filter, filter_all, list_all_alwa
 use Rattle.cache_regs.specs.declared.registrations.Registration.{Registration}
 use Rattle.cache_regs.specs.Registrations.{stands, regs_with, ends_with_name, regs_without_name}
 use Rattle.cache_regs.proofs.NameLaws.{same_name-sym}
-use Rattle.cache_regs.proofs.BitLaws.{falls_filter, stands_kept}
+use Rattle.cache_regs.proofs.BitLaws.{falls_filter, stands_kept, gains_then_falls}
 use Rattle.cache_model.specs.declared.items.CacheItem.{CacheItem}
 use Rattle.cache_model.specs.Contents.{is_among, regs_spared}
 use Rattle.cache_model.specs.Commands.CoStats.{has_rows, rows_of_class, class_counts}
@@ -84,6 +84,20 @@ stands_kept_twice p q by index name regs e f =
 pub falls_twice : (p q : Registration → Bool) (regs : List Registration) → Falls (stands regs)
     (stands (filter q (filter p regs)))
 falls_twice p q regs conn i h = falls_filter p regs conn i (falls_filter q (filter p regs) conn i h)
+
+-- the bits that a connector's registration for a name changes, and then the end of the registrations for others
+pub gains_registered : (by : ConnId) (index : ℕ) (name : Name16) (gone : List Name16)
+    (before middle after : List Registration) (told between later : List BitChange)
+    → Gains (stands before) (stands middle) told between → Gains (stands middle) (stands after) between later
+    → middle ≡ regs_with by index name before → after ≡ regs_spared gone middle → is_among gone name ≡ false
+    → Gains (stands before) (stands after) told later
+gains_registered by index name gone before middle after told between later first second made ends apart =
+    let q = λ (reg : Registration). not (is_among gone reg.name) in
+    let start = rw made at first in
+    let last = rw (ends, made) at second in
+    rw (ends, made)
+    (gains_then_falls by index name before (regs_spared gone (regs_with by index name before)) told between later
+    (stands_kept q by index name before (ap not apart)) (falls_filter q (regs_with by index name before)) start last)
 
 -- ---- counts, a class at a time
 

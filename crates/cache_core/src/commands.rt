@@ -1,5 +1,5 @@
 //! The commands of a cache structure, a file each: why one is refused, its reply, and what it does.
-ghost use Rattle.std.specs.Prelude.{◌≡◌, ◌≤◌, [], false, length};
+ghost use Rattle.std.specs.Prelude.{◌≡◌, ◌+◌, ◌≤◌, [], false, length};
 ghost use Rattle.cf_types.specs.Gains.{Gains};
 ghost use Rattle.cache_regs.specs.Registrations.{stands, regs_with};
 ghost use Rattle.cache_model.specs.Rows.{has_row, row_or_new, rows_without};
@@ -48,7 +48,10 @@ fn end_regs(regs: &mut Regs, names: &[Name16], out: &mut Effects)
     ensures regs { regs.new.regs ≡ regs_spared names.now regs.old.regs }
     ensures bits { Gains (stands regs.old.regs) (stands regs.new.regs) out.old.bits.items
         out.new.bits.items }
+    ensures room { out.old.bits.room + length regs.new.regs
+        ≡ out.new.bits.room + length regs.old.regs }
     ensures mail { out.new.mail ≡ out.old.mail }
+    ensures place { regs.old.room ≤ regs.new.room }
 {
     for name in names {
         let _ = regs.drop_name(name, None, out);

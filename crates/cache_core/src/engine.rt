@@ -46,7 +46,7 @@ impl Engine for CacheEngine {
     ghost use Rattle.cache_core.specs.EngineView.{IsReady};
     ghost use Rattle.cache_model.specs.Contents.{IsContent};
     ghost use Rattle.cache_model.specs.Meaning.{cache_meaning};
-    ghost use Rattle.cache_model.proofs.EngineLaws.{content-nothing, step-content, leave-content, content-moved, content-forgotten, made-items, unplace-place, need-front, need-leave, need-same};
+    ghost use Rattle.cache_model.proofs.EngineLaws.{content-nothing, step-content, leave-content, content-moved, content-forgotten, made-items, content-next, unplace-place, need-front, need-leave, need-same};
 
     type Cmd = CacheCmd;
 
@@ -171,8 +171,10 @@ impl Engine for CacheEngine {
     }
 
     fn unplace(&mut self) {
+        let rows = self.rows.items();
+        let name = rows[rows.len() - 1].name;
         self.rows.pop();
-        self.regs.clear();
+        self.regs.forget_name(&name);
     }
 
     fn need(&self) -> Caps {
@@ -209,9 +211,13 @@ impl Engine for CacheEngine {
 
     ghost content_moved = { content-moved };
 
-    ghost items_place = { λ shape caps content item next. refl };
+    ghost content_place = { λ shape caps content item is next. content-next caps content next.whole
+        item next.others is next.content next.first };
 
-    ghost unplace_place = { λ _ _ content item next. unplace-place content item next.made_so };
+    ghost items_place = { λ shape caps content item is next. refl };
+
+    ghost unplace_place = { λ _ caps content item is next. unplace-place caps content next.whole
+        item next.others is next.content next.first };
 
     ghost need_first = { need-front };
 

@@ -1,10 +1,13 @@
 -- The laws of the engine's meaning.
-use Rattle.std.proofs.Common.{◌≡◌, ◌-◌, ◌≤◌, IsTrue, true, false, List, [], ◌∷◌, ◌++◌, append-nil, append_assoc, length, length-append, take, drop, fold, refl, sym, ap, ◌∙◌, arith}
+use Rattle.std.proofs.Common.{◌≡◌, ℕ, ◌+◌, ◌-◌, ◌≤◌, Bool, IsTrue, true, false, not, ◌&&◌, List, [], ◌∷◌, ◌++◌, append-nil, append_assoc, Option, None, Some, length, length-append, filter, take, drop, slice_get, fold, ◌⊎◌, inl, inr, ⊎_elim, refl, sym, ap, subst, ◌∙◌, arith}
 use Rattle.std.specs.List.{list_all}
-use Rattle.std.proofs.lemmas.Bool.{and_parts, or_from, or_left, not-true}
+use Rattle.std.proofs.lemmas.Bool.{and_parts, or_from, or_left, or_cases, not-true, false≢true}
 use Rattle.cf_types.specs.Name.{same_name}
-use Rattle.list_laws.proofs.FilterLaws.{list_all_weaker}
-use Rattle.std.proofs.lemmas.List.{length-map, take_at, take-append-drop}
+use Rattle.cf_types.specs.declared.names.Name16.{Name16}
+use Rattle.list_laws.proofs.FilterLaws.{filter_all, list_all_weaker, list_all_both, list_all-filter, list_all-filter_same}
+use Rattle.list_laws.proofs.TakeLaws.{split_next}
+use Rattle.std.proofs.lemmas.List.{length-map, take_all, take_at, take-append-drop, drop_all}
+use Rattle.std.proofs.lemmas.Option.{slice_get_cases}
 use Rattle.std.proofs.lemmas.List.Folds.{list_all-append, list_any-append}
 use Rattle.std.proofs.lemmas.List.Sums.{sum_by-append}
 use Rattle.cf_types.specs.Forms.{is_cache}
@@ -18,9 +21,13 @@ use Rattle.engine_api.specs.Meaning.{step_result}
 use Rattle.engine_api.specs.Items.{Fits, IsNoMore, IsNoMoreOf}
 use Rattle.list_laws.specs.Pairwise.{pairwise}
 use Rattle.list_laws.proofs.PairwiseLaws.{pairwise_front}
+use Rattle.cache_regs.specs.declared.registrations.Registration.{Registration}
+use Rattle.cache_regs.specs.Registrations.{regs_for_others}
+use Rattle.cache_regs.proofs.NameLaws.{same_name-eq, same_name-sym}
+use Rattle.cache_regs.proofs.RegLaws.{registry-filter}
 use Rattle.cache_model.specs.declared.items.CacheItem.{CacheItem}
 use Rattle.cache_model.specs.Rows.{is_row_of, elements_in, has_row, may_precede, names_apart, is_sound}
-use Rattle.cache_model.specs.Contents.{Content, IsContent, no_content, content_without, content_forgotten, content_with, content_without_last, need_of, without_hold}
+use Rattle.cache_model.specs.Contents.{Content, IsContent, no_content, content_without, content_forgotten, content_with, content_without_last, regs_without_row, need_of, without_hold}
 use Rattle.cache_model.specs.Meaning.{cache_meaning}
 use Rattle.cache_model.proofs.RowLaws.{size, elements-without_hold}
 use Rattle.cache_model.proofs.ContentLaws as laws
@@ -59,17 +66,6 @@ made-from content (item ∷ items) =
 
 pub made-items : (rows : List CacheItem) → fold content_with no_content rows ≡ record { rows = rows; regs = [] }
 made-items rows = made-from no_content rows
-
-last-away : (rows : List CacheItem) (item : CacheItem) → take (length (rows ++ item ∷ []) - 1) (rows ++ item ∷ []) ≡
-    rows
-last-away rows item = take_at rows (item ∷ []) (length (rows ++ item ∷ []) - 1)
-    (omega (arith, length-append rows (item ∷ [])))
-
-pub unplace-place : (content : Content) (item : CacheItem) → fold content_with no_content content.rows ≡ content
-    → content_without_last (content_with content item) ≡ content
-unplace-place content item made =
-    let alone : content ≡ record { rows = content.rows; regs = [] } = sym made ∙ made-items content.rows in
-    ap (λ (l : List CacheItem). record { rows = l; regs = [] }) (last-away content.rows item) ∙ sym alone
 
 pub need-front : (items others : List CacheItem) → IsNoMore (need_of items) (need_of (items ++ others))
 need-front items others = (omega (arith, length-append items others), omega (arith, sum_by-append size items others))
@@ -140,14 +136,6 @@ content-front caps whole rows others is e =
       row_each = refl;
     }
 
--- without its last row, and with no registrations
-pub content-without_last : (caps : Caps) (content : Content) → IsContent caps content
-    → IsContent caps (content_without_last content)
-content-without_last caps content is =
-    content-front caps content (take (length content.rows - 1) content.rows)
-    (drop (length content.rows - 1) content.rows) is
-    (sym (take-append-drop (length content.rows - 1) content.rows))
-
 -- one more of the rows of a content has a name of its own
 pub alone-next : (rows others : List CacheItem) (item : CacheItem) → pairwise names_apart (rows ++ item ∷ others) ≡
     true → has_row item.name rows ≡ false
@@ -178,3 +166,117 @@ content-next caps content whole item others is all e =
           (λ reg h. list_any-append (is_row_of reg.name) content.rows (item ∷ [])
           ∙ or_left (has_row reg.name content.rows) (has_row reg.name (item ∷ [])) h) content.regs is.row_each;
     }
+
+-- ---- without the last row
+
+-- who is registered for another name than the last row's has a row in front of it
+row_in_front : (row : CacheItem) (front : List CacheItem) (reg : Registration)
+    → has_row reg.name (front ++ row ∷ []) && not (same_name reg.name row.name) ≡ true → has_row reg.name front ≡ true
+row_in_front row front reg h =
+    let parts = and_parts (has_row reg.name (front ++ row ∷ [])) (not (same_name reg.name row.name)) h in
+    either (or_cases (has_row reg.name front) (has_row reg.name (row ∷ []))
+    (sym (list_any-append (is_row_of reg.name) front (row ∷ [])) ∙ parts.0)) parts.1
+  where
+    not_last : (named : Bool) → same_name row.name reg.name ≡ named → has_row reg.name (row ∷ []) ≡ true
+        → not (same_name reg.name row.name) ≡ true → ⊥
+    not_last true is last other =
+        false≢true (ap not (sym is ∙ same_name-sym row.name reg.name) ∙ other)
+    not_last false is last other =
+        false≢true (sym (or_from (same_name row.name reg.name) false is refl) ∙ last)
+
+    either : (has_row reg.name front ≡ true) ⊎ (has_row reg.name (row ∷ []) ≡ true)
+        → not (same_name reg.name row.name) ≡ true → has_row reg.name front ≡ true
+    either (inl there) other = there
+    either (inr last) other = absurd (not_last (same_name row.name reg.name) refl last other)
+
+-- the last row of a content goes, with its registrations
+without_last : (caps : Caps) (content : Content) → IsContent caps content → (row : Option CacheItem)
+    → slice_get content.rows (length content.rows - 1) ≡ row
+    → IsContent caps (record {
+      rows = take (length content.rows - 1) content.rows;
+      regs = regs_without_row row content.regs;
+    })
+without_last caps content is None at =
+    let rows = content.rows in
+    let last = length rows - 1 in
+    let front = content-front caps content (take last rows) (drop last rows) is (sym (take-append-drop last rows)) in
+    let all : take last rows ≡ rows =
+    take_all last rows (⊎_elim (λ found. absurd (none≢some found.0 (sym at ∙ found.2)))
+    (λ past. past.0) (slice_get_cases rows last).1) in
+    record {
+      directory = front.directory;
+      entries = front.entries;
+      elements = front.elements;
+      registry = is.registry;
+      row_each = rw all is.row_each;
+    }
+  where
+    none≢some : (row : CacheItem) → None ≡ Some row → ⊥
+    none≢some row h = cc
+without_last caps content is (Some row) at =
+    let rows = content.rows in
+    let last = length rows - 1 in
+    let front = content-front caps content (take last rows) (drop last rows) is (sym (take-append-drop last rows)) in
+    let split : rows ≡ take last rows ++ row ∷ [] =
+    split_next rows last row at
+    ∙ ap (λ (l : List CacheItem). take last rows ++ row ∷ l) (drop_all (last + 1) rows (omega arith)) in
+    let others = λ (reg : Registration). not (same_name reg.name row.name) in
+    record {
+      directory = front.directory;
+      entries = front.entries;
+      elements = front.elements;
+      registry = registry-filter others content.regs is.registry;
+      row_each = list_all_weaker (λ reg. has_row reg.name (take last rows ++ row ∷ []) && others reg)
+          (λ reg. has_row reg.name (take last rows)) (row_in_front row (take last rows))
+          (filter others content.regs)
+          (list_all_both (λ reg. has_row reg.name (take last rows ++ row ∷ [])) others (filter others content.regs)
+          (list_all-filter (λ reg. has_row reg.name (take last rows ++ row ∷ [])) others content.regs
+          (subst (λ (l : List CacheItem). list_all (λ reg. has_row reg.name l) content.regs ≡ true) split is.row_each))
+          (list_all-filter_same others content.regs));
+    }
+
+pub content-without_last : (caps : Caps) (content : Content) → IsContent caps content
+    → IsContent caps (content_without_last content)
+content-without_last caps content is =
+    without_last caps content is (slice_get content.rows (length content.rows - 1)) refl
+
+last_of : (rows : List CacheItem) (item : CacheItem) → slice_get (rows ++ item ∷ []) (length rows) ≡ Some item
+last_of [] item = refl
+last_of (row ∷ rows) item = last_of rows item
+
+-- nobody is registered for a name that has no row
+no_regs_for : (name : Name16) (content : Content) → has_row name content.rows ≡ false
+    → list_all (λ reg. has_row reg.name content.rows) content.regs ≡ true
+    → regs_for_others name content.regs ≡ content.regs
+no_regs_for name content none each =
+    filter_all (λ reg. not (same_name reg.name name)) content.regs
+    (list_all_weaker (λ reg. has_row reg.name content.rows) (λ reg. not (same_name reg.name name))
+    (λ reg there. apart reg (same_name reg.name name) refl there) content.regs each)
+  where
+    apart : (reg : Registration) (named : Bool) → same_name reg.name name ≡ named
+        → has_row reg.name content.rows ≡ true → not (same_name reg.name name) ≡ true
+    apart reg true is there =
+        absurd (false≢true (sym none ∙ ap (λ (n : Name16). has_row n content.rows)
+        (sym (same_name-eq reg.name name is)) ∙ there))
+    apart reg false is there = ap not is
+
+-- the next row of a content goes again as it came
+pub unplace-place : (caps : Caps) (content whole : Content) (item : CacheItem) (others : List CacheItem)
+    → IsContent caps content → IsContent caps whole → whole.rows ≡ content.rows ++ item ∷ others
+    → content_without_last (content_with content item) ≡ content
+unplace-place caps content whole item others is all split =
+    let rows = content.rows in
+    let last : length (rows ++ item ∷ []) - 1 ≡ length rows = omega (arith, length-append rows (item ∷ [])) in
+    let apart : pairwise names_apart (rows ++ item ∷ others) ≡ true = rw split at all.directory.one_for_name in
+    ap (λ (n : ℕ). record {
+      rows = take n (rows ++ item ∷ []);
+      regs = regs_without_row (slice_get (rows ++ item ∷ []) n) content.regs;
+    }) last
+    ∙ ap (λ (row : Option CacheItem). record {
+      rows = take (length rows) (rows ++ item ∷ []);
+      regs = regs_without_row row content.regs;
+    }) (last_of rows item)
+    ∙ (λ i. record {
+      rows = take_at rows (item ∷ []) (length rows) refl i;
+      regs = no_regs_for item.name content (alone-next rows others item apart) is.row_each i;
+    })

@@ -1,12 +1,12 @@
 -- What a cache structure contains, and what every content keeps.
-use Rattle.std.specs.Prelude.{◌-◌, ◌≤◌, Bool, IsTrue, not, if◌then◌else◌, List, [], ◌∷◌, ◌++◌, length, None, filter, map, take}
+use Rattle.std.specs.Prelude.{◌-◌, ◌≤◌, Bool, IsTrue, not, if◌then◌else◌, List, [], ◌∷◌, ◌++◌, length, Option, None, Some, filter, map, take, slice_get}
 use Rattle.std.specs.List.{list_any, list_all}
 use Rattle.cf_types.specs.declared.forms.Caps.{Caps}
 use Rattle.cf_types.specs.declared.names.Name16.{Name16}
 use Rattle.cf_types.specs.declared.numbers.ConnId.{ConnId}
 use Rattle.cf_types.specs.Name.{same_name}
 use Rattle.cache_regs.specs.declared.registrations.Registration.{Registration}
-use Rattle.cache_regs.specs.Registrations.{regs_without, IsRegistry}
+use Rattle.cache_regs.specs.Registrations.{regs_without, regs_for_others, IsRegistry}
 use Rattle.cache_model.specs.declared.items.CacheItem.{CacheItem}
 use Rattle.cache_model.specs.Rows.{is_held_by, elements_in, has_row, IsDirectory}
 
@@ -38,13 +38,19 @@ content_without conn content =
 abbrev pub content_forgotten : Content → Content
 content_forgotten content = record content { regs = [] }
 
--- one item more, behind the others; without the last one. There are no registrations while items come one after
--- another
+-- one item more, behind the others
 abbrev pub content_with : Content → CacheItem → Content
 content_with content item = record content { rows = content.rows ++ item ∷ [] }
 
+-- without the last item, and without its registrations
+abbrev pub regs_without_row : Option CacheItem → List Registration → List Registration
+regs_without_row None regs = regs
+regs_without_row (Some row) regs = regs_for_others row.name regs
+
 abbrev pub content_without_last : Content → Content
-content_without_last content = record { rows = take (length content.rows - 1) content.rows; regs = [] }
+content_without_last content =
+    let last = length content.rows - 1 in
+    record { rows = take last content.rows; regs = regs_without_row (slice_get content.rows last) content.regs }
 
 -- the entries and elements that items need
 abbrev pub need_of : List CacheItem → Caps

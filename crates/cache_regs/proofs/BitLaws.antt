@@ -1,5 +1,5 @@
 -- The bits that change when registrations come and end.
-use Rattle.std.proofs.Common.{◌≡◌, ℕ, Bool, true, false, not, ◌&&◌, ◌||◌, ◌==◌, List, [], ◌∷◌, ◌++◌, filter, map, refl, sym, ap, ◌∙◌, subst₂, inl, inr, ◌⊎◌, arith}
+use Rattle.std.proofs.Common.{◌≡◌, ℕ, Bool, true, false, not, ◌&&◌, ◌||◌, ◌==◌, List, [], ◌∷◌, ◌++◌, filter, map, append-nil, refl, sym, ap, ◌∙◌, subst₂, inl, inr, ◌⊎◌, arith}
 use Rattle.std.specs.List.{list_any, list_all}
 use Rattle.std.proofs.lemmas.Bool.{and_parts, false≢true, eqb-true, eq-eqb}
 use Rattle.std.proofs.lemmas.Bool.Decides.{nat_tests}
@@ -10,12 +10,12 @@ use Rattle.cf_types.specs.declared.effects.BitChange.{BitChange}
 use Rattle.cf_types.specs.Gains.{Gains, bits_told, difference}
 use Rattle.cf_types.proofs.GainsLaws.{Falls, gains_none, gains_one, gains_then}
 use Rattle.list_laws.specs.Pairwise.{pairwise}
-use Rattle.list_laws.specs.Insertions.{insertion}
 use Rattle.list_laws.proofs.FilterLaws.{any-filter, none-filter, none_from_all, list_all_weaker}
 use Rattle.list_laws.proofs.InsertionLaws.{list_any-insertion, list_any-insertion_kept}
 use Rattle.cache_regs.specs.declared.registrations.Registration.{Registration}
 use Rattle.cache_regs.specs.Registrations.{is_of, is_at, is_for, is_replaced, regs_with, stands, stands_before}
 use Rattle.cache_regs.specs.Ends.{clear_change}
+use Rattle.cache_regs.specs.Places.{with_reg, set_changes}
 use Rattle.cache_regs.proofs.RegLaws.{places_apart}
 
 -- ---- registrations end
@@ -89,11 +89,6 @@ stands_elsewhere regs by conn index i =
     any-filter_same (is_at conn i) (λ reg. not (is_at by index reg)) (not ((by.0 == conn.0) && (index == i)))
     (λ reg e. same_test reg.conn.0 reg.index conn.0 i by.0 index e) regs
 
--- with the new one in its place
-abbrev pub with_reg : Registration → List Registration → List Registration
-with_reg new regs = insertion (λ reg. stands_before reg new) new (filter (λ reg. not (is_at new.conn new.index reg))
-    regs)
-
 stands_with : (new : Registration) (regs : List Registration) (conn : ConnId) (i : ℕ)
     → stands (with_reg new regs) conn i ≡ ((new.conn.0 == conn.0) && (new.index == i))
     || (not ((new.conn.0 == conn.0) && (new.index == i)) && stands regs conn i)
@@ -144,6 +139,16 @@ gains_new new regs bits stood =
     let one = gains_one new.conn new.index (stands regs) (stands (with_reg new regs)) bits
     (λ e. false≢true (sym stood ∙ e ∙ now)) (λ conn i e. stands_with-other new regs conn i e) in
     rw now at one
+
+-- a registration comes in the place of what stood at its index
+pub gains_set : (new : Registration) (regs after : List Registration) (told later : List BitChange)
+    → after ≡ with_reg new regs → later ≡ told ++ set_changes new regs
+    → Gains (stands regs) (stands after) told later
+gains_set new regs after told later put is = rw put (go (stands regs new.conn new.index) refl)
+  where
+    go : (b : Bool) → stands regs new.conn new.index ≡ b → Gains (stands regs) (stands (with_reg new regs)) told later
+    go true stood = rw (is, stood, append-nil told) (gains_stood new regs told stood)
+    go false stood = rw (is, stood) (gains_new new regs told stood)
 
 -- ---- a connector's registration for the name at another index ends, and it is registered at the index
 

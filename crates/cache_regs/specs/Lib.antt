@@ -1,3 +1,4 @@
 pub mod Registrations
 pub mod Registry
 pub mod Ends
+pub mod Places

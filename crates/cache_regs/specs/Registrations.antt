@@ -30,9 +30,12 @@ index_for regs conn name = option_map (λ reg. reg.index) (find (is_for conn nam
 abbrev pub stands : List Registration → ConnId → ℕ → Bool
 stands regs conn index = list_any (is_at conn index) regs
 
--- the registrations for a name, and those of a connector
+-- the registrations for a name, those for other names, and those of a connector
 abbrev pub regs_for : Name16 → List Registration → List Registration
 regs_for name regs = filter (λ reg. same_name reg.name name) regs
+
+abbrev pub regs_for_others : Name16 → List Registration → List Registration
+regs_for_others name regs = filter (λ reg. not (same_name reg.name name)) regs
 
 abbrev pub regs_of : ConnId → List Registration → List Registration
 regs_of conn regs = filter (is_of conn) regs

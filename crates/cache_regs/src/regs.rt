@@ -1,10 +1,10 @@
-ghost use Rattle.std.specs.Prelude.{◌≡◌, ◌+◌, ◌≤◌, ◌<◌, ◌&&◌, [], IsTrue, IfOk, OnOk, Some, not, length, filter, option_map, find};
+ghost use Rattle.std.specs.Prelude.{◌≡◌, ◌+◌, ◌≤◌, ◌<◌, ◌&&◌, ◌++◌, [], IsTrue, IfOk, OnOk, Some, length, filter, option_map, find};
 ghost use Rattle.std.specs.List.{list_any, prefix_len, insert};
 ghost use Rattle.std.specs.Vec.{vec_len, vec_capacity};
 ghost use Rattle.cf_types.specs.Gains.{Gains};
 ghost use Rattle.list_laws.specs.Pairwise.{pairwise};
-ghost use Rattle.list_laws.specs.Insertions.{insertion};
-ghost use Rattle.cache_regs.specs.Registrations.{is_at, is_for, is_of, registered_at, index_for, stands, stands_before, regs_for, regs_with, regs_without, regs_without_name, ends_with_name, IsRegistry};
+ghost use Rattle.cache_regs.specs.Registrations.{is_for, is_of, registered_at, index_for, stands, stands_before, regs_for, regs_for_others, regs_with, regs_without, regs_without_name, ends_with_name, IsRegistry};
+ghost use Rattle.cache_regs.specs.Places.{with_reg, set_changes};
 ghost use Rattle.cache_regs.specs.declared.registrations.Registration.{Registration};
 
 use crate::ends::{Ends, count_ended, end};
@@ -71,18 +71,12 @@ fn insert_at(regs: &mut Vec<Registration>, at: usize, new: Registration)
     let _ = regs.insert(at, new);
 }
 
-// Ends what stands at the index of a registration, and puts it there.
-fn put(regs: &mut Vec<Registration>, new: Registration, out: &mut Effects)
-    requires place { vec_len regs.old < vec_capacity regs.old }
-    requires room { 1 ≤ out.old.bits.room }
-    ensures regs { regs.new.items ≡ insertion (λ reg. stands_before reg new) new
-        (filter (λ reg. not (is_at new.conn new.index reg)) regs.old.items) }
-    ensures bits { Gains (stands regs.old.items) (stands regs.new.items) out.old.bits.items
-        out.new.bits.items }
+// Tells of the bit that a registration sets, where it doesn't stand yet.
+fn tell_set(regs: &[Registration], new: &Registration, out: &mut Effects)
+    requires { 1 ≤ out.old.bits.room }
+    ensures bits { out.new.bits.items ≡ out.old.bits.items ++ set_changes new.now regs.now }
     ensures room { out.old.bits.room ≤ out.new.bits.room + 1 }
     ensures mail { out.new.mail ≡ out.old.mail }
-    ensures more { vec_len regs.new ≤ vec_len regs.old + 1 }
-    ensures capacity { vec_capacity regs.old ≤ vec_capacity regs.new }
 {
     if !is_taken(regs, new.conn, new.index) {
         out.bits.push(BitChange {
@@ -91,9 +85,35 @@ fn put(regs: &mut Vec<Registration>, new: Registration, out: &mut Effects)
             bit: true,
         });
     }
+}
+
+// Ends what stands at the index of a registration, and puts it there.
+fn replace(regs: &mut Vec<Registration>, new: Registration)
+    requires { vec_len regs.old < vec_capacity regs.old }
+    ensures regs { regs.new.items ≡ with_reg new regs.old.items }
+    ensures more { vec_len regs.new ≤ vec_len regs.old + 1 }
+    ensures capacity { vec_capacity regs.old ≤ vec_capacity regs.new }
+{
     regs.retain(|reg| !(reg.conn == new.conn && reg.index == new.index));
     let at = place_of(regs, &new);
     insert_at(regs, at, new);
+}
+
+// Puts a registration in the place of what stands at its index, and tells of its bit.
+#[tactic(auto, using(crate::proofs::BitLaws::gains_set))]
+fn put(regs: &mut Vec<Registration>, new: Registration, out: &mut Effects)
+    requires place { vec_len regs.old < vec_capacity regs.old }
+    requires room { 1 ≤ out.old.bits.room }
+    ensures regs { regs.new.items ≡ with_reg new regs.old.items }
+    ensures bits { Gains (stands regs.old.items) (stands regs.new.items) out.old.bits.items
+        out.new.bits.items }
+    ensures room { out.old.bits.room ≤ out.new.bits.room + 1 }
+    ensures mail { out.new.mail ≡ out.old.mail }
+    ensures more { vec_len regs.new ≤ vec_len regs.old + 1 }
+    ensures capacity { vec_capacity regs.old ≤ vec_capacity regs.new }
+{
+    tell_set(regs, &new, out);
+    replace(regs, new);
 }
 
 impl Regs {
@@ -239,11 +259,11 @@ impl Regs {
         end(&mut self.regs, Ends::Conn { conn }, out);
     }
 
-    /// Ends all registrations, and tells nothing.
-    pub fn clear(&mut self)
-        ensures { self.new.regs ≡ [] }
+    /// Ends the registrations for a name, and tells nothing.
+    pub fn forget_name(&mut self, name: &Name16)
+        ensures { self.new.regs ≡ regs_for_others name.now self.old.regs }
     {
-        self.regs.clear();
+        self.regs.retain(|reg| reg.name != *name);
     }
 
     /// Ends all registrations. The bit of each is cleared.

@@ -27,10 +27,9 @@ module _ {C R I S : Type 0} (meaning : Meaning C R I S) where
   abbrev pub content_of_items : Shape → List I → S
   content_of_items shape items = fold (meaning.place shape) (meaning.empty shape) items
 
-  -- the items so far make this content, and with one more they are the first of some content's
+  -- the items so far, followed by this one, are the first of some content's
   pub record IsNextItem (IsContent : S → Type 0) (shape : Shape) (state : S) (item : I) : Type 0 where
     pub whole : S
     pub others : List I
     pub content : IsContent whole
     pub first : meaning.items shape whole ≡ meaning.items shape state ++ item ∷ others
-    pub made_so : content_of_items shape (meaning.items shape state) ≡ state

@@ -12,7 +12,7 @@ use Rattle.engine_api.specs.declared.asks.Reply.TheVariants as reply
 use Rattle.engine_api.specs.declared.deeds.Deeds.{Deeds}
 use Rattle.engine_api.specs.Meaning.{Meaning, Held, Departure, step_result}
 use Rattle.engine_api.specs.Shapes.{shape_of}
-use Rattle.engine_api.specs.Shell.{Shell, Leaver, opening_shell, shell_cause, content_cause, shell_done, leaver, with_posted}
+use Rattle.engine_api.specs.Shell.{Shell, Leaver, opening_shell, call_cause, shell_done, leaver, with_posted}
 
 -- the part that is the same for every kind, and the content. Where no instance stands there is nothing in the content
 pub record Machine (S : Type 0) : Type 0 where
@@ -88,8 +88,11 @@ module _ {C R I S : Type 0} (meaning : Meaning C R I S) (form : StrForm) where
   unless None machine done = done
   unless (Some refusal) machine done = refusal_outcome machine refusal
 
+  -- what a call does that the shell doesn't refuse
+  abbrev pub call_done : Machine S → ConnId → Ask C → CallOutcome R S
+  call_done machine by (ask.Shell cmd) = command_done machine by cmd
+  call_done machine by (ask.Content cmd) = content_done machine by cmd
+
   -- the step of a call
   abbrev pub step : Machine S → ConnId → Ask C → CallOutcome R S
-  step machine by (ask.Shell cmd) = unless (shell_cause form machine.shell by cmd) machine
-      (command_done machine by cmd)
-  step machine by (ask.Content cmd) = unless (content_cause machine.shell by) machine (content_done machine by cmd)
+  step machine by asked = unless (call_cause form machine.shell by asked) machine (call_done machine by asked)

@@ -20,6 +20,8 @@ use Rattle.cf_types.specs.declared.shell_commands.ShellReply.TheVariants as repl
 use Rattle.cf_types.specs.ConnSets.{without_member}
 use Rattle.cf_types.specs.Connections.{Connections, no_connections, state_of, is_active, actives, defined_count, with_connect, with_departure, with_answer, with_forced}
 use Rattle.cf_types.specs.Mailboxes.{Mailboxes, empty_mail, next_event, owed_event, with_letters, letters_to, with_taken, with_response, with_cleared}
+use Rattle.engine_api.specs.declared.asks.Ask.{Ask}
+use Rattle.engine_api.specs.declared.asks.Ask.TheVariants as ask
 use Rattle.engine_api.specs.declared.deeds.Deeds.{Deeds}
 use Rattle.engine_api.specs.Meaning.{first_refusal}
 use Rattle.engine_api.specs.Instances.{Instances, no_instance, units_of, candidates, place_for, greatest_units}
@@ -104,6 +106,11 @@ shell_cause form shell by command = first_refusal (shell_causes form shell by co
 -- the refusal of a command on the content, before the engine is asked
 abbrev pub content_cause : Shell → ConnId → Option Refusal
 content_cause shell by = first_refusal (unless_active shell by ∷ [])
+
+-- the refusal of a call by the shell
+abbrev pub call_cause : {C : Type 0} → StrForm → Shell → ConnId → Ask C → Option Refusal
+call_cause form shell by (ask.Shell command) = shell_cause form shell by command
+call_cause form shell by (ask.Content command) = content_cause shell by
 
 -- ---- what is done
 

@@ -200,13 +200,20 @@ pub trait Engine: Sized + Send + Drop {
         → Fits shape.kind (meaning.need (meaning.items shape state)) other
         → is_content shape other (meaning.forget state) };
 
-    /// An item that is placed is the last, and goes with `unplace`.
+    /// With the next item a content is one again; the item is the last, and goes with `unplace`.
+    ghost content_place: { (shape : Shape) (caps : Caps) (state : Self.State) (item : Self.Item)
+        → is_content shape caps state
+        → IsNextItem meaning (is_content shape caps) shape state item
+        → is_content shape caps (meaning.place shape state item) };
+
     ghost items_place: { (shape : Shape) (caps : Caps) (state : Self.State) (item : Self.Item)
+        → is_content shape caps state
         → IsNextItem meaning (is_content shape caps) shape state item
         → meaning.items shape (meaning.place shape state item) ≡ meaning.items shape state
         ++ item ∷ [] };
 
     ghost unplace_place: { (shape : Shape) (caps : Caps) (state : Self.State) (item : Self.Item)
+        → is_content shape caps state
         → IsNextItem meaning (is_content shape caps) shape state item
         → meaning.unplace shape (meaning.place shape state item) ≡ state };
 

@@ -1,1 +1,2 @@
 pub mod PostLaws
+pub mod RemovalLaws

@@ -98,6 +98,7 @@ impl Letterbox {
     }
 
     /// Takes the first event that waits. Where it is to be answered it is owed from now on.
+    #[tactic(auto, using(crate::proofs::RemovalLaws::removal))]
     pub fn take(&mut self) -> Option<Event>
         ensures event { result ≡ first_event self.old.mailbox.waiting }
         ensures mailbox { self.new.mailbox ≡ box_taken self.old.mailbox }

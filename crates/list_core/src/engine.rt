@@ -46,7 +46,7 @@ impl Engine for ListEngine {
     ghost use Rattle.list_core.specs.EngineView.{IsReady};
     ghost use Rattle.list_model.specs.Contents.{IsContent};
     ghost use Rattle.list_model.specs.Meaning.{list_meaning};
-    ghost use Rattle.list_model.proofs.EngineLaws.{content-nothing, items-nothing, step-content, leave-content, content-moved, made-items, items-place, unplace-place, need-front, need-leave, need-same};
+    ghost use Rattle.list_model.proofs.EngineLaws.{content-nothing, items-nothing, step-content, leave-content, content-moved, made-items, content-place, items-place, unplace-place, need-front, need-leave, need-same};
 
     type Cmd = ListCmd;
 
@@ -181,6 +181,8 @@ impl Engine for ListEngine {
     ghost made_again = { made-items };
 
     ghost content_moved = { content-moved };
+
+    ghost content_place = { content-place };
 
     ghost items_place = { items-place };
 

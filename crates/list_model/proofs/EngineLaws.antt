@@ -123,12 +123,12 @@ pub made-items : (shape : Shape) (caps : Caps) (content : Content) → IsContent
 made-items shape caps content is = made-again shape caps content is
 
 -- where the item comes
-pub next-comes : (shape : Shape) (caps : Caps) (state : Content) (item : ListItem)
-    (next : IsNextItem list_meaning (IsContent shape caps) shape state item)
+pub next-comes : (shape : Shape) (caps : Caps) (state : Content) (item : ListItem) → IsContent shape caps state
+    → (next : IsNextItem list_meaning (IsContent shape caps) shape state item)
     → ComesFirst shape next.whole state item ⊎ ComesNext shape next.whole state item
-next-comes shape caps state item next =
+next-comes shape caps state item is next =
     item-comes shape caps next.whole state item
-    (items_of shape state) next.others next.content next.first next.made_so
+    (items_of shape state) next.others next.content next.first (made-items shape caps state is)
 
 comes_first : (shape : Shape) (caps : Caps) (whole state : Content) (item : ListItem) → IsContent shape caps whole
     → ComesFirst shape whole state item
@@ -160,10 +160,10 @@ place_items shape caps whole state item is (inr next) =
     ∙ ap (λ (c : Content). items_of shape c ++ item ∷ []) (sym next.front)
 
 pub items-place : (shape : Shape) (caps : Caps) (state : Content) (item : ListItem)
-    → IsNextItem list_meaning (IsContent shape caps) shape state item
+    → IsContent shape caps state → IsNextItem list_meaning (IsContent shape caps) shape state item
     → items_of shape (content_with state item) ≡ items_of shape state ++ item ∷ []
-items-place shape caps state item next =
-    place_items shape caps next.whole state item next.content (next-comes shape caps state item next)
+items-place shape caps state item is next =
+    place_items shape caps next.whole state item next.content (next-comes shape caps state item is next)
 
 without_none : (shape : Shape) (content : Content) → count_of content.lists ≡ 0
     → content_without_last shape content ≡ record (no_content shape) { lists = content.lists }
@@ -198,10 +198,10 @@ place_back shape caps whole state item is (inr next) =
     ∙ sym next.front
 
 pub unplace-place : (shape : Shape) (caps : Caps) (state : Content) (item : ListItem)
-    → IsNextItem list_meaning (IsContent shape caps) shape state item
+    → IsContent shape caps state → IsNextItem list_meaning (IsContent shape caps) shape state item
     → content_without_last shape (content_with state item) ≡ state
-unplace-place shape caps state item next =
-    place_back shape caps next.whole state item next.content (next-comes shape caps state item next)
+unplace-place shape caps state item is next =
+    place_back shape caps next.whole state item next.content (next-comes shape caps state item is next)
 
 -- ---- need
 
@@ -400,10 +400,10 @@ place_content shape caps whole state item is (inr next) =
 
 -- with an item more
 pub content-place : (shape : Shape) (caps : Caps) (state : Content) (item : ListItem)
-    → IsNextItem list_meaning (IsContent shape caps) shape state item
+    → IsContent shape caps state → IsNextItem list_meaning (IsContent shape caps) shape state item
     → IsContent shape caps (content_with state item)
-content-place shape caps state item next =
-    place_content shape caps next.whole state item next.content (next-comes shape caps state item next)
+content-place shape caps state item is next =
+    place_content shape caps next.whole state item next.content (next-comes shape caps state item is next)
 
 -- a record that comes next has a header that is there, and an id and a name of its own
 pub record FitsIn (content : Content) (item : ListItem) : Type 0 where
@@ -458,20 +458,22 @@ fits shape caps whole state header id name key body adj is (inr next) =
 pub next-fits : (shape : Shape) (caps : Caps) (state : Content) (header : ℕ) (id : EntryId) (name : Option Name16)
     (key : Option Key16)
     (body adj : Option (List ℕ))
+    → IsContent shape caps state
     → IsNextItem list_meaning (IsContent shape caps) shape state (Row header id name key body adj)
     → FitsIn state (Row header id name key body adj)
-next-fits shape caps state header id name key body adj next =
+next-fits shape caps state header id name key body adj is next =
     fits shape caps next.whole state header id name key body adj next.content
-    (next-comes shape caps state (Row header id name key body adj) next)
+    (next-comes shape caps state (Row header id name key body adj) is next)
 
 -- controls come to an empty content
 pub controls-first : (shape : Shape) (caps : Caps) (state : Content) (next : ℕ) (limits : List ℕ)
     (locks : List (Option ConnId))
     (watches : List Triple)
+    → IsContent shape caps state
     → IsNextItem list_meaning (IsContent shape caps) shape state (Controls next limits locks watches)
     → state ≡ no_content shape
-controls-first shape caps state next limits locks watches comes =
-    go (next-comes shape caps state (Controls next limits locks watches) comes)
+controls-first shape caps state next limits locks watches is comes =
+    go (next-comes shape caps state (Controls next limits locks watches) is comes)
   where
     go : ComesFirst shape comes.whole state (Controls next limits locks watches)
         ⊎ ComesNext shape comes.whole state (Controls next limits locks watches) → state ≡ no_content shape

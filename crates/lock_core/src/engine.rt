@@ -49,6 +49,7 @@ impl Engine for LockEngine {
     ghost use Rattle.lock_core.specs.EngineView.{IsReady};
     ghost use Rattle.lock_model.specs.Contents.{IsContent};
     ghost use Rattle.lock_model.specs.Meaning.{lock_meaning};
+    ghost use Rattle.lock_model.proofs.ItemLaws.{content-next};
     ghost use Rattle.lock_model.proofs.EngineLaws.{content-nothing, step-content, leave-content, content-moved, back-content, made-items, items-place, unplace-place, need-front, need-leave, need-same};
 
     type Cmd = LockCmd;
@@ -196,9 +197,13 @@ impl Engine for LockEngine {
     ghost content_moved = { λ shape caps other content kind is fits. content-moved shape caps other
         content is fits };
 
-    ghost items_place = { items-place };
+    ghost content_place = { λ shape caps content item is next. content-next caps content next.whole
+        item next.others next.content next.first };
 
-    ghost unplace_place = { λ shape caps content item next. unplace-place shape caps content item
+    ghost items_place = { λ shape caps content item is next. items-place shape caps content item
+        next };
+
+    ghost unplace_place = { λ shape caps content item is next. unplace-place shape caps content item
         next };
 
     ghost need_first = { need-front };

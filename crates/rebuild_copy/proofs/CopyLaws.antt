@@ -42,10 +42,13 @@ module _ {C R I S : Type 0} (meaning : Meaning C R I S) (is_kind : Kind → Bool
     pub content_moved : (shape : Shape) (caps other : Caps) (state : S) → IsTrue (is_kind shape.kind)
         → IsContent shape caps state → Fits shape.kind (meaning.need (meaning.items shape state)) other
         → IsContent shape other (meaning.forget state)
-    pub items_place : (shape : Shape) (caps : Caps) (state : S) (item : I)
+    pub content_place : (shape : Shape) (caps : Caps) (state : S) (item : I) → IsContent shape caps state
+        → IsNextItem meaning (IsContent shape caps) shape state item
+        → IsContent shape caps (meaning.place shape state item)
+    pub items_place : (shape : Shape) (caps : Caps) (state : S) (item : I) → IsContent shape caps state
         → IsNextItem meaning (IsContent shape caps) shape state item
         → meaning.items shape (meaning.place shape state item) ≡ meaning.items shape state ++ item ∷ []
-    pub unplace_place : (shape : Shape) (caps : Caps) (state : S) (item : I)
+    pub unplace_place : (shape : Shape) (caps : Caps) (state : S) (item : I) → IsContent shape caps state
         → IsNextItem meaning (IsContent shape caps) shape state item
         → meaning.unplace shape (meaning.place shape state item) ≡ state
     pub need_first : (items others : List I) → IsNoMore (meaning.need items) (meaning.need (items ++ others))
@@ -69,36 +72,46 @@ module _ {C R I S : Type 0} (meaning : Meaning C R I S) (is_kind : Kind → Bool
           others = others;
           content = content;
           first = split ∙ ap (λ (l : List I). l ++ item ∷ others) (sym same);
-          made_so = ap (content_of_items meaning shape) same;
         }
 
-    module _ (shape : Shape) (caps : Caps) (whole : S) (content : IsContent shape caps whole) where
-      items_front : (front rest others : List I) → meaning.items shape whole ≡ front ++ (rest ++ others)
-          → meaning.items shape (content_of_items meaning shape front) ≡ front
-          → meaning.items shape (content_of_items meaning shape (front ++ rest)) ≡ front ++ rest
-      items_front front [] others split same =
-          ap (λ (l : List I). meaning.items shape (content_of_items meaning shape l)) (append-nil front) ∙ same
-          ∙ sym (append-nil front)
-      items_front front (item ∷ rest) others split same =
-          let next = next_of shape caps whole front item (rest ++ others) content split same in
-          let more : meaning.items shape (content_of_items meaning shape (front ++ item ∷ [])) ≡ front ++ item ∷ [] =
-          ap (meaning.items shape) (made_push shape front item)
-          ∙ laws.items_place shape caps (content_of_items meaning shape front) item next
-          ∙ ap (λ (l : List I). l ++ item ∷ []) same in
-          subst (λ (l : List I). meaning.items shape (content_of_items meaning shape l) ≡ l)
-          (append_assoc front (item ∷ []) rest)
-          (items_front (front ++ item ∷ []) rest others
-          (split ∙ sym (append_assoc front (item ∷ []) (rest ++ others))) more)
+    -- the content that the first items of a content make
+    record IsFront (shape : Shape) (caps : Caps) (front : List I) : Type 0 where
+      content : IsContent shape caps (content_of_items meaning shape front)
+      items : meaning.items shape (content_of_items meaning shape front) ≡ front
 
-      -- the first items of a content make something that has just them
-      items_made : (front others : List I) → meaning.items shape whole ≡ front ++ others
-          → meaning.items shape (content_of_items meaning shape front) ≡ front
-      items_made front others split = items_front [] front others split (laws.items_empty shape)
+    no_front : (shape : Shape) (caps : Caps) → IsFront shape caps []
+    no_front shape caps = record { content = laws.content_empty shape caps; items = laws.items_empty shape }
+
+    module _ (shape : Shape) (caps : Caps) (whole : S) (content : IsContent shape caps whole) where
+      front_with : (front : List I) (item : I) (others : List I) → meaning.items shape whole ≡ front ++ item ∷ others
+          → IsFront shape caps front → IsFront shape caps (front ++ item ∷ [])
+      front_with front item others split is =
+          let next = next_of shape caps whole front item others content split is.items in
+          let made = content_of_items meaning shape front in
+          let push = made_push shape front item in
+          record {
+            content = subst (IsContent shape caps) (sym push) (laws.content_place shape caps made item is.content next);
+            items = ap (meaning.items shape) push ∙ laws.items_place shape caps made item is.content next
+                ∙ ap (λ (l : List I). l ++ item ∷ []) is.items;
+          }
+
+      front_longer : (front rest others : List I) → meaning.items shape whole ≡ front ++ (rest ++ others)
+          → IsFront shape caps front → IsFront shape caps (front ++ rest)
+      front_longer front [] others split is = subst (IsFront shape caps) (sym (append-nil front)) is
+      front_longer front (item ∷ rest) others split is =
+          subst (IsFront shape caps) (append_assoc front (item ∷ []) rest)
+          (front_longer (front ++ item ∷ []) rest others
+          (split ∙ sym (append_assoc front (item ∷ []) (rest ++ others)))
+          (front_with front item (rest ++ others) split is))
+
+      -- the first items of a content make one that has just them
+      front_of : (front others : List I) → meaning.items shape whole ≡ front ++ others → IsFront shape caps front
+      front_of front others split = front_longer [] front others split (no_front shape caps)
 
       items_forgotten : meaning.items shape (meaning.forget whole) ≡ meaning.items shape whole
       items_forgotten =
           ap (meaning.items shape) (sym (laws.made_again shape caps whole content))
-          ∙ items_made (meaning.items shape whole) [] (sym (append-nil (meaning.items shape whole)))
+          ∙ (front_of (meaning.items shape whole) [] (sym (append-nil (meaning.items shape whole)))).items
 
     -- ---- an engine that is filled
 
@@ -138,7 +151,6 @@ module _ {C R I S : Type 0} (meaning : Meaning C R I S) (is_kind : Kind → Bool
             others = rest;
             content = laws.content_moved new.shape old.caps new.caps old.state here.kind here.content here.fits;
             first = items_forgotten new.shape old.caps old.state here.content ∙ split;
-            made_so = full.alone;
           }
 
       pub place-fits : Fits new.shape.kind (meaning.need (items_of meaning new ++ item ∷ [])) new.caps
@@ -148,8 +160,13 @@ module _ {C R I S : Type 0} (meaning : Meaning C R I S) (is_kind : Kind → Bool
           (append_assoc (items_of meaning new) (item ∷ []) rest ∙ sym split)
           (laws.need_first (items_of meaning new ++ item ∷ []) rest)) here.fits
 
+      -- what was filled so far is a content
+      filled-content : IsContent new.shape new.caps new.state
+      filled-content = subst (IsContent new.shape new.caps) full.alone
+          (front_of new.shape new.caps full.whole full.content (items_of meaning new) full.others full.first).content
+
       pub placed-items : items_of meaning (with_item meaning new item) ≡ items_of meaning new ++ item ∷ []
-      placed-items = laws.items_place new.shape new.caps new.state item place-next
+      placed-items = laws.items_place new.shape new.caps new.state item filled-content place-next
 
       pub placed-filled : IsFilled meaning IsContent (with_item meaning new item)
       unfolding place-next
@@ -195,18 +212,18 @@ module _ {C R I S : Type 0} (meaning : Meaning C R I S) (is_kind : Kind → Bool
           full.first ∙ ap (λ (l : List I). l ++ full.others) last.1
           ∙ append_assoc front (last.0 ∷ []) full.others
 
-      front_made : meaning.items held.shape (content_of_items meaning held.shape front) ≡ front
-      front_made = items_made held.shape held.caps full.whole full.content front (last.0 ∷ full.others) whole_split
+      made : IsFront held.shape held.caps front
+      made = front_of held.shape held.caps full.whole full.content front (last.0 ∷ full.others) whole_split
 
       state_left : meaning.unplace held.shape held.state ≡ content_of_items meaning held.shape front
       state_left =
           ap (meaning.unplace held.shape)
           (sym full.alone ∙ ap (content_of_items meaning held.shape) last.1 ∙ made_push held.shape front last.0)
-          ∙ laws.unplace_place held.shape held.caps (content_of_items meaning held.shape front) last.0
-          (next_of held.shape held.caps full.whole front last.0 full.others full.content whole_split front_made)
+          ∙ laws.unplace_place held.shape held.caps (content_of_items meaning held.shape front) last.0 made.content
+          (next_of held.shape held.caps full.whole front last.0 full.others full.content whole_split made.items)
 
       pub dropped-items : items_of meaning (without_last_item meaning held) ≡ front
-      dropped-items = ap (meaning.items held.shape) state_left ∙ front_made
+      dropped-items = ap (meaning.items held.shape) state_left ∙ made.items
 
       pub dropped-filled : IsFilled meaning IsContent (without_last_item meaning held)
       dropped-filled =

@@ -1,4 +1,3 @@
 pub mod AskerLaws
 pub mod ChangeLaws
 pub mod DeedLaws
-pub mod RefusalLaws

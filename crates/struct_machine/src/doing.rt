@@ -5,7 +5,7 @@ ghost use Rattle.cf_types.specs.Gains.{Gains};
 ghost use Rattle.engine_api.specs.Asking.{MayAsk, MayCommand, IsBuilt};
 ghost use Rattle.engine_api.specs.Meaning.{departure, with_departure, stands_in};
 ghost use Rattle.engine_api.specs.Machine.{content_done, content_reply, command_done, departure_from, step};
-ghost use Rattle.engine_api.specs.Shell.{shell_cause, is_built, leaver, with_posted};
+ghost use Rattle.engine_api.specs.Shell.{call_cause, shell_cause, is_built, leaver, with_posted};
 ghost use Rattle.struct_machine.specs.Changes.{Covers};
 ghost use Rattle.struct_machine.specs.Kept.{AreOf, machine_of, state_with_deeds};
 
@@ -45,12 +45,24 @@ pub(crate) fn answer<E: Engine>(
         need: engine.need(),
         left: 0,
     };
-    if let Verdict::Refuse(refusal) = shell.judge(by, ask, &room) {
+    if let Some(refusal) = refusal_of(shell, by, ask, &room) {
         return Ok(Reply::Refused(refusal));
     }
     match ask {
         Ask::Shell(cmd) => do_command(alloc, form, shell, engine, changed, by, cmd),
         Ask::Content(cmd) => do_content(shell, engine, changed, by, cmd),
+    }
+}
+
+// Why the shell refuses a call, if it does.
+fn refusal_of<C>(shell: &Shell, by: ConnId, ask: &Ask<C>, room: &Room) -> Option<Refusal>
+    requires may { MayAsk by ask.now }
+    requires built { IsBuilt ask.now }
+    ensures { result ≡ call_cause shell.now.form shell.now.shell by ask.now }
+{
+    match shell.judge(by, ask, room) {
+        Verdict::Refuse(refusal) => Some(refusal),
+        Verdict::Act | Verdict::Content | Verdict::Copy => None,
     }
 }
 

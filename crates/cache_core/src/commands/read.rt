@@ -80,6 +80,7 @@ pub(crate) fn reply(
 }
 
 // The caller is registered for the name, and the registrations for other names end.
+#[tactic(auto, using(crate::proofs::EndLaws::gains_registered))]
 fn register(
     regs: &mut Regs,
     gone: &[Name16],

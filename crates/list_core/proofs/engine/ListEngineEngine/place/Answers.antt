@@ -14,18 +14,19 @@ use Rattle.list_core.proofs.PlanLaws.{either_way}
 use Rattle.list_core.proofs.engine.ListEngineEngine.place.Goals as goal
 
 placeable : (shape : Shape) (caps : Caps) (content : Content) (item : ListItem)
-    → IsNextItem list_meaning (IsContent shape caps) shape content item → IsPlaceable content item
-placeable shape caps content (Controls next limits locks watches) comes =
-    (content-place shape caps content (Controls next limits locks watches) comes).watch
-placeable shape caps content (Row header id name key body adj) comes =
-    let fits = next-fits shape caps content header id name key body adj comes in (fits.header, fits.alone)
+    → IsContent shape caps content → IsNextItem list_meaning (IsContent shape caps) shape content item
+    → IsPlaceable content item
+placeable shape caps content (Controls next limits locks watches) is comes =
+    (content-place shape caps content (Controls next limits locks watches) is comes).watch
+placeable shape caps content (Row header id name key body adj) is comes =
+    let fits = next-fits shape caps content header id name key body adj is comes in (fits.header, fits.alone)
 
 pub place_item-requires : goal.place_item-requires
 place_item-requires c =
     let e = c.self.inside in
     let next = subst (λ (s : EngineView). IsNextItem list_meaning (IsContent s.held.shape s.held.caps) s.held.shape
     s.held.state c.args.item) (sym c.self.view_is) c.requires.next in
-    placeable e.shape e.caps e.kept.content c.args.item next
+    placeable e.shape e.caps e.kept.content c.args.item c.self.invariant.content next
 
 pub invariant_of-self : goal.invariant_of-self
 invariant_of-self c =
@@ -39,5 +40,6 @@ invariant_of-self c =
           either_way (λ (k : Content). IsContent e.shape e.caps k) c.place_item.result e.kept.content
           (content_with e.kept.content c.args.item)
           c.place_item.new.kept.content c.place_item.ensures.ok c.place_item.ensures.err
-          (content-place e.shape e.caps e.kept.content c.args.item next) c.self.invariant.content;
+          (content-place e.shape e.caps e.kept.content c.args.item c.self.invariant.content next)
+          c.self.invariant.content;
     }
