@@ -1,18 +1,26 @@
 -- A command after others: copies are fresh, and changed pages that aren't cast out are kept.
-use Rattle.std.proofs.Common.{◌≡◌, List, [], ◌∷◌, ◌++◌, sym, ap, ◌∙◌, subst}
+use Rattle.std.proofs.Common.{◌≡◌, ℕ, List, [], ◌∷◌, ◌++◌, refl, sym, ap, ◌∙◌, subst}
 use Rattle.cf_types.specs.declared.cache_commands.CacheCmd.{CacheCmd}
+use Rattle.cf_types.specs.declared.forms.Caps.{Caps}
 use Rattle.cf_types.specs.declared.numbers.ConnId.{ConnId}
 use Rattle.engine_api.specs.Meaning.{Held}
 use Rattle.cache_model.specs.Contents.{Content, no_content}
 use Rattle.cache_model.specs.Runs.{Deed, Copies, after_deed, after_run}
 use Rattle.cache_model.specs.Runs.Deed.{Calls}
+use Rattle.cache_model.proofs.ContentLaws.{orderly-content}
 use Rattle.cache_model.proofs.CopyLaws.{fresh-copy, content-run}
 use Rattle.cache_model.proofs.EngineLaws.{content-nothing}
 use Rattle.cache_model.proofs.UncastLaws.{uncast-kept}
 use Rattle.cache_laws.specs.Applied.{IsHeldAfter, content_applied, copies_then, uncast_then, AreFresh, AreKept}
 use Rattle.cache_laws.specs.Unique.{IsUnique}
-use Rattle.cache_laws.proofs.Traces.{after_run-push}
 use Rattle.cache_laws.proofs.UniqueLaws.{unique-content}
+
+after_run-push : (vector : ℕ) (caps : Caps) (content : Content) (deeds : List Deed) (deed : Deed)
+    → after_run vector caps content (deeds ++ deed ∷ [])
+    ≡ after_deed vector caps (after_run vector caps content deeds) deed
+after_run-push vector caps content [] deed = refl
+after_run-push vector caps content (first ∷ deeds) deed =
+    after_run-push vector caps (after_deed vector caps content first) deeds deed
 
 -- the command is one deed more
 applied-run : (held : Held Content) (deeds : List Deed) (by : ConnId) (cmd : CacheCmd) → IsHeldAfter deeds held
@@ -40,5 +48,5 @@ pub applied-unique : (held : Held Content) (deeds : List Deed) (by : ConnId) (cm
     → IsUnique (content_applied held by cmd)
 applied-unique held deeds by cmd led =
     subst IsUnique (sym (applied-run held deeds by cmd led))
-    (unique-content held.caps _
-    (content-run held.shape.vector held.caps no_content (deeds ++ Calls by cmd ∷ []) (content-nothing held.caps)))
+    (unique-content _ (orderly-content held.caps _
+    (content-run held.shape.vector held.caps no_content (deeds ++ Calls by cmd ∷ []) (content-nothing held.caps))))

@@ -1,19 +1,32 @@
--- The definitions on one short history: connectors 1 and 2 of a cache share a page, which is written, cast out while
--- it is written again, unlocked, and cast out and unlocked once more.
-use Rattle.std.proofs.Common.{◌≡◌, ℕ, true, false, [], ◌∷◌, None, Some, take, drop, map, refl}
+-- The definitions on short histories: connectors 1 and 2 of a cache share a page, which is written, cast out while it
+-- is written again, unlocked, and cast out and unlocked once more; and a rebuild.
+use Rattle.std.proofs.Common.{◌≡◌, ℕ, true, false, [], ◌∷◌, ◌++◌, None, Some, take, drop, map, refl}
 use Rattle.cf_types.specs.declared.cache_commands.CacheCmd.{CacheCmd}
 use Rattle.cf_types.specs.declared.cache_commands.CacheCmd.TheVariants.{Read, Write, Castout, Unlock}
 use Rattle.cf_types.specs.declared.cache_commands.CacheReply.{CacheReply}
 use Rattle.cf_types.specs.declared.cache_commands.CacheReply.TheVariants as replies
+use Rattle.cf_types.specs.declared.events.Event.TheVariants as event
+use Rattle.cf_types.specs.declared.forms.Caps.{Caps}
+use Rattle.cf_types.specs.declared.forms.Kind.TheVariants as kind
+use Rattle.cf_types.specs.declared.forms.StrForm.{StrForm}
 use Rattle.cf_types.specs.declared.names.Name16.{Name16}
 use Rattle.cf_types.specs.declared.numbers.ConnId.{ConnId}
 use Rattle.cf_types.specs.declared.refusals.Refusal.TheVariants as refusal
+use Rattle.cf_types.specs.declared.shell_commands.ShellCmd.{ShellCmd}
+use Rattle.cf_types.specs.declared.shell_commands.ShellCmd.TheVariants as cmd
+use Rattle.cf_types.specs.declared.shell_commands.ShellReply.{ShellReply}
+use Rattle.cf_types.specs.declared.shell_commands.ShellReply.TheVariants as shown
+use Rattle.cf_types.specs.ConnSets.{conns_from}
+use Rattle.cf_types.specs.Connections.{no_connections, actives}
+use Rattle.cf_types.specs.Mailboxes.{empty_mail}
 use Rattle.engine_api.specs.declared.asks.Ask.TheVariants as ask
 use Rattle.engine_api.specs.declared.asks.Reply.{Reply}
 use Rattle.engine_api.specs.declared.asks.Reply.TheVariants as reply
 use Rattle.engine_api.specs.declared.asks.What.TheVariants as what
+use Rattle.cache_regs.specs.Registrations.{registered_at}
+use Rattle.cache_model.specs.Runs.{copy_in}
 use Rattle.cache_laws.specs.Copies.{copy_held}
-use Rattle.cache_laws.specs.Histories.{CacheEntry, CacheHistory}
+use Rattle.cache_laws.specs.Histories.{CacheEntry, CacheHistory, capacity_after, content_after}
 use Rattle.cache_laws.specs.Uncast.{is_cast_out, page_written}
 
 abbrev conn : ℕ → ConnId
@@ -67,3 +80,68 @@ kept_at_8 = refl
 
 cast_out_at_9 : is_cast_out page (drop 6 history) ≡ true
 cast_out_at_9 = refl
+
+-- ---- a rebuild
+
+-- a lone connector writes a page as changed, and has the structure rebuilt with another capacity
+
+abbrev room : ℕ → ℕ → Caps
+room entries elements = record { entries = entries; elements = elements }
+
+abbrev form : StrForm
+form =
+    record {
+      name = page;
+      kind = kind.Cache;
+      caps = room 8 8;
+      conns = 4;
+      vector = 64;
+      keep = false;
+      prefs = record { cf = record { 0 = 1 }; units = 40 } ∷ record { cf = record { 0 = 2 }; units = 40 } ∷ [];
+    }
+
+abbrev common : ℕ → ShellCmd → ShellReply → CacheEntry
+common number command answered =
+    record { no = number; by = conn 1; what = what.Call (ask.Shell command); reply = reply.Shell answered }
+
+abbrev rebuilt : CacheHistory
+rebuilt =
+    common 1 (cmd.Connect false) (shown.OkNew (record { 0 = 1 }))
+    ∷ entry 2 1 (Write page 5 (1 ∷ []) (Some 3) None None 1 false) (reply.Content replies.Ok)
+    ∷ common 3 (cmd.RebuildStart (room 10 10)) (shown.OkNumber 1)
+    ∷ common 4 cmd.Next (shown.Event (event.Quiesce 1))
+    ∷ common 5 cmd.Respond (shown.Responded (event.Quiesce 1))
+    ∷ common 6 cmd.RebuildConnect (shown.OkAt (record { 0 = 2 }))
+    ∷ common 7 (cmd.Copy 1) (shown.Copied 1 0)
+    ∷ common 8 cmd.RebuildComplete shown.Ok
+    ∷ []
+
+-- the registration and the old capacity last until the new instance takes the old one's place
+registered_before : registered_at (content_after form (take 7 rebuilt)).regs (conn 1) 5 ≡ Some page
+unfolding no_connections empty_mail actives conns_from
+registered_before = refl
+
+registered_behind : registered_at (content_after form rebuilt).regs (conn 1) 5 ≡ None
+unfolding no_connections empty_mail actives conns_from
+registered_behind = refl
+
+capacity_before : capacity_after form (take 7 rebuilt) ≡ room 8 8
+unfolding no_connections empty_mail actives conns_from
+capacity_before = refl
+
+capacity_behind : capacity_after form rebuilt ≡ room 10 10
+unfolding no_connections empty_mail actives conns_from
+capacity_behind = refl
+
+-- the page is kept
+kept_behind : copy_in (content_after form rebuilt).rows page ≡ Some (1 ∷ [], None)
+unfolding no_connections empty_mail actives conns_from
+kept_behind = refl
+
+-- behind the last connection the structure has the policy's capacity again
+abbrev gone : CacheHistory
+gone = rebuilt ++ common 9 cmd.Disconnect shown.Ok ∷ []
+
+capacity_gone : capacity_after form gone ≡ room 8 8
+unfolding no_connections empty_mail actives conns_from
+capacity_gone = refl

@@ -17,12 +17,12 @@ use Rattle.cache_model.specs.Contents.{Content}
 use Rattle.cache_model.specs.Meaning.{cache_meaning}
 use Rattle.cache_model.specs.Rows.{is_row_of, row_of, has_row}
 use Rattle.cache_model.specs.Runs.{copy_in, reply_copy, row_copy}
-use Rattle.cache_model.proofs.CopyLaws.{fresh-copy as run_fresh}
+use Rattle.cache_model.proofs.CopyLaws.{fresh-at}
 use Rattle.cache_laws.specs.Copies.{copy_held, IsAsRead, IsFresh, TellsFresh}
 use Rattle.cache_laws.specs.Histories.{CacheHistory, IsLegalCache, content_after}
 use Rattle.cache_laws.proofs.Replies.{answer-content, copy-read}
 use Rattle.cache_laws.proofs.Traces.{HasTrace, trace-none, trace-next}
-use Rattle.cache_laws.proofs.UniqueLaws.{content-after}
+use Rattle.cache_laws.proofs.UniqueLaws.{orderly-replay}
 
 -- ---- what is held is what the name's row has
 
@@ -38,10 +38,8 @@ held-registered : (form : StrForm) (history : CacheHistory) (conn : ConnId) (ind
     → registered_at (content_after form history).regs conn index ≡ Some name
     → copy_held history conn index ≡ copy_in (content_after form history).rows name
 held-registered form history conn index name trace there =
-    trace.holds conn index
-    ∙ run_fresh form.vector form.caps trace.first trace.deeds conn index name
-    (subst (λ (c : Content). registered_at c.regs conn index ≡ Some name) trace.content there)
-    ∙ ap (λ (c : Content). copy_in c.rows name) (sym trace.content)
+    fresh-at (content_after form history).rows (copy_held history) conn index name (content_after form history).regs
+    trace there
 
 -- ---- the registration of a bit that stands, and its row
 
@@ -57,7 +55,7 @@ fresh_at : (form : StrForm) (history : CacheHistory) (conn : ConnId) (index : �
 fresh_at form history conn index None trace stands there e = absurd (false≢true e)
 fresh_at form history conn index (Some reg) trace stands there e =
     let content : Content = content_after form history in
-    let is = content-after form history in
+    let is = orderly-replay form history in
     let named : registered_at content.regs conn index ≡ Some reg.name =
     ap (λ (o : Option Registration). option_map (λ (r : Registration). r.name) o) there in
     let has : has_row reg.name content.rows ≡ true =

@@ -1,5 +1,6 @@
 pub mod Steps
 pub mod UniqueLaws
+pub mod CapacityLaws
 pub mod Traces
 pub mod Replies
 pub mod FreshLaws

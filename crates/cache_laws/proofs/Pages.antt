@@ -23,67 +23,46 @@ use Rattle.engine_api.specs.Shell.{content_cause}
 use Rattle.engine_api.proofs.HistoryLaws.{replay-push, continues_legal}
 use Rattle.cache_regs.proofs.NameLaws.{same_name-eq}
 use Rattle.cache_model.specs.declared.items.CacheItem.{CacheItem}
-use Rattle.cache_model.specs.Contents.{Content, no_content}
+use Rattle.cache_model.specs.Contents.{Content, IsOrderly}
 use Rattle.cache_model.specs.Meaning.{cache_meaning}
 use Rattle.cache_model.specs.Rows.{row_of}
-use Rattle.cache_model.specs.Runs.{Deed, after_deed, after_run}
-use Rattle.cache_model.specs.Runs.Deed.{Calls, Leaves}
+use Rattle.cache_model.specs.Runs.{Deed, after_deed}
+use Rattle.cache_model.specs.Runs.Deed.{Calls, Leaves, Forgets}
 use Rattle.cache_model.specs.Step.{cause, done}
-use Rattle.cache_model.specs.Uncast.{Uncast, Uncasts, uncast_cast, uncast_unlocked, uncast_unless, uncast_after, uncast_run, Kept}
-use Rattle.cache_model.proofs.UncastLaws.{uncast-kept as run_kept}
+use Rattle.cache_model.specs.Uncast.{Uncast, Uncasts, uncast_cast, uncast_unlocked, uncast_unless, uncast_after, Kept}
+use Rattle.cache_model.proofs.UncastLaws.{AllKept, deed-kept}
 use Rattle.cache_laws.specs.Histories.{CacheEntry, CacheHistory, Accepted, acceptance_of, accepted_as, is_accepted, is_allocated, IsLegalCache, StaysAllocated, content_after}
 use Rattle.cache_laws.specs.Uncast.{Page, page_in, page_written, is_changed_write, deletes, casts_out, unlocks, HasNone, is_cast_out, IsUncast, HasPage, IsAnswered}
 use Rattle.cache_laws.proofs.Allocated.{stands-content}
-use Rattle.cache_laws.proofs.FreshLaws.{trace-legal}
 use Rattle.cache_laws.proofs.Replies.{answer-content, read-changed, castout-changed}
 use Rattle.cache_laws.proofs.Steps.{Change, stands_in, shell_change}
-use Rattle.cache_laws.proofs.Steps.Change.{Same, Without, Cleared}
-use Rattle.cache_laws.proofs.Traces.{HasTrace, after_run-push}
+use Rattle.cache_laws.proofs.Steps.Change.{Same, Without, Forgotten, Cleared}
+use Rattle.cache_laws.proofs.UniqueLaws.{orderly-replay}
 
 -- ---- deeds that keep a page
-
-abbrev nothing_written : Uncasts
-nothing_written = λ name. None
 
 -- a page, and whether a CASTOUT of it was accepted since it was written
 abbrev uncast_page : Page → Bool → Uncast
 uncast_page page cast = record { body = page.body; adj = page.adj; class = page.class; cast = cast }
 
--- the deeds since the content was last cleared lead to the content, and leave the page uncast
-record Keeps (form : StrForm) (machine : Machine Content) (name : Name16) (page : Page) (cast : Bool) : Type 0 where
-  deeds : List Deed
-  content : machine.content ≡ after_run form.vector form.caps no_content deeds
-  uncast : uncast_run form.vector form.caps no_content nothing_written deeds name ≡ Some (uncast_page page cast)
+-- the rows have some changed WRITEs that aren't cast out, and the page is that of the name
+record Keeps (content : Content) (name : Name16) (page : Page) (cast : Bool) : Type 0 where
+  uncast : Uncasts
+  all : AllKept content uncast
+  own : uncast name ≡ Some (uncast_page page cast)
 
-uncast_run-push : (vector : ℕ) (caps : Caps) (content : Content) (uncast : Uncasts) (deeds : List Deed) (deed : Deed)
-    → uncast_run vector caps content uncast (deeds ++ deed ∷ [])
-    ≡ uncast_after vector caps (after_run vector caps content deeds) (uncast_run vector caps content uncast deeds)
-    deed
-uncast_run-push vector caps content uncast [] deed = refl
-uncast_run-push vector caps content uncast (first ∷ deeds) deed =
-    uncast_run-push vector caps (after_deed vector caps content first)
-    (uncast_after vector caps content uncast first) deeds deed
-
--- one more deed, after which the page is still uncast
-keeps_deed : (form : StrForm) (before after : Machine Content) (name : Name16) (page : Page) (cast : Bool)
-    (deeds : List Deed) (deed : Deed)
-    → before.content ≡ after_run form.vector form.caps no_content deeds
-    → after.content ≡ after_deed form.vector form.caps before.content deed
-    → uncast_after form.vector form.caps before.content
-    (uncast_run form.vector form.caps no_content nothing_written deeds) deed name
-    ≡ Some (uncast_page page cast)
-    → Keeps form after name page cast
-keeps_deed form before after name page cast deeds deed content then uncast =
+-- one more deed, at whatever capacity, after which the page is still uncast
+keeps_deed : (vector : ℕ) (caps : Caps) (before after : Content) (name : Name16) (page : Page) (cast : Bool)
+    (uncast : Uncasts) (deed : Deed) → IsOrderly before → AllKept before uncast
+    → after ≡ after_deed vector caps before deed
+    → uncast_after vector caps before uncast deed name ≡ Some (uncast_page page cast)
+    → Keeps after name page cast
+keeps_deed vector caps before after name page cast uncast deed is all then own =
     record {
-      deeds = deeds ++ deed ∷ [];
-      content = then ∙ ap (λ (c : Content). after_deed form.vector form.caps c deed) content
-          ∙ sym (after_run-push form.vector form.caps no_content deeds deed);
-      uncast = ap (λ (u : Uncasts). u name) (uncast_run-push form.vector form.caps no_content nothing_written deeds
-          deed)
-          ∙ ap (λ (c : Content). uncast_after form.vector form.caps c
-          (uncast_run form.vector form.caps no_content nothing_written deeds) deed name)
-          (sym content)
-          ∙ uncast;
+      uncast = uncast_after vector caps before uncast deed;
+      all = subst (λ (c : Content). AllKept c (uncast_after vector caps before uncast deed)) (sym then)
+          (deed-kept vector caps before uncast deed is.directory all);
+      own = own;
     }
 
 -- ---- the changed WRITE
@@ -129,26 +108,25 @@ write_told caps content by cmd name page uncast (Some refusal) e = absurd cc
 write_told caps content by cmd name page uncast None e = page_told cmd name page uncast e
 
 write_step : (form : StrForm) (machine : Machine Content) (by : ConnId) (asked : Ask CacheCmd) (name : Name16)
-    (page : Page) (deeds : List Deed)
-    → machine.content ≡ after_run form.vector form.caps no_content deeds
+    (page : Page) → IsOrderly machine.content
     → option_and_then (λ told. page_in name told.command) (told_by asked machine form by) ≡ Some page
-    → Keeps form (step cache_meaning form machine by asked).machine name page false
-write_step form machine by (ask.Shell command) name page deeds content wrote = absurd cc
-write_step form machine by (ask.Content cmd) name page deeds content wrote = go (content_cause machine.shell by) wrote
+    → Keeps (step cache_meaning form machine by asked).machine.content name page false
+write_step form machine by (ask.Shell command) name page is wrote = absurd cc
+write_step form machine by (ask.Content cmd) name page is wrote = go (content_cause machine.shell by) wrote
   where
     go : (refused : Option Refusal) → let answered = unless cache_meaning form refused machine
         (content_done cache_meaning form machine by cmd) in
         option_and_then (λ told. page_in name told.command) (accepted_as (what.Call (ask.Content cmd)) answered.reply)
         ≡ Some page
         → let answered = unless cache_meaning form refused machine (content_done cache_meaning form machine by cmd) in
-        Keeps form answered.machine name page false
+        Keeps answered.machine.content name page false
     go (Some refusal) wrote = absurd cc
     go None wrote =
-        keeps_deed form machine (content_done cache_meaning form machine by cmd).machine name page false deeds
-        (Calls by cmd) content refl
-        (write_told form.caps machine.content by cmd name page
-        (uncast_run form.vector form.caps no_content nothing_written deeds)
-        (cause form.vector form.caps machine.content by cmd) wrote)
+        keeps_deed form.vector machine.shell.caps machine.content
+        (content_done cache_meaning form machine by cmd).machine.content name page false (λ n. None) (Calls by cmd) is
+        (λ n. tt) refl
+        (write_told machine.shell.caps machine.content by cmd name page (λ n. None)
+        (cause form.vector machine.shell.caps machine.content by cmd) wrote)
 
 -- ---- what comes after it
 
@@ -225,60 +203,64 @@ both_stand true false e f gone = false≢true f
 both_stand false c e f gone = false≢true e
 
 keeps_change : (form : StrForm) (before after : Machine Content) (name : Name16) (page : Page) (cast : Bool)
-    → Change before after
-    → stands_in before ≡ true → stands_in after ≡ true → Keeps form before name page cast
-    → Keeps form after name page cast
-keeps_change form before after name page cast (Same e) stood stands keeps =
-    record { deeds = keeps.deeds; content = e ∙ keeps.content; uncast = keeps.uncast }
-keeps_change form before after name page cast (Without conn e) stood stands keeps =
-    keeps_deed form before after name page cast keeps.deeds (Leaves conn) keeps.content e keeps.uncast
-keeps_change form before after name page cast (Cleared e gone) stood stands keeps =
+    → Change before after → IsOrderly before.content
+    → stands_in before ≡ true → stands_in after ≡ true → Keeps before.content name page cast
+    → Keeps after.content name page cast
+keeps_change form before after name page cast (Same e) is stood stands keeps =
+    subst (λ (c : Content). Keeps c name page cast) (sym e) keeps
+keeps_change form before after name page cast (Without conn e) is stood stands keeps =
+    keeps_deed form.vector form.caps before.content after.content name page cast keeps.uncast (Leaves conn) is keeps.all
+    e keeps.own
+keeps_change form before after name page cast (Forgotten e) is stood stands keeps =
+    keeps_deed form.vector form.caps before.content after.content name page cast keeps.uncast Forgets is keeps.all e
+    keeps.own
+keeps_change form before after name page cast (Cleared e gone) is stood stands keeps =
     absurd (both_stand (stands_in before) (stands_in after) stood stands gone)
 
 keeps_step : (form : StrForm) (machine : Machine Content) (by : ConnId) (asked : Ask CacheCmd) (name : Name16)
     (page : Page) (cast : Bool)
-    → Spares name (told_by asked machine form by) cast
+    → Spares name (told_by asked machine form by) cast → IsOrderly machine.content
     → stands_in machine ≡ true → stands_in (step cache_meaning form machine by asked).machine ≡ true
-    → Keeps form machine name page cast
-    → Keeps form (step cache_meaning form machine by asked).machine name page
+    → Keeps machine.content name page cast
+    → Keeps (step cache_meaning form machine by asked).machine.content name page
     (cast_then name (told_by asked machine form by) cast)
-keeps_step form machine by (ask.Shell command) name page cast spares stood stands keeps =
-    keeps_change form machine _ name page cast (shell_change form machine by command) stood stands keeps
-keeps_step form machine by (ask.Content cmd) name page cast spares stood stands keeps =
+keeps_step form machine by (ask.Shell command) name page cast spares is stood stands keeps =
+    keeps_change form machine _ name page cast (shell_change form machine by command) is stood stands keeps
+keeps_step form machine by (ask.Content cmd) name page cast spares is stood stands keeps =
     go (content_cause machine.shell by) spares
   where
     go : (refused : Option Refusal) → let answered = unless cache_meaning form refused machine
         (content_done cache_meaning form machine by cmd) in
         Spares name (accepted_as (what.Call (ask.Content cmd)) answered.reply) cast
         → let answered = unless cache_meaning form refused machine (content_done cache_meaning form machine by cmd) in
-        Keeps form answered.machine name page (cast_then name
+        Keeps answered.machine.content name page (cast_then name
         (accepted_as (what.Call (ask.Content cmd)) answered.reply) cast)
     go (Some refusal) spares = keeps
     go None spares =
-        keeps_deed form machine (content_done cache_meaning form machine by cmd).machine name page _ keeps.deeds
-        (Calls by cmd) keeps.content refl
-        (spared_told form.caps machine.content by cmd name page cast
-        (uncast_run form.vector form.caps no_content nothing_written keeps.deeds)
-        (cause form.vector form.caps machine.content by cmd) keeps.uncast spares)
+        keeps_deed form.vector machine.shell.caps machine.content
+        (content_done cache_meaning form machine by cmd).machine.content name page _ keeps.uncast (Calls by cmd) is
+        keeps.all refl
+        (spared_told machine.shell.caps machine.content by cmd name page cast keeps.uncast
+        (cause form.vector machine.shell.caps machine.content by cmd) keeps.own spares)
 
 -- ---- along a history
 
 abbrev HasKept : StrForm → CacheHistory → Name16 → Page → Bool → Type 0
-HasKept form history name page cast = Keeps form (replay cache_meaning form history) name page cast
+HasKept form history name page cast = Keeps (content_after form history) name page cast
 
 wrote_next : (form : StrForm) (history : CacheHistory) (entry : CacheEntry) (told : What CacheCmd) (name : Name16)
     (page : Page)
-    → IsNextAs cache_meaning form history entry told → HasTrace form history → page_written name entry ≡ Some page
+    → IsNextAs cache_meaning form history entry told → page_written name entry ≡ Some page
     → HasKept form (history ++ entry ∷ []) name page false
-wrote_next form history entry (what.Lost cf) name page is trace = absurd is
-wrote_next form history entry (what.Call asked) name page is trace =
+wrote_next form history entry (what.Lost cf) name page is = absurd is
+wrote_next form history entry (what.Call asked) name page is =
     let machine : Machine Content = replay cache_meaning form history in
     let added : CacheEntry = next_entry cache_meaning form history entry.by asked in
     subst (λ (e : CacheEntry). page_written name e ≡ Some page → HasKept form (history ++ e ∷ []) name page false)
     (sym is)
-    (λ wrote. subst (λ (m : Machine Content). Keeps form m name page false)
+    (λ wrote. subst (λ (m : Machine Content). Keeps m.content name page false)
     (sym (replay-push cache_meaning form history added))
-    (write_step form machine entry.by asked name page trace.deeds trace.content wrote))
+    (write_step form machine entry.by asked name page (orderly-replay form history) wrote))
 
 kept_next : (form : StrForm) (history : CacheHistory) (entry : CacheEntry) (told : What CacheCmd) (name : Name16)
     (page : Page) (cast : Bool)
@@ -293,10 +275,10 @@ kept_next form history entry (what.Call asked) name page cast is stood keeps =
     let pushed = replay-push cache_meaning form history added in
     subst (λ (e : CacheEntry). Spares name (acceptance_of e) cast → is_allocated form (history ++ e ∷ []) ≡ true
     → HasKept form (history ++ e ∷ []) name page (cast_then name (acceptance_of e) cast)) (sym is)
-    (λ spares stands. subst (λ (m : Machine Content). Keeps form m name page
+    (λ spares stands. subst (λ (m : Machine Content). Keeps m.content name page
     (cast_then name (acceptance_of added) cast))
     (sym pushed)
-    (keeps_step form machine entry.by asked name page cast spares stood
+    (keeps_step form machine entry.by asked name page cast spares (orderly-replay form history) stood
     (subst (λ (m : Machine Content). stands_in m ≡ true) pushed stands) keeps))
 
 -- no UNLOCK comes after the CASTOUT
@@ -353,10 +335,7 @@ page_kept : (form : StrForm) (history : CacheHistory) (name : Name16) (page : Pa
     → HasPage form history name page
 page_kept form history name page cast keeps =
     row_kept form history name page cast (row_of name (content_after form history).rows) refl
-    (subst (λ (c : Content). Kept (row_of name c.rows) (Some (uncast_page page cast))) (sym keeps.content)
-    (subst (λ (o : Option Uncast). Kept (row_of name (after_run form.vector form.caps no_content keeps.deeds).rows) o)
-    keeps.uncast
-    (run_kept form.vector form.caps keeps.deeds name)))
+    (subst (λ (o : Option Uncast). Kept (row_of name (content_after form history).rows) o) keeps.own (keeps.all name))
 
 -- ---- the law
 
@@ -413,8 +392,7 @@ kept_since form before since write name page legal wrote last not_deleted alloca
     let goes : Continues cache_meaning form before (write ∷ since) =
     continues_behind form [] before (write ∷ since)
     (continues_legal cache_meaning form (before ++ write ∷ since) legal) in
-    let keeps = wrote_next form before write write.what name page goes.0
-    (trace-legal form before (write ∷ since) legal) wrote in
+    let keeps = wrote_next form before write write.what name page goes.0 wrote in
     let stands = allocated_next form before write write.what goes.0
     (wrote_accepted name page (acceptance_of write) wrote)
     in

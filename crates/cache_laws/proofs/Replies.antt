@@ -47,8 +47,8 @@ answer-content form history by cmd answer told = go (content_cause machine.shell
         → answer ≡ answer_to machine.content by cmd
     go (Some refusal) told = absurd cc
     go None told =
-        answer_unless form.caps machine.content by cmd answer (cause form.vector form.caps machine.content by cmd)
-        told
+        answer_unless machine.shell.caps machine.content by cmd answer
+        (cause form.vector machine.shell.caps machine.content by cmd) told
 
 copy_of_data : (row : CacheItem) (body : Option (List ℕ))
     → reply_copy (read.data_reply row body) ≡ option_map (λ data'. (data', row.adj)) body

@@ -1,10 +1,10 @@
--- Every history leads to a content, and in a content names, indexes and registrations are unique.
+-- After every history rows and registrations are in order, and where they are, names, indexes and registrations are
+-- unique.
 use Rattle.std.proofs.Common.{◌≡◌, ℕ, ◌≤◌, Bool, true, false, not, ◌&&◌, ◌||◌, ◌==◌, nat_lt, cond, List, [], ◌∷◌, Option, None, Some, length, filter, fold, refl, sym, ap, ◌∙◌, subst, arith}
 use Rattle.std.specs.List.{list_all}
 use Rattle.std.proofs.lemmas.Bool.{and_parts, false≢true}
 use Rattle.std.proofs.lemmas.Bool.Decides.{nat_tests}
 use Rattle.cf_types.specs.declared.cache_commands.CacheCmd.{CacheCmd}
-use Rattle.cf_types.specs.declared.forms.Caps.{Caps}
 use Rattle.cf_types.specs.declared.forms.StrForm.{StrForm}
 use Rattle.cf_types.specs.declared.names.Name16.{Name16}
 use Rattle.cf_types.specs.declared.numbers.ConnId.{ConnId}
@@ -15,7 +15,6 @@ use Rattle.engine_api.specs.declared.asks.Ask.TheVariants as ask
 use Rattle.engine_api.specs.declared.asks.What.{What}
 use Rattle.engine_api.specs.declared.asks.What.TheVariants as what
 use Rattle.engine_api.specs.Machine.{Machine, opening, step, unless, content_done}
-use Rattle.engine_api.specs.Shapes.{shape_of}
 use Rattle.engine_api.specs.Shell.{content_cause}
 use Rattle.engine_api.specs.History.{machine_after, after_what}
 use Rattle.list_laws.specs.Pairwise.{pairwise}
@@ -25,13 +24,16 @@ use Rattle.cache_regs.specs.Registrations.{is_of, is_at, is_for, stands_before, 
 use Rattle.cache_regs.proofs.NameLaws.{same_name-eq}
 use Rattle.cache_model.specs.declared.items.CacheItem.{CacheItem}
 use Rattle.cache_model.specs.Rows.{is_row_of, names_apart}
-use Rattle.cache_model.specs.Contents.{Content, IsContent}
+use Rattle.cache_model.specs.Contents.{Content, IsOrderly, no_content}
 use Rattle.cache_model.specs.Meaning.{cache_meaning}
-use Rattle.cache_model.proofs.EngineLaws.{content-nothing, step-content, leave-content}
+use Rattle.cache_model.specs.Runs.Deed.{Calls, Leaves, Forgets}
+use Rattle.cache_model.proofs.ContentLaws.{orderly-content}
+use Rattle.cache_model.proofs.EngineLaws.{content-nothing}
+use Rattle.cache_model.proofs.OrderLaws.{orderly-deed}
 use Rattle.cache_laws.specs.Histories.{CacheHistory, content_after}
 use Rattle.cache_laws.specs.Unique.{IsUnique}
 use Rattle.cache_laws.proofs.Steps.{Change, shell_change}
-use Rattle.cache_laws.proofs.Steps.Change.{Same, Without, Cleared}
+use Rattle.cache_laws.proofs.Steps.Change.{Same, Without, Forgotten, Cleared}
 
 -- ---- one at most
 
@@ -96,49 +98,49 @@ registered_once conn name reg other here apart =
     go one same true true e f apart = other_name reg.name other.name name same apart
     go one same true false e f apart = absurd (false≢true (sym f ∙ same_conn reg.conn.0 other.conn.0 conn.0 one e))
 
--- ---- every history leads to a content
+-- ---- every history leaves rows and registrations in order
 
-abbrev pub IsSound : StrForm → Machine Content → Type 0
-IsSound form machine = IsContent form.caps machine.content
+orderly_change : (form : StrForm) (before later : Machine Content) → Change before later → IsOrderly before.content
+    → IsOrderly later.content
+orderly_change form before later (Same e) is = subst IsOrderly (sym e) is
+orderly_change form before later (Without conn e) is =
+    subst IsOrderly (sym e) (orderly-deed form.vector form.caps before.content (Leaves conn) is)
+orderly_change form before later (Forgotten e) is =
+    subst IsOrderly (sym e) (orderly-deed form.vector form.caps before.content Forgets is)
+orderly_change form before later (Cleared e gone) is =
+    subst IsOrderly (sym e) (orderly-content form.caps no_content (content-nothing form.caps))
 
-sound_change : (form : StrForm) (before later : Machine Content) → Change before later → IsSound form before
-    → IsSound form later
-sound_change form before later (Same e) is = subst (IsContent form.caps) (sym e) is
-sound_change form before later (Without conn e) is =
-    subst (IsContent form.caps) (sym e) (leave-content form.caps before.content conn is)
-sound_change form before later (Cleared e gone) is = subst (IsContent form.caps) (sym e) (content-nothing form.caps)
-
-pub sound-step : (form : StrForm) (machine : Machine Content) (by : ConnId) (asked : Ask CacheCmd)
-    → IsSound form machine
-    → IsSound form (step cache_meaning form machine by asked).machine
-sound-step form machine by (ask.Shell command) is =
-    sound_change form machine _ (shell_change form machine by command) is
-sound-step form machine by (ask.Content command) is = go (content_cause machine.shell by)
+orderly-step : (form : StrForm) (machine : Machine Content) (by : ConnId) (asked : Ask CacheCmd)
+    → IsOrderly machine.content → IsOrderly (step cache_meaning form machine by asked).machine.content
+orderly-step form machine by (ask.Shell command) is =
+    orderly_change form machine _ (shell_change form machine by command) is
+orderly-step form machine by (ask.Content command) is = go (content_cause machine.shell by)
   where
     go : (cause : Option Refusal)
-        → IsSound form (unless cache_meaning form cause machine
-        (content_done cache_meaning form machine by command)).machine
+        → IsOrderly (unless cache_meaning form cause machine
+        (content_done cache_meaning form machine by command)).machine.content
     go (Some refusal) = is
-    go None = step-content (shape_of form) form.caps machine.content by command is
+    go None = orderly-deed form.vector machine.shell.caps machine.content (Calls by command) is
 
-sound-after : (form : StrForm) (machine : Machine Content) (by : ConnId) (told : What CacheCmd) → IsSound form machine
-    → IsSound form (after_what cache_meaning form machine by told)
-sound-after form machine by (what.Call asked) is = sound-step form machine by asked is
-sound-after form machine by (what.Lost cf) is = is
+orderly-after : (form : StrForm) (machine : Machine Content) (by : ConnId) (told : What CacheCmd)
+    → IsOrderly machine.content → IsOrderly (after_what cache_meaning form machine by told).content
+orderly-after form machine by (what.Call asked) is = orderly-step form machine by asked is
+orderly-after form machine by (what.Lost cf) is = is
 
-sound-fold : (form : StrForm) (machine : Machine Content) (history : CacheHistory) → IsSound form machine
-    → IsSound form (fold (machine_after cache_meaning form) machine history)
-sound-fold form machine [] is = is
-sound-fold form machine (entry ∷ entries) is =
-    sound-fold form (machine_after cache_meaning form machine entry) entries
-    (sound-after form machine entry.by entry.what is)
+orderly-fold : (form : StrForm) (machine : Machine Content) (history : CacheHistory) → IsOrderly machine.content
+    → IsOrderly (fold (machine_after cache_meaning form) machine history).content
+orderly-fold form machine [] is = is
+orderly-fold form machine (entry ∷ entries) is =
+    orderly-fold form (machine_after cache_meaning form machine entry) entries
+    (orderly-after form machine entry.by entry.what is)
 
--- after every history the directory and the registrations are a content
-pub content-after : (form : StrForm) (history : CacheHistory) → IsContent form.caps (content_after form history)
-content-after form history = sound-fold form (opening cache_meaning form) history (content-nothing form.caps)
+pub orderly-replay : (form : StrForm) (history : CacheHistory) → IsOrderly (content_after form history)
+orderly-replay form history =
+    orderly-fold form (opening cache_meaning form) history
+    (orderly-content form.caps no_content (content-nothing form.caps))
 
-pub unique-content : (caps : Caps) (content : Content) → IsContent caps content → IsUnique content
-unique-content caps content is =
+pub unique-content : (content : Content) → IsOrderly content → IsUnique content
+unique-content content is =
     record {
       row = λ name. one_passes names_apart (is_row_of name) (rows_apart name) _ is.directory.one_for_name;
       index = λ conn index. one_passes stands_before (is_at conn index) (places_apart conn index) _
@@ -148,4 +150,4 @@ unique-content caps content is =
     }
 
 pub unique : (form : StrForm) (history : CacheHistory) → IsUnique (content_after form history)
-unique form history = unique-content form.caps (content_after form history) (content-after form history)
+unique form history = unique-content (content_after form history) (orderly-replay form history)

@@ -2,7 +2,9 @@
 use Rattle.std.specs.Prelude.{Bool, IsTrue, false, List, [], ◌∷◌, ◌++◌, Option, None, Some, is_some, option_map, unwrap_or}
 use Rattle.cf_types.specs.declared.cache_commands.CacheCmd.{CacheCmd}
 use Rattle.cf_types.specs.declared.cache_commands.CacheReply.{CacheReply}
+use Rattle.cf_types.specs.declared.forms.Caps.{Caps}
 use Rattle.cf_types.specs.declared.forms.StrForm.{StrForm}
+use Rattle.cf_types.specs.Forms.{is_cache}
 use Rattle.engine_api.specs.declared.asks.Ask.TheVariants as ask
 use Rattle.engine_api.specs.declared.asks.Reply.{Reply}
 use Rattle.engine_api.specs.declared.asks.Reply.TheVariants as reply
@@ -10,7 +12,7 @@ use Rattle.engine_api.specs.declared.asks.What.{What}
 use Rattle.engine_api.specs.declared.asks.What.TheVariants as what
 use Rattle.engine_api.specs.declared.histories.Entry.{Entry}
 use Rattle.engine_api.specs.History.{IsLegal, replay}
-use Rattle.cache_model.specs.Contents.{Content}
+use Rattle.cache_model.specs.Contents.{Content, IsContent}
 use Rattle.cache_model.specs.Meaning.{cache_meaning}
 
 abbrev pub CacheEntry : Type 0
@@ -27,6 +29,15 @@ IsLegalCache form history = IsLegal cache_meaning form history
 -- the directory and the registrations after a history
 abbrev pub content_after : StrForm → CacheHistory → Content
 content_after form history = (replay cache_meaning form history).content
+
+-- the capacity of its instances
+abbrev pub capacity_after : StrForm → CacheHistory → Caps
+capacity_after form history = (replay cache_meaning form history).shell.caps
+
+-- the form being a cache's, entries and data are within that capacity
+abbrev pub IsWithin : StrForm → CacheHistory → Type 0
+IsWithin form history =
+    IsTrue (is_cache form.kind) → IsContent (capacity_after form history) (content_after form history)
 
 -- an instance of the structure stands
 abbrev pub is_allocated : StrForm → CacheHistory → Bool

@@ -4,12 +4,12 @@ ghost use Rattle.cf_types.specs.declared.names.Name16.{Name16};
 ghost use Rattle.cf_types.specs.declared.numbers.ConnId.{ConnId};
 ghost use Rattle.engine_api.specs.History.{Tells, stands_after};
 ghost use Rattle.engine_api.specs.Meaning.{Held};
-ghost use Rattle.cache_model.specs.Contents.{Content, IsContent};
+ghost use Rattle.cache_model.specs.Contents.{Content, IsOrderly};
 ghost use Rattle.cache_model.specs.Meaning.{cache_meaning};
 ghost use Rattle.cache_model.specs.Runs.{Deed, Copies};
 ghost use Rattle.cache_laws.specs.Applied.{IsHeldAfter, content_applied, copies_then, uncast_then, AreFresh, AreKept};
 ghost use Rattle.cache_laws.specs.Copies.{IsAsRead, IsFresh, TellsFresh};
-ghost use Rattle.cache_laws.specs.Histories.{IsLegalCache, content_after};
+ghost use Rattle.cache_laws.specs.Histories.{IsLegalCache, IsWithin, content_after};
 ghost use Rattle.cache_laws.specs.Uncast.{HasPage, IsAnswered, IsUncast, Page};
 ghost use Rattle.cache_laws.specs.Unique.{IsUnique};
 
@@ -17,11 +17,15 @@ use cf_types::{CacheCmd, CacheReply, StrForm};
 use engine_api::History;
 
 /// After every history of a cache a name has one entry at most, and a connector has one
-/// registration at most for an index of its vector, and one at most for a name. Entries and data
-/// are within the capacity, and each registration is for a name that has an entry.
+/// registration at most for an index of its vector, and one at most for a name. Rows are in their
+/// order, and each registration is for a name that has an entry. Where the form is a cache's,
+/// entries and data are within the capacity of its instances: that of the policy, until a rebuild's
+/// new instance takes the old one's place, and that of the rebuild from then on, until the
+/// structure is deallocated.
 pub fn unique(form: &StrForm, history: &History<CacheCmd, CacheReply>)
     ensures unique { IsUnique (content_after form.now history.now) }
-    ensures content { IsContent form.now.caps (content_after form.now history.now) }
+    ensures orderly { IsOrderly (content_after form.now history.now) }
+    ensures content { IsWithin form.now history.now }
 {}
 
 /// Where a connector's bit stands after a legal history, its copy is fresh: the data and adjunct
@@ -60,11 +64,12 @@ pub fn uncast_kept(form: &StrForm, history: &History<CacheCmd, CacheReply>)
         → IsAnswered form.now history.now name page }
 {}
 
-/// What an engine's `apply` leaves of a cache that was empty at first, whatever commands, departures and
-/// ends of registrations came before. At each index where a connector is registered for a name, it has a
-/// copy of what the name's entry has: what its last accepted READ_DATA there answered, or WRITE_DATA
-/// wrote. A name whose changed WRITE_DATA isn't cast out has a changed entry, with the data, adjunct and
-/// class of that WRITE_DATA. And names, indexes and registrations are unique.
+/// What an engine's `apply` leaves of a cache that was empty at first, whatever commands,
+/// departures and ends of registrations came before. At each index where a connector is registered
+/// for a name, it has a copy of what the name's entry has: what its last accepted READ_DATA there
+/// answered, or WRITE_DATA wrote. A name whose changed WRITE_DATA isn't cast out has a changed
+/// entry, with the data, adjunct and class of that WRITE_DATA. And names, indexes and registrations
+/// are unique.
 pub fn after_apply()
     ensures fresh { (held : Held Content) (deeds : List Deed) (by : ConnId) (cmd : CacheCmd)
         (copies : Copies) → IsHeldAfter deeds held

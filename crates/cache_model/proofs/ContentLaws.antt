@@ -24,7 +24,7 @@ use Rattle.cache_model.specs.declared.items.CacheItem.{CacheItem}
 use Rattle.cache_model.specs.declared.items.Holder.{Holder}
 use Rattle.cache_model.specs.declared.requests.Request.{Request}
 use Rattle.cache_model.specs.Rows.{is_row_of, is_changed, elements_of, elements_in, row_of, has_row, rows_without, rows_replaced, new_row, row_or_new, is_sound, IsDirectory}
-use Rattle.cache_model.specs.Contents.{Content, IsContent, content_without, content_forgotten, without_hold, is_among, rows_spared, regs_spared}
+use Rattle.cache_model.specs.Contents.{Content, IsContent, IsOrderly, content_without, content_forgotten, without_hold, is_among, rows_spared, regs_spared}
 use Rattle.cache_model.specs.Room.{victims, has_place, free_elements, room_refusal}
 use Rattle.cache_model.specs.Refusals.{entry_refusal, held_refusal, unchanged_refusal, not_held_refusal, is_changed_row}
 use Rattle.cache_model.specs.Commands.Read as read
@@ -51,7 +51,7 @@ none_hold (Some refusal ∷ causes) h = absurd (cc)
 -- ---- a row takes its place in the room that is made
 
 -- the registrations of a connector that registers are for the name, or have rows
-each_registered : (by : ConnId) (index : ℕ) (name : Name16) (rows : List CacheItem) (regs : List Registration)
+pub each_registered : (by : ConnId) (index : ℕ) (name : Name16) (rows : List CacheItem) (regs : List Registration)
     → list_all (λ reg. has_row reg.name rows) regs ≡ true
     → list_all (λ reg. same_name reg.name name || has_row reg.name rows) (regs_with by index name regs) ≡ true
 each_registered by index name rows regs h =
@@ -98,6 +98,39 @@ each_with row names rows regs h =
         in
         pick reg (not-true (is_among names reg.name) parts.1) (or_cases (same_name reg.name row.name)
         (has_row reg.name rows) parts.0)
+
+-- rows and registrations are in order where a row takes its place, and others go
+orderly_own : (content : Content) (row : CacheItem) (names : List Name16) (regs : List Registration)
+    → IsOrderly content → is_sound row ≡ true → IsRegistry regs
+    → list_all (λ reg. same_name reg.name row.name || has_row reg.name content.rows) regs ≡ true
+    → IsOrderly (record {
+      rows = rows_replaced row (rows_spared names content.rows);
+      regs = regs_spared names regs;
+    })
+orderly_own content row names regs is sound registry each =
+    record {
+      directory = directory-replaced row (rows_spared names content.rows)
+          (directory-filter (λ (r : CacheItem). not (is_among names r.name)) content.rows is.directory) sound;
+      registry = registry-filter (λ (reg : Registration). not (is_among names reg.name)) regs registry;
+      row_each = each_with row names content.rows regs each;
+    }
+
+pub orderly_used : (content : Content) (row : CacheItem) (name : Name16) (names : List Name16)
+    (regs : List Registration)
+    → row.name ≡ name → IsOrderly content → is_sound row ≡ true → IsRegistry regs
+    → list_all (λ reg. same_name reg.name name || has_row reg.name content.rows) regs ≡ true
+    → IsOrderly (record {
+      rows = rows_replaced row (rows_spared names content.rows);
+      regs = regs_spared names regs;
+    })
+orderly_used content row name names regs named is sound registry each =
+    orderly_own content row names regs is sound registry
+    (subst (λ (n : Name16). list_all (λ (reg : Registration). same_name reg.name n || has_row reg.name content.rows)
+    regs ≡ true) (sym named) each)
+
+pub orderly-content : (caps : Caps) (content : Content) → IsContent caps content → IsOrderly content
+orderly-content caps content is =
+    record { directory = is.directory; registry = is.registry; row_each = is.row_each }
 
 -- the data are those asked for, or no more than the name's own
 abbrev pub DataFit : Request → List CacheItem → CacheItem → Type 0
@@ -212,13 +245,13 @@ used_own caps content row need stg regs is none sound fit registry each =
     let within = within_used caps row need stg content.rows is.directory
     (record { entries = is.entries; elements = is.elements }) none fit
     (row_of row.name content.rows) refl in
+    let orderly = orderly_own content row names regs (orderly-content caps content is) sound registry each in
     record {
-      directory = directory-replaced row (rows_spared names content.rows)
-          (directory-filter (λ (r : CacheItem). not (is_among names r.name)) content.rows is.directory) sound;
+      directory = orderly.directory;
       entries = within.entries;
       elements = within.elements;
-      registry = registry-filter (λ (reg : Registration). not (is_among names reg.name)) regs registry;
-      row_each = each_with row names content.rows regs each;
+      registry = orderly.registry;
+      row_each = orderly.row_each;
     }
 
 -- what READ and WRITE leave
@@ -278,7 +311,7 @@ unchanged_sound : (a : Bool) → a ≡ true → a && true ≡ true
 unchanged_sound true e = refl
 unchanged_sound false e = e
 
-write_sound : (name : Name16) (stg : ℕ) (body : List ℕ) (class : Option ℕ) (adj : Option (List ℕ))
+pub write_sound : (name : Name16) (stg : ℕ) (body : List ℕ) (class : Option ℕ) (adj : Option (List ℕ))
     (o : Option CacheItem)
     → is_none class && is_changed_row o ≡ false → ((row : CacheItem) → o ≡ Some row → is_sound row ≡ true)
     → is_sound (write.row_with body class adj (unwrap_or o (new_row name stg))) ≡ true

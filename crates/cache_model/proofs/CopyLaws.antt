@@ -20,7 +20,7 @@ use Rattle.cache_regs.specs.declared.registrations.Registration.{Registration}
 use Rattle.cache_regs.specs.Registrations.{is_of, is_at, is_for, is_replaced, registered_at, stands_before as before, regs_with, regs_without_name, ends_with_name}
 use Rattle.cache_regs.proofs.NameLaws.{same_name-eq, same_name-refl, same_name-sym}
 use Rattle.cache_model.specs.declared.items.CacheItem.{CacheItem}
-use Rattle.cache_model.specs.Rows.{is_row_of, is_changed, row_of, has_row, rows_without, stands_before, rows_replaced, new_row, row_or_new}
+use Rattle.cache_model.specs.Rows.{is_row_of, is_changed, row_of, has_row, rows_without, stands_before, rows_replaced, new_row, row_or_new, IsDirectory}
 use Rattle.cache_model.specs.Contents.{Content, IsContent, no_content, content_without, without_hold, is_among, rows_spared}
 use Rattle.cache_model.specs.Commands.Read as read
 use Rattle.cache_model.specs.Commands.Write as write
@@ -146,7 +146,7 @@ each_insertion P first new (reg ∷ regs) n all =
     each_place P (first reg) new reg regs (insertion first new regs) n all.0 all.1
     (each_insertion P first new regs n all.1)
 
-each_weaker : (P Q : Registration → Type 0) → ((r : Registration) → P r → Q r) → (regs : List Registration)
+pub each_weaker : (P Q : Registration → Type 0) → ((r : Registration) → P r → Q r) → (regs : List Registration)
     → Each P regs → Each Q regs
 each_weaker P Q h [] all = tt
 each_weaker P Q h (reg ∷ regs) all = (h reg all.0, each_weaker P Q h regs all.1)
@@ -310,11 +310,11 @@ leave_fresh content copies conn all =
 -- ---- every command
 
 after_fresh : (caps : Caps) (content : Content) (copies : Copies) (by : ConnId) (cmd : CacheCmd)
-    → IsContent caps content → AllFresh content copies
+    → IsDirectory content.rows → AllFresh content copies
     → AllFresh (after (victims caps content.rows cmd) content by cmd) (copies_done content by cmd copies)
 after_fresh caps content copies by (Read name index old stg) is all =
     read_fresh (victims caps content.rows (Read name index old stg)) content copies by name index stg
-    (request_spared caps (read.request name stg) content.rows is.directory) all
+    (request_spared caps (read.request name stg) content.rows is) all
 after_fresh caps content copies by (Write name index body class adj old stg when_reg) is all =
     write_fresh (victims caps content.rows (Write name index body class adj old stg when_reg)) content copies by name
     index body class adj stg all
@@ -331,20 +331,21 @@ after_fresh caps content copies by (Delete name) is all = delete_fresh content c
 after_fresh caps content copies by (StgStats stg) is all = all
 
 unless_fresh : (caps : Caps) (content : Content) (copies : Copies) (by : ConnId) (cmd : CacheCmd)
-    (refusal : Option Refusal) → IsContent caps content
+    (refusal : Option Refusal) → IsDirectory content.rows
     → AllFresh content copies
     → AllFresh (unless_refused refusal content (done caps content by cmd)).state (copies_unless refusal content by cmd
     copies)
 unless_fresh caps content copies by cmd None is all = after_fresh caps content copies by cmd is all
 unless_fresh caps content copies by cmd (Some refusal) is all = all
 
-deed_fresh : (vector : ℕ) (caps : Caps) (content : Content) (copies : Copies) (deed : Deed) → IsContent caps content
-    → AllFresh content copies
+-- so it is after one more deed, at whatever capacity
+pub deed-fresh : (vector : ℕ) (caps : Caps) (content : Content) (copies : Copies) (deed : Deed)
+    → IsDirectory content.rows → AllFresh content copies
     → AllFresh (after_deed vector caps content deed) (copies_after vector caps content copies deed)
-deed_fresh vector caps content copies (Calls by cmd) is all = unless_fresh caps content copies by cmd
+deed-fresh vector caps content copies (Calls by cmd) is all = unless_fresh caps content copies by cmd
     (cause vector caps content by cmd) is all
-deed_fresh vector caps content copies (Leaves conn) is all = leave_fresh content copies conn all
-deed_fresh vector caps content copies Forgets is all = tt
+deed-fresh vector caps content copies (Leaves conn) is all = leave_fresh content copies conn all
+deed-fresh vector caps content copies Forgets is all = tt
 
 -- ---- runs
 
@@ -366,7 +367,7 @@ run_fresh : (vector : ℕ) (caps : Caps) (content : Content) (copies : Copies) (
 run_fresh vector caps content copies [] is all = all
 run_fresh vector caps content copies (deed ∷ deeds) is all =
     run_fresh vector caps (after_deed vector caps content deed) (copies_after vector caps content copies deed) deeds
-    (content-deed vector caps content deed is) (deed_fresh vector caps content copies deed is all)
+    (content-deed vector caps content deed is) (deed-fresh vector caps content copies deed is.directory all)
 
 fresh_step : (rows : List CacheItem) (copies : Copies) (conn : ConnId) (index : ℕ) (name : Name16)
     (reg : Registration) (regs : List Registration) (b : Bool)
@@ -384,13 +385,14 @@ fresh_step rows copies conn index name reg regs true e fresh h k =
     ∙ ap (λ n. copy_in rows n) named
 fresh_step rows copies conn index name reg regs false e fresh h k = h k
 
-fresh_at : (rows : List CacheItem) (copies : Copies) (conn : ConnId) (index : ℕ) (name : Name16)
+-- where a connector is registered for a name, it has a copy of what the name's row has
+pub fresh-at : (rows : List CacheItem) (copies : Copies) (conn : ConnId) (index : ℕ) (name : Name16)
     (regs : List Registration) → Each (Fresh rows copies) regs
     → registered_at regs conn index ≡ Some name → copies conn index ≡ copy_in rows name
-fresh_at rows copies conn index name [] all h = absurd (cc)
-fresh_at rows copies conn index name (reg ∷ regs) all h =
+fresh-at rows copies conn index name [] all h = absurd (cc)
+fresh-at rows copies conn index name (reg ∷ regs) all h =
     fresh_step rows copies conn index name reg regs (is_at conn index reg) refl all.0
-    (fresh_at rows copies conn index name regs all.1) h
+    (fresh-at rows copies conn index name regs all.1) h
 
 -- A valid bit: after every run from the empty content, what a connector has a copy of at an index where it is
 -- registered for a name is what the name's row has
@@ -400,7 +402,7 @@ pub fresh-copy : (vector : ℕ) (caps : Caps) (copies : Copies) (deeds : List De
     → copies_run vector caps no_content copies deeds conn index
     ≡ copy_in (after_run vector caps no_content deeds).rows name
 fresh-copy vector caps copies deeds conn index name h =
-    fresh_at (after_run vector caps no_content deeds).rows
+    fresh-at (after_run vector caps no_content deeds).rows
     (copies_run vector caps no_content copies deeds) conn index name
     (after_run vector caps no_content deeds).regs (run_fresh vector caps no_content copies deeds
     (content-nothing caps) tt)

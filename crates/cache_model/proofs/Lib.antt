@@ -3,4 +3,5 @@ pub mod RoomLaws
 pub mod ContentLaws
 pub mod EngineLaws
 pub mod CopyLaws
+pub mod OrderLaws
 pub mod UncastLaws

@@ -227,7 +227,7 @@ row_of-released conn n (row ∷ rows) =
     (row_of-released conn n rows)
 
 after_kept : (vector : ℕ) (caps : Caps) (content : Content) (uncast : Uncasts) (by : ConnId) (cmd : CacheCmd)
-    → IsContent caps content
+    → IsDirectory content.rows
     → cause vector caps content by cmd ≡ None → AllKept content uncast
     → AllKept (after (victims_of caps content.rows cmd) content by cmd) (uncast_done cmd uncast)
 after_kept vector caps content uncast by (Read name index old stg) is h all =
@@ -238,7 +238,7 @@ after_kept vector caps content uncast by (Read name index old stg) is h all =
     (rows_spared (victims caps (read.request name stg) content.rows) content.rows)
     (uncast name) uncast (name-row_or_new name stg content.rows)
     (read_kept name stg (row_of name content.rows) (uncast name) (all name))
-    (kept_spared caps (read.request name stg) content.rows n (uncast n) is.directory (all n)))
+    (kept_spared caps (read.request name stg) content.rows n (uncast n) is (all n)))
 after_kept vector caps content uncast by (Write name index body class adj old stg when_reg) is h all =
     let none = none_hold (write.causes vector caps content by name index body class old stg when_reg) h in
     λ n. kept_replaced n name (write.row_with body class adj (row_or_new name stg content.rows))
@@ -246,7 +246,7 @@ after_kept vector caps content uncast by (Write name index body class adj old st
     (uncast_written body class adj (uncast name)) uncast (name-row_or_new name stg content.rows)
     (write_kept body class adj (row_or_new name stg content.rows) (row_of name content.rows) (uncast name)
     (unless_true (is_none class && is_changed_row (row_of name content.rows)) none.1.1.1.1.0) (all name))
-    (kept_spared caps (write.request name body stg) content.rows n (uncast n) is.directory (all n))
+    (kept_spared caps (write.request name body stg) content.rows n (uncast n) is (all n))
 after_kept vector caps content uncast by (CrossInval name) is h all = all
 after_kept vector caps content uncast by RegList is h all = all
 after_kept vector caps content uncast by (Castout name) is h all =
@@ -273,16 +273,17 @@ unless_kept : (caps : Caps) (content : Content) (uncast : Uncasts) (by : ConnId)
 unless_kept caps content uncast by cmd None h all = h refl
 unless_kept caps content uncast by cmd (Some refusal) h all = all
 
-deed_kept : (vector : ℕ) (caps : Caps) (content : Content) (uncast : Uncasts) (deed : Deed) → IsContent caps content
-    → AllKept content uncast
+-- so it is after one more deed, at whatever capacity
+pub deed-kept : (vector : ℕ) (caps : Caps) (content : Content) (uncast : Uncasts) (deed : Deed)
+    → IsDirectory content.rows → AllKept content uncast
     → AllKept (after_deed vector caps content deed) (uncast_after vector caps content uncast deed)
-deed_kept vector caps content uncast (Calls by cmd) is all =
+deed-kept vector caps content uncast (Calls by cmd) is all =
     unless_kept caps content uncast by cmd (cause vector caps content by cmd)
     (λ h. after_kept vector caps content uncast by cmd is h all) all
-deed_kept vector caps content uncast (Leaves conn) is all =
+deed-kept vector caps content uncast (Leaves conn) is all =
     λ n. subst (λ (o : Option CacheItem). Kept o (uncast n)) (sym (row_of-released conn n content.rows))
     (released_kept conn (row_of n content.rows) (uncast n) (all n))
-deed_kept vector caps content uncast Forgets is all = all
+deed-kept vector caps content uncast Forgets is all = all
 
 run_kept : (vector : ℕ) (caps : Caps) (content : Content) (uncast : Uncasts) (deeds : List Deed)
     → IsContent caps content → AllKept content uncast
@@ -290,7 +291,7 @@ run_kept : (vector : ℕ) (caps : Caps) (content : Content) (uncast : Uncasts) (
 run_kept vector caps content uncast [] is all = all
 run_kept vector caps content uncast (deed ∷ deeds) is all =
     run_kept vector caps (after_deed vector caps content deed) (uncast_after vector caps content uncast deed) deeds
-    (content-deed vector caps content deed is) (deed_kept vector caps content uncast deed is all)
+    (content-deed vector caps content deed is) (deed-kept vector caps content uncast deed is.directory all)
 
 -- A changed WRITE: after every run from the empty content, a name whose last changed WRITE isn't cast out nor deleted
 -- has a changed row with what was written

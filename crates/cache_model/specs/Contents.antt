@@ -17,6 +17,12 @@ pub record Content : Type 0 where
 abbrev pub no_content : Content
 no_content = record { rows = []; regs = [] }
 
+-- rows and registrations are in order, and there is a row for each registration, at whatever capacity
+pub record IsOrderly (content : Content) : Type 0 where
+  pub directory : IsDirectory content.rows
+  pub registry : IsRegistry content.regs
+  pub row_each : IsTrue (list_all (λ reg. has_row reg.name content.rows) content.regs)
+
 -- rows and data within the capacity, and a row for each registration
 pub record IsContent (caps : Caps) (content : Content) : Type 0 where
   pub directory : IsDirectory content.rows

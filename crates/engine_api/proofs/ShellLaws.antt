@@ -10,6 +10,7 @@ use Rattle.cf_types.specs.declared.events.Event.{Event}
 use Rattle.cf_types.specs.declared.events.Event.TheVariants as event
 use Rattle.cf_types.specs.declared.events.Letter.{Letter}
 use Rattle.cf_types.specs.declared.forms.StrForm.{StrForm}
+use Rattle.cf_types.specs.declared.numbers.CfId.{CfId}
 use Rattle.cf_types.specs.declared.numbers.ConnId.{ConnId}
 use Rattle.cf_types.specs.declared.refusals.Refusal.{Refusal}
 use Rattle.cf_types.specs.declared.refusals.Refusal.TheVariants as refusal
@@ -25,14 +26,17 @@ use Rattle.engine_api.specs.declared.asks.What.{What}
 use Rattle.engine_api.specs.declared.asks.What.TheVariants as what
 use Rattle.engine_api.specs.declared.asks.Reply.{Reply}
 use Rattle.engine_api.specs.declared.asks.Reply.TheVariants as reply
+use Rattle.engine_api.specs.declared.deeds.Room.{Room}
 use Rattle.engine_api.specs.declared.histories.Entry.{Entry}
 use Rattle.engine_api.specs.Asking.{MayAsk, MayCommand, IsBuilt}
 use Rattle.engine_api.specs.History.{Call, own, after_what, machine_after, replay, next_entry, next, next_reply}
-use Rattle.engine_api.specs.Instances.{no_instance}
-use Rattle.engine_api.specs.Machine.{Machine, CallOutcome, opening, refusal_outcome, unless, content_reply, content_done, capacity, departure_from, command_done, step}
+use Rattle.engine_api.specs.Machine.{Machine, CallOutcome, opening, refusal_outcome, unless, content_reply, content_done, capacity, room_of, departure_from, command_done, step}
 use Rattle.engine_api.specs.Meaning.{Meaning, Outcome, first_refusal, unless_refused}
-use Rattle.engine_api.specs.Shell.{Shell, ShellOutcome, unless_active, unless_failed, shell_cause, content_cause, shell_done, leaver, with_posted, no_deeds, goes, unless_gone, made_at, facility_of, connected_shell, connect_outcome, departure_outcome, conns_answered, take_event, response_outcome, force_connection, is_kept, is_built}
+use Rattle.engine_api.specs.Rebuilds.{is_switch}
+use Rattle.engine_api.specs.Shell.{Shell, unless_active, unless_failed, shell_cause, content_cause, shell_done, leaver, with_posted, no_deeds, goes, deallocated, unless_gone, facility_of, connected_shell, connect_outcome, switched, shell_onward, given_outcome, stop_outcome, rebuild_connect_outcome, complete_outcome, departure_outcome, conns_answered, take_event, responded, response_outcome, force_connection, is_kept, is_built}
 use Rattle.engine_api.specs.Told.{link_of, told_of}
+use Rattle.rebuild_core.specs.declared.rebuild.Rebuild.{Rebuild}
+use Rattle.rebuild_core.specs.Stages.{without_owing, outcome_of, is_response}
 use Rattle.engine_api.proofs.HistoryLaws.{replay-push, next_call, own-next_same, own-next_other}
 
 -- ---- cases
@@ -72,10 +76,10 @@ nobody_changes by conn before conns same = same ∙ same-cond (by.0 == conn.0) (
 
 -- ---- the connections that commands leave
 
-conns-unless_gone : (form : StrForm) (shell : Shell) → (unless_gone form shell).conns ≡ shell.conns
+pub conns-unless_gone : (form : StrForm) (shell : Shell) → (unless_gone form shell).conns ≡ shell.conns
 conns-unless_gone form shell = go (goes form shell.conns)
   where
-    go : (gone : Bool) → (cond gone (record shell { instances = no_instance }) shell).conns ≡ shell.conns
+    go : (gone : Bool) → (cond gone (deallocated form shell) shell).conns ≡ shell.conns
     go true = refl
     go false = refl
 
@@ -125,45 +129,56 @@ length-with_departure : (conn : ConnId) (keep : Bool) (conns : Connections)
 length-with_departure conn keep conns =
     length-set (map (excused_state conn) conns) conn.0 _ ∙ length-map conns (excused_state conn)
 
--- what CONNECT does where the caller had no connection, and where its connection had failed
-abbrev connected_new : StrForm → Shell → ConnId → Bool → ShellOutcome
-connected_new form shell by keep =
-    let shell' = connected_shell form shell by keep in
-    record {
-      reply = answer.OkNew (facility_of shell'.instances.primary);
-      shell = shell';
-      deeds = record no_deeds { make = made_at form shell };
-    }
-
-abbrev connected_again : StrForm → Shell → ConnId → Bool → ShellOutcome
-connected_again form shell by keep =
-    let shell' = connected_shell form shell by keep in
-    record {
-      reply = answer.Reconnected (facility_of shell'.instances.primary);
-      shell = shell';
-      deeds = record no_deeds { back = Some by; make = made_at form shell };
-    }
-
 -- CONNECT leaves the caller active, and its answer tells so
-pub conns-connect : (form : StrForm) (shell : Shell) (by : ConnId) (keep : Bool)
-    → (connect_outcome form shell by keep).shell.conns ≡ with_connect by keep shell.conns
-conns-connect form shell by keep = go (is_some (state_of shell.conns by))
-  where
-    go : (back : Bool) → (cond back (connected_again form shell by keep)
-        (connected_new form shell by keep)).shell.conns
-        ≡ with_connect by keep shell.conns
-    go true = refl
-    go false = refl
-
 pub link-connect : (form : StrForm) (shell : Shell) (by : ConnId) (keep : Bool)
     → link_of (cmd.Connect keep) (connect_outcome form shell by keep).reply ≡ Some true
 link-connect form shell by keep = go (is_some (state_of shell.conns by))
   where
-    go : (back : Bool)
-        → let acted = cond back (connected_again form shell by keep) (connected_new form shell by keep) in
-        link_of (cmd.Connect keep) acted.reply ≡ Some true
+    primary : CfId
+    primary = facility_of (connected_shell form shell by keep).instances.primary
+
+    go : (failed : Bool) → link_of (cmd.Connect keep) (cond failed (answer.Reconnected primary) (answer.OkNew primary))
+        ≡ Some true
     go true = refl
     go false = refl
+
+-- no connection changes where a rebuild goes on
+conns-switched : (behind : Bool) (rebuild : Rebuild) (shell : Shell) → (switched behind rebuild shell).conns ≡
+    shell.conns
+conns-switched true rebuild shell = refl
+conns-switched false rebuild shell = refl
+
+pub conns-onward : (rebuild : Rebuild) (shell : Shell) → (shell_onward rebuild shell).conns ≡ shell.conns
+conns-onward rebuild shell = conns-switched (is_switch (outcome_of rebuild)) rebuild _
+
+conns-stop : (shell : Shell) (rebuild : Option Rebuild) → (stop_outcome shell rebuild).shell.conns ≡ shell.conns
+conns-stop shell None = refl
+conns-stop shell (Some rebuild) = refl
+
+conns-rebuild_connect : (form : StrForm) (shell : Shell) (by : ConnId) (rebuild : Option Rebuild)
+    → (rebuild_connect_outcome form shell by rebuild).shell.conns ≡ shell.conns
+conns-rebuild_connect form shell by None = refl
+conns-rebuild_connect form shell by (Some rebuild) = conns-onward _ shell
+
+conns-complete : (shell : Shell) (by : ConnId) (rebuild : Option Rebuild)
+    → (complete_outcome shell by rebuild).shell.conns ≡ shell.conns
+conns-complete shell by None = refl
+conns-complete shell by (Some rebuild) = conns-onward (without_owing by rebuild) shell
+
+conns-responded : (by : ConnId) (answered : Event) (rebuild : Option Rebuild) (shell : Shell)
+    → (responded by answered rebuild shell).shell.conns ≡ shell.conns
+conns-responded by answered None shell = refl
+conns-responded by answered (Some rebuild) shell = go (is_response rebuild.stage rebuild.number answered)
+  where
+    go : (awaited : Bool)
+        → (cond awaited (given_outcome (answer.Responded answered) by rebuild shell)
+        (record { reply = answer.Responded answered; shell = shell; deeds = no_deeds })).shell.conns ≡ shell.conns
+    go true = conns-onward (without_owing by rebuild) shell
+    go false = refl
+
+conns-respond : (shell : Shell) (by : ConnId) (answered : Event)
+    → (response_outcome shell by (Some answered)).shell.conns ≡ conns_answered by answered shell.conns
+conns-respond shell by answered = conns-responded by answered shell.rebuild _
 
 link-take_event : (shell : Shell) (by : ConnId) (taken : Option Event)
     → link_of cmd.Next (take_event shell by taken).reply ≡ None
@@ -178,12 +193,15 @@ link-respond shell by (Some answered) = refl
 is_active-respond : (shell : Shell) (by : ConnId) (answered : Option Event) (conn : ConnId)
     → is_active (response_outcome shell by answered).shell.conns conn ≡ is_active shell.conns conn
 is_active-respond shell by None conn = refl
-is_active-respond shell by (Some answered) conn = is_active-answering by answered shell.conns conn
+is_active-respond shell by (Some answered) conn =
+    ap (λ (c : Connections). is_active c conn) (conns-respond shell by answered)
+    ∙ is_active-answering by answered shell.conns conn
 
 length-respond : (shell : Shell) (by : ConnId) (answered : Option Event)
     → length (response_outcome shell by answered).shell.conns ≡ length shell.conns
 length-respond shell by None = refl
-length-respond shell by (Some answered) = length-answering by answered shell.conns
+length-respond shell by (Some answered) =
+    ap (λ (c : Connections). length c) (conns-respond shell by answered) ∙ length-answering by answered shell.conns
 
 -- a departed connector isn't active
 depart_changes : (form : StrForm) (shell : Shell) (by : ConnId) (keep : Bool) (conn : ConnId)
@@ -201,10 +219,9 @@ connect_changes : (form : StrForm) (shell : Shell) (by : ConnId) (keep : Bool) (
     → by.0 < length shell.conns
     → TellsActive by conn (Some true) shell.conns (connect_outcome form shell by keep).shell.conns
 connect_changes form shell by keep conn within =
-    subst (TellsActive by conn (Some true) shell.conns) (sym (conns-connect form shell by keep))
-    (caller_changes by conn (Some true) shell.conns (with_connect by keep shell.conns)
+    caller_changes by conn (Some true) shell.conns (with_connect by keep shell.conns)
     (ap is_active_state (state_of-with_connect_same by keep shell.conns within))
-    (λ apart. ap is_active_state (state_of-with_connect_other by keep shell.conns conn apart)))
+    (λ apart. ap is_active_state (state_of-with_connect_other by keep shell.conns conn apart))
 
 -- a connection that is forced away wasn't active
 forced_idle : (state : Option ConnState) → first_refusal (unless_failed state ∷ []) ≡ None
@@ -224,87 +241,94 @@ force_changes form shell other conn idle =
     (ap is_active_state (state_of-with_forced_same other shell.conns) ∙ sym idle)
     (λ apart. ap is_active_state (state_of-with_forced_other other shell.conns conn apart))
 
+unchanged : (before conns : Connections) (by conn : ConnId) → conns ≡ before → TellsActive by conn None before conns
+unchanged before conns by conn same =
+    nobody_changes by conn before conns (ap (λ (c : Connections). is_active c conn) same)
+
 -- a command that isn't refused: whether its caller is active then is what the answer tells, and nobody else is
--- changed.
--- The shell may have got letters since the refusals were judged
-command_changes : (form : StrForm) (shell shell' : Shell) (by : ConnId) (command : ShellCmd) (conn : ConnId)
+-- changed. The shell may have got letters since the refusals were judged
+command_changes : (form : StrForm) (room room' : Room) (shell shell' : Shell) (by : ConnId) (command : ShellCmd)
+    (conn : ConnId)
     → shell'.conns ≡ shell.conns → by.0 < length shell.conns → IsTrue (is_built command)
-    → shell_cause form shell by command ≡ None
-    → let acted = shell_done form shell' by command in
+    → shell_cause form room shell by command ≡ None
+    → let acted = shell_done form room' shell' by command in
     TellsActive by conn (link_of command acted.reply) shell'.conns acted.shell.conns
-command_changes form shell shell' by (cmd.Connect keep) conn same within built accepted =
+command_changes form room room' shell shell' by (cmd.Connect keep) conn same within built accepted =
     subst (λ (change : Option Bool). TellsActive by conn change shell'.conns
     (connect_outcome form shell' by keep).shell.conns)
     (sym (link-connect form shell' by keep)) (connect_changes form shell' by keep conn (rw same within))
-command_changes form shell shell' by cmd.Disconnect conn same within built accepted =
+command_changes form room room' shell shell' by cmd.Disconnect conn same within built accepted =
     depart_changes form shell' by false conn (rw same within)
-command_changes form shell shell' by cmd.Fail conn same within built accepted =
+command_changes form room room' shell shell' by cmd.Fail conn same within built accepted =
     depart_changes form shell' by (is_kept (state_of shell'.conns by)) conn (rw same within)
-command_changes form shell shell' by cmd.Next conn same within built accepted =
+command_changes form room room' shell shell' by cmd.Next conn same within built accepted =
     let taken = next_event shell'.mail by in
     subst (λ (change : Option Bool). TellsActive by conn change shell'.conns (take_event shell' by taken).shell.conns)
     (sym (link-take_event shell' by taken))
     (nobody_changes by conn shell'.conns _
     (ap (λ (c : Connections). is_active c conn) (conns-take_event shell' by taken)))
-command_changes form shell shell' by cmd.Respond conn same within built accepted =
+command_changes form room room' shell shell' by cmd.Respond conn same within built accepted =
     let answered = owed_event shell'.mail by in
     subst (λ (change : Option Bool). TellsActive by conn change shell'.conns
     (response_outcome shell' by answered).shell.conns)
     (sym (link-respond shell' by answered))
     (nobody_changes by conn shell'.conns _ (is_active-respond shell' by answered conn))
-command_changes form shell shell' by (cmd.ForceConn other) conn same within built accepted =
+command_changes form room room' shell shell' by (cmd.ForceConn other) conn same within built accepted =
     let idle : is_active shell'.conns other ≡ false =
     ap (λ (c : Connections). is_active c other) same ∙ forced_idle (state_of shell.conns other) accepted in
     nobody_changes by conn shell'.conns _ (force_changes form shell' other conn idle)
-command_changes form shell shell' by cmd.ForceStr conn same within built accepted =
+command_changes form room room' shell shell' by cmd.ForceStr conn same within built accepted =
     nobody_changes by conn shell'.conns shell'.conns refl
-command_changes form shell shell' by (cmd.RebuildStart caps) conn same within built accepted =
-    absurd (false≢true built)
-command_changes form shell shell' by cmd.RebuildStop conn same within built accepted =
-    absurd (false≢true built)
-command_changes form shell shell' by cmd.RebuildConnect conn same within built accepted =
-    absurd (false≢true built)
-command_changes form shell shell' by (cmd.Copy n) conn same within built accepted =
-    absurd (false≢true built)
-command_changes form shell shell' by cmd.RebuildComplete conn same within built accepted =
-    absurd (false≢true built)
-command_changes form shell shell' by (cmd.LoseConn other cf) conn same within built accepted =
-    absurd (false≢true built)
-command_changes form shell shell' by (cmd.RestoreConn other cf) conn same within built accepted =
-    absurd (false≢true built)
-command_changes form shell shell' by (cmd.Vary cf off) conn same within built accepted =
-    absurd (false≢true built)
-command_changes form shell shell' by cmd.DuplexStart conn same within built accepted =
-    absurd (false≢true built)
-command_changes form shell shell' by cmd.DuplexStop conn same within built accepted =
-    absurd (false≢true built)
+command_changes form room room' shell shell' by (cmd.RebuildStart caps) conn same within built accepted =
+    nobody_changes by conn shell'.conns shell'.conns refl
+command_changes form room room' shell shell' by cmd.RebuildStop conn same within built accepted =
+    unchanged shell'.conns _ by conn (conns-stop shell' shell'.rebuild)
+command_changes form room room' shell shell' by cmd.RebuildConnect conn same within built accepted =
+    unchanged shell'.conns _ by conn (conns-rebuild_connect form shell' by shell'.rebuild)
+command_changes form room room' shell shell' by (cmd.Copy n) conn same within built accepted =
+    nobody_changes by conn shell'.conns shell'.conns refl
+command_changes form room room' shell shell' by cmd.RebuildComplete conn same within built accepted =
+    unchanged shell'.conns _ by conn (conns-complete shell' by shell'.rebuild)
+command_changes form room room' shell shell' by (cmd.LoseConn other cf) conn same within built accepted =
+    nobody_changes by conn shell'.conns shell'.conns refl
+command_changes form room room' shell shell' by (cmd.RestoreConn other cf) conn same within built accepted =
+    nobody_changes by conn shell'.conns shell'.conns refl
+command_changes form room room' shell shell' by (cmd.Vary cf off) conn same within built accepted =
+    nobody_changes by conn shell'.conns shell'.conns refl
+command_changes form room room' shell shell' by cmd.DuplexStart conn same within built accepted =
+    nobody_changes by conn shell'.conns shell'.conns refl
+command_changes form room room' shell shell' by cmd.DuplexStop conn same within built accepted =
+    nobody_changes by conn shell'.conns shell'.conns refl
 
 -- there are as many connections after a command as before
-length-shell_done : (form : StrForm) (shell : Shell) (by : ConnId) (command : ShellCmd)
-    → length (shell_done form shell by command).shell.conns ≡ length shell.conns
-length-shell_done form shell by (cmd.Connect keep) =
-    ap (λ (c : Connections). length c) (conns-connect form shell by keep) ∙ length-set shell.conns by.0 _
-length-shell_done form shell by cmd.Disconnect =
+length-shell_done : (form : StrForm) (room : Room) (shell : Shell) (by : ConnId) (command : ShellCmd)
+    → length (shell_done form room shell by command).shell.conns ≡ length shell.conns
+length-shell_done form room shell by (cmd.Connect keep) =
+    length-set shell.conns by.0 _
+length-shell_done form room shell by cmd.Disconnect =
     ap (λ (c : Connections). length c) (conns-unless_gone form _) ∙ length-with_departure by false shell.conns
-length-shell_done form shell by cmd.Fail =
+length-shell_done form room shell by cmd.Fail =
     ap (λ (c : Connections). length c) (conns-unless_gone form _)
     ∙ length-with_departure by (is_kept (state_of shell.conns by)) shell.conns
-length-shell_done form shell by cmd.Next =
+length-shell_done form room shell by cmd.Next =
     ap (λ (c : Connections). length c) (conns-take_event shell by (next_event shell.mail by))
-length-shell_done form shell by cmd.Respond = length-respond shell by (owed_event shell.mail by)
-length-shell_done form shell by (cmd.ForceConn other) =
+length-shell_done form room shell by cmd.Respond = length-respond shell by (owed_event shell.mail by)
+length-shell_done form room shell by (cmd.ForceConn other) =
     ap (λ (c : Connections). length c) (conns-unless_gone form _) ∙ length-set shell.conns other.0 None
-length-shell_done form shell by cmd.ForceStr = refl
-length-shell_done form shell by (cmd.RebuildStart caps) = refl
-length-shell_done form shell by cmd.RebuildStop = refl
-length-shell_done form shell by cmd.RebuildConnect = refl
-length-shell_done form shell by (cmd.Copy n) = refl
-length-shell_done form shell by cmd.RebuildComplete = refl
-length-shell_done form shell by (cmd.LoseConn other cf) = refl
-length-shell_done form shell by (cmd.RestoreConn other cf) = refl
-length-shell_done form shell by (cmd.Vary cf off) = refl
-length-shell_done form shell by cmd.DuplexStart = refl
-length-shell_done form shell by cmd.DuplexStop = refl
+length-shell_done form room shell by cmd.ForceStr = refl
+length-shell_done form room shell by (cmd.RebuildStart caps) = refl
+length-shell_done form room shell by cmd.RebuildStop =
+    ap (λ (c : Connections). length c) (conns-stop shell shell.rebuild)
+length-shell_done form room shell by cmd.RebuildConnect =
+    ap (λ (c : Connections). length c) (conns-rebuild_connect form shell by shell.rebuild)
+length-shell_done form room shell by (cmd.Copy n) = refl
+length-shell_done form room shell by cmd.RebuildComplete =
+    ap (λ (c : Connections). length c) (conns-complete shell by shell.rebuild)
+length-shell_done form room shell by (cmd.LoseConn other cf) = refl
+length-shell_done form room shell by (cmd.RestoreConn other cf) = refl
+length-shell_done form room shell by (cmd.Vary cf off) = refl
+length-shell_done form room shell by cmd.DuplexStart = refl
+length-shell_done form room shell by cmd.DuplexStop = refl
 
 length-unconnected : length no_connections ≡ 33
 unfolding no_connections
@@ -379,9 +403,9 @@ module _ {C R I S : Type 0} (meaning : Meaning C R I S) (form : StrForm) where
       (unwrap_or (told_of number asked (step meaning form machine by asked).reply).linked (is_active_in machine conn))
       (is_active_in machine conn)
   is_active-step number machine by (ask.Shell command) conn places may built =
-      go (shell_cause form machine.shell by command) refl
+      go (shell_cause form (room_of meaning form machine) machine.shell by command) refl
     where
-      go : (cause : Option Refusal) → shell_cause form machine.shell by command ≡ cause
+      go : (cause : Option Refusal) → shell_cause form (room_of meaning form machine) machine.shell by command ≡ cause
           → let answered = unless meaning form cause machine (command_done meaning form machine by command) in
           is_active answered.machine.shell.conns conn
           ≡ cond (by.0 == conn.0)
@@ -391,7 +415,9 @@ module _ {C R I S : Type 0} (meaning : Meaning C R I S) (form : StrForm) where
       go None is =
           let letters : List Letter = (departure_from meaning form (leaver machine.shell by command) machine).letters in
           let within : by.0 < length machine.shell.conns = omega (arith, within_places by command may, places) in
-          command_changes form machine.shell (with_posted letters machine.shell) by command conn refl within built is
+          let room : Room = room_of meaning form machine in
+          command_changes form room room machine.shell (with_posted letters machine.shell) by command conn refl within
+          built is
   is_active-step number machine by (ask.Content command) conn places may built =
       let answered = step meaning form machine by (ask.Content command) in
       same_connections answered.machine.shell.conns (conns-content machine by command
@@ -407,7 +433,8 @@ module _ {C R I S : Type 0} (meaning : Meaning C R I S) (form : StrForm) where
 
   pub length-conns-step : (machine : Machine S) (by : ConnId) (asked : Ask C)
       → length (step meaning form machine by asked).machine.shell.conns ≡ length machine.shell.conns
-  length-conns-step machine by (ask.Shell command) = go (shell_cause form machine.shell by command)
+  length-conns-step machine by (ask.Shell command) =
+      go (shell_cause form (room_of meaning form machine) machine.shell by command)
     where
       go : (cause : Option Refusal)
           → let answered = unless meaning form cause machine (command_done meaning form machine by command) in
@@ -415,7 +442,7 @@ module _ {C R I S : Type 0} (meaning : Meaning C R I S) (form : StrForm) where
       go (Some refusal) = refl
       go None =
           let letters : List Letter = (departure_from meaning form (leaver machine.shell by command) machine).letters in
-          length-shell_done form (with_posted letters machine.shell) by command
+          length-shell_done form (room_of meaning form machine) (with_posted letters machine.shell) by command
   length-conns-step machine by (ask.Content command) =
       ap (λ (c : Connections). length c) (conns-content machine by command (content_cause machine.shell by))
 
@@ -565,7 +592,7 @@ module _ {C R I S : Type 0} (meaning : Meaning C R I S) (form : StrForm) where
       → let stepped = unless_refused cause machine.content outcome in
       content_reply stepped.reply ≡ reply.Refused refusal
       → let stepped = unless_refused cause machine.content outcome in
-      record { shell = with_posted stepped.letters machine.shell; content = stepped.state } ≡ machine
+      record machine { shell = with_posted stepped.letters machine.shell; content = stepped.state } ≡ machine
   refused_stepped machine (Some why) outcome refusal is = refl
   refused_stepped machine None outcome refusal is = absurd (cc)
 
@@ -584,7 +611,8 @@ module _ {C R I S : Type 0} (meaning : Meaning C R I S) (form : StrForm) where
       → (step meaning form machine by asked).reply ≡ reply.Refused refusal
       → (step meaning form machine by asked).machine ≡ machine
   machine-refused machine by (ask.Shell command) refusal is =
-      refused_done machine by command (shell_cause form machine.shell by command) refusal is
+      refused_done machine by command (shell_cause form (room_of meaning form machine) machine.shell by command)
+      refusal is
   machine-refused machine by (ask.Content command) refusal is =
       refused_content machine by command (content_cause machine.shell by) refusal is
 

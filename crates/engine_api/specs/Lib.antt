@@ -2,6 +2,7 @@ pub mod Shapes
 pub mod Meaning
 pub mod Items
 pub mod Instances
+pub mod Rebuilds
 pub mod Shell
 pub mod Told
 pub mod Machine

@@ -1,4 +1,4 @@
-use cf_types::{CfId, ConnId};
+use cf_types::{Caps, CfId, ConnId};
 
 /// What a common command does to the instances and their content, in the order of the fields.
 #[derive(Clone, Copy, Debug, PartialEq, Eq)]
@@ -19,4 +19,12 @@ pub struct Deeds {
     pub drop_fresh: bool,
     /// All instances end, and the content with them.
     pub drop_all: bool,
+}
+
+/// What the engines know: what the primary's content needs, 0 in both numbers where no primary
+/// stands; and how many items a rebuild has left to copy, 0 where no new instance stands.
+#[derive(Clone, Copy, Debug, PartialEq, Eq)]
+pub struct Room {
+    pub need: Caps,
+    pub left: u32,
 }

@@ -11,7 +11,7 @@ mod shapes;
 mod told;
 
 pub use asks::{Ask, Reply, What};
-pub use deeds::Deeds;
+pub use deeds::{Deeds, Room};
 pub use engine::Engine;
 pub use histories::{Entry, History};
 pub use laws::refused_changes_nothing;

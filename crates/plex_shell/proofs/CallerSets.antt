@@ -24,16 +24,26 @@ and-true : (b : Bool) → (b && true) ≡ b
 and-true true = refl
 and-true false = refl
 
+AreCallers-filter_without : (p : ConnId → Bool) (conn : ConnId)
+    → AreCallers (without_member conn (filter p (conns_from 0 33)))
+AreCallers-filter_without p conn =
+    let others : ConnId → Bool = λ other. p other && not (other.0 == conn.0) in
+    let same : filter others (conns_from 0 33) ≡ without_member conn (filter p (conns_from 0 33)) =
+    without_member-from p others conn 0 33
+    (and_right (p conn) (not (conn.0 == conn.0)) (rw (eq-eqb conn.0 conn.0 refl) refl))
+    (λ other apart high. rw (ne_eqb other.0 conn.0 apart) (and-true (p other))) in
+    subst (λ (set : List ConnId). AreCallers set) same (AreCallers-filter others)
+
 pub AreCallers-other_actives : (conn : ConnId) (conns : Connections)
     → AreCallers (without_member conn (actives conns))
 unfolding actives
-AreCallers-other_actives conn conns =
-    let others : ConnId → Bool = λ other. is_active conns other && not (other.0 == conn.0) in
-    let same : filter others (conns_from 0 33) ≡ without_member conn (filter (is_active conns) (conns_from 0 33)) =
-    without_member-from (is_active conns) others conn 0 33
-    (and_right (is_active conns conn) (not (conn.0 == conn.0)) (rw (eq-eqb conn.0 conn.0 refl) refl))
-    (λ other apart high. rw (ne_eqb other.0 conn.0 apart) (and-true (is_active conns other))) in
-    subst (λ (set : List ConnId). AreCallers set) same (AreCallers-filter others)
+AreCallers-other_actives conn conns = AreCallers-filter_without (is_active conns) conn
+
+-- callers without one of them
+pub AreCallers-without : (conn : ConnId) (set : List ConnId) → AreCallers set → AreCallers (without_member conn set)
+AreCallers-without conn set are =
+    subst (λ (all : List ConnId). AreCallers (without_member conn all)) (sym are.in_order)
+    (AreCallers-filter_without (λ other. is_member other set) conn)
 
 -- the members from this number on
 abbrev pub members_from : List ConnId → ℕ → List ConnId

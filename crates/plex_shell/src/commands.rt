@@ -1,4 +1,6 @@
-mod connect;
+pub(crate) mod connect;
 mod departures;
 mod events;
 mod forces;
+mod reach;
+mod rebuilds;

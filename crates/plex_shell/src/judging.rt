@@ -1,51 +1,82 @@
-ghost use Rattle.std.specs.Prelude.{◌≡◌, nat_lt, is_none};
+ghost use Rattle.std.specs.Prelude.{◌≡◌, ◌∷◌, [], nat_lt, is_none};
 ghost use Rattle.cf_types.specs.Connections.{state_of, defined_count};
 ghost use Rattle.cf_types.specs.Forms.{IsCaller};
 ghost use Rattle.cf_types.specs.Mailboxes.{next_event, owed_event};
 ghost use Rattle.cf_types.specs.declared.refusals.Refusal.TheVariants as refusal;
-ghost use Rattle.cf_types.specs.declared.shell_commands.ShellCmd.TheVariants as cmd;
 ghost use Rattle.engine_api.specs.Asking.{MayCommand};
-ghost use Rattle.engine_api.specs.Shell.{refusal_when, unless_active, if_connected, if_too_many, unless_failed, shell_cause};
+ghost use Rattle.engine_api.specs.Meaning.{first_refusal};
+ghost use Rattle.engine_api.specs.Shell.{refusal_when, unless_active, if_connected, if_rebuilding, if_too_many, unless_reached, unless_failed, shell_cause, content_cause};
 
 use crate::shell::Shell;
 use cf_types::{ConnId, ConnState, Refusal, ShellCmd, StateWord};
+use engine_api::Room;
 
 impl Shell {
     /// Why a common command is refused, if it is: the first cause that holds.
-    pub(crate) fn judge_command(&self, by: ConnId, cmd: &ShellCmd) -> Option<Refusal>
+    pub(crate) fn judge_command(&self, by: ConnId, cmd: &ShellCmd, room: &Room) -> Option<Refusal>
         requires { MayCommand by cmd.now }
-        ensures { result ≡ shell_cause self.now.form self.now.shell by cmd.now }
+        ensures { result ≡ shell_cause self.now.form room.now self.now.shell by cmd.now }
     {
         match cmd {
-            ShellCmd::Connect { keep } => self.judge_connect(by, *keep),
+            ShellCmd::Connect { .. } => self.judge_connect(by),
             ShellCmd::Disconnect | ShellCmd::Fail => self.unless_active(by),
             ShellCmd::Next => self.judge_next(by),
             ShellCmd::Respond => self.judge_respond(by),
+            ShellCmd::RebuildStart { .. } => self.judge_start(by),
+            ShellCmd::RebuildStop => self.judge_stop(by),
+            ShellCmd::RebuildConnect => self.judge_rebuild_connect(by, room),
+            ShellCmd::Copy { .. } => self.judge_copy(by),
+            ShellCmd::RebuildComplete => self.judge_complete(by, room),
             ShellCmd::ForceConn { conn } => self.unless_failed(*conn),
             ShellCmd::ForceStr => self.if_defined(),
-            _ => Some(Refusal::NotAllocated),
+            ShellCmd::LoseConn { .. } | ShellCmd::RestoreConn { .. } => None,
+            ShellCmd::Vary { .. } | ShellCmd::DuplexStart | ShellCmd::DuplexStop => {
+                Some(Refusal::NotAllocated)
+            }
         }
     }
 
-    fn judge_connect(&self, by: ConnId, keep: bool) -> Option<Refusal>
-        ensures { result
-            ≡ shell_cause self.now.form self.now.shell by (cmd.Connect keep) }
+    /// Why a command on the content is refused before the engine is asked, if it is.
+    pub(crate) fn judge_content(&self, by: ConnId) -> Option<Refusal>
+        requires { IsCaller by }
+        ensures { result ≡ content_cause self.now.shell by }
+    {
+        self.unless_active(by)
+            .or(self.if_quiesced(by))
+            .or(self.unless_in_reach(by))
+    }
+
+    fn judge_connect(&self, by: ConnId) -> Option<Refusal>
+        requires { IsCaller by }
+        ensures { result ≡ first_refusal (if_connected (state_of self.now.shell.conns by)
+            ∷ if_rebuilding self.now.shell.rebuild ∷ if_too_many self.now.form self.now.shell by
+            ∷ unless_reached self.now.form self.now.shell by) }
     {
         self.if_connected(by)
-            .or(self.if_too_many(by))
-            .or(self.unless_placed())
+            .or(self.if_rebuilding())
+            .or(self.unless_admitted(by))
+    }
+
+    fn unless_admitted(&self, by: ConnId) -> Option<Refusal>
+        requires { IsCaller by }
+        ensures { result ≡ first_refusal (if_too_many self.now.form self.now.shell by
+            ∷ unless_reached self.now.form self.now.shell by) }
+    {
+        self.if_too_many(by).or(self.unless_reached(by))
     }
 
     fn judge_next(&self, by: ConnId) -> Option<Refusal>
         requires { IsCaller by }
-        ensures { result ≡ shell_cause self.now.form self.now.shell by cmd.Next }
+        ensures { result ≡ first_refusal (unless_active self.now.shell by
+            ∷ refusal_when (is_none (next_event self.now.shell.mail by)) refusal.NoEvent ∷ []) }
     {
         self.unless_active(by).or(self.unless_waiting(by))
     }
 
     fn judge_respond(&self, by: ConnId) -> Option<Refusal>
         requires { IsCaller by }
-        ensures { result ≡ shell_cause self.now.form self.now.shell by cmd.Respond }
+        ensures { result ≡ first_refusal (unless_active self.now.shell by
+            ∷ refusal_when (is_none (owed_event self.now.shell.mail by)) refusal.NothingOwed ∷ []) }
     {
         self.unless_active(by).or(self.unless_owing(by))
     }
@@ -118,7 +149,7 @@ impl Shell {
     // The connection isn't failed.
     fn unless_failed(&self, conn: ConnId) -> Option<Refusal>
         ensures { result
-            ≡ shell_cause self.now.form self.now.shell conn (cmd.ForceConn conn) }
+            ≡ unless_failed (state_of self.now.shell.conns conn) }
     {
         let state = match self.conns.state(conn) {
             Some(ConnState::Active { .. }) => StateWord::Active,

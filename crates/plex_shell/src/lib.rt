@@ -3,14 +3,16 @@
 #![tactic(auto)]
 
 mod commands;
+mod connectivity;
 mod judging;
 mod letters;
 mod places;
+mod rebuild_causes;
 mod shell;
 #[cfg(test)]
 mod tests;
 mod verdicts;
 
-pub use engine_api::Deeds;
+pub use engine_api::{Deeds, Room};
 pub use shell::{ACT_LETTERS, Shell, copy_form};
-pub use verdicts::{Room, Verdict};
+pub use verdicts::Verdict;

@@ -1,96 +1,155 @@
-ghost use Rattle.std.specs.Prelude.{◌≡◌, ◌<◌, ◌≤◌, nat_lt, length};
+ghost use Rattle.std.specs.Prelude.{◌≡◌, ◌∷◌, [], ◌<◌, ◌≤◌, nat_lt, length};
 ghost use Rattle.cf_types.specs.Forms.{IsCapacity};
-ghost use Rattle.engine_api.specs.Instances.{is_at, stands_at, units_of, candidates, place_for, greatest_units};
-ghost use Rattle.engine_api.specs.Shell.{if_no_place, unless_placed, made_at};
+ghost use Rattle.cf_types.specs.Forms.{IsCaller};
+ghost use Rattle.engine_api.specs.Instances.{is_at, units_of, place_for, greatest_units};
+ghost use Rattle.engine_api.specs.Meaning.{first_refusal};
+ghost use Rattle.engine_api.specs.Shell.{stands_at, is_severed, is_candidate, candidates, if_no_place, if_severed, unless_reached, made_at, fresh_made};
 
 use crate::shell::Shell;
-use cf_types::{Caps, CfId, Pref, Refusal};
+use cf_types::{Caps, CfId, ConnId, Pref, Refusal};
+use rebuild_core::Rebuild;
 
 impl Shell {
     // Whether an instance stands in the facility.
     fn stands_at(&self, cf: CfId) -> bool
-        ensures { result ≡ stands_at self.now.shell.instances cf }
+        ensures { result ≡ stands_at self.now.shell cf }
     {
-        is_at(cf, self.primary) || is_at(cf, self.secondary) || is_at(cf, self.fresh)
+        is_at(cf, self.primary) || (is_at(cf, self.secondary) || is_at(cf, self.fresh()))
     }
 
-    // The first facility that the policy prefers, in which no instance stands, and that has the
-    // units.
-    fn place(&self, units: u32) -> Option<CfId>
-        ensures { result
-            ≡ place_for units (candidates self.now.form.prefs self.now.shell.instances) }
+    // Whether the connector can't reach the facility.
+    fn is_severed(&self, by: ConnId, cf: CfId) -> bool
+        requires { IsCaller by }
+        ensures { result ≡ is_severed self.now.shell by cf }
+    {
+        self.reach.severed_from(cf).has(by)
+    }
+
+    // Whether an instance can be made there for the connector: none stands there, and it reaches
+    // the facility.
+    fn is_candidate(&self, by: ConnId, pref: &Pref) -> bool
+        requires { IsCaller by }
+        ensures { result ≡ is_candidate self.now.shell by pref.now }
+    {
+        !self.stands_at(pref.cf) && !self.is_severed(by, pref.cf)
+    }
+
+    // The first candidate that has the units.
+    fn place(&self, by: ConnId, units: u32) -> Option<CfId>
+        requires { IsCaller by }
+        ensures { result ≡ place_for units (candidates self.now.form self.now.shell by) }
     {
         for pref in self.form.prefs.items() {
-            if !self.stands_at(pref.cf) && units <= pref.units {
+            if self.is_candidate(by, pref) && units <= pref.units {
                 return Some(pref.cf);
             }
         }
         None
     }
 
-    // Whether the policy prefers a facility in which no instance stands.
-    fn has_candidate(&self) -> bool
-        ensures { result
-            ≡ nat_lt 0 (length (candidates self.now.form.prefs self.now.shell.instances)) }
+    // Whether there is a candidate.
+    fn has_candidate(&self, by: ConnId) -> bool
+        requires { IsCaller by }
+        ensures { result ≡ nat_lt 0 (length (candidates self.now.form self.now.shell by)) }
     {
         for pref in self.form.prefs.items() {
-            if !self.stands_at(pref.cf) {
+            if self.is_candidate(by, pref) {
                 return true;
             }
         }
         false
     }
 
-    // The greatest units that one of those facilities has.
-    fn greatest_units(&self) -> u32
-        ensures { result
-            ≡ greatest_units (candidates self.now.form.prefs self.now.shell.instances) }
+    // The greatest units that a candidate has.
+    fn greatest_units(&self, by: ConnId) -> u32
+        requires { IsCaller by }
+        ensures { result ≡ greatest_units (candidates self.now.form self.now.shell by) }
     {
         let mut most = 0;
         for pref in self.form.prefs.items() {
-            if !self.stands_at(pref.cf) {
+            if self.is_candidate(by, pref) {
                 most = pref.units.max(most);
             }
         }
         most
     }
 
-    // Why no instance can be made, if none can: no facility is there for it, or none is large
-    // enough.
-    fn if_no_place(&self) -> Option<Refusal>
-        ensures { result ≡ if_no_place (units_of self.now.form.caps)
-            (candidates self.now.form.prefs self.now.shell.instances) }
+    /// Why no instance of this capacity can be made, if none can: no facility is there for it, or
+    /// none is large enough.
+    pub(crate) fn if_no_place(&self, by: ConnId, caps: Caps) -> Option<Refusal>
+        requires caller { IsCaller by }
+        requires caps { IsCapacity caps }
+        ensures { result
+            ≡ if_no_place (units_of caps) (candidates self.now.form self.now.shell by) }
     {
-        let asked = units_of(self.form.caps);
-        if self.place(asked).is_some() {
+        let asked = units_of(caps);
+        if self.place(by, asked).is_some() {
             None
-        } else if self.has_candidate() {
+        } else if self.has_candidate(by) {
             Some(Refusal::NoSpace {
                 asked,
-                free: self.greatest_units(),
+                free: self.greatest_units(by),
             })
         } else {
             Some(Refusal::NoFacility)
         }
     }
 
-    /// Why no primary can be made, if none stands and none can.
-    pub(crate) fn unless_placed(&self) -> Option<Refusal>
-        ensures { result ≡ unless_placed self.now.form self.now.shell }
+    /// An instance stands where the connector can't reach it.
+    pub(crate) fn if_severed(&self, by: ConnId, at: Option<CfId>) -> Option<Refusal>
+        requires { IsCaller by }
+        ensures { result ≡ if_severed self.now.shell by at }
+    {
+        match at {
+            Some(cf) if self.is_severed(by, cf) => Some(Refusal::LostConn { cf }),
+            _ => None,
+        }
+    }
+
+    /// Why a connector can't have a primary: none stands and none can be made, or it can't reach
+    /// those that stand.
+    pub(crate) fn unless_reached(&self, by: ConnId) -> Option<Refusal>
+        requires { IsCaller by }
+        ensures { result ≡ first_refusal (unless_reached self.now.form self.now.shell by) }
     {
         if self.primary.is_none() {
-            self.if_no_place()
+            self.if_no_place(by, self.caps)
+        } else {
+            self.unless_in_reach(by)
+        }
+    }
+
+    /// A primary or a secondary stands where the connector can't reach it.
+    pub(crate) fn unless_in_reach(&self, by: ConnId) -> Option<Refusal>
+        requires { IsCaller by }
+        ensures { result ≡ first_refusal (if_severed self.now.shell by
+            self.now.shell.instances.primary
+            ∷ if_severed self.now.shell by self.now.shell.instances.secondary ∷ []) }
+    {
+        self.if_severed(by, self.primary)
+            .or(self.if_severed(by, self.secondary))
+    }
+
+    /// Where a primary is to be made; none where one stands, or where none can be made.
+    pub(crate) fn made_at(&self, by: ConnId) -> Option<CfId>
+        requires { IsCaller by }
+        ensures { result ≡ made_at self.now.form self.now.shell by }
+    {
+        if self.primary.is_none() {
+            self.place(by, units_of(self.caps))
         } else {
             None
         }
     }
 
-    /// Where a primary is to be made; none where one stands, or where none can be made.
-    pub(crate) fn made_at(&self) -> Option<CfId>
-        ensures { result ≡ made_at self.now.form self.now.shell }
+    /// Where a rebuild's new instance is to be made; none where it stands.
+    pub(crate) fn fresh_made(&self, by: ConnId, rebuild: &Rebuild) -> Option<CfId>
+        requires caller { IsCaller by }
+        requires caps { IsCapacity rebuild.now.caps }
+        ensures { result ≡ fresh_made self.now.form self.now.shell by rebuild.now }
     {
-        if self.primary.is_none() {
-            self.place(units_of(self.form.caps))
+        if rebuild.fresh.is_none() {
+            self.place(by, units_of(rebuild.caps))
         } else {
             None
         }

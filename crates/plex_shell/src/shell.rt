@@ -1,24 +1,29 @@
-ghost use Rattle.std.specs.Prelude.{◌≡◌, ◌≤◌, ◌<◌, ◌+◌, ◌∷◌, [], IsTrue, IfOk, OnOk};
+ghost use Rattle.std.specs.Prelude.{◌≡◌, ◌≤◌, ◌<◌, ◌+◌, ◌-◌, ◌∷◌, [], min, IfOk, OnOk};
 ghost use Rattle.cf_types.specs.declared.limits.TheConstants.{CONNECTORS};
 ghost use Rattle.cf_types.specs.Forms.{IsForm, IsCaller};
-ghost use Rattle.engine_api.specs.Asking.{MayAsk, MayCommand, IsBuilt};
-ghost use Rattle.engine_api.specs.Shell.{opening_shell, shell_cause, shell_done, leaver, is_kept, with_posted, is_built, no_deeds};
+ghost use Rattle.cf_types.specs.declared.shell_commands.ShellReply.TheVariants as replies;
+ghost use Rattle.engine_api.specs.Asking.{MayAsk, MayCommand};
+ghost use Rattle.engine_api.specs.Rebuilds.{fresh_of};
+ghost use Rattle.engine_api.specs.Shell.{opening_shell, shell_cause, shell_done, leaver, is_kept, with_posted, no_deeds};
 ghost use Rattle.cf_types.specs.Connections.{state_of};
-ghost use Rattle.plex_shell.specs.Verdicts.{refused_or, verdict, leaver_pair, instances_of};
+ghost use Rattle.plex_shell.specs.ShellView.{caps_made};
+ghost use Rattle.plex_shell.specs.Verdicts.{refused_or, doer_of, verdict, leaver_pair, instances_of};
 
-use crate::verdicts::{Room, Verdict};
+use crate::connectivity::Connectivity;
+use crate::verdicts::Verdict;
 use cf_types::{
     Caps, CfId, ConnId, ConnState, Letter, Listing, NoMemory, Refusal, ShellCmd, ShellReply,
     StrForm,
 };
 use conn_core::Conns;
-use engine_api::{Ask, Deeds};
+use engine_api::{Ask, Deeds, Room};
 use event_mail::Mail;
+use rebuild_core::Rebuild;
 use std::alloc::Global;
 use std::marker::Model;
 
 /// The most letters that `act` posts.
-pub const ACT_LETTERS: u32 = 64;
+pub const ACT_LETTERS: u32 = 66;
 
 /// The shell of one structure. Contracts see the form, what the shell keeps (instances, connections
 /// and mail), and for how many letters room is taken.
@@ -27,28 +32,22 @@ pub struct Shell {
     pub(crate) form: StrForm,
     pub(crate) primary: Option<CfId>,
     pub(crate) secondary: Option<CfId>,
-    pub(crate) fresh: Option<CfId>,
     pub(crate) conns: Conns,
     pub(crate) mail: Mail,
+    pub(crate) rebuild: Option<Rebuild>,
+    pub(crate) started: u32,
+    pub(crate) reach: Connectivity,
+    pub(crate) caps: Caps,
 }
 
 impl Model for Shell {
-    ghost use Rattle.cf_types.specs.Forms.{IsForm};
-    ghost use Rattle.plex_shell.specs.ShellView.{ShellView};
+    ghost use Rattle.plex_shell.specs.ShellView.{ShellView, view_of, IsKept};
 
     ghost Value = { ShellView };
 
-    ghost view = { λ s. record {
-      form = s.form;
-      shell = record {
-        instances = record { primary = s.primary; secondary = s.secondary; fresh = s.fresh };
-        conns = s.conns;
-        mail = s.mail.boxes;
-      };
-      room = s.mail.room;
-    } };
+    ghost view = { view_of };
 
-    ghost invariant = { λ s. IsForm s.form };
+    ghost invariant = { IsKept };
 }
 
 impl Shell {
@@ -58,31 +57,32 @@ impl Shell {
         requires form { IsForm form.now }
         requires callers { callers ≤ CONNECTORS }
         ensures form { IfOk result (λ shell. shell.form ≡ form.now) }
-        ensures shell { IfOk result (λ shell. shell.shell ≡ opening_shell) }
+        ensures shell { IfOk result (λ shell. shell.shell ≡ opening_shell form.now) }
     {
         let form = copy_form(alloc, form)?;
         let mail = Mail::new(alloc, callers)?;
+        let caps = form.caps;
         Ok(Shell {
             form,
             primary: None,
             secondary: None,
-            fresh: None,
             conns: Conns::new(),
             mail,
+            rebuild: None,
+            started: 0,
+            reach: Connectivity::whole(),
+            caps,
         })
     }
 
-    /// What is to be done with a call: the first refusal that holds, or who does it. No command
-    /// that is built asks for the room.
+    /// What is to be done with a call: the first refusal that holds, or who does it.
     pub fn judge<C>(&self, by: ConnId, ask: &Ask<C>, room: &Room) -> Verdict
         requires may { MayAsk by ask.now }
-        requires built { IsBuilt ask.now }
-        ensures { result ≡ verdict self.now.form self.now.shell by ask.now }
+        ensures { result ≡ verdict self.now.form room.now self.now.shell by ask.now }
     {
-        let _ = room;
         match ask {
-            Ask::Shell(cmd) => refused_or(self.judge_command(by, cmd), Verdict::Act),
-            Ask::Content(_) => refused_or(self.unless_active(by), Verdict::Content),
+            Ask::Shell(cmd) => refused_or(self.judge_command(by, cmd, room), doer_of(cmd)),
+            Ask::Content(_) => refused_or(self.judge_content(by), Verdict::Content),
         }
     }
 
@@ -93,6 +93,9 @@ impl Shell {
         ensures form { self.new.form ≡ self.old.form }
         ensures shell { self.new.shell ≡ self.old.shell }
     {
+        if letters > u32::MAX - self.started {
+            return Err(NoMemory);
+        }
         self.mail.room(letters)
     }
 
@@ -100,7 +103,6 @@ impl Shell {
     /// a failure stay; none where it brings none.
     pub fn leaving(&self, by: ConnId, cmd: &ShellCmd) -> Option<(ConnId, bool)>
         requires may { MayCommand by cmd.now }
-        requires built { IsTrue (is_built cmd.now) }
         ensures { result ≡ leaver_pair (leaver self.now.shell by cmd.now) }
     {
         match cmd {
@@ -127,24 +129,29 @@ impl Shell {
     /// posted.
     pub fn act(&mut self, by: ConnId, cmd: &ShellCmd, room: &Room) -> (ShellReply, Deeds)
         requires may { MayCommand by cmd.now }
-        requires built { IsTrue (is_built cmd.now) }
-        requires accepted { shell_cause self.old.form self.old.shell by cmd.now ≡ None }
+        requires accepted { shell_cause self.old.form room.now self.old.shell by cmd.now ≡ None }
         requires room { ACT_LETTERS ≤ self.old.room }
         ensures form { self.new.form ≡ self.old.form }
         ensures acts { record { reply = result.0; shell = self.new.shell; deeds = result.1 }
-            ≡ shell_done self.old.form self.old.shell by cmd.now }
+            ≡ shell_done self.old.form room.now self.old.shell by cmd.now }
         ensures room { self.old.room ≤ self.new.room + ACT_LETTERS }
     {
-        let _ = room;
         match cmd {
             ShellCmd::Connect { keep } => self.connect(by, *keep),
             ShellCmd::Disconnect => self.depart(by, false),
             ShellCmd::Fail => self.depart(by, self.is_kept(by)),
             ShellCmd::Next => self.take_event(by),
             ShellCmd::Respond => self.respond(by),
+            ShellCmd::RebuildStart { caps } => self.start_rebuild(*caps),
+            ShellCmd::RebuildStop => self.stop_rebuild(),
+            ShellCmd::RebuildConnect => self.connect_rebuild(by),
+            ShellCmd::Copy { n } => copy_told(*n, room),
+            ShellCmd::RebuildComplete => self.complete_rebuild(by),
             ShellCmd::ForceConn { conn } => self.force_connection(*conn),
             ShellCmd::ForceStr => self.force_structure(),
-            _ => unreachable!(),
+            ShellCmd::LoseConn { conn, cf } => self.lose_connectivity(*conn, *cf),
+            ShellCmd::RestoreConn { conn, cf } => self.restore_connectivity(*conn, *cf),
+            ShellCmd::Vary { .. } | ShellCmd::DuplexStart | ShellCmd::DuplexStop => unreachable!(),
         }
     }
 
@@ -156,16 +163,29 @@ impl Shell {
 
     /// The facilities of the primary, of the secondary, and of a rebuild's new instance.
     pub fn instances(&self) -> (Option<CfId>, Option<CfId>, Option<CfId>)
-        ensures { result ≡ instances_of self.now.shell.instances }
+        ensures { result ≡ instances_of self.now.shell }
     {
-        (self.primary, self.secondary, self.fresh)
+        (self.primary, self.secondary, self.fresh())
     }
 
-    /// The capacity of an instance that is made now.
+    /// The capacity of an instance that is made now: a rebuild's, or that of the structure.
     pub fn caps(&self) -> Caps
-        ensures { result ≡ self.now.form.caps }
+        ensures { result ≡ caps_made self.now.shell }
     {
-        self.form.caps
+        match &self.rebuild {
+            Some(rebuild) => rebuild.caps,
+            None => self.caps,
+        }
+    }
+
+    /// The facility of a rebuild's new instance.
+    pub(crate) fn fresh(&self) -> Option<CfId>
+        ensures { result ≡ fresh_of self.now.shell.rebuild }
+    {
+        match &self.rebuild {
+            Some(rebuild) => rebuild.fresh,
+            None => None,
+        }
     }
 
     // Whether the connection stays, as failed, when its connector fails.
@@ -211,6 +231,27 @@ pub fn copy_form(alloc: Global, form: &StrForm) -> Result<StrForm, NoMemory>
         keep: form.keep,
         prefs: Listing::from_vec(prefs),
     })
+}
+
+// Who does a common command.
+fn doer_of(cmd: &ShellCmd) -> Verdict
+    ensures { result ≡ doer_of cmd.now }
+{
+    match cmd {
+        ShellCmd::Copy { .. } => Verdict::Copy,
+        _ => Verdict::Act,
+    }
+}
+
+// COPY: what it moves, and what is left then.
+fn copy_told(n: u32, room: &Room) -> (ShellReply, Deeds)
+    ensures reply { result.0 ≡ replies.Copied (min n room.now.left)
+        (room.now.left - min n room.now.left) }
+    ensures deeds { result.1 ≡ no_deeds }
+{
+    let moved = n.min(room.left);
+    let left = room.left - moved;
+    (ShellReply::Copied { moved, left }, no_deeds())
 }
 
 // Refused for a cause, or else done by who does it.

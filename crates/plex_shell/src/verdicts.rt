@@ -1,4 +1,4 @@
-use cf_types::{Caps, Refusal};
+use cf_types::Refusal;
 
 /// What is to be done with a call.
 #[derive(Clone, Copy, Debug, PartialEq, Eq)]
@@ -11,12 +11,4 @@ pub enum Verdict {
     Copy,
     /// It is a common command, for `Shell::act`.
     Act,
-}
-
-/// What the engines know: what the primary's content needs, 0 in both numbers where no primary
-/// stands; and how many items a rebuild has left to copy, 0 where no new instance stands.
-#[derive(Clone, Copy, Debug, PartialEq, Eq)]
-pub struct Room {
-    pub need: Caps,
-    pub left: u32,
 }

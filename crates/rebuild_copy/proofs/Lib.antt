@@ -1,1 +1,2 @@
 pub mod CopyLaws
+pub mod DepartureLaws

@@ -1,5 +1,5 @@
 -- The stages of a rebuild: what each waits for, and what comes once nobody owes it any more.
-use Rattle.std.specs.Prelude.{◌≡◌, ◌≢◌, ℕ, IsTrue, List, [], ◌∷◌, Option, None, Some}
+use Rattle.std.specs.Prelude.{◌≡◌, ◌≢◌, ℕ, Bool, IsTrue, false, ◌==◌, List, [], ◌∷◌, Option, None, Some, unwrap_or}
 use Rattle.cf_types.specs.declared.events.Event.{Event}
 use Rattle.cf_types.specs.declared.events.Event.TheVariants as event
 use Rattle.cf_types.specs.declared.events.Stage.{Stage}
@@ -21,6 +21,13 @@ event_of number Connect = None
 event_of number Copy = None
 event_of number Cleanup = Some (event.Cleanup number)
 event_of number Stopping = Some (event.Stop number)
+
+-- an event is the one to which a stage of the rebuild with this number waits for responses
+abbrev pub is_response : Stage → ℕ → Event → Bool
+is_response Quiesce number (event.Quiesce n) = n == number
+is_response Cleanup number (event.Cleanup n) = n == number
+is_response Stopping number (event.Stop n) = n == number
+is_response _ _ _ = false
 
 -- what comes behind a stage
 abbrev pub next_stage : Stage → Passed
@@ -51,6 +58,18 @@ awaited_event rebuild = event_of rebuild.number rebuild.stage
 -- every member owes what the stage waits for
 abbrev pub with_all_owing : Rebuild → Rebuild
 with_all_owing rebuild = record rebuild { owing = rebuild.members }
+
+-- in COPY all owe again
+abbrev pub rebuild_emptied : Stage → Rebuild → Rebuild
+rebuild_emptied Quiesce rebuild = rebuild
+rebuild_emptied Connect rebuild = rebuild
+rebuild_emptied Copy rebuild = with_all_owing rebuild
+rebuild_emptied Cleanup rebuild = rebuild
+rebuild_emptied Stopping rebuild = rebuild
+
+-- the new instance stands where it was put first
+abbrev pub with_place : CfId → Rebuild → Rebuild
+with_place cf rebuild = record rebuild { fresh = Some (unwrap_or rebuild.fresh cf) }
 
 -- a stage begins, and every member owes what it waits for
 abbrev pub rebuild_in : Stage → Rebuild → Rebuild
@@ -94,6 +113,15 @@ rebuild_past Ended rebuild = rebuild
 
 abbrev pub next_rebuild : Rebuild → Rebuild
 next_rebuild rebuild = rebuild_past (outcome_of rebuild) rebuild
+
+-- a stage that has passed makes way for the next one, and the last one for none
+abbrev pub rebuild_left : Passed → Rebuild → Option Rebuild
+rebuild_left No rebuild = Some rebuild
+rebuild_left (Into stage) rebuild = Some (rebuild_in stage rebuild)
+rebuild_left Ended rebuild = None
+
+abbrev pub rebuild_onward : Rebuild → Option Rebuild
+rebuild_onward rebuild = rebuild_left (outcome_of rebuild) rebuild
 
 -- ---- what is true of a rebuild between two calls
 

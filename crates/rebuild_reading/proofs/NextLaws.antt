@@ -1,6 +1,6 @@
 -- What is told next of a rebuild under way does to the rebuild as it is read what it does to the one that counters
 -- keep.
-use Rattle.std.proofs.Common.{◌≡◌, ◌≢◌, ◌⊎◌, ⊎_elim, Bool, true, false, not, ◌&&◌, cond, List, [], ◌∷◌, ◌++◌, Option, None, Some, option_map, unwrap_or, filter, refl, sym, ap, ◌∙◌}
+use Rattle.std.proofs.Common.{◌≡◌, ◌≢◌, ⊎_elim, Bool, true, false, not, ◌&&◌, cond, List, [], ◌∷◌, ◌++◌, Option, None, Some, option_map, unwrap_or, filter, refl, sym, ap, ◌∙◌}
 use Rattle.std.proofs.lemmas.List.Elements.{filter_agree}
 use Rattle.cf_types.specs.declared.events.Stage.{Stage}
 use Rattle.cf_types.specs.declared.events.Stage.TheVariants.{Quiesce, Connect, Copy, Cleanup, Stopping}
@@ -9,11 +9,11 @@ use Rattle.cf_types.specs.declared.numbers.ConnId.{ConnId}
 use Rattle.cf_types.specs.ConnSets.{without_member}
 use Rattle.rebuild_core.specs.declared.passed.Passed.TheVariants.{Into}
 use Rattle.rebuild_core.specs.declared.rebuild.Rebuild.{Rebuild}
-use Rattle.rebuild_core.specs.Stages.{next_stage, fresh_in, owing_after}
+use Rattle.rebuild_core.specs.Stages.{next_stage, fresh_in, owing_after, rebuild_emptied, with_place}
 use Rattle.rebuild_reading.specs.Tellings.{TellingEntry, is_stop, is_departure, is_emptying, is_awaited}
 use Rattle.rebuild_reading.specs.Tellings.Telling.{Places, Stops, Departs, Forces}
 use Rattle.rebuild_reading.specs.Readings.{Start, counted_entries, has_given, is_empty, is_passed, members_left, place_or, first_place, stage_of, rebuild_during, rebuild_since}
-use Rattle.rebuild_reading.specs.Steps.{rebuild_given, rebuild_emptied, rebuild_by, with_place, IsEarly}
+use Rattle.rebuild_reading.specs.Steps.{rebuild_given, rebuild_by, IsEarly}
 use Rattle.rebuild_reading.proofs.ListFacts.{all-none_left}
 use Rattle.rebuild_reading.proofs.StageLaws.{given-none, during_next, stage-more, stage-stopped, stage-goes, no-stop}
 use Rattle.rebuild_reading.proofs.GivenLaws.{members-same, members-without, given-same, owing-given, more-counted, elsewhere-counted, given-emptied, owing-without, all-owe, place-more, place-first}

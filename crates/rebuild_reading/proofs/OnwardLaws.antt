@@ -8,10 +8,9 @@ use Rattle.cf_types.specs.declared.numbers.ConnId.{ConnId}
 use Rattle.rebuild_core.specs.declared.passed.Passed.{Passed}
 use Rattle.rebuild_core.specs.declared.passed.Passed.TheVariants.{No, Into, Ended}
 use Rattle.rebuild_core.specs.declared.rebuild.Rebuild.{Rebuild}
-use Rattle.rebuild_core.specs.Stages.{next_stage, fresh_in}
+use Rattle.rebuild_core.specs.Stages.{next_stage, fresh_in, rebuild_onward}
 use Rattle.rebuild_reading.specs.Tellings.{TellingEntry}
 use Rattle.rebuild_reading.specs.Readings.{Start, has_given, is_empty, is_passed, members_left, first_place, rebuild_during}
-use Rattle.rebuild_reading.specs.Steps.{rebuild_onward}
 use Rattle.rebuild_reading.proofs.ListFacts.{all-none_left}
 use Rattle.rebuild_reading.proofs.StageLaws.{given-none, during_behind}
 use Rattle.rebuild_reading.proofs.GivenLaws.{all-owe}

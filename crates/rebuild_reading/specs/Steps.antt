@@ -1,42 +1,18 @@
 -- What an entry does to a rebuild, as counters keep it.
-use Rattle.std.specs.Prelude.{◌≡◌, Bool, true, false, if◌then◌else◌, List, [], ◌∷◌, ◌++◌, Option, None, Some, unwrap_or, ◌⊎◌}
+use Rattle.std.specs.Prelude.{◌≡◌, Bool, true, false, List, [], ◌∷◌, ◌++◌, Option, None, Some, ◌⊎◌}
 use Rattle.cf_types.specs.declared.events.Stage.{Stage}
-use Rattle.cf_types.specs.declared.events.Stage.TheVariants.{Quiesce, Connect, Copy, Cleanup, Stopping}
-use Rattle.cf_types.specs.declared.numbers.CfId.{CfId}
+use Rattle.cf_types.specs.declared.events.Stage.TheVariants.{Quiesce, Connect, Copy, Stopping}
 use Rattle.cf_types.specs.declared.numbers.ConnId.{ConnId}
 use Rattle.engine_api.specs.declared.histories.Entry.{Entry}
-use Rattle.rebuild_core.specs.declared.passed.Passed.{Passed}
-use Rattle.rebuild_core.specs.declared.passed.Passed.TheVariants.{No, Into, Ended}
 use Rattle.rebuild_core.specs.declared.rebuild.Rebuild.{Rebuild}
-use Rattle.rebuild_core.specs.Stages.{new_rebuild, with_all_owing, rebuild_in, without_owing, rebuild_without, outcome_of}
+use Rattle.rebuild_core.specs.Stages.{new_rebuild, rebuild_in, without_owing, rebuild_without, rebuild_onward, rebuild_emptied, with_place}
 use Rattle.rebuild_reading.specs.Tellings.{Telling, telling_entry, is_awaited}
 use Rattle.rebuild_reading.specs.Tellings.Telling.{Starts, Places, Completes, Responds, Stops, Departs, Forces, Nothing}
-
--- a stage that has passed makes way for the next one, and the last one for none
-abbrev pub rebuild_left : Passed → Rebuild → Option Rebuild
-rebuild_left No rebuild = Some rebuild
-rebuild_left (Into stage) rebuild = Some (rebuild_in stage rebuild)
-rebuild_left Ended rebuild = None
-
-abbrev pub rebuild_onward : Rebuild → Option Rebuild
-rebuild_onward rebuild = rebuild_left (outcome_of rebuild) rebuild
 
 -- a connector gave what the stage waits for, if it does
 abbrev pub rebuild_given : Bool → ConnId → Rebuild → Option Rebuild
 rebuild_given true by rebuild = rebuild_onward (without_owing by rebuild)
 rebuild_given false by rebuild = Some rebuild
-
--- the new instance stands where it was put first
-abbrev pub with_place : CfId → Rebuild → Rebuild
-with_place cf rebuild = record rebuild { fresh = Some (unwrap_or rebuild.fresh cf) }
-
--- in COPY all owe again
-abbrev pub rebuild_emptied : Stage → Rebuild → Rebuild
-rebuild_emptied Quiesce rebuild = rebuild
-rebuild_emptied Connect rebuild = rebuild
-rebuild_emptied Copy rebuild = with_all_owing rebuild
-rebuild_emptied Cleanup rebuild = rebuild
-rebuild_emptied Stopping rebuild = rebuild
 
 -- what is told of a rebuild under way
 abbrev pub rebuild_by : ConnId → Telling → Rebuild → Option Rebuild

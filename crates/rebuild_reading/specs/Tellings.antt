@@ -1,9 +1,8 @@
 -- What entries of a history tell of a rebuild.
-use Rattle.std.specs.Prelude.{ℕ, Bool, true, false, ◌==◌, List, map}
+use Rattle.std.specs.Prelude.{ℕ, Bool, true, false, List, map}
 use Rattle.cf_types.specs.declared.events.Event.{Event}
-use Rattle.cf_types.specs.declared.events.Event.TheVariants as event
 use Rattle.cf_types.specs.declared.events.Stage.{Stage}
-use Rattle.cf_types.specs.declared.events.Stage.TheVariants.{Quiesce, Connect, Copy, Cleanup, Stopping}
+use Rattle.cf_types.specs.declared.events.Stage.TheVariants.{Connect, Copy}
 use Rattle.cf_types.specs.declared.forms.Caps.{Caps}
 use Rattle.cf_types.specs.declared.numbers.CfId.{CfId}
 use Rattle.cf_types.specs.declared.numbers.ConnId.{ConnId}
@@ -17,6 +16,7 @@ use Rattle.engine_api.specs.declared.asks.Reply.TheVariants as reply
 use Rattle.engine_api.specs.declared.asks.What.{What}
 use Rattle.engine_api.specs.declared.asks.What.TheVariants as what
 use Rattle.engine_api.specs.declared.histories.Entry.{Entry}
+use Rattle.rebuild_core.specs.Stages.{is_response}
 
 -- what an accepted command tells: that a rebuild starts, with its number and capacity; where the new instance is; that
 -- a caller completed its part, or responded to an event; that the rebuild is stopped, the caller departs, or a failed
@@ -73,13 +73,6 @@ abbrev pub is_emptying : Telling → Bool
 is_emptying Departs = true
 is_emptying Forces = true
 is_emptying _ = false
-
--- it is a response to the event for which a stage of the rebuild with this number waits
-abbrev pub is_response : Stage → ℕ → Event → Bool
-is_response Quiesce number (event.Quiesce n) = n == number
-is_response Cleanup number (event.Cleanup n) = n == number
-is_response Stopping number (event.Stop n) = n == number
-is_response _ _ _ = false
 
 -- it is what a stage of the rebuild with this number waits for
 abbrev pub is_awaited : Stage → ℕ → Telling → Bool

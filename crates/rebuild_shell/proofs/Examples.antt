@@ -26,7 +26,7 @@ use Rattle.cache_model.specs.Meaning.{cache_meaning}
 use Rattle.cf_types.specs.Connections.{no_connections, actives}
 use Rattle.cf_types.specs.ConnSets.{conns_from}
 use Rattle.cf_types.specs.Mailboxes.{empty_mail}
-use Rattle.rebuild_shell.specs.Machine.{Machine, CallOutcome, opening, step}
+use Rattle.engine_api.specs.Machine.{Machine, CallOutcome, opening, step}
 
 abbrev caller : ℕ → ConnId
 caller n = record { 0 = n }

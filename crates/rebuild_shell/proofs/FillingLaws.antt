@@ -1,5 +1,5 @@
 -- The new instance has items in COPY alone, and no more than there are.
-use Rattle.std.proofs.Common.{◌≡◌, ℕ, ◌+◌, ◌-◌, ◌<◌, ◌≤◌, ◌⊎◌, inl, inr, Bool, true, false, List, [], ◌∷◌, length, Option, None, Some, refl, sym, ap, ◌∙◌, subst, arith}
+use Rattle.std.proofs.Common.{◌≡◌, ℕ, ◌+◌, ◌-◌, ◌≤◌, ◌⊎◌, inl, inr, Bool, true, false, List, [], ◌∷◌, length, Option, None, Some, refl, sym, ap, ◌∙◌, subst, arith}
 use Rattle.std.proofs.Math.Nat.{min-le_right}
 use Rattle.std.specs.Prelude.{if◌then◌else◌, ◌||◌, is_some, min, fold}
 use Rattle.cf_types.specs.declared.events.Event.{Event}
@@ -14,7 +14,6 @@ use Rattle.cf_types.specs.declared.shell_commands.ShellCmd.TheVariants as cmd
 use Rattle.cf_types.specs.declared.shell_commands.ShellReply.TheVariants as shown
 use Rattle.cf_types.specs.Connections.{is_active, actives}
 use Rattle.cf_types.specs.Mailboxes.{next_event, owed_event, with_response}
-use Rattle.cf_types.proofs.ConnectionLaws.{is_member-actives}
 use Rattle.engine_api.specs.declared.asks.Ask.{Ask}
 use Rattle.engine_api.specs.declared.asks.Ask.TheVariants as ask
 use Rattle.engine_api.specs.declared.asks.What.{What}
@@ -22,21 +21,19 @@ use Rattle.engine_api.specs.declared.asks.What.TheVariants as what
 use Rattle.engine_api.specs.declared.deeds.Deeds.{Deeds}
 use Rattle.engine_api.specs.declared.histories.Entry.{Entry}
 use Rattle.engine_api.specs.Meaning.{Meaning, first_refusal}
-use Rattle.engine_api.specs.Shell.{no_deeds, conns_answered}
+use Rattle.engine_api.specs.Shell.{no_deeds, conns_answered, Shell, ShellOutcome, unless_active, if_rebuilding, shell_cause, content_cause, is_restart, is_drop, take_event, responded, response_outcome, given_outcome, stop_outcome, complete_outcome, shell_onward}
 use Rattle.rebuild_core.specs.declared.passed.Passed.{Passed}
 use Rattle.rebuild_core.specs.declared.passed.Passed.TheVariants.{No, Into}
 use Rattle.rebuild_core.specs.declared.rebuild.Rebuild.{Rebuild}
-use Rattle.rebuild_core.specs.Stages.{without_owing, outcome_of}
-use Rattle.rebuild_reading.specs.Tellings.{is_response}
-use Rattle.rebuild_reading.specs.Steps.{rebuild_left}
-use Rattle.rebuild_shell.specs.Rebuilds.{fresh_of, is_switch, is_held_up}
-use Rattle.rebuild_shell.specs.Shell.{Shell, ShellOutcome, Room, unless_active, if_rebuilding, shell_cause, content_cause, is_restart, is_drop, take_event, responded, response_outcome, given_outcome, stop_outcome, complete_outcome, shell_onward}
-use Rattle.rebuild_shell.specs.Machine.{Machine, opening, step, unless, room_of, command_done, content_done, content_after, copied_after, moved_by, items_of}
+use Rattle.rebuild_core.specs.Stages.{without_owing, outcome_of, rebuild_left, is_response}
+use Rattle.engine_api.specs.Rebuilds.{fresh_of, is_switch, is_held_up}
+use Rattle.engine_api.specs.declared.deeds.Room.{Room}
+use Rattle.engine_api.specs.Machine.{Machine, opening, step, unless, room_of, command_done, content_done, content_after, copied_after, moved_by, items_of}
 use Rattle.rebuild_shell.specs.Filling.{IsFilling, IsFilled}
-use Rattle.rebuild_shell.proofs.StepLaws.{acting, done, never, connect_stage, first_none, Somebody, somebody_member, active_of, rebuild-onward}
-use Rattle.rebuild_shell.specs.Members.{HasMembers, IsManned}
-use Rattle.rebuild_shell.specs.History.{after_what, machine_after, replay, AreCalls}
-use Rattle.rebuild_shell.proofs.MemberLaws.{second_none, idle_rebuild, content_waits, manned-step, manned-replay}
+use Rattle.rebuild_shell.proofs.StepLaws.{acting, done, never, connect_stage, first_none, somebody_member, active_of, active_member, rebuild-onward}
+use Rattle.rebuild_shell.specs.Members.{HasMembers, Somebody, IsManned}
+use Rattle.engine_api.specs.History.{after_what, machine_after, replay}
+use Rattle.rebuild_shell.proofs.MemberLaws.{second_none, idle_rebuild, content_waits, manned-after, manned-opening}
 
 -- a departure in COPY empties the new instance, or drops it with the rebuild
 departure_empties : (before after : Option Rebuild) (all : Bool) → IsFilling before
@@ -245,16 +242,16 @@ module _ {C R I S : Type 0} (meaning : Meaning C R I S) (form : StrForm) (machin
       subst IsFilling (idle_rebuild machine.shell.rebuild (second_none first _ rest fine)) filling
 
   -- the rebuild's members are active connectors, and whoever may give a COMPLETE is one
-  somebody_completes : IsManned machine.shell → by.0 < 33
+  somebody_completes : IsManned machine.shell
       → shell_cause form (room_of meaning form machine) machine.shell by cmd.RebuildComplete ≡ None
       → (r : Rebuild) → machine.shell.rebuild ≡ Some r → Somebody r.members
-  somebody_completes manned caller fine r is =
+  somebody_completes manned fine r is =
       let members : r.members ≡ actives machine.shell.conns =
       subst (λ (o : Option Rebuild). HasMembers o (actives machine.shell.conns)) is manned.members in
       let active : is_active machine.shell.conns by ≡ true =
       active_of (is_active machine.shell.conns by) (first_none (unless_active machine.shell by) _ fine) in
       subst (λ (l : List ConnId). Somebody l) (sym members)
-      (somebody_member by (actives machine.shell.conns) (is_member-actives machine.shell.conns by caller ∙ active))
+      (somebody_member by (actives machine.shell.conns) (active_member machine.shell.conns by manned.places active))
 
   not_connecting : (rebuild : Option Rebuild) → machine.shell.rebuild ≡ rebuild → IsFilling rebuild
       → shell_cause form (room_of meaning form machine) machine.shell by cmd.RebuildConnect ≡ None → ⊥
@@ -263,64 +260,64 @@ module _ {C R I S : Type 0} (meaning : Meaning C R I S) (form : StrForm) (machin
       not_connect rebuild (filling.0)
       (connect_stage form (room_of meaning form machine) machine.shell by rebuild rebuild.stage is refl fine)
 
-  filled_filling : IsManned machine.shell → by.0 < 33 → (command : ShellCmd)
+  filled_filling : IsManned machine.shell → (command : ShellCmd)
       → shell_cause form (room_of meaning form machine) machine.shell by command ≡ None
       → IsFilling machine.shell.rebuild → Filled (command_done meaning form machine by command).machine
-  filled_filling manned caller (cmd.Connect keep) fine filling =
+  filled_filling manned (cmd.Connect keep) fine filling =
       absurd (idle_command (cmd.Connect keep) _ _ fine filling)
-  filled_filling manned caller cmd.Disconnect fine filling =
+  filled_filling manned cmd.Disconnect fine filling =
       filled_departure cmd.Disconnect (outcome_by cmd.Disconnect).deeds (outcome_by cmd.Disconnect).shell.rebuild
       (command_done meaning form machine by cmd.Disconnect).machine.content (outcome_by cmd.Disconnect).shell
       (outcome_by cmd.Disconnect).deeds.drop_all filling refl refl refl refl (machine.copied + 0)
-  filled_filling manned caller cmd.Fail fine filling =
+  filled_filling manned cmd.Fail fine filling =
       filled_departure cmd.Fail (outcome_by cmd.Fail).deeds (outcome_by cmd.Fail).shell.rebuild
       (command_done meaning form machine by cmd.Fail).machine.content (outcome_by cmd.Fail).shell
       (outcome_by cmd.Fail).deeds.drop_all filling refl refl refl refl (machine.copied + 0)
-  filled_filling manned caller cmd.Next fine filling = filled_next (next_event (before_it cmd.Next).mail by) filling
-  filled_filling manned caller cmd.Respond fine filling =
+  filled_filling manned cmd.Next fine filling = filled_next (next_event (before_it cmd.Next).mail by) filling
+  filled_filling manned cmd.Respond fine filling =
       filled_response (owed_event (before_it cmd.Respond).mail by) filling
-  filled_filling manned caller (cmd.RebuildStart caps) fine filling =
+  filled_filling manned (cmd.RebuildStart caps) fine filling =
       absurd (idle_command (cmd.RebuildStart caps) _ _ fine filling)
-  filled_filling manned caller cmd.RebuildStop fine filling = filled_stop machine.shell.rebuild filling
-  filled_filling manned caller cmd.RebuildConnect fine filling =
+  filled_filling manned cmd.RebuildStop fine filling = filled_stop machine.shell.rebuild filling
+  filled_filling manned cmd.RebuildConnect fine filling =
       absurd (not_connecting machine.shell.rebuild refl filling fine)
-  filled_filling manned caller (cmd.Copy n) fine filling = filled_copy n (inr filling) fine
-  filled_filling manned caller cmd.RebuildComplete fine filling =
-      filled_completion machine.shell.rebuild filling (somebody_completes manned caller fine)
-  filled_filling manned caller (cmd.ForceConn other) fine filling =
+  filled_filling manned (cmd.Copy n) fine filling = filled_copy n (inr filling) fine
+  filled_filling manned cmd.RebuildComplete fine filling =
+      filled_completion machine.shell.rebuild filling (somebody_completes manned fine)
+  filled_filling manned (cmd.ForceConn other) fine filling =
       empty_filled (command_done meaning form machine by (cmd.ForceConn other)).machine
       (none_copied _ (machine.copied + 0) (forced_empties machine.shell.rebuild _ filling))
-  filled_filling manned caller cmd.ForceStr fine filling =
+  filled_filling manned cmd.ForceStr fine filling =
       empty_filled (command_done meaning form machine by cmd.ForceStr).machine refl
-  filled_filling manned caller (cmd.LoseConn other cf) fine filling = same_filled _ filling
-  filled_filling manned caller (cmd.RestoreConn other cf) fine filling = same_filled _ filling
-  filled_filling manned caller (cmd.Vary cf off) fine filling = same_filled _ filling
-  filled_filling manned caller cmd.DuplexStart fine filling = same_filled _ filling
-  filled_filling manned caller cmd.DuplexStop fine filling = same_filled _ filling
+  filled_filling manned (cmd.LoseConn other cf) fine filling = same_filled _ filling
+  filled_filling manned (cmd.RestoreConn other cf) fine filling = same_filled _ filling
+  filled_filling manned (cmd.Vary cf off) fine filling = same_filled _ filling
+  filled_filling manned cmd.DuplexStart fine filling = same_filled _ filling
+  filled_filling manned cmd.DuplexStop fine filling = same_filled _ filling
 
-  filled_command : IsManned machine.shell → by.0 < 33 → (command : ShellCmd)
+  filled_command : IsManned machine.shell → (command : ShellCmd)
       → shell_cause form (room_of meaning form machine) machine.shell by command ≡ None
       → (machine.copied ≡ 0) ⊎ IsFilling machine.shell.rebuild
       → Filled (command_done meaning form machine by command).machine
-  filled_command manned caller command fine (inr filling) = filled_filling manned caller command fine filling
-  filled_command manned caller (cmd.Copy n) fine (inl none) = filled_copy n (inl none) fine
-  filled_command manned caller (cmd.Connect keep) fine (inl none) = filled_empty (cmd.Connect keep) none refl
-  filled_command manned caller cmd.Disconnect fine (inl none) = filled_empty cmd.Disconnect none refl
-  filled_command manned caller cmd.Fail fine (inl none) = filled_empty cmd.Fail none refl
-  filled_command manned caller cmd.Next fine (inl none) = filled_empty cmd.Next none refl
-  filled_command manned caller cmd.Respond fine (inl none) = filled_empty cmd.Respond none refl
-  filled_command manned caller (cmd.RebuildStart caps) fine (inl none) = filled_empty (cmd.RebuildStart caps) none refl
-  filled_command manned caller cmd.RebuildStop fine (inl none) = filled_empty cmd.RebuildStop none refl
-  filled_command manned caller cmd.RebuildConnect fine (inl none) = filled_empty cmd.RebuildConnect none refl
-  filled_command manned caller cmd.RebuildComplete fine (inl none) = filled_empty cmd.RebuildComplete none refl
-  filled_command manned caller (cmd.ForceConn other) fine (inl none) = filled_empty (cmd.ForceConn other) none refl
-  filled_command manned caller cmd.ForceStr fine (inl none) = filled_empty cmd.ForceStr none refl
-  filled_command manned caller (cmd.LoseConn other cf) fine (inl none) = filled_empty (cmd.LoseConn other cf) none refl
-  filled_command manned caller (cmd.RestoreConn other cf) fine (inl none) =
+  filled_command manned command fine (inr filling) = filled_filling manned command fine filling
+  filled_command manned (cmd.Copy n) fine (inl none) = filled_copy n (inl none) fine
+  filled_command manned (cmd.Connect keep) fine (inl none) = filled_empty (cmd.Connect keep) none refl
+  filled_command manned cmd.Disconnect fine (inl none) = filled_empty cmd.Disconnect none refl
+  filled_command manned cmd.Fail fine (inl none) = filled_empty cmd.Fail none refl
+  filled_command manned cmd.Next fine (inl none) = filled_empty cmd.Next none refl
+  filled_command manned cmd.Respond fine (inl none) = filled_empty cmd.Respond none refl
+  filled_command manned (cmd.RebuildStart caps) fine (inl none) = filled_empty (cmd.RebuildStart caps) none refl
+  filled_command manned cmd.RebuildStop fine (inl none) = filled_empty cmd.RebuildStop none refl
+  filled_command manned cmd.RebuildConnect fine (inl none) = filled_empty cmd.RebuildConnect none refl
+  filled_command manned cmd.RebuildComplete fine (inl none) = filled_empty cmd.RebuildComplete none refl
+  filled_command manned (cmd.ForceConn other) fine (inl none) = filled_empty (cmd.ForceConn other) none refl
+  filled_command manned cmd.ForceStr fine (inl none) = filled_empty cmd.ForceStr none refl
+  filled_command manned (cmd.LoseConn other cf) fine (inl none) = filled_empty (cmd.LoseConn other cf) none refl
+  filled_command manned (cmd.RestoreConn other cf) fine (inl none) =
       filled_empty (cmd.RestoreConn other cf) none refl
-  filled_command manned caller (cmd.Vary cf off) fine (inl none) = filled_empty (cmd.Vary cf off) none refl
-  filled_command manned caller cmd.DuplexStart fine (inl none) = filled_empty cmd.DuplexStart none refl
-  filled_command manned caller cmd.DuplexStop fine (inl none) = filled_empty cmd.DuplexStop none refl
+  filled_command manned (cmd.Vary cf off) fine (inl none) = filled_empty (cmd.Vary cf off) none refl
+  filled_command manned cmd.DuplexStart fine (inl none) = filled_empty cmd.DuplexStart none refl
+  filled_command manned cmd.DuplexStop fine (inl none) = filled_empty cmd.DuplexStop none refl
 
   -- ---- the content under a copy
 
@@ -385,38 +382,38 @@ module _ {C R I S : Type 0} (meaning : Meaning C R I S) (form : StrForm) (machin
   front_departure after all content shell n filling =
       inl (none_copied _ n (departure_empties machine.shell.rebuild after all filling))
 
-  front_filling : IsManned machine.shell → by.0 < 33 → (command : ShellCmd)
+  front_filling : IsManned machine.shell → (command : ShellCmd)
       → shell_cause form (room_of meaning form machine) machine.shell by command ≡ None
       → IsFilling machine.shell.rebuild → IsFront (command_done meaning form machine by command).machine
-  front_filling manned caller (cmd.Connect keep) fine filling =
+  front_filling manned (cmd.Connect keep) fine filling =
       absurd (idle_command (cmd.Connect keep) _ _ fine filling)
-  front_filling manned caller cmd.Disconnect fine filling =
+  front_filling manned cmd.Disconnect fine filling =
       front_departure (outcome_by cmd.Disconnect).shell.rebuild (outcome_by cmd.Disconnect).deeds.drop_all
       (command_done meaning form machine by cmd.Disconnect).machine.content (outcome_by cmd.Disconnect).shell
       (machine.copied + 0) filling
-  front_filling manned caller cmd.Fail fine filling =
+  front_filling manned cmd.Fail fine filling =
       front_departure (outcome_by cmd.Fail).shell.rebuild (outcome_by cmd.Fail).deeds.drop_all
       (command_done meaning form machine by cmd.Fail).machine.content (outcome_by cmd.Fail).shell
       (machine.copied + 0) filling
-  front_filling manned caller cmd.Next fine filling = front_next (next_event (before_it cmd.Next).mail by)
-  front_filling manned caller cmd.Respond fine filling =
+  front_filling manned cmd.Next fine filling = front_next (next_event (before_it cmd.Next).mail by)
+  front_filling manned cmd.Respond fine filling =
       front_response (owed_event (before_it cmd.Respond).mail by) filling
-  front_filling manned caller (cmd.RebuildStart caps) fine filling =
+  front_filling manned (cmd.RebuildStart caps) fine filling =
       absurd (idle_command (cmd.RebuildStart caps) _ _ fine filling)
-  front_filling manned caller cmd.RebuildStop fine filling = front_stop machine.shell.rebuild
-  front_filling manned caller cmd.RebuildConnect fine filling =
+  front_filling manned cmd.RebuildStop fine filling = front_stop machine.shell.rebuild
+  front_filling manned cmd.RebuildConnect fine filling =
       absurd (not_connecting machine.shell.rebuild refl filling fine)
-  front_filling manned caller (cmd.Copy n) fine filling = inr refl
-  front_filling manned caller cmd.RebuildComplete fine filling =
-      front_completion machine.shell.rebuild filling (somebody_completes manned caller fine)
-  front_filling manned caller (cmd.ForceConn other) fine filling =
+  front_filling manned (cmd.Copy n) fine filling = inr refl
+  front_filling manned cmd.RebuildComplete fine filling =
+      front_completion machine.shell.rebuild filling (somebody_completes manned fine)
+  front_filling manned (cmd.ForceConn other) fine filling =
       inl (none_copied _ (machine.copied + 0) (forced_empties machine.shell.rebuild _ filling))
-  front_filling manned caller cmd.ForceStr fine filling = inl refl
-  front_filling manned caller (cmd.LoseConn other cf) fine filling = inr refl
-  front_filling manned caller (cmd.RestoreConn other cf) fine filling = inr refl
-  front_filling manned caller (cmd.Vary cf off) fine filling = inr refl
-  front_filling manned caller cmd.DuplexStart fine filling = inr refl
-  front_filling manned caller cmd.DuplexStop fine filling = inr refl
+  front_filling manned cmd.ForceStr fine filling = inl refl
+  front_filling manned (cmd.LoseConn other cf) fine filling = inr refl
+  front_filling manned (cmd.RestoreConn other cf) fine filling = inr refl
+  front_filling manned (cmd.Vary cf off) fine filling = inr refl
+  front_filling manned cmd.DuplexStart fine filling = inr refl
+  front_filling manned cmd.DuplexStop fine filling = inr refl
 
   front_unmoved : (command : ShellCmd) → machine.copied ≡ 0 → moved_by (room_of meaning form machine) command ≡ 0
       → IsFront (command_done meaning form machine by command).machine
@@ -444,12 +441,12 @@ module _ {C R I S : Type 0} (meaning : Meaning C R I S) (form : StrForm) (machin
   front_empty cmd.DuplexStart none = inr refl
   front_empty cmd.DuplexStop none = inr refl
 
-  front_command : IsManned machine.shell → by.0 < 33 → (command : ShellCmd)
+  front_command : IsManned machine.shell → (command : ShellCmd)
       → shell_cause form (room_of meaning form machine) machine.shell by command ≡ None
       → (machine.copied ≡ 0) ⊎ IsFilling machine.shell.rebuild
       → IsFront (command_done meaning form machine by command).machine
-  front_command manned caller command fine (inl none) = front_empty command none
-  front_command manned caller command fine (inr filling) = front_filling manned caller command fine filling
+  front_command manned command fine (inl none) = front_empty command none
+  front_command manned command fine (inr filling) = front_filling manned command fine filling
 
 -- ---- calls
 
@@ -458,22 +455,22 @@ copy_waits rebuild copy = rw copy refl
 
 module _ {C R I S : Type 0} (meaning : Meaning C R I S) (form : StrForm) where
   -- a command on the content that is accepted finds no items in the new instance
-  none_copied_then : (machine : Machine S) (by : ConnId) → by.0 < 33 → IsManned machine.shell
+  none_copied_then : (machine : Machine S) (by : ConnId) → IsManned machine.shell
       → IsFilled meaning form machine → content_cause machine.shell by ≡ None → machine.copied ≡ 0
-  none_copied_then machine by caller manned filled fine = by_filling filled.filling
+  none_copied_then machine by manned filled fine = by_filling filled.filling
     where
       none_filling : (rebuild : Option Rebuild) → machine.shell.rebuild ≡ rebuild → IsFilling rebuild → ⊥
       none_filling None is filling = filling
       none_filling (Some rebuild) is filling =
-          content_waits machine.shell rebuild by manned is (copy_waits rebuild (filling.0)) caller fine
+          content_waits machine.shell rebuild by manned is (copy_waits rebuild (filling.0)) fine
 
       by_filling : (machine.copied ≡ 0) ⊎ IsFilling machine.shell.rebuild → machine.copied ≡ 0
       by_filling (inl none) = none
       by_filling (inr filling) = absurd (none_filling machine.shell.rebuild refl filling)
 
-  filled-step : (machine : Machine S) (by : ConnId) (asked : Ask C) → by.0 < 33 → IsManned machine.shell
+  filled-step : (machine : Machine S) (by : ConnId) (asked : Ask C) → IsManned machine.shell
       → IsFilled meaning form machine → IsFilled meaning form (step meaning form machine by asked).machine
-  filled-step machine by (ask.Shell command) caller manned filled =
+  filled-step machine by (ask.Shell command) manned filled =
       go (shell_cause form (room_of meaning form machine) machine.shell by command) refl
     where
       go : (cause : Option Refusal)
@@ -481,47 +478,40 @@ module _ {C R I S : Type 0} (meaning : Meaning C R I S) (form : StrForm) where
           → IsFilled meaning form
           (unless meaning form cause machine (command_done meaning form machine by command)).machine
       go (Some refusal) is = filled
-      go None is = filled_command meaning form machine by filled.within manned caller command is filled.filling
-  filled-step machine by (ask.Content command) caller manned filled = go (content_cause machine.shell by) refl
+      go None is = filled_command meaning form machine by filled.within manned command is filled.filling
+  filled-step machine by (ask.Content command) manned filled = go (content_cause machine.shell by) refl
     where
       go : (cause : Option Refusal) → content_cause machine.shell by ≡ cause
           → IsFilled meaning form
           (unless meaning form cause machine (content_done meaning form machine by command)).machine
       go (Some refusal) is = filled
       go None is =
-          let none = none_copied_then machine by caller manned filled is in
+          let none = none_copied_then machine by manned filled is in
           record { filling = inl none; within = omega (arith, none) }
 
+  filled-after : (machine : Machine S) (by : ConnId) (told : What C) → IsManned machine.shell
+      → IsFilled meaning form machine → IsFilled meaning form (after_what meaning form machine by told)
+  filled-after machine by (what.Call asked) manned filled = filled-step machine by asked manned filled
+  filled-after machine by (what.Lost cf) manned filled = filled
+
   filled-fold : (machine : Machine S) (entries : List (Entry C R)) → IsManned machine.shell
-      → IsFilled meaning form machine → AreCalls meaning form machine entries
-      → IsFilled meaning form (fold (machine_after meaning form) machine entries)
-  filled-fold machine [] manned filled calls = filled
-  filled-fold machine (entry ∷ entries) manned filled calls =
-      let both = next machine entry.by entry.what calls.0.asked manned filled (omega (arith, calls.0.caller))
-      calls.0.call in
-      filled-fold (machine_after meaning form machine entry) entries both.0 both.1 calls.1
-    where
-      next : (machine : Machine S) (by : ConnId) (call : What C) (asked : Ask C) → IsManned machine.shell
-          → IsFilled meaning form machine → by.0 < 33 → call ≡ what.Call asked
-          → IsManned (after_what meaning form machine by call).shell
-          × IsFilled meaning form (after_what meaning form machine by call)
-      next machine by call asked manned filled caller is =
-          rw is (
-            manned-step meaning form machine by asked caller manned,
-            filled-step machine by asked caller manned filled,
-          )
+      → IsFilled meaning form machine → IsFilled meaning form (fold (machine_after meaning form) machine entries)
+  filled-fold machine [] manned filled = filled
+  filled-fold machine (entry ∷ entries) manned filled =
+      filled-fold (machine_after meaning form machine entry) entries
+      (manned-after meaning form machine entry.by entry.what manned)
+      (filled-after machine entry.by entry.what manned filled)
 
-  pub filled-replay : (history : List (Entry C R)) → AreCalls meaning form (opening meaning form) history
-      → IsFilled meaning form (replay meaning form history)
-  filled-replay history calls =
-      filled-fold (opening meaning form) history (manned-replay meaning form [] tt)
-      (record { filling = inl refl; within = omega arith }) calls
+  pub filled-replay : (history : List (Entry C R)) → IsFilled meaning form (replay meaning form history)
+  filled-replay history =
+      filled-fold (opening meaning form) history (manned-opening meaning form)
+      (record { filling = inl refl; within = omega arith })
 
-  pub front-step : (machine : Machine S) (by : ConnId) (asked : Ask C) → by.0 < 33 → IsManned machine.shell
+  pub front-step : (machine : Machine S) (by : ConnId) (asked : Ask C) → IsManned machine.shell
       → IsFilled meaning form machine
       → ((step meaning form machine by asked).machine.copied ≡ 0)
       ⊎ ((step meaning form machine by asked).machine.content ≡ machine.content)
-  front-step machine by (ask.Shell command) caller manned filled =
+  front-step machine by (ask.Shell command) manned filled =
       go (shell_cause form (room_of meaning form machine) machine.shell by command) refl
     where
       go : (cause : Option Refusal)
@@ -529,11 +519,11 @@ module _ {C R I S : Type 0} (meaning : Meaning C R I S) (form : StrForm) where
           → let after = (unless meaning form cause machine (command_done meaning form machine by command)).machine in
           (after.copied ≡ 0) ⊎ (after.content ≡ machine.content)
       go (Some refusal) is = inr refl
-      go None is = front_command meaning form machine by filled.within manned caller command is filled.filling
-  front-step machine by (ask.Content command) caller manned filled = go (content_cause machine.shell by) refl
+      go None is = front_command meaning form machine by filled.within manned command is filled.filling
+  front-step machine by (ask.Content command) manned filled = go (content_cause machine.shell by) refl
     where
       go : (cause : Option Refusal) → content_cause machine.shell by ≡ cause
           → let after = (unless meaning form cause machine (content_done meaning form machine by command)).machine in
           (after.copied ≡ 0) ⊎ (after.content ≡ machine.content)
       go (Some refusal) is = inr refl
-      go None is = inl (none_copied_then machine by caller manned filled is)
+      go None is = inl (none_copied_then machine by manned filled is)

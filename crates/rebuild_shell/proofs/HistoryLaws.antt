@@ -1,11 +1,10 @@
 -- The rebuild that the machine keeps is the one that its history tells of.
-use Rattle.std.proofs.Common.{◌≡◌, List, [], ◌∷◌, ◌++◌, refl, sym, ap, ◌∙◌, subst, arith}
+use Rattle.std.proofs.Common.{◌≡◌, List, [], ◌∷◌, ◌++◌, length, refl, sym, ap, ◌∙◌, subst}
 use Rattle.std.specs.Prelude.{fold}
 use Rattle.std.proofs.lemmas.List.Sums.{fold_push}
 use Rattle.cf_types.specs.declared.forms.StrForm.{StrForm}
 use Rattle.cf_types.specs.declared.numbers.ConnId.{ConnId}
 use Rattle.cf_types.specs.Connections.{actives}
-use Rattle.cf_types.specs.Forms.{IsCaller}
 use Rattle.engine_api.specs.declared.asks.Ask.{Ask}
 use Rattle.engine_api.specs.declared.asks.Reply.{Reply}
 use Rattle.engine_api.specs.declared.asks.What.{What}
@@ -16,8 +15,10 @@ use Rattle.rebuild_reading.specs.Tellings.{telling_of, telling_entry}
 use Rattle.rebuild_reading.specs.Readings.{rebuild_told}
 use Rattle.rebuild_reading.specs.Steps.{rebuild_next, rebuild_kept, MayBeTold, MayAllBeTold}
 use Rattle.rebuild_reading.proofs.ReadingLaws.{kept-is-told}
-use Rattle.rebuild_shell.specs.Machine.{Machine, opening, step}
-use Rattle.rebuild_shell.specs.History.{after_what, machine_after, replay, actives_after, AreCalls}
+use Rattle.engine_api.specs.Machine.{Machine, opening, step}
+use Rattle.engine_api.specs.History.{after_what, machine_after, replay}
+use Rattle.rebuild_shell.specs.History.{actives_after, AreCalls}
+use Rattle.engine_api.proofs.ShellLaws.{length-conns-replay}
 use Rattle.rebuild_shell.proofs.StepLaws.{rebuild-step, may-step}
 
 module _ {C R I S : Type 0} (meaning : Meaning C R I S) (form : StrForm) where
@@ -29,11 +30,12 @@ module _ {C R I S : Type 0} (meaning : Meaning C R I S) (form : StrForm) where
   kept_next machine by call answer asked is answered =
       rw (is, answered) (sym (rebuild-step meaning form machine by asked))
 
-  may_next : (machine : Machine S) (by : ConnId) (call : What C) (answer : Reply R) (asked : Ask C) → IsCaller by
+  may_next : (machine : Machine S) (by : ConnId) (call : What C) (answer : Reply R) (asked : Ask C)
+      → length machine.shell.conns ≡ 33
       → call ≡ what.Call asked → answer ≡ (step meaning form machine by asked).reply
       → MayBeTold (actives machine.shell.conns) (telling_of call answer) machine.shell.rebuild
-  may_next machine by call answer asked caller is answered =
-      rw (is, answered) (may-step meaning form machine by (omega (arith, caller)) asked)
+  may_next machine by call answer asked places is answered =
+      rw (is, answered) (may-step meaning form machine by places asked)
 
   replay-more : (before : List (Entry C R)) (entry : Entry C R)
       → replay meaning form (before ++ entry ∷ []) ≡ machine_after meaning form (replay meaning form before) entry
@@ -48,7 +50,8 @@ module _ {C R I S : Type 0} (meaning : Meaning C R I S) (form : StrForm) where
       let machine = replay meaning form before in
       let call = calls.0 in
       let next = kept_next machine entry.by entry.what entry.reply call.asked call.call call.answered in
-      let may = may_next machine entry.by entry.what entry.reply call.asked call.caller call.call call.answered in
+      let places = length-conns-replay meaning form before in
+      let may = may_next machine entry.by entry.what entry.reply call.asked places call.call call.answered in
       let more = replay-more before entry in
       let behind = kept (before ++ entry ∷ []) entries
       (subst (λ (m : Machine S). AreCalls meaning form m entries) (sym more) calls.1) in

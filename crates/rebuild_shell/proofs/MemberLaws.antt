@@ -1,7 +1,7 @@
--- In a rebuild the members are just the connectors that are active.
-use Rattle.std.proofs.Common.{◌≡◌, ◌<◌, ◌≢◌, Bool, true, false, List, [], ◌∷◌, length, map, Option, None, Some, refl, sym, ap, ◌∙◌, subst, arith}
-use Rattle.std.specs.Prelude.{if◌then◌else◌, unwrap_or, fold}
-use Rattle.std.proofs.lemmas.List.{length-set, length-map}
+-- In a rebuild the members are just the connectors that are active, and a primary stands where somebody is.
+use Rattle.std.proofs.Common.{◌≡◌, ◌≢◌, ◌≤◌, ℕ, Bool, true, false, List, [], ◌∷◌, Option, None, Some, refl, sym, ap, ◌∙◌, subst, arith}
+use Rattle.std.proofs.lemmas.Bool.{ltb-false}
+use Rattle.std.specs.Prelude.{is_some, nat_lt, if◌then◌else◌, unwrap_or, fold}
 use Rattle.cf_types.specs.declared.connections.ConnState.{ConnState}
 use Rattle.cf_types.specs.declared.connections.ConnState.TheVariants as conn
 use Rattle.cf_types.specs.declared.events.Event.{Event}
@@ -16,30 +16,32 @@ use Rattle.cf_types.specs.declared.refusals.Refusal.TheVariants as refusal
 use Rattle.cf_types.specs.declared.shell_commands.ShellCmd.{ShellCmd}
 use Rattle.cf_types.specs.declared.shell_commands.ShellCmd.TheVariants as cmd
 use Rattle.cf_types.specs.declared.shell_commands.ShellReply.TheVariants as shown
-use Rattle.cf_types.specs.Connections.{Connections, no_connections, excused_state, state_of, actives, is_active, is_active_state, with_departure, with_forced}
+use Rattle.cf_types.specs.Connections.{Connections, no_connections, defined_count, state_of, actives, is_active, is_active_state, with_departure, with_forced}
 use Rattle.cf_types.specs.ConnSets.{is_member, without_member}
 use Rattle.cf_types.specs.Mailboxes.{next_event, owed_event, letters_to, with_cleared, with_response}
-use Rattle.cf_types.proofs.ConnectionLaws.{is_member-actives, actives-with_departure, actives-with_answer, actives-with_forced}
+use Rattle.cf_types.proofs.ConnectionLaws.{defined_count-unconnected, is_active-within, actives-with_departure, actives-with_answer, actives-with_forced}
 use Rattle.engine_api.specs.declared.asks.What.{What}
 use Rattle.engine_api.specs.declared.asks.What.TheVariants as what
 use Rattle.engine_api.specs.declared.histories.Entry.{Entry}
 use Rattle.engine_api.specs.declared.asks.Ask.{Ask}
 use Rattle.engine_api.specs.declared.asks.Ask.TheVariants as ask
+use Rattle.engine_api.specs.Instances.{units_of}
 use Rattle.engine_api.specs.Meaning.{Meaning, first_refusal}
-use Rattle.engine_api.specs.Shell.{goes, no_deeds, unless_failed, conns_answered, facility_of, is_kept}
+use Rattle.engine_api.specs.Shell.{no_deeds, unless_active, unless_failed, conns_answered, facility_of, is_kept, Shell, ShellOutcome, shell_cause, if_rebuilding, shell_onward, shell_without, departing_shell, take_event, with_posted, emptied, responded, response_outcome, given_outcome, stop_outcome, rebuild_connect_outcome, complete_outcome, fresh_made, content_cause, refusal_when, candidates, unless_reached, if_too_many, if_connected, if_severed}
 use Rattle.rebuild_core.specs.declared.passed.Passed.{Passed}
 use Rattle.rebuild_core.specs.declared.passed.Passed.TheVariants.{No, Into, Ended}
 use Rattle.rebuild_core.specs.declared.rebuild.Rebuild.{Rebuild}
-use Rattle.rebuild_core.specs.Stages.{without_owing, rebuild_without, outcome_of}
-use Rattle.rebuild_reading.specs.Tellings.{Telling, telling, is_awaited, is_response}
+use Rattle.rebuild_core.specs.Stages.{without_owing, rebuild_without, outcome_of, with_place, rebuild_emptied, rebuild_left, rebuild_onward, is_response}
+use Rattle.rebuild_reading.specs.Tellings.{Telling, telling, is_awaited}
 use Rattle.rebuild_reading.specs.Tellings.Telling.{Starts, Places, Completes, Responds, Stops, Departs, Forces, Nothing}
-use Rattle.rebuild_reading.specs.Steps.{with_place, rebuild_emptied, rebuild_left, rebuild_next, rebuild_onward, rebuild_given}
-use Rattle.rebuild_shell.specs.Members.{HasMembers, IsManned}
-use Rattle.rebuild_shell.specs.History.{after_what, machine_after, replay, AreCalls}
-use Rattle.rebuild_shell.specs.Rebuilds.{is_switch, letters_past, is_held_up}
-use Rattle.rebuild_shell.specs.Machine.{Machine, opening, step, unless, room_of, command_done, content_done}
-use Rattle.rebuild_shell.proofs.StepLaws.{room, acting, done, first_none, tells_command}
-use Rattle.rebuild_shell.specs.Shell.{Shell, ShellOutcome, shell_cause, if_rebuilding, switched, shell_onward, shell_without, unless_gone, deallocated, departing_shell, take_event, with_posted, emptied, responded, response_outcome, given_outcome, stop_outcome, rebuild_connect_outcome, complete_outcome, fresh_made, content_cause}
+use Rattle.rebuild_reading.specs.Steps.{rebuild_next, rebuild_given}
+use Rattle.rebuild_shell.specs.Members.{HasMembers, HasPlace, HasPrimary, Somebody, IsManned}
+use Rattle.rebuild_shell.proofs.PlaceLaws.{placed-next, switch_stands, primary-onward, primary-without, primary-unless_gone, primary-connect, nobody_active}
+use Rattle.engine_api.specs.History.{after_what, machine_after, replay}
+use Rattle.engine_api.specs.Rebuilds.{is_held_up}
+use Rattle.engine_api.specs.Machine.{Machine, opening, step, unless, room_of, command_done, content_done}
+use Rattle.engine_api.proofs.ShellLaws.{length-conns-step, length-conns-replay, conns-onward, conns-unless_gone}
+use Rattle.rebuild_shell.proofs.StepLaws.{room, acting, done, told, first_none, active_of, active_member, tells_command, rebuild-step, may-step}
 
 -- ---- members
 
@@ -101,22 +103,6 @@ members-next active by Nothing (Some rebuild) are = are
 
 -- ---- connections
 
-conns-switched : (b : Bool) (rebuild : Rebuild) (shell : Shell) → (switched b rebuild shell).conns ≡ shell.conns
-conns-switched false rebuild shell = refl
-conns-switched true rebuild shell = refl
-
-conns-onward : (rebuild : Rebuild) (shell : Shell) → (shell_onward rebuild shell).conns ≡ shell.conns
-conns-onward rebuild shell =
-    conns-switched (is_switch (outcome_of rebuild)) rebuild
-    (with_posted (letters_past rebuild) (record shell { rebuild = rebuild_onward rebuild }))
-
-conns-unless_gone : (form : StrForm) (shell : Shell) → (unless_gone form shell).conns ≡ shell.conns
-conns-unless_gone form shell = go (goes form shell.conns)
-  where
-    go : (b : Bool) → (if b then deallocated form shell else shell).conns ≡ shell.conns
-    go false = refl
-    go true = refl
-
 actives-answering : (by : ConnId) (answered : Event) (conns : Connections)
     → actives (conns_answered by answered conns) ≡ actives conns
 actives-answering by (event.NewConn other) conns = refl
@@ -135,24 +121,6 @@ actives-answering by (event.Notify r other) conns = refl
 actives-answering by (event.Granted r excl) conns = refl
 actives-answering by (event.Denied r) conns = refl
 
-length-answering : (by : ConnId) (answered : Event) (conns : Connections)
-    → length (conns_answered by answered conns) ≡ length conns
-length-answering by (event.NewConn other) conns = refl
-length-answering by (event.DiscFail other) conns = length-set conns other.0 _
-length-answering by (event.Quiesce number) conns = refl
-length-answering by (event.RebuildConnect number) conns = refl
-length-answering by (event.ConnectsDone number) conns = refl
-length-answering by (event.Cleanup number) conns = refl
-length-answering by (event.Complete number) conns = refl
-length-answering by (event.Stop number) conns = refl
-length-answering by (event.StopDone number) conns = refl
-length-answering by (event.LostConn cf) conns = refl
-length-answering by event.StrFail conns = refl
-length-answering by (event.Contention r other) conns = refl
-length-answering by (event.Notify r other) conns = refl
-length-answering by (event.Granted r excl) conns = refl
-length-answering by (event.Denied r) conns = refl
-
 -- whoever can be forced away isn't active
 idle_failed : (state : Option ConnState) → unless_failed state ≡ None → is_active_state state ≡ false
 idle_failed (Some (conn.Active keep)) fine = absurd (cc)
@@ -167,6 +135,20 @@ pub second_none : (first second : Option Refusal) (rest : List (Option Refusal))
 second_none None None rest fine = refl
 second_none None (Some refusal) rest fine = absurd (cc)
 second_none (Some refusal) second rest fine = absurd (cc)
+
+pub past_first : (first : Option Refusal) (rest : List (Option Refusal)) → first_refusal (first ∷ rest) ≡ None
+    → first_refusal rest ≡ None
+past_first None rest fine = fine
+past_first (Some refusal) rest fine = absurd (cc)
+
+-- a number that is refused where it is above another isn't above it
+pub not_above : (low high : ℕ) (why : Refusal) (rest : List (Option Refusal))
+    → first_refusal (refusal_when (nat_lt low high) why ∷ rest) ≡ None → high ≤ low
+not_above low high why rest fine = go (nat_lt low high) refl fine
+  where
+    go : (b : Bool) → nat_lt low high ≡ b → first_refusal (refusal_when b why ∷ rest) ≡ None → high ≤ low
+    go true is fine = absurd (cc)
+    go false is fine = ltb-false low high is
 
 pub idle_rebuild : (rebuild : Option Rebuild) → if_rebuilding rebuild ≡ None → rebuild ≡ None
 idle_rebuild None fine = refl
@@ -183,8 +165,27 @@ conns-departing form shell by keep =
     conns-unless_gone form
     (with_posted (letters_to (actives conns) (event.DiscFail by)) (record left { conns = conns }))
 
-module _ {C R I S : Type 0} (meaning : Meaning C R I S) (form : StrForm) (machine : Machine S) (by : ConnId)
-    (places : length machine.shell.conns ≡ 33) (caller : by.0 < 33) where
+-- CONNECT alone makes a connector active
+abbrev is_connection : ShellCmd → Bool
+is_connection (cmd.Connect keep) = true
+is_connection _ = false
+
+somebody_without : (by : ConnId) (conns : List ConnId) → Somebody (without_member by conns) → Somebody conns
+somebody_without by [] (conn, (others, are)) = absurd (cc)
+somebody_without by (first ∷ rest) somebody = (first, (rest, refl))
+
+somebody_past : (told : Telling) (by : ConnId) (active : List ConnId) → Somebody (active_past told by active)
+    → Somebody active
+somebody_past (Starts number caps) by active somebody = somebody
+somebody_past (Places cf) by active somebody = somebody
+somebody_past Completes by active somebody = somebody
+somebody_past (Responds event) by active somebody = somebody
+somebody_past Stops by active somebody = somebody
+somebody_past Departs by active somebody = somebody_without by active somebody
+somebody_past Forces by active somebody = somebody
+somebody_past Nothing by active somebody = somebody
+
+module _ {C R I S : Type 0} (meaning : Meaning C R I S) (form : StrForm) (machine : Machine S) (by : ConnId) where
   abbrev outcome_by : ShellCmd → ShellOutcome
   outcome_by command = done meaning form machine by command
 
@@ -199,11 +200,13 @@ module _ {C R I S : Type 0} (meaning : Meaning C R I S) (form : StrForm) (machin
   Follows command outcome = actives outcome.shell.conns ≡ active_past (telling command outcome.reply) by now
 
   follows_departure : (shell : Shell) (keep : Bool) → shell.conns ≡ machine.shell.conns
+      → unless_active machine.shell by ≡ None
       → actives (departing_shell form shell by keep).conns ≡ without_member by now
-  follows_departure shell keep is =
+  follows_departure shell keep is fine =
       ap (λ (conns : Connections). actives conns)
       (conns-departing form shell by keep ∙ ap (with_departure by keep) is)
-      ∙ actives-with_departure by keep machine.shell.conns (omega (arith, places, caller))
+      ∙ actives-with_departure by keep machine.shell.conns
+      (is_active-within machine.shell.conns by (active_of (is_active machine.shell.conns by) fine))
 
   follows_next : (taken : Option Event) → Follows cmd.Next (take_event (before_it cmd.Next) by taken)
   follows_next None = refl
@@ -260,14 +263,39 @@ module _ {C R I S : Type 0} (meaning : Meaning C R I S) (form : StrForm) (machin
       }))
       ∙ actives-with_forced other machine.shell.conns (idle_failed (state_of machine.shell.conns other) fine)
 
-  -- ---- the members behind a command
-
-  follows_members : (command : ShellCmd) → HasMembers machine.shell.rebuild now
+  follows_command : (command : ShellCmd) → is_connection command ≡ false
       → shell_cause form (room meaning form machine by) machine.shell by command ≡ None
       → Follows command (outcome_by command)
+  follows_command (cmd.Connect keep) other fine = absurd (cc)
+  follows_command cmd.Disconnect other fine =
+      follows_departure (before_it cmd.Disconnect) false refl (first_none (unless_active machine.shell by) [] fine)
+  follows_command cmd.Fail other fine =
+      follows_departure (before_it cmd.Fail) (is_kept (state_of machine.shell.conns by)) refl
+      (first_none (unless_active machine.shell by) [] fine)
+  follows_command cmd.Next other fine = follows_next (next_event (before_it cmd.Next).mail by)
+  follows_command cmd.Respond other fine = follows_response (owed_event (before_it cmd.Respond).mail by)
+  follows_command (cmd.RebuildStart caps) other fine = refl
+  follows_command cmd.RebuildStop other fine = follows_stop machine.shell.rebuild
+  follows_command cmd.RebuildConnect other fine = follows_connection machine.shell.rebuild
+  follows_command (cmd.Copy n) other fine = refl
+  follows_command cmd.RebuildComplete other fine = follows_completion machine.shell.rebuild
+  follows_command (cmd.ForceConn conn) other fine =
+      follows_forced conn (first_none (unless_failed (state_of machine.shell.conns conn)) [] fine)
+  follows_command cmd.ForceStr other fine = refl
+  follows_command (cmd.LoseConn conn cf) other fine = refl
+  follows_command (cmd.RestoreConn conn cf) other fine = refl
+  follows_command (cmd.Vary cf off) other fine = refl
+  follows_command cmd.DuplexStart other fine = refl
+  follows_command cmd.DuplexStop other fine = refl
+
+  -- ---- the members behind a command
+
+  members_other : (command : ShellCmd) → is_connection command ≡ false → HasMembers machine.shell.rebuild now
+      → shell_cause form (room meaning form machine by) machine.shell by command ≡ None
       → HasMembers (outcome_by command).shell.rebuild (actives (outcome_by command).shell.conns)
-  follows_members command are fine follows =
+  members_other command other are fine =
       let told : Telling = telling command (outcome_by command).reply in
+      let follows : Follows command (outcome_by command) = follows_command command other fine in
       rw (tells_command meaning form machine by command fine, follows)
       (members-next now by told machine.shell.rebuild are)
 
@@ -279,165 +307,237 @@ module _ {C R I S : Type 0} (meaning : Meaning C R I S) (form : StrForm) (machin
       subst (λ (r : Option Rebuild). HasMembers r (actives (outcome_by (cmd.Connect keep)).shell.conns))
       (sym (idle_rebuild machine.shell.rebuild (second_none _ _ _ fine))) tt
 
-  pub members-command : (command : ShellCmd) → HasMembers machine.shell.rebuild now
-      → shell_cause form (room meaning form machine by) machine.shell by command ≡ None
-      → HasMembers (outcome_by command).shell.rebuild (actives (outcome_by command).shell.conns)
-  members-command (cmd.Connect keep) are fine = members_connect keep fine
-  members-command cmd.Disconnect are fine =
-      follows_members cmd.Disconnect are fine (follows_departure (before_it cmd.Disconnect) false refl)
-  members-command cmd.Fail are fine =
-      follows_members cmd.Fail are fine
-      (follows_departure (before_it cmd.Fail) (is_kept (state_of machine.shell.conns by)) refl)
-  members-command cmd.Next are fine =
-      follows_members cmd.Next are fine (follows_next (next_event (before_it cmd.Next).mail by))
-  members-command cmd.Respond are fine =
-      follows_members cmd.Respond are fine (follows_response (owed_event (before_it cmd.Respond).mail by))
-  members-command (cmd.RebuildStart caps) are fine = follows_members (cmd.RebuildStart caps) are fine refl
-  members-command cmd.RebuildStop are fine =
-      follows_members cmd.RebuildStop are fine (follows_stop machine.shell.rebuild)
-  members-command cmd.RebuildConnect are fine =
-      follows_members cmd.RebuildConnect are fine (follows_connection machine.shell.rebuild)
-  members-command (cmd.Copy n) are fine = follows_members (cmd.Copy n) are fine refl
-  members-command cmd.RebuildComplete are fine =
-      follows_members cmd.RebuildComplete are fine (follows_completion machine.shell.rebuild)
-  members-command (cmd.ForceConn other) are fine =
-      follows_members (cmd.ForceConn other) are fine
-      (follows_forced other (first_none (unless_failed (state_of machine.shell.conns other)) [] fine))
-  members-command cmd.ForceStr are fine = follows_members cmd.ForceStr are fine refl
-  members-command (cmd.LoseConn other cf) are fine = follows_members (cmd.LoseConn other cf) are fine refl
-  members-command (cmd.RestoreConn other cf) are fine = follows_members (cmd.RestoreConn other cf) are fine refl
-  members-command (cmd.Vary cf off) are fine = follows_members (cmd.Vary cf off) are fine refl
-  members-command cmd.DuplexStart are fine = follows_members cmd.DuplexStart are fine refl
-  members-command cmd.DuplexStop are fine = follows_members cmd.DuplexStop are fine refl
+  -- ---- the primary behind a command
 
-  -- ---- places
+  primary_departing : (shell : Shell) (keep : Bool) → is_some shell.instances.primary ≡ true
+      → Somebody (actives (departing_shell form shell by keep).conns)
+      → is_some (departing_shell form shell by keep).instances.primary ≡ true
+  primary_departing shell keep stands =
+      let conns = with_departure by keep shell.conns in
+      let cleared : Shell = record shell { mail = with_cleared by shell.mail } in
+      let left : Shell = shell_without by shell.rebuild cleared in
+      primary-unless_gone form
+      (with_posted (letters_to (actives conns) (event.DiscFail by)) (record left { conns = conns }))
+      (primary-without by shell.rebuild cleared stands)
 
-  length_response : (owed : Option Event)
-      → length (response_outcome (before_it cmd.Respond) by owed).shell.conns ≡ length machine.shell.conns
-  length_response None = refl
-  length_response (Some answered) =
+  primary_next : (taken : Option Event) → is_some machine.shell.instances.primary ≡ true
+      → is_some (take_event (before_it cmd.Next) by taken).shell.instances.primary ≡ true
+  primary_next None stands = stands
+  primary_next (Some taken) stands = stands
+
+  primary_given : (rebuild : Rebuild) (shell : Shell) → HasPlace (Some rebuild)
+      → is_some shell.instances.primary ≡ true
+      → is_some (shell_onward (without_owing by rebuild) shell).instances.primary ≡ true
+  primary_given rebuild shell placed =
+      primary-onward (without_owing by rebuild) shell (switch_stands by rebuild placed)
+
+  primary_response : (owed : Option Event) → HasPlace machine.shell.rebuild
+      → is_some machine.shell.instances.primary ≡ true
+      → is_some (response_outcome (before_it cmd.Respond) by owed).shell.instances.primary ≡ true
+  primary_response None placed stands = stands
+  primary_response (Some answered) placed stands =
       by_rebuild machine.shell.rebuild (record (before_it cmd.Respond) {
         conns = conns_answered by answered machine.shell.conns;
         mail = with_response by (before_it cmd.Respond).mail;
-      })
-      ∙ length-answering by answered machine.shell.conns
+      }) placed stands
     where
-      by_rebuild : (rebuild : Option Rebuild) (shell : Shell)
-          → length (responded by answered rebuild shell).shell.conns ≡ length shell.conns
-      by_rebuild None shell = refl
-      by_rebuild (Some rebuild) shell = go (is_response rebuild.stage rebuild.number answered)
+      by_rebuild : (rebuild : Option Rebuild) (shell : Shell) → HasPlace rebuild
+          → is_some shell.instances.primary ≡ true
+          → is_some (responded by answered rebuild shell).shell.instances.primary ≡ true
+      by_rebuild None shell placed stands = stands
+      by_rebuild (Some rebuild) shell placed stands = go (is_response rebuild.stage rebuild.number answered)
         where
-          go : (b : Bool) → length (if b
+          go : (b : Bool)
+              → let outcome : ShellOutcome = if b
               then given_outcome (shown.Responded answered) by rebuild shell
-              else record { reply = shown.Responded answered; shell = shell; deeds = no_deeds }).shell.conns
-              ≡ length shell.conns
-          go true = ap (λ (c : Connections). length c) (conns-onward (without_owing by rebuild) shell)
-          go false = refl
+              else record { reply = shown.Responded answered; shell = shell; deeds = no_deeds } in
+              is_some outcome.shell.instances.primary ≡ true
+          go true = primary_given rebuild shell placed stands
+          go false = stands
 
-  length_next : (taken : Option Event)
-      → length (take_event (before_it cmd.Next) by taken).shell.conns ≡ length machine.shell.conns
-  length_next None = refl
-  length_next (Some taken) = refl
+  primary_stop : (rebuild : Option Rebuild) → is_some machine.shell.instances.primary ≡ true
+      → is_some (stop_outcome (before_it cmd.RebuildStop) rebuild).shell.instances.primary ≡ true
+  primary_stop None stands = stands
+  primary_stop (Some rebuild) stands = stands
 
-  length_stop : (rebuild : Option Rebuild)
-      → length (stop_outcome (before_it cmd.RebuildStop) rebuild).shell.conns ≡ length machine.shell.conns
-  length_stop None = refl
-  length_stop (Some rebuild) = refl
-
-  length_connection : (rebuild : Option Rebuild)
-      → length (rebuild_connect_outcome form (before_it cmd.RebuildConnect) by rebuild).shell.conns
-      ≡ length machine.shell.conns
-  length_connection None = refl
-  length_connection (Some rebuild) =
+  primary_connection : (rebuild : Option Rebuild) → is_some machine.shell.instances.primary ≡ true
+      → is_some (rebuild_connect_outcome form (before_it cmd.RebuildConnect) by rebuild).shell.instances.primary ≡ true
+  primary_connection None stands = stands
+  primary_connection (Some rebuild) stands =
       let at : CfId =
       unwrap_or rebuild.fresh (facility_of (fresh_made form (before_it cmd.RebuildConnect) by rebuild)) in
-      ap (λ (c : Connections). length c)
-      (conns-onward (without_owing by (with_place at rebuild)) (before_it cmd.RebuildConnect))
+      primary-onward (without_owing by (with_place at rebuild)) (before_it cmd.RebuildConnect) (λ switch. refl) stands
 
-  length_completion : (rebuild : Option Rebuild)
-      → length (complete_outcome (before_it cmd.RebuildComplete) by rebuild).shell.conns ≡ length machine.shell.conns
-  length_completion None = refl
-  length_completion (Some rebuild) =
-      ap (λ (c : Connections). length c)
-      (conns-onward (without_owing by rebuild) (before_it cmd.RebuildComplete))
+  primary_completion : (rebuild : Option Rebuild) → HasPlace rebuild
+      → is_some machine.shell.instances.primary ≡ true
+      → is_some (complete_outcome (before_it cmd.RebuildComplete) by rebuild).shell.instances.primary ≡ true
+  primary_completion None placed stands = stands
+  primary_completion (Some rebuild) placed stands =
+      primary_given rebuild (before_it cmd.RebuildComplete) placed stands
 
-  length_departure : (shell : Shell) (keep : Bool) → shell.conns ≡ machine.shell.conns
-      → length (departing_shell form shell by keep).conns ≡ length machine.shell.conns
-  length_departure shell keep is =
-      ap (λ (c : Connections). length c) (conns-departing form shell by keep ∙ ap (with_departure by keep) is)
-      ∙ length-set (map (excused_state by) machine.shell.conns) by.0 _
-      ∙ length-map machine.shell.conns (excused_state by)
-
-  pub length-command : (command : ShellCmd)
-      → length (outcome_by command).shell.conns ≡ length machine.shell.conns
-  length-command (cmd.Connect keep) = length-set machine.shell.conns by.0 _
-  length-command cmd.Disconnect = length_departure (before_it cmd.Disconnect) false refl
-  length-command cmd.Fail =
-      length_departure (before_it cmd.Fail) (is_kept (state_of machine.shell.conns by)) refl
-  length-command cmd.Next = length_next (next_event (before_it cmd.Next).mail by)
-  length-command cmd.Respond = length_response (owed_event (before_it cmd.Respond).mail by)
-  length-command (cmd.RebuildStart caps) = refl
-  length-command cmd.RebuildStop = length_stop machine.shell.rebuild
-  length-command cmd.RebuildConnect = length_connection machine.shell.rebuild
-  length-command (cmd.Copy n) = refl
-  length-command cmd.RebuildComplete = length_completion machine.shell.rebuild
-  length-command (cmd.ForceConn other) =
-      ap (λ (c : Connections). length c) (conns-unless_gone form (record (before_it (cmd.ForceConn other)) {
-        conns = with_forced other machine.shell.conns;
+  primary_command : (command : ShellCmd) → is_connection command ≡ false → HasPlace machine.shell.rebuild
+      → shell_cause form (room meaning form machine by) machine.shell by command ≡ None
+      → is_some machine.shell.instances.primary ≡ true → HasPrimary (outcome_by command).shell
+  primary_command (cmd.Connect keep) other placed fine stands = absurd (cc)
+  primary_command cmd.Disconnect other placed fine stands =
+      primary_departing (before_it cmd.Disconnect) false stands
+  primary_command cmd.Fail other placed fine stands =
+      primary_departing (before_it cmd.Fail) (is_kept (state_of machine.shell.conns by)) stands
+  primary_command cmd.Next other placed fine stands = λ somebody.
+      primary_next (next_event (before_it cmd.Next).mail by) stands
+  primary_command cmd.Respond other placed fine stands = λ somebody.
+      primary_response (owed_event (before_it cmd.Respond).mail by) placed stands
+  primary_command (cmd.RebuildStart caps) other placed fine stands = λ somebody. stands
+  primary_command cmd.RebuildStop other placed fine stands = λ somebody. primary_stop machine.shell.rebuild stands
+  primary_command cmd.RebuildConnect other placed fine stands = λ somebody.
+      primary_connection machine.shell.rebuild stands
+  primary_command (cmd.Copy n) other placed fine stands = λ somebody. stands
+  primary_command cmd.RebuildComplete other placed fine stands = λ somebody.
+      primary_completion machine.shell.rebuild placed stands
+  primary_command (cmd.ForceConn conn) other placed fine stands =
+      primary-unless_gone form (record (before_it (cmd.ForceConn conn)) {
+        conns = with_forced conn machine.shell.conns;
         rebuild = emptied machine.shell.rebuild;
-      }))
-      ∙ length-set machine.shell.conns other.0 None
-  length-command cmd.ForceStr = refl
-  length-command (cmd.LoseConn other cf) = refl
-  length-command (cmd.RestoreConn other cf) = refl
-  length-command (cmd.Vary cf off) = refl
-  length-command cmd.DuplexStart = refl
-  length-command cmd.DuplexStop = refl
+      }) stands
+  primary_command cmd.ForceStr other placed fine stands = λ somebody.
+      let few = not_above 0 (defined_count machine.shell.conns) _ [] fine in
+      absurd (nobody_active machine.shell.conns (omega (arith, few)) somebody)
+  primary_command (cmd.LoseConn conn cf) other placed fine stands = λ somebody. stands
+  primary_command (cmd.RestoreConn conn cf) other placed fine stands = λ somebody. stands
+  primary_command (cmd.Vary cf off) other placed fine stands = λ somebody. stands
+  primary_command cmd.DuplexStart other placed fine stands = λ somebody. stands
+  primary_command cmd.DuplexStop other placed fine stands = λ somebody. stands
 
-length-unconnected : length no_connections ≡ 33
-unfolding no_connections
-length-unconnected = refl
+  primary_other : (command : ShellCmd) → is_connection command ≡ false → HasPlace machine.shell.rebuild
+      → HasPrimary machine.shell
+      → shell_cause form (room meaning form machine by) machine.shell by command ≡ None
+      → HasPrimary (outcome_by command).shell
+  primary_other command other placed primary fine = λ somebody.
+      let told : Telling = telling command (outcome_by command).reply in
+      let before : Somebody now =
+      somebody_past told by now (subst Somebody (follows_command command other fine) somebody) in
+      primary_command command other placed fine (primary before) somebody
+
+  primary_connecting : (keep : Bool)
+      → shell_cause form (room meaning form machine by) machine.shell by (cmd.Connect keep) ≡ None
+      → is_some (outcome_by (cmd.Connect keep)).shell.instances.primary ≡ true
+  primary_connecting keep fine =
+      let shell : Shell = machine.shell in
+      let reached : List (Option Refusal) = unless_reached form shell by in
+      let many : Option Refusal = if_too_many form shell by in
+      let rebuilding : Option Refusal = if_rebuilding shell.rebuild in
+      let connected : Option Refusal = if_connected (state_of shell.conns by) in
+      primary-connect shell.instances.primary (units_of shell.caps) (candidates form shell by)
+      (if_severed shell by shell.instances.primary ∷ if_severed shell by shell.instances.secondary ∷ [])
+      shell.instances refl
+      (past_first many reached (past_first rebuilding (many ∷ reached)
+      (past_first connected (rebuilding ∷ many ∷ reached) fine)))
+
+  -- ---- both
+
+  -- the members of a rebuild are those active, and a primary stands where somebody is
+  abbrev IsMannedBehind : ShellCmd → Type 0
+  IsMannedBehind command =
+      HasMembers (outcome_by command).shell.rebuild (actives (outcome_by command).shell.conns)
+      × HasPrimary (outcome_by command).shell
+
+  manned_other : (command : ShellCmd) → is_connection command ≡ false → IsManned machine.shell
+      → shell_cause form (room meaning form machine by) machine.shell by command ≡ None
+      → IsMannedBehind command
+  manned_other command other manned fine = (
+    members_other command other manned.members fine,
+    primary_other command other manned.placed manned.primary fine,
+  )
+
+  pub manned-command : (command : ShellCmd) → IsManned machine.shell
+      → shell_cause form (room meaning form machine by) machine.shell by command ≡ None
+      → IsMannedBehind command
+  manned-command (cmd.Connect keep) manned fine =
+      (members_connect keep fine, λ somebody. primary_connecting keep fine)
+  manned-command cmd.Disconnect manned fine = manned_other cmd.Disconnect refl manned fine
+  manned-command cmd.Fail manned fine = manned_other cmd.Fail refl manned fine
+  manned-command cmd.Next manned fine = manned_other cmd.Next refl manned fine
+  manned-command cmd.Respond manned fine = manned_other cmd.Respond refl manned fine
+  manned-command (cmd.RebuildStart caps) manned fine = manned_other (cmd.RebuildStart caps) refl manned fine
+  manned-command cmd.RebuildStop manned fine = manned_other cmd.RebuildStop refl manned fine
+  manned-command cmd.RebuildConnect manned fine = manned_other cmd.RebuildConnect refl manned fine
+  manned-command (cmd.Copy n) manned fine = manned_other (cmd.Copy n) refl manned fine
+  manned-command cmd.RebuildComplete manned fine = manned_other cmd.RebuildComplete refl manned fine
+  manned-command (cmd.ForceConn conn) manned fine = manned_other (cmd.ForceConn conn) refl manned fine
+  manned-command cmd.ForceStr manned fine = manned_other cmd.ForceStr refl manned fine
+  manned-command (cmd.LoseConn conn cf) manned fine = manned_other (cmd.LoseConn conn cf) refl manned fine
+  manned-command (cmd.RestoreConn conn cf) manned fine = manned_other (cmd.RestoreConn conn cf) refl manned fine
+  manned-command (cmd.Vary cf off) manned fine = manned_other (cmd.Vary cf off) refl manned fine
+  manned-command cmd.DuplexStart manned fine = manned_other cmd.DuplexStart refl manned fine
+  manned-command cmd.DuplexStop manned fine = manned_other cmd.DuplexStop refl manned fine
 
 -- ---- calls
 
 module _ {C R I S : Type 0} (meaning : Meaning C R I S) (form : StrForm) where
-  pub manned-step : (machine : Machine S) (by : ConnId) (asked : Ask C) → by.0 < 33 → IsManned machine.shell
-      → IsManned (step meaning form machine by asked).machine.shell
-  manned-step machine by (ask.Shell command) caller manned =
+  behind : (machine : Machine S) (by : ConnId) (asked : Ask C) → IsManned machine.shell
+      → let after = (step meaning form machine by asked).machine.shell in
+      HasMembers after.rebuild (actives after.conns) × HasPrimary after
+  behind machine by (ask.Shell command) manned =
       go (shell_cause form (room_of meaning form machine) machine.shell by command) refl
     where
       go : (cause : Option Refusal)
           → shell_cause form (room_of meaning form machine) machine.shell by command ≡ cause
-          → IsManned (unless meaning form cause machine (command_done meaning form machine by command)).machine.shell
-      go (Some refusal) is = manned
-      go None is = record {
-        places = length-command meaning form machine by manned.places caller command ∙ manned.places;
-        members = members-command meaning form machine by manned.places caller command manned.members is;
-      }
-  manned-step machine by (ask.Content command) caller manned = go (content_cause machine.shell by)
+          → let after =
+          (unless meaning form cause machine (command_done meaning form machine by command)).machine.shell in
+          HasMembers after.rebuild (actives after.conns) × HasPrimary after
+      go (Some refusal) is = (manned.members, manned.primary)
+      go None is = manned-command meaning form machine by command manned is
+  behind machine by (ask.Content command) manned = go (content_cause machine.shell by)
     where
       go : (cause : Option Refusal)
-          → IsManned (unless meaning form cause machine (content_done meaning form machine by command)).machine.shell
-      go (Some refusal) = manned
-      go None = record { places = manned.places; members = manned.members }
+          → let after =
+          (unless meaning form cause machine (content_done meaning form machine by command)).machine.shell in
+          HasMembers after.rebuild (actives after.conns) × HasPrimary after
+      go (Some refusal) = (manned.members, manned.primary)
+      go None = (manned.members, manned.primary)
+
+  placed_behind : (machine : Machine S) (by : ConnId) (asked : Ask C) → IsManned machine.shell
+      → HasPlace (step meaning form machine by asked).machine.shell.rebuild
+  placed_behind machine by asked manned =
+      let active : List ConnId = actives machine.shell.conns in
+      let told : Telling = told meaning form machine by asked (step meaning form machine by asked) in
+      subst HasPlace (sym (rebuild-step meaning form machine by asked))
+      (placed-next active by told machine.shell.rebuild (may-step meaning form machine by manned.places asked)
+      manned.placed)
+
+  pub manned-step : (machine : Machine S) (by : ConnId) (asked : Ask C) → IsManned machine.shell
+      → IsManned (step meaning form machine by asked).machine.shell
+  manned-step machine by asked manned =
+      let both = behind machine by asked manned in
+      record {
+        places = length-conns-step meaning form machine by asked ∙ manned.places;
+        members = both.0;
+        placed = placed_behind machine by asked manned;
+        primary = both.1;
+      }
+
+  pub manned-after : (machine : Machine S) (by : ConnId) (told : What C) → IsManned machine.shell
+      → IsManned (after_what meaning form machine by told).shell
+  manned-after machine by (what.Call asked) manned = manned-step machine by asked manned
+  manned-after machine by (what.Lost cf) manned = manned
 
   manned-fold : (machine : Machine S) (entries : List (Entry C R)) → IsManned machine.shell
-      → AreCalls meaning form machine entries
       → IsManned (fold (machine_after meaning form) machine entries).shell
-  manned-fold machine [] manned calls = manned
-  manned-fold machine (entry ∷ entries) manned calls =
+  manned-fold machine [] manned = manned
+  manned-fold machine (entry ∷ entries) manned =
       manned-fold (machine_after meaning form machine entry) entries
-      (manned_next machine entry.by entry.what calls.0.asked manned (omega (arith, calls.0.caller)) calls.0.call)
-      calls.1
-    where
-      manned_next : (machine : Machine S) (by : ConnId) (call : What C) (asked : Ask C) → IsManned machine.shell
-          → by.0 < 33 → call ≡ what.Call asked → IsManned (after_what meaning form machine by call).shell
-      manned_next machine by call asked manned caller is = rw is (manned-step machine by asked caller manned)
+      (manned-after machine entry.by entry.what manned)
 
-  pub manned-replay : (history : List (Entry C R)) → AreCalls meaning form (opening meaning form) history
-      → IsManned (replay meaning form history).shell
-  manned-replay history calls =
-      manned-fold (opening meaning form) history (record { places = length-unconnected; members = tt }) calls
+  pub manned-opening : IsManned (opening meaning form).shell
+  manned-opening = record {
+    places = length-conns-replay meaning form [];
+    members = tt;
+    placed = tt;
+    primary = λ somebody. absurd (nobody_active no_connections defined_count-unconnected somebody);
+  }
+
+  pub manned-replay : (history : List (Entry C R)) → IsManned (replay meaning form history).shell
+  manned-replay history = manned-fold (opening meaning form) history manned-opening
 
 -- ---- who waits
 
@@ -450,8 +550,8 @@ held_up_either Stopping owes held = absurd (cc)
 
 -- all connectors' content commands are refused then
 pub content_waits : (shell : Shell) (rebuild : Rebuild) (by : ConnId) → IsManned shell → shell.rebuild ≡ Some rebuild
-    → is_held_up rebuild.stage true ≡ true → by.0 < 33 → content_cause shell by ≢ None
-content_waits shell rebuild by manned is held caller = λ none. by_active (is_active shell.conns by) refl none
+    → is_held_up rebuild.stage true ≡ true → content_cause shell by ≢ None
+content_waits shell rebuild by manned is held = λ none. by_active (is_active shell.conns by) refl none
   where
     members : rebuild.members ≡ actives shell.conns
     members = subst (λ (r : Option Rebuild). HasMembers r (actives shell.conns)) is manned.members
@@ -460,7 +560,7 @@ content_waits shell rebuild by manned is held caller = λ none. by_active (is_ac
     by_active false idle none = absurd (let wrong : Some refusal.NotConnected ≡ None = rw idle at none in cc)
     by_active true active none =
         let member : is_member by rebuild.members ≡ true =
-        rw members (is_member-actives shell.conns by caller) ∙ active in
+        rw members (active_member shell.conns by manned.places active) in
         let waits : is_held_up rebuild.stage (is_member by rebuild.owing) ≡ true =
         held_up_either rebuild.stage (is_member by rebuild.owing) held in
         absurd (let wrong : Some (refusal.Quiesced rebuild.number) ≡ None =

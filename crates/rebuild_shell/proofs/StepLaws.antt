@@ -1,5 +1,5 @@
 -- What a call does to a rebuild is what its entry tells of it.
-use Rattle.std.proofs.Common.{◌≡◌, ◌<◌, Bool, true, false, List, [], ◌∷◌, Option, None, Some, not, inl, inr, refl, sym, ap, ◌∙◌}
+use Rattle.std.proofs.Common.{◌≡◌, Bool, true, false, List, [], ◌∷◌, length, Option, None, Some, not, inl, inr, refl, sym, ap, ◌∙◌, arith}
 use Rattle.std.specs.Prelude.{if◌then◌else◌, unwrap_or}
 use Rattle.cf_types.specs.declared.events.Event.{Event}
 use Rattle.cf_types.specs.declared.events.Event.TheVariants as event
@@ -13,23 +13,24 @@ use Rattle.cf_types.specs.declared.refusals.Refusal.TheVariants as refusal
 use Rattle.cf_types.specs.declared.shell_commands.ShellCmd.{ShellCmd}
 use Rattle.cf_types.specs.declared.shell_commands.ShellCmd.TheVariants as cmd
 use Rattle.cf_types.specs.declared.shell_commands.ShellReply.TheVariants as shown
-use Rattle.cf_types.specs.Connections.{actives, state_of, is_active, with_departure, with_forced}
+use Rattle.cf_types.specs.Connections.{Connections, actives, state_of, is_active, with_departure, with_forced}
 use Rattle.cf_types.specs.ConnSets.{is_member}
-use Rattle.cf_types.proofs.ConnectionLaws.{is_member-actives}
+use Rattle.cf_types.proofs.ConnectionLaws.{is_member-actives, is_active-within}
 use Rattle.cf_types.specs.Mailboxes.{next_event, owed_event, letters_to, with_cleared, with_response}
 use Rattle.engine_api.specs.declared.asks.Ask.{Ask}
 use Rattle.engine_api.specs.declared.asks.Ask.TheVariants as ask
 use Rattle.engine_api.specs.declared.asks.What.TheVariants as what
 use Rattle.engine_api.specs.Meaning.{Meaning, first_refusal}
-use Rattle.engine_api.specs.Shell.{goes, refusal_when, no_deeds, conns_answered, facility_of, is_kept}
+use Rattle.engine_api.specs.Shell.{goes, refusal_when, no_deeds, conns_answered, facility_of, is_kept, Shell, shell_cause, content_cause, switched, shell_onward, shell_without, unless_gone, deallocated, departing_shell, take_event, response_outcome, responded, rebuild_connect_outcome, complete_outcome, stop_outcome, with_posted, ShellOutcome, shell_done, given_outcome, leaver, unless_active, fresh_made, emptied, is_operator, unless_operator, unless_somebody, is_empty}
 use Rattle.rebuild_core.specs.declared.rebuild.Rebuild.{Rebuild}
-use Rattle.rebuild_core.specs.Stages.{without_owing, rebuild_without, outcome_of}
-use Rattle.rebuild_reading.specs.Tellings.{Telling, telling, telling_of, is_response, is_awaited}
+use Rattle.rebuild_core.specs.Stages.{without_owing, rebuild_without, outcome_of, rebuild_onward, with_place, is_response}
+use Rattle.rebuild_reading.specs.Tellings.{Telling, telling, telling_of, is_awaited}
 use Rattle.rebuild_reading.specs.Tellings.Telling.{Places, Completes, Responds, Departs, Forces, Nothing}
-use Rattle.rebuild_reading.specs.Steps.{IsEarly, MayBeTold, rebuild_next, rebuild_onward, rebuild_given, with_place}
-use Rattle.rebuild_shell.specs.Rebuilds.{is_switch, letters_past}
-use Rattle.rebuild_shell.specs.Shell.{Shell, Room, shell_cause, content_cause, switched, shell_onward, shell_without, unless_gone, deallocated, departing_shell, take_event, response_outcome, responded, rebuild_connect_outcome, complete_outcome, stop_outcome, with_posted, ShellOutcome, shell_done, given_outcome, leaver, unless_active, fresh_made, emptied, is_operator, unless_operator, unless_somebody, is_empty}
-use Rattle.rebuild_shell.specs.Machine.{Machine, CallOutcome, step, unless, command_done, content_done, room_of, departure_from}
+use Rattle.rebuild_reading.specs.Steps.{IsEarly, MayBeTold, rebuild_next, rebuild_given}
+use Rattle.engine_api.specs.Rebuilds.{is_switch, letters_past}
+use Rattle.engine_api.specs.declared.deeds.Room.{Room}
+use Rattle.rebuild_shell.specs.Members.{Somebody}
+use Rattle.engine_api.specs.Machine.{Machine, CallOutcome, step, unless, command_done, content_done, room_of, departure_from}
 
 nothing_told : (actives : List ConnId) (by : ConnId) (rebuild : Option Rebuild)
     → rebuild ≡ rebuild_next actives by Nothing rebuild
@@ -114,9 +115,6 @@ second_never : (first : Option Refusal) (refusal : Refusal) (rest : List (Option
 second_never None refusal rest is = cc
 second_never (Some other) refusal rest is = cc
 
-abbrev pub Somebody : List ConnId → Type 0
-Somebody conns = (conn : ConnId) × ((others : List ConnId) × (conns ≡ conn ∷ others))
-
 somebody : (conns : List ConnId) → refusal_when (is_empty conns) refusal.NotConnected ≡ None → Somebody conns
 somebody [] fine = absurd (cc)
 somebody (conn ∷ others) fine = (conn, (others, refl))
@@ -129,9 +127,15 @@ pub active_of : (b : Bool) → refusal_when (not b) refusal.NotConnected ≡ Non
 active_of true fine = refl
 active_of false fine = absurd (cc)
 
-somebody_active : (shell : Shell) (by : ConnId) → by.0 < 33 → unless_somebody shell by ≡ None
+-- whoever is active is one of those that are, since its connection has a place
+pub active_member : (conns : Connections) (conn : ConnId) → length conns ≡ 33 → is_active conns conn ≡ true
+    → is_member conn (actives conns) ≡ true
+active_member conns conn places active =
+    is_member-actives conns conn (omega (arith, places, is_active-within conns conn active)) ∙ active
+
+somebody_active : (shell : Shell) (by : ConnId) → length shell.conns ≡ 33 → unless_somebody shell by ≡ None
     → Somebody (actives shell.conns)
-somebody_active shell by caller fine = go (is_operator by) fine
+somebody_active shell by places fine = go (is_operator by) fine
   where
     go : (b : Bool) → (if b then refusal_when (is_empty (actives shell.conns)) refusal.NotConnected
         else unless_active shell by) ≡ None
@@ -139,7 +143,7 @@ somebody_active shell by caller fine = go (is_operator by) fine
     go true fine = somebody (actives shell.conns) fine
     go false fine =
         somebody_member by (actives shell.conns)
-        (is_member-actives shell.conns by caller ∙ active_of (is_active shell.conns by) fine)
+        (active_member shell.conns by places (active_of (is_active shell.conns by) fine))
 
 module _ (form : StrForm) (room : Room) (shell : Shell) (by : ConnId) where
   pub connect_stage : (rebuild : Rebuild) (at : Stage) → shell.rebuild ≡ Some rebuild → rebuild.stage ≡ at
@@ -292,7 +296,7 @@ module _ {C R I S : Type 0} (meaning : Meaning C R I S) (form : StrForm) (machin
 
   -- ---- a call
 
-  abbrev told : (asked : Ask C) → CallOutcome R S → Telling
+  abbrev pub told : (asked : Ask C) → CallOutcome R S → Telling
   told asked answered = telling_of (what.Call asked) answered.reply
 
   pub rebuild-step : (asked : Ask C)
@@ -361,34 +365,35 @@ module _ {C R I S : Type 0} (meaning : Meaning C R I S) (form : StrForm) (machin
   may_completion None = tt
   may_completion (Some rebuild) = tt
 
-  may_command : by.0 < 33 → (command : ShellCmd) → shell_cause form room machine.shell by command ≡ None
+  may_command : length machine.shell.conns ≡ 33 → (command : ShellCmd)
+      → shell_cause form room machine.shell by command ≡ None
       → MayBeTold active (telling command (done command).reply) machine.shell.rebuild
-  may_command caller (cmd.Connect keep) fine = tt
-  may_command caller cmd.Disconnect fine = tt
-  may_command caller cmd.Fail fine = tt
-  may_command caller cmd.Next fine = may_next (next_event (acting cmd.Next).mail by)
-  may_command caller cmd.Respond fine = may_response (owed_event (acting cmd.Respond).mail by)
-  may_command caller (cmd.RebuildStart caps) fine =
-      somebody_active machine.shell by caller (first_none (unless_somebody machine.shell by) _ fine)
-  may_command caller cmd.RebuildStop fine = may_stop machine.shell.rebuild refl fine
-  may_command caller cmd.RebuildConnect fine = may_connection machine.shell.rebuild refl fine
-  may_command caller (cmd.Copy n) fine = tt
-  may_command caller cmd.RebuildComplete fine = may_completion machine.shell.rebuild
-  may_command caller (cmd.ForceConn other) fine = tt
-  may_command caller cmd.ForceStr fine = tt
-  may_command caller (cmd.LoseConn other cf) fine = tt
-  may_command caller (cmd.RestoreConn other cf) fine = tt
-  may_command caller (cmd.Vary cf off) fine = tt
-  may_command caller cmd.DuplexStart fine = tt
-  may_command caller cmd.DuplexStop fine = tt
+  may_command places (cmd.Connect keep) fine = tt
+  may_command places cmd.Disconnect fine = tt
+  may_command places cmd.Fail fine = tt
+  may_command places cmd.Next fine = may_next (next_event (acting cmd.Next).mail by)
+  may_command places cmd.Respond fine = may_response (owed_event (acting cmd.Respond).mail by)
+  may_command places (cmd.RebuildStart caps) fine =
+      somebody_active machine.shell by places (first_none (unless_somebody machine.shell by) _ fine)
+  may_command places cmd.RebuildStop fine = may_stop machine.shell.rebuild refl fine
+  may_command places cmd.RebuildConnect fine = may_connection machine.shell.rebuild refl fine
+  may_command places (cmd.Copy n) fine = tt
+  may_command places cmd.RebuildComplete fine = may_completion machine.shell.rebuild
+  may_command places (cmd.ForceConn other) fine = tt
+  may_command places cmd.ForceStr fine = tt
+  may_command places (cmd.LoseConn other cf) fine = tt
+  may_command places (cmd.RestoreConn other cf) fine = tt
+  may_command places (cmd.Vary cf off) fine = tt
+  may_command places cmd.DuplexStart fine = tt
+  may_command places cmd.DuplexStop fine = tt
 
-  pub may-step : by.0 < 33 → (asked : Ask C)
+  pub may-step : length machine.shell.conns ≡ 33 → (asked : Ask C)
       → MayBeTold active (told asked (step meaning form machine by asked)) machine.shell.rebuild
-  may-step caller (ask.Shell command) = go (shell_cause form room machine.shell by command) refl
+  may-step places (ask.Shell command) = go (shell_cause form room machine.shell by command) refl
     where
       go : (cause : Option Refusal) → shell_cause form room machine.shell by command ≡ cause
           → MayBeTold active (told (ask.Shell command)
           (unless meaning form cause machine (command_done meaning form machine by command))) machine.shell.rebuild
       go (Some refusal) is = tt
-      go None is = may_command caller command is
-  may-step caller (ask.Content command) = tt
+      go None is = may_command places command is
+  may-step places (ask.Content command) = tt

@@ -4,7 +4,7 @@ use Rattle.cf_types.specs.declared.events.Stage.TheVariants.{Copy}
 use Rattle.cf_types.specs.declared.forms.StrForm.{StrForm}
 use Rattle.engine_api.specs.Meaning.{Meaning}
 use Rattle.rebuild_core.specs.declared.rebuild.Rebuild.{Rebuild}
-use Rattle.rebuild_shell.specs.Machine.{Machine, items_of}
+use Rattle.engine_api.specs.Machine.{Machine, items_of}
 
 -- a rebuild is in COPY, and its new instance stands
 abbrev pub IsFilling : Option Rebuild → Type 0

@@ -1,6 +1,4 @@
-pub mod Rebuilds
-pub mod Shell
-pub mod Machine
 pub mod History
 pub mod Members
 pub mod Filling
+pub mod Capacities

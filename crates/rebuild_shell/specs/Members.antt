@@ -1,17 +1,42 @@
 -- What is true of the machine between two calls.
-use Rattle.std.specs.Prelude.{◌≡◌, ◌+◌, List, length, Option, None, Some}
+use Rattle.std.specs.Prelude.{◌≡◌, ◌⊎◌, true, is_some, ◌+◌, List, ◌∷◌, length, Option, None, Some}
+use Rattle.cf_types.specs.declared.events.Stage.{Stage}
+use Rattle.cf_types.specs.declared.events.Stage.TheVariants.{Quiesce, Connect, Copy, Cleanup, Stopping}
 use Rattle.cf_types.specs.declared.limits.TheConstants.{CONNECTORS}
+use Rattle.cf_types.specs.declared.numbers.CfId.{CfId}
 use Rattle.cf_types.specs.declared.numbers.ConnId.{ConnId}
 use Rattle.cf_types.specs.Connections.{actives}
 use Rattle.rebuild_core.specs.declared.rebuild.Rebuild.{Rebuild}
-use Rattle.rebuild_shell.specs.Shell.{Shell}
+use Rattle.engine_api.specs.Shell.{Shell}
 
 -- these are the members of a rebuild, where one is under way
 abbrev pub HasMembers : Option Rebuild → List ConnId → Type 0
 HasMembers None conns = Unit {0}
 HasMembers (Some rebuild) conns = rebuild.members ≡ conns
 
--- there is a place for each connection, and in a rebuild the members are just the connectors that are active
+-- a new instance goes with CONNECT and COPY alone; it stands in CONNECT once a member gave its part, and in COPY always
+abbrev pub IsPlaced : Stage → (members owing : List ConnId) → Option CfId → Type 0
+IsPlaced Quiesce members owing fresh = fresh ≡ None
+IsPlaced Connect members owing fresh = (owing ≡ members) ⊎ (is_some fresh ≡ true)
+IsPlaced Copy members owing fresh = is_some fresh ≡ true
+IsPlaced Cleanup members owing fresh = fresh ≡ None
+IsPlaced Stopping members owing fresh = fresh ≡ None
+
+abbrev pub HasPlace : Option Rebuild → Type 0
+HasPlace None = Unit {0}
+HasPlace (Some rebuild) = IsPlaced rebuild.stage rebuild.members rebuild.owing rebuild.fresh
+
+abbrev pub Somebody : List ConnId → Type 0
+Somebody conns = (conn : ConnId) × ((others : List ConnId) × (conns ≡ conn ∷ others))
+
+-- a primary stands where somebody is active
+abbrev pub HasPrimary : Shell → Type 0
+HasPrimary shell = Somebody (actives shell.conns) → is_some shell.instances.primary ≡ true
+
+-- there is a place for each connection, in a rebuild the members are just the connectors that are active, and the
+-- instances stand that there are to be
 pub record IsManned (shell : Shell) : Type 0 where
   pub places : length shell.conns ≡ CONNECTORS + 1
   pub members : HasMembers shell.rebuild (actives shell.conns)
+  pub placed : HasPlace shell.rebuild
+  pub primary : HasPrimary shell

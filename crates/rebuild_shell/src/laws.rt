@@ -1,6 +1,5 @@
-ghost use Rattle.std.specs.Prelude.{◌≡◌, ◌≢◌, ◌⊎◌, true, None, Some};
+ghost use Rattle.std.specs.Prelude.{◌≡◌, ◌≢◌, ◌⊎◌, IsTrue, true, None, Some};
 ghost use Rattle.cf_types.specs.declared.numbers.ConnId.{ConnId};
-ghost use Rattle.cf_types.specs.Forms.{IsCaller};
 ghost use Rattle.cf_types.specs.declared.shell_commands.ShellCmd.TheVariants as cmd;
 ghost use Rattle.cf_types.specs.declared.shell_commands.ShellReply.TheVariants as shown;
 ghost use Rattle.engine_api.specs.declared.asks.Ask.{Ask};
@@ -8,12 +7,14 @@ ghost use Rattle.engine_api.specs.declared.asks.Ask.TheVariants as ask;
 ghost use Rattle.engine_api.specs.declared.asks.Reply.TheVariants as reply;
 ghost use Rattle.rebuild_reading.specs.Readings.{rebuild_told};
 ghost use Rattle.rebuild_core.specs.declared.rebuild.Rebuild.{Rebuild};
-ghost use Rattle.rebuild_shell.specs.Rebuilds.{fresh_of, is_held_up};
-ghost use Rattle.rebuild_shell.specs.Shell.{content_cause};
+ghost use Rattle.engine_api.specs.Rebuilds.{fresh_of, is_held_up};
+ghost use Rattle.engine_api.specs.Shell.{content_cause};
 ghost use Rattle.rebuild_shell.specs.Members.{HasMembers};
+ghost use Rattle.rebuild_shell.specs.Capacities.{IsHeld};
 ghost use Rattle.rebuild_shell.specs.Filling.{IsFilled};
-ghost use Rattle.rebuild_shell.specs.Machine.{Machine, opening, step};
-ghost use Rattle.rebuild_shell.specs.History.{AreCalls, actives_after, replay};
+ghost use Rattle.engine_api.specs.Machine.{Machine, opening, step};
+ghost use Rattle.engine_api.specs.History.{replay};
+ghost use Rattle.rebuild_shell.specs.History.{AreCalls, actives_after};
 
 use cf_types::StrForm;
 use engine_api::{Engine, History};
@@ -29,7 +30,6 @@ pub fn keeps_what_is_told<E: Engine>(form: &StrForm, history: &History<E::Cmd, E
 
 /// After whatever calls the members of a rebuild are just the connectors that are active.
 pub fn members_are_active<E: Engine>(form: &StrForm, history: &History<E::Cmd, E::Reply>)
-    requires calls { AreCalls E.meaning form.now (opening E.meaning form.now) history.now }
     ensures members { HasMembers (replay E.meaning form.now history.now).shell.rebuild
         (actives_after E.meaning form.now history.now) }
 {}
@@ -37,27 +37,31 @@ pub fn members_are_active<E: Engine>(form: &StrForm, history: &History<E::Cmd, E
 /// In CONNECT, COPY and CLEANUP no command on the content is accepted, of whatever caller. So what
 /// is copied stays as it is, but for what departures and the forcing of connections do.
 pub fn content_waits<E: Engine>(form: &StrForm, history: &History<E::Cmd, E::Reply>)
-    requires calls { AreCalls E.meaning form.now (opening E.meaning form.now) history.now }
     ensures waits { let shell = (replay E.meaning form.now history.now).shell in
         (rebuild : Rebuild) (by : ConnId) → shell.rebuild ≡ Some rebuild
-        → is_held_up rebuild.stage true ≡ true → IsCaller by → content_cause shell by ≢ None }
+        → is_held_up rebuild.stage true ≡ true → content_cause shell by ≢ None }
 {}
 
 /// After whatever calls a new instance has items in COPY alone, where it stands, and no more than
 /// the content has.
 pub fn fills_in_copy_alone<E: Engine>(form: &StrForm, history: &History<E::Cmd, E::Reply>)
-    requires calls { AreCalls E.meaning form.now (opening E.meaning form.now) history.now }
     ensures filled { IsFilled E.meaning form.now (replay E.meaning form.now history.now) }
 {}
 
 /// After whatever calls, one more leaves no item in the new instance, or leaves the content as it
 /// was. So what is in the new instance are always the first items that the content has.
 pub fn copies_a_front<E: Engine>(form: &StrForm, history: &History<E::Cmd, E::Reply>)
-    requires calls { AreCalls E.meaning form.now (opening E.meaning form.now) history.now }
     ensures front { let before = replay E.meaning form.now history.now in
-        (by : ConnId) (asked : Ask E.Cmd) → IsCaller by
+        (by : ConnId) (asked : Ask E.Cmd)
         → let after = (step E.meaning form.now before by asked).machine in
         (after.copied ≡ 0) ⊎ (after.content ≡ before.content) }
+{}
+
+/// After whatever calls the content is one at the capacity of the instances, and a rebuild's new
+/// instance has room for it, where it stands.
+pub fn holds_at_its_capacity<E: Engine>(form: &StrForm, history: &History<E::Cmd, E::Reply>)
+    requires kind { IsTrue (E.is_kind form.now.kind) }
+    ensures held { IsHeld E.meaning E.is_content form.now (replay E.meaning form.now history.now) }
 {}
 
 /// A REBUILD STOP that is accepted leaves the content as it was, the primary where it stood, and no

@@ -1,10 +1,10 @@
-//! The machine of a structure that can be rebuilt: connections, events, instances, rebuilds and
-//! connectivity, and the content. Definitions and laws, no code.
+//! Laws of the machine of a structure that can be rebuilt: of its rebuilds and who their members
+//! are, of what is in a new instance, and of what the content fits. No code.
 #![tactic(auto)]
 
 mod laws;
 
 pub use laws::{
-    content_waits, copies_a_front, fills_in_copy_alone, keeps_what_is_told, members_are_active,
-    stop_keeps_the_content,
+    content_waits, copies_a_front, fills_in_copy_alone, holds_at_its_capacity, keeps_what_is_told,
+    members_are_active, stop_keeps_the_content,
 };

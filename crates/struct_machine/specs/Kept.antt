@@ -11,13 +11,15 @@ use Rattle.plex_shell.specs.ShellView.{ShellView}
 
 -- the machine of a shell and of what an engine holds
 abbrev pub machine_of : {S : Type 0} → ShellView → Held S → Machine S
-machine_of shelled held = record { shell = shelled.shell; content = held.state }
+machine_of shelled held = record { shell = shelled.shell; content = held.state; copied = 0 }
 
--- a shell and an engine are of one form
+-- a shell and an engine are of one form, and no rebuild is under way
 pub record AreOf {S : Type 0} (form : StrForm) (shelled : ShellView) (held : Held S) : Type 0 where
   pub shell_form : shelled.form ≡ form
   pub shape : held.shape ≡ shape_of form
   pub caps : held.caps ≡ form.caps
+  pub capacity : shelled.shell.caps ≡ form.caps
+  pub no_rebuild : shelled.shell.rebuild ≡ None
 
 -- the content after a command's deeds, in a structure of this shape
 abbrev pub taken_back : {C R I S : Type 0} → Meaning C R I S → Option ConnId → S → S

@@ -4,13 +4,13 @@ ghost use Rattle.cf_types.specs.Forms.{IsForm, IsCaller, IsConnector};
 ghost use Rattle.cf_types.specs.Gains.{Gains};
 ghost use Rattle.engine_api.specs.Asking.{MayAsk, MayCommand, IsBuilt};
 ghost use Rattle.engine_api.specs.Meaning.{departure, with_departure, stands_in};
-ghost use Rattle.engine_api.specs.Machine.{content_done, content_reply, command_done, departure_from, step};
+ghost use Rattle.engine_api.specs.Machine.{content_done, content_reply, command_done, departure_from, room_of, step};
 ghost use Rattle.engine_api.specs.Shell.{call_cause, shell_cause, is_built, leaver, with_posted};
 ghost use Rattle.struct_machine.specs.Changes.{Covers};
 ghost use Rattle.struct_machine.specs.Kept.{AreOf, machine_of, state_with_deeds};
 
 use crate::changed::Changed;
-use cf_types::{ConnId, Effects, Letter, NoMemory, Refusal, ShellCmd, StrForm};
+use cf_types::{Caps, ConnId, Effects, Letter, NoMemory, Refusal, ShellCmd, StrForm};
 use engine_api::{Ask, Deeds, Engine, Reply};
 use plex_shell::{ACT_LETTERS, Room, Shell, Verdict};
 use std::alloc::Global;
@@ -41,24 +41,38 @@ pub(crate) fn answer<E: Engine>(
     ensures err { OnErr result (machine_of shell.new (E.held engine.new)
         ≡ machine_of shell.old (E.held engine.old)) }
 {
-    let room = Room {
-        need: engine.need(),
-        left: 0,
-    };
+    let room = room_of(form, shell, engine);
     if let Some(refusal) = refusal_of(shell, by, ask, &room) {
         return Ok(Reply::Refused(refusal));
     }
     match ask {
-        Ask::Shell(cmd) => do_command(alloc, form, shell, engine, changed, by, cmd),
+        Ask::Shell(cmd) => do_command(alloc, form, shell, engine, changed, by, cmd, &room),
         Ask::Content(cmd) => do_content(shell, engine, changed, by, cmd),
     }
+}
+
+// What the engine knows.
+fn room_of<E: Engine>(form: &StrForm, shell: &Shell, engine: &E) -> Room
+    requires { AreOf form.now shell.now (E.held engine.now) }
+    ensures { result ≡ room_of E.meaning form.now (machine_of shell.now (E.held engine.now)) }
+{
+    let _ = form;
+    let (primary, _, _) = shell.instances();
+    let need = if primary.is_some() {
+        engine.need()
+    } else {
+        Caps {
+            entries: 0,
+            elements: 0,
+        }
+    };
+    Room { need, left: 0 }
 }
 
 // Why the shell refuses a call, if it does.
 fn refusal_of<C>(shell: &Shell, by: ConnId, ask: &Ask<C>, room: &Room) -> Option<Refusal>
     requires may { MayAsk by ask.now }
-    requires built { IsBuilt ask.now }
-    ensures { result ≡ call_cause shell.now.form shell.now.shell by ask.now }
+    ensures { result ≡ call_cause shell.now.form room.now shell.now.shell by ask.now }
 {
     match shell.judge(by, ask, room) {
         Verdict::Refuse(refusal) => Some(refusal),
@@ -195,12 +209,15 @@ fn do_command<E: Engine>(
     changed: &mut Changed,
     by: ConnId,
     cmd: &ShellCmd,
+    room: &Room,
 ) -> Result<Reply<E::Reply>, NoMemory>
     requires formed { IsForm form.now }
     requires kind { IsTrue (E.is_kind form.now.kind) }
     requires may { MayCommand by cmd.now }
     requires built { IsTrue (is_built cmd.now) }
-    requires accepted { shell_cause form.now shell.old.shell by cmd.now ≡ None }
+    requires room { room.now
+        ≡ room_of E.meaning form.now (machine_of shell.old (E.held engine.old)) }
+    requires accepted { shell_cause form.now room.now shell.old.shell by cmd.now ≡ None }
     requires unnamed { changed.old.bits ≡ [] }
     requires of_form { AreOf form.now shell.old (E.held engine.old) }
     ensures ok { IfOk result (λ reply.
@@ -214,11 +231,7 @@ fn do_command<E: Engine>(
 {
     let spare = E::empty(alloc, form, form.caps)?;
     depart_first(shell, engine, &mut changed.effects, by, cmd)?;
-    let room = Room {
-        need: engine.need(),
-        left: 0,
-    };
-    let (reply, deeds) = shell.act(by, cmd, &room);
+    let (reply, deeds) = shell.act(by, cmd, room);
     changed.note(deeds);
     do_deeds(engine, spare, deeds);
     Ok(Reply::Shell(reply))

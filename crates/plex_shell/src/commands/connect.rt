@@ -1,7 +1,7 @@
 ghost use Rattle.std.specs.Prelude.{◌≡◌, ◌≤◌, ◌+◌, None};
 ghost use Rattle.cf_types.specs.Forms.{IsConnector};
-ghost use Rattle.cf_types.specs.declared.shell_commands.ShellCmd.TheVariants as cmd;
-ghost use Rattle.engine_api.specs.Shell.{shell_cause, connect_outcome, facility_of};
+ghost use Rattle.cf_types.specs.Connections.{state_of};
+ghost use Rattle.engine_api.specs.Shell.{if_connected, connect_outcome, facility_of};
 ghost use Rattle.plex_shell.specs.declared.shell.TheConstants.{ACT_LETTERS};
 
 use crate::letters::tell;
@@ -14,14 +14,14 @@ impl Shell {
     /// active connectors are told. Where no instance stands, the primary is made.
     pub(crate) fn connect(&mut self, by: ConnId, keep: bool) -> (ShellReply, Deeds)
         requires connector { IsConnector by }
-        requires accepted { shell_cause self.old.form self.old.shell by (cmd.Connect keep) ≡ None }
+        requires accepted { if_connected (state_of self.old.shell.conns by) ≡ None }
         requires room { ACT_LETTERS ≤ self.old.room }
         ensures form { self.new.form ≡ self.old.form }
         ensures acts { record { reply = result.0; shell = self.new.shell; deeds = result.1 }
             ≡ connect_outcome self.old.form self.old.shell by keep }
         ensures room { self.old.room ≤ self.new.room + ACT_LETTERS }
     {
-        let make = self.made_at();
+        let make = self.made_at(by);
         let others = self.conns.active().without(by);
         let again = self.conns.connect(by, keep);
         tell(&mut self.mail, others, Event::NewConn { conn: by });
@@ -29,24 +29,25 @@ impl Shell {
             self.primary = make;
         }
         let cf = facility_of(self.primary);
-        if again {
-            let back = Some(by);
-            (
-                ShellReply::Reconnected { cf },
-                Deeds {
-                    back,
-                    make,
-                    ..no_deeds()
-                },
-            )
+        let reply = if again {
+            ShellReply::Reconnected { cf }
         } else {
-            (ShellReply::OkNew { cf }, Deeds { make, ..no_deeds() })
-        }
+            ShellReply::OkNew { cf }
+        };
+        let back = if again { Some(by) } else { None };
+        (
+            reply,
+            Deeds {
+                back,
+                make,
+                ..no_deeds()
+            },
+        )
     }
 }
 
-// The facility of an instance.
-fn facility_of(at: Option<CfId>) -> CfId
+/// The facility of an instance.
+pub(crate) fn facility_of(at: Option<CfId>) -> CfId
     ensures { result ≡ facility_of at }
 {
     at.unwrap_or(CfId(0))

@@ -1,4 +1,4 @@
-ghost use Rattle.std.specs.Prelude.{◌≡◌, IsSome};
+ghost use Rattle.std.specs.Prelude.{◌≡◌, ◌≤◌, ◌+◌, IsSome};
 ghost use Rattle.cf_types.specs.Connections.{with_answer};
 ghost use Rattle.cf_types.specs.Forms.{IsCaller};
 ghost use Rattle.cf_types.specs.Mailboxes.{next_event, owed_event};
@@ -27,14 +27,22 @@ impl Shell {
     pub(crate) fn respond(&mut self, by: ConnId) -> (ShellReply, Deeds)
         requires caller { IsCaller by }
         requires owes { IsSome (owed_event self.old.shell.mail by) }
+        requires room { 33 ≤ self.old.room }
         ensures form { self.new.form ≡ self.old.form }
         ensures acts { record { reply = result.0; shell = self.new.shell; deeds = result.1 }
             ≡ response_outcome self.old.shell by (owed_event self.old.shell.mail by) }
-        ensures room { self.new.room ≡ self.old.room }
+        ensures room { self.old.room ≤ self.new.room + 33 }
     {
         let event = self.mail.respond(by).unwrap();
         answer(&mut self.conns, by, event);
-        (ShellReply::Responded { event }, no_deeds())
+        let switch = self.answer_rebuild(by, &event);
+        (
+            ShellReply::Responded { event },
+            Deeds {
+                switch,
+                ..no_deeds()
+            },
+        )
     }
 }
 

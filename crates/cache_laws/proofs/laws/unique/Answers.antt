@@ -1,8 +1,12 @@
-use Rattle.cache_laws.proofs.UniqueLaws.{unique, content-after}
+use Rattle.cache_laws.proofs.CapacityLaws.{content-within}
+use Rattle.cache_laws.proofs.UniqueLaws.{unique, orderly-replay}
 use Rattle.cache_laws.proofs.laws.unique.Goals as goal
 
 pub returns-clause-unique : goal.returns-clause-unique
 returns-clause-unique c = unique c.args.form.now c.args.history.now
 
+pub returns-clause-orderly : goal.returns-clause-orderly
+returns-clause-orderly c = orderly-replay c.args.form.now c.args.history.now
+
 pub returns-clause-content : goal.returns-clause-content
-returns-clause-content c = content-after c.args.form.now c.args.history.now
+returns-clause-content c = content-within c.args.form.now c.args.history.now

@@ -1,12 +1,10 @@
-use Rattle.std.proofs.Common.{arith}
-use Rattle.rebuild_shell.specs.History.{replay}
+use Rattle.engine_api.specs.History.{replay}
 use Rattle.rebuild_shell.proofs.MemberLaws.{manned-replay, content_waits}
 use Rattle.rebuild_shell.proofs.laws.content_waits.Goals as goal
 
 pub returns : goal.returns
 returns g c = record {
-  waits = λ rebuild by is held caller.
+  waits = λ rebuild by is held.
       content_waits (replay g.E.Engine.meaning c.args.form.now c.args.history.now).shell rebuild by
-      (manned-replay g.E.Engine.meaning c.args.form.now c.args.history.now c.requires.calls) is held
-      (omega (arith, caller));
+      (manned-replay g.E.Engine.meaning c.args.form.now c.args.history.now) is held;
 }

@@ -1,14 +1,13 @@
-use Rattle.std.proofs.Common.{arith}
-use Rattle.rebuild_shell.specs.History.{replay}
+use Rattle.engine_api.specs.History.{replay}
 use Rattle.rebuild_shell.proofs.MemberLaws.{manned-replay}
 use Rattle.rebuild_shell.proofs.FillingLaws.{filled-replay, front-step}
 use Rattle.rebuild_shell.proofs.laws.copies_a_front.Goals as goal
 
 pub returns : goal.returns
 returns g c = record {
-  front = λ by asked caller.
+  front = λ by asked.
       front-step g.E.Engine.meaning c.args.form.now (replay g.E.Engine.meaning c.args.form.now c.args.history.now) by
-      asked (omega (arith, caller))
-      (manned-replay g.E.Engine.meaning c.args.form.now c.args.history.now c.requires.calls)
-      (filled-replay g.E.Engine.meaning c.args.form.now c.args.history.now c.requires.calls);
+      asked
+      (manned-replay g.E.Engine.meaning c.args.form.now c.args.history.now)
+      (filled-replay g.E.Engine.meaning c.args.form.now c.args.history.now);
 }

@@ -1,10 +1,12 @@
 -- The greatest so far, and those that are left, give the greatest of all.
-use Rattle.std.proofs.Common.{◌≡◌, drop, fold, map, max}
-use Rattle.engine_api.specs.Instances.{candidates, greatest_units}
+use Rattle.std.proofs.Common.{◌≡◌, filter, drop, fold, map, max}
+use Rattle.engine_api.specs.Instances.{greatest_units}
+use Rattle.engine_api.specs.Shell.{is_candidate, candidates}
 use Rattle.plex_shell.proofs.shell.Shell.greatest_units.Given as goal
 
 abbrev pub invariant-loop-pref : goal.invariant-loop-pref
 invariant-loop-pref l =
     (l.pref-items ≡ l.self.form.prefs)
-    × (fold max l.most (map (λ pref. pref.units) (candidates (drop l.pref-index l.pref-items) l.self.shell.instances))
-    ≡ greatest_units (candidates l.self.form.prefs l.self.shell.instances))
+    × (fold max l.most (map (λ pref. pref.units)
+    (filter (is_candidate l.self.shell l.by) (drop l.pref-index l.pref-items)))
+    ≡ greatest_units (candidates l.self.form l.self.shell l.by))

@@ -1,0 +1,31 @@
+-- After every history of a cache its content is one at the capacity of its instances.
+use Rattle.std.proofs.Common.{refl}
+use Rattle.cf_types.specs.declared.forms.Caps.{Caps}
+use Rattle.cf_types.specs.declared.forms.StrForm.{StrForm}
+use Rattle.cf_types.specs.Forms.{is_cache}
+use Rattle.engine_api.specs.declared.shapes.Shape.{Shape}
+use Rattle.cache_model.specs.Contents.{Content, IsContent}
+use Rattle.cache_model.specs.Meaning.{cache_meaning}
+use Rattle.cache_model.proofs.EngineLaws.{content-nothing, step-content, leave-content, content-moved, need-front, need-leave}
+use Rattle.rebuild_shell.proofs.CapacityLaws.{ContentLaws, held-replay}
+use Rattle.cache_laws.specs.Histories.{CacheHistory, IsWithin}
+
+abbrev IsContentAt : Shape → Caps → Content → Type 0
+IsContentAt shape caps content = IsContent caps content
+
+-- what a cache promises of its contents, and of what they need
+promised : ContentLaws cache_meaning is_cache IsContentAt
+promised =
+    record {
+      content_empty = λ shape caps. content-nothing caps;
+      items_empty = λ shape. refl;
+      content_step = step-content;
+      content_leave = λ shape caps content conn keep is. leave-content caps content conn is;
+      content_back = λ shape caps content conn is. is;
+      content_moved = content-moved;
+      need_first = need-front;
+      need_leave = λ shape caps content conn keep is. need-leave shape.kind content conn;
+    }
+
+pub content-within : (form : StrForm) (history : CacheHistory) → IsWithin form history
+content-within form history kind = (held-replay cache_meaning is_cache IsContentAt promised form kind history).content

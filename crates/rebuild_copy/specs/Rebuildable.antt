@@ -1,0 +1,63 @@
+-- A structure's primary, and the new instance of a rebuild.
+use Rattle.std.specs.Prelude.{ℕ, ◌+◌, ◌-◌, min, Bool, IsTrue, Option, None, Some, length}
+use Rattle.cf_types.specs.declared.forms.Caps.{Caps}
+use Rattle.cf_types.specs.declared.forms.Kind.{Kind}
+use Rattle.engine_api.specs.declared.shapes.Shape.{Shape}
+use Rattle.engine_api.specs.Meaning.{Meaning, Held, items_of}
+use Rattle.rebuild_copy.specs.declared.moved.Moved.{Moved}
+use Rattle.rebuild_copy.specs.Copies.{Copy, IsCopyOf}
+
+-- a new instance: its capacity, and how many of the first items it has
+pub record Fresh : Type 0 where
+  pub caps : Caps
+  pub copied : ℕ
+
+-- the primary, and the new instance where one stands
+pub record RebuildableView (E : Type 0) : Type 0 where
+  pub primary : E
+  pub fresh : Option Fresh
+
+-- the new instance is emptied; so many items more are copied
+abbrev pub emptied : Option Fresh → Option Fresh
+emptied None = None
+emptied (Some fresh) = Some (record fresh { copied = 0 })
+
+abbrev pub with_copied : ℕ → Option Fresh → Option Fresh
+with_copied n None = None
+with_copied n (Some fresh) = Some (record fresh { copied = fresh.copied + n })
+
+-- the capacity of the new instance, or else of the primary
+abbrev pub caps_or : Option Fresh → Caps → Caps
+caps_or None caps = caps
+caps_or (Some fresh) caps = fresh.caps
+
+abbrev pub fresh_of : {I : Type 0} → Copy I → Fresh
+fresh_of copy = record { caps = copy.caps; copied = length copy.items }
+
+module _ {C R I S : Type 0} (meaning : Meaning C R I S) where
+  -- how many of the primary's items the new instance lacks, none where none stands
+  abbrev pub lacking : Held S → Option Fresh → ℕ
+  lacking held None = 0
+  lacking held (Some fresh) = length (items_of meaning held) - fresh.copied
+
+  -- what a copy of so many items more tells
+  abbrev pub moved_of : ℕ → Held S → Option Fresh → Moved
+  moved_of n held fresh =
+      record { moved = min n (lacking held fresh); left = lacking held fresh - min n (lacking held fresh) }
+
+  -- the new instance in the primary's place: what there was, without registrations, at its own capacity
+  abbrev pub switched : Held S → Option Fresh → Held S
+  switched held fresh =
+      record { shape = held.shape; caps = caps_or fresh held.caps; state = meaning.forget held.state }
+
+  -- a new instance, where one stands, has the first items of what the primary holds, and room for all
+  abbrev pub IsCopying : (Kind → Bool) → (Shape → Caps → S → Type 0) → Option (Copy I) → Held S → Type 0
+  IsCopying is_kind IsContent None held = Unit {0}
+  IsCopying is_kind IsContent (Some copy) held = IsCopyOf meaning is_kind IsContent copy held
+
+  -- the primary has a content of its shape and capacity
+  pub record IsRebuildable (is_kind : Kind → Bool) (IsContent : Shape → Caps → S → Type 0) (held : Held S)
+      (copying : Option (Copy I)) : Type 0 where
+    pub kind : IsTrue (is_kind held.shape.kind)
+    pub content : IsContent held.shape held.caps held.state
+    pub copy : IsCopying is_kind IsContent copying held

@@ -1,0 +1,6 @@
+//! Trials of the shell of a structure: rebuilds that go through, are stopped and lose a member, and
+//! facilities that a connector can't reach, with memory enough.
+#![tactic(auto)]
+
+#[cfg(test)]
+mod tests;

@@ -1,0 +1,50 @@
+-- What a verdict that refuses says.
+use Rattle.std.proofs.Common.{◌≡◌, Option, Some, None}
+use Rattle.cf_types.specs.declared.forms.StrForm.{StrForm}
+use Rattle.cf_types.specs.declared.numbers.ConnId.{ConnId}
+use Rattle.cf_types.specs.declared.refusals.Refusal.{Refusal}
+use Rattle.cf_types.specs.declared.shell_commands.ShellCmd.{ShellCmd}
+use Rattle.cf_types.specs.declared.shell_commands.ShellCmd.TheVariants as cmd
+use Rattle.engine_api.specs.declared.asks.Ask.{Ask}
+use Rattle.engine_api.specs.declared.asks.Ask.TheVariants as ask
+use Rattle.engine_api.specs.declared.deeds.Room.{Room}
+use Rattle.engine_api.specs.Shell.{Shell, shell_cause, content_cause, call_cause}
+use Rattle.plex_shell.specs.Verdicts.{refused_or, doer_of, verdict}
+use Rattle.plex_shell.specs.declared.verdicts.Verdict.{Verdict}
+use Rattle.plex_shell.specs.declared.verdicts.Verdict.TheVariants.{Refuse, Content}
+
+-- who does a command refuses nothing
+does_something : (command : ShellCmd) (refusal : Refusal) → doer_of command ≡ Refuse refusal → ⊥
+does_something (cmd.Connect keep) refusal e = cc
+does_something cmd.Disconnect refusal e = cc
+does_something cmd.Fail refusal e = cc
+does_something cmd.Next refusal e = cc
+does_something cmd.Respond refusal e = cc
+does_something (cmd.RebuildStart caps) refusal e = cc
+does_something cmd.RebuildStop refusal e = cc
+does_something cmd.RebuildConnect refusal e = cc
+does_something (cmd.Copy n) refusal e = cc
+does_something cmd.RebuildComplete refusal e = cc
+does_something (cmd.ForceConn other) refusal e = cc
+does_something cmd.ForceStr refusal e = cc
+does_something (cmd.LoseConn other cf) refusal e = cc
+does_something (cmd.RestoreConn other cf) refusal e = cc
+does_something (cmd.Vary cf off) refusal e = cc
+does_something cmd.DuplexStart refusal e = cc
+does_something cmd.DuplexStop refusal e = cc
+
+refused_for : (cause : Option Refusal) (done : Verdict) (refusal : Refusal) → ((r : Refusal) → done ≡ Refuse r → ⊥)
+    → refused_or cause done ≡ Refuse refusal
+    → Some refusal ≡ cause
+refused_for None done refusal apart e = absurd (apart refusal e)
+refused_for (Some cause) done refusal apart e = cc
+
+-- it names the first cause that holds
+pub refused_call : {C : Type 0} (form : StrForm) (room : Room) (shell : Shell) (by : ConnId) (asked : Ask C)
+    (refusal : Refusal)
+    → verdict form room shell by asked ≡ Refuse refusal
+    → Some refusal ≡ call_cause form room shell by asked
+refused_call form room shell by (ask.Shell command) refusal e =
+    refused_for (shell_cause form room shell by command) (doer_of command) refusal (does_something command) e
+refused_call form room shell by (ask.Content command) refusal e =
+    refused_for (content_cause shell by) Content refusal (λ r same. cc) e
