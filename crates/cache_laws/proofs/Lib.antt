@@ -7,4 +7,5 @@ pub mod FreshLaws
 pub mod Allocated
 pub mod Pages
 mod Examples
+mod RebuildExamples
 pub mod ApplyLaws

@@ -82,6 +82,14 @@ is_candidate shell by pref = not (stands_at shell pref.cf) && not (is_severed sh
 abbrev pub candidates : StrForm → Shell → ConnId → List Pref
 candidates form shell by = filter (is_candidate shell by) form.prefs
 
+-- the capacity of an instance that is made now: a rebuild's, or that of the structure
+abbrev pub caps_in : Option Rebuild → Caps → Caps
+caps_in None caps = caps
+caps_in (Some rebuild) caps = rebuild.caps
+
+abbrev pub caps_made : Shell → Caps
+caps_made shell = caps_in shell.rebuild shell.caps
+
 -- ---- refusals
 
 abbrev pub refusal_when : Bool → Refusal → Option Refusal
@@ -586,13 +594,13 @@ is_built cmd.Next = true
 is_built cmd.Respond = true
 is_built (cmd.ForceConn other) = true
 is_built cmd.ForceStr = true
-is_built (cmd.RebuildStart caps) = false
-is_built cmd.RebuildStop = false
-is_built cmd.RebuildConnect = false
-is_built (cmd.Copy n) = false
-is_built cmd.RebuildComplete = false
-is_built (cmd.LoseConn other cf) = false
-is_built (cmd.RestoreConn other cf) = false
+is_built (cmd.RebuildStart caps) = true
+is_built cmd.RebuildStop = true
+is_built cmd.RebuildConnect = true
+is_built (cmd.Copy n) = true
+is_built cmd.RebuildComplete = true
+is_built (cmd.LoseConn other cf) = true
+is_built (cmd.RestoreConn other cf) = true
 is_built (cmd.Vary cf off) = false
 is_built cmd.DuplexStart = false
 is_built cmd.DuplexStop = false

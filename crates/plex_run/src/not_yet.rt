@@ -10,15 +10,9 @@ use plex_script::{Act, AnyAsk, Line, Script};
 fn is_built(cmd: &ShellCmd) -> bool
     ensures { result ≡ is_built cmd.now }
 {
-    matches!(
+    !matches!(
         cmd,
-        ShellCmd::Connect { .. }
-            | ShellCmd::Disconnect
-            | ShellCmd::Fail
-            | ShellCmd::Next
-            | ShellCmd::Respond
-            | ShellCmd::ForceConn { .. }
-            | ShellCmd::ForceStr
+        ShellCmd::Vary { .. } | ShellCmd::DuplexStart | ShellCmd::DuplexStop
     )
 }
 

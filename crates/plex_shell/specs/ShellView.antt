@@ -1,6 +1,5 @@
 -- The shell of a structure, as contracts see it.
 use Rattle.std.specs.Prelude.{ℕ, ◌-◌, min, Option, None, Some}
-use Rattle.cf_types.specs.declared.forms.Caps.{Caps}
 use Rattle.cf_types.specs.declared.forms.StrForm.{StrForm}
 use Rattle.cf_types.specs.Forms.{IsForm, IsCapacity}
 use Rattle.engine_api.specs.Shell.{Shell}
@@ -30,14 +29,6 @@ view_of s =
       };
       room = min s.mail.room (4294967295 - s.started);
     }
-
--- the capacity of an instance that is made now
-abbrev pub caps_in : Option Rebuild → Caps → Caps
-caps_in None caps = caps
-caps_in (Some rebuild) caps = rebuild.caps
-
-abbrev pub caps_made : Shell → Caps
-caps_made shell = caps_in shell.rebuild shell.caps
 
 -- a rebuild is of callers, and its new instance of a capacity that a structure can have
 pub record IsKeptRebuild (rebuild : Rebuild) : Type 0 where

@@ -1,12 +1,11 @@
-ghost use Rattle.std.specs.Prelude.{◌≡◌, ◌≤◌, ◌<◌, ◌+◌, ◌-◌, ◌∷◌, [], min, IfOk, OnOk};
+ghost use Rattle.std.specs.Prelude.{◌≡◌, ◌≤◌, ◌<◌, ◌+◌, ◌-◌, ◌∷◌, [], min, is_some, IfOk, OnOk};
 ghost use Rattle.cf_types.specs.declared.limits.TheConstants.{CONNECTORS};
-ghost use Rattle.cf_types.specs.Forms.{IsForm, IsCaller};
+ghost use Rattle.cf_types.specs.Forms.{IsForm, IsCaller, IsCapacity};
 ghost use Rattle.cf_types.specs.declared.shell_commands.ShellReply.TheVariants as replies;
 ghost use Rattle.engine_api.specs.Asking.{MayAsk, MayCommand};
 ghost use Rattle.engine_api.specs.Rebuilds.{fresh_of};
-ghost use Rattle.engine_api.specs.Shell.{opening_shell, shell_cause, shell_done, leaver, is_kept, with_posted, no_deeds};
+ghost use Rattle.engine_api.specs.Shell.{opening_shell, shell_cause, shell_done, leaver, is_kept, with_posted, no_deeds, caps_made};
 ghost use Rattle.cf_types.specs.Connections.{state_of};
-ghost use Rattle.plex_shell.specs.ShellView.{caps_made};
 ghost use Rattle.plex_shell.specs.Verdicts.{refused_or, doer_of, verdict, leaver_pair, instances_of};
 
 use crate::connectivity::Connectivity;
@@ -168,9 +167,17 @@ impl Shell {
         (self.primary, self.secondary, self.fresh())
     }
 
+    /// Whether a rebuild is under way.
+    pub fn is_rebuilding(&self) -> bool
+        ensures { result ≡ is_some self.now.shell.rebuild }
+    {
+        self.rebuild.is_some()
+    }
+
     /// The capacity of an instance that is made now: a rebuild's, or that of the structure.
     pub fn caps(&self) -> Caps
-        ensures { result ≡ caps_made self.now.shell }
+        ensures made { result ≡ caps_made self.now.shell }
+        ensures capacity { IsCapacity result }
     {
         match &self.rebuild {
             Some(rebuild) => rebuild.caps,

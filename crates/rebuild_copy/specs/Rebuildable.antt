@@ -1,5 +1,5 @@
 -- A structure's primary, and the new instance of a rebuild.
-use Rattle.std.specs.Prelude.{ℕ, ◌+◌, ◌-◌, min, Bool, IsTrue, Option, None, Some, length}
+use Rattle.std.specs.Prelude.{ℕ, ◌+◌, ◌-◌, min, Bool, IsTrue, List, [], length, take, Option, None, Some}
 use Rattle.cf_types.specs.declared.forms.Caps.{Caps}
 use Rattle.cf_types.specs.declared.forms.Kind.{Kind}
 use Rattle.engine_api.specs.declared.shapes.Shape.{Shape}
@@ -39,6 +39,11 @@ module _ {C R I S : Type 0} (meaning : Meaning C R I S) where
   abbrev pub lacking : Held S → Option Fresh → ℕ
   lacking held None = 0
   lacking held (Some fresh) = length (items_of meaning held) - fresh.copied
+
+  -- the items that the new instance has, where one stands: the first of the primary's
+  abbrev pub front_of : Held S → Option Fresh → List I
+  front_of held None = []
+  front_of held (Some fresh) = take fresh.copied (items_of meaning held)
 
   -- what a copy of so many items more tells
   abbrev pub moved_of : ℕ → Held S → Option Fresh → Moved

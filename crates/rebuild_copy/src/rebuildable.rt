@@ -1,11 +1,11 @@
 //! A structure's primary, and the new instance of a rebuild.
-ghost use Rattle.std.specs.Prelude.{◌≡◌, ◌++◌, ◌≤◌, IsTrue, IfOk, OnOk, OnErr, None, Some, true, is_some, length, min};
+ghost use Rattle.std.specs.Prelude.{◌≡◌, ◌++◌, ◌≤◌, IsTrue, IfSome, IfOk, OnOk, OnErr, None, Some, true, is_some, length, min};
 ghost use Rattle.cf_types.specs.Forms.{IsCaller};
 ghost use Rattle.cf_types.specs.Gains.{Gains};
 ghost use Rattle.engine_api.specs.Items.{Fits};
 ghost use Rattle.engine_api.specs.Meaning.{new_held, answer, letters_of, departure, with_departure, with_back, stands_in, items_of};
 ghost use Rattle.engine_api.specs.Meaning.Wish.{ForCmd, ForLeave};
-ghost use Rattle.rebuild_copy.specs.Rebuildable.{lacking, emptied, with_copied, moved_of, switched};
+ghost use Rattle.rebuild_copy.specs.Rebuildable.{lacking, front_of, emptied, with_copied, moved_of, switched};
 
 use crate::copying::Copying;
 use crate::moved::Moved;
@@ -53,6 +53,20 @@ impl<E: Engine> Rebuildable<E> {
         ensures { result.now ≡ self.now.primary }
     {
         &self.primary
+    }
+
+    /// The primary, and the new instance as it stands, with the first of the primary's items.
+    pub fn into_instances(self) -> (E, Option<E>)
+        ensures primary { result.0 ≡ self.primary }
+        ensures fresh { is_some result.1 ≡ is_some self.fresh }
+        ensures front { IfSome result.1 (λ engine. items_of E.meaning (E.held engine)
+            ≡ front_of E.meaning (E.held self.primary) self.fresh) }
+    {
+        let Rebuildable { primary, copying } = self;
+        match copying {
+            Some(copying) => (primary, Some(copying.give_up())),
+            None => (primary, None),
+        }
     }
 
     /// How many of the primary's items the new instance lacks; 0 where none stands.

@@ -29,7 +29,7 @@ use Rattle.engine_api.specs.History.{after_what, machine_after, replay}
 use Rattle.engine_api.specs.Items.{Fits, IsNoMore, IsNoMoreOf}
 use Rattle.engine_api.specs.Machine.{Machine, opening, step, unless, room_of, command_done, content_done, content_after, departure_from, with_made, with_back_of}
 use Rattle.engine_api.specs.Meaning.{Meaning, step_result, first_refusal}
-use Rattle.engine_api.specs.Rebuilds.{is_switch, is_held_up, letters_past}
+use Rattle.engine_api.specs.Rebuilds.{fresh_of, is_switch, is_held_up, letters_past}
 use Rattle.engine_api.specs.Shapes.{shape_of}
 use Rattle.engine_api.specs.Shell.{Shell, ShellOutcome, Leaver, shell_cause, content_cause, if_small, if_too_small, if_rebuilding, unless_active, unless_rebuilding, unless_owed, is_connect, unless_copied_to, no_deeds, with_posted, goes, deallocated, unless_gone, facility_of, is_kept, switched, shell_onward, shell_without, given_outcome, stop_outcome, fresh_made, rebuild_connect_outcome, complete_outcome, departing_shell, emptied, take_event, conns_answered, responded, response_outcome}
 use Rattle.rebuild_core.specs.declared.passed.Passed.{Passed}
@@ -73,7 +73,7 @@ fits_accepted (kind.List headers locks refs) need caps rest fine = (
 )
 fits_accepted kind.Lock need caps rest fine = not_above caps.elements need.elements _ rest fine
 
-fits_first : (form : StrForm) (shell : Shell) (room : Room) (by : ConnId) (rebuild : Rebuild) → rebuild.fresh ≡ None
+pub fits_first : (form : StrForm) (shell : Shell) (room : Room) (by : ConnId) (rebuild : Rebuild) → rebuild.fresh ≡ None
     → first_refusal (unless_copied_to form shell room by (Some rebuild)) ≡ None
     → Fits form.kind room.need rebuild.caps
 fits_first form shell room by rebuild is fine = fits_accepted form.kind room.need rebuild.caps _ (rw is at fine)
@@ -86,6 +86,22 @@ held_up Connect members owing fresh placed stands = refl
 held_up Copy members owing fresh placed stands = refl
 held_up Cleanup members owing fresh placed stands = refl
 held_up Stopping members owing fresh placed stands = absurd (let wrong : false ≡ true = rw placed at stands in cc)
+
+-- so none stands where a command on the content is accepted
+pub none_fresh_then : (shell : Shell) (by : ConnId) → IsManned shell → content_cause shell by ≡ None
+    → fresh_of shell.rebuild ≡ None
+none_fresh_then shell by manned accepted = go shell.rebuild refl
+  where
+    go : (rebuild : Option Rebuild) → shell.rebuild ≡ rebuild → fresh_of rebuild ≡ None
+    go None is = refl
+    go (Some rebuild) is = at_place rebuild.fresh refl
+      where
+        at_place : (fresh : Option CfId) → rebuild.fresh ≡ fresh → fresh ≡ None
+        at_place None at = refl
+        at_place (Some cf) at =
+            let placed : HasPlace (Some rebuild) = subst HasPlace is manned.placed in
+            absurd (content_waits shell rebuild by manned is
+            (held_up rebuild.stage rebuild.members rebuild.owing rebuild.fresh placed (rw at refl)) accepted)
 
 module _ {C R I S : Type 0} (meaning : Meaning C R I S) (is_kind : Kind → Bool)
     (IsContent : Shape → Caps → S → Type 0) where
@@ -417,9 +433,9 @@ module _ {C R I S : Type 0} (meaning : Meaning C R I S) (is_kind : Kind → Bool
           → content_cause machine.shell by ≡ None → (content : S) → HasRoom meaning form rebuild content
       room_for_any None is fine content = tt
       room_for_any (Some rebuild) is fine content = λ stands.
-          let placed : HasPlace (Some rebuild) = subst HasPlace is manned.placed in
-          absurd (content_waits machine.shell rebuild by manned is
-          (held_up rebuild.stage rebuild.members rebuild.owing rebuild.fresh placed stands) fine)
+          let none : fresh_of (Some rebuild) ≡ None =
+          subst (λ (r : Option Rebuild). fresh_of r ≡ None) is (none_fresh_then machine.shell by manned fine) in
+          absurd (let wrong : false ≡ true = rw none at stands in cc)
 
     -- ---- calls
 

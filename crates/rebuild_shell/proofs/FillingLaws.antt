@@ -12,7 +12,6 @@ use Rattle.cf_types.specs.declared.refusals.Refusal.TheVariants as refusal
 use Rattle.cf_types.specs.declared.shell_commands.ShellCmd.{ShellCmd}
 use Rattle.cf_types.specs.declared.shell_commands.ShellCmd.TheVariants as cmd
 use Rattle.cf_types.specs.declared.shell_commands.ShellReply.TheVariants as shown
-use Rattle.cf_types.specs.Connections.{is_active, actives}
 use Rattle.cf_types.specs.Mailboxes.{next_event, owed_event, with_response}
 use Rattle.engine_api.specs.declared.asks.Ask.{Ask}
 use Rattle.engine_api.specs.declared.asks.Ask.TheVariants as ask
@@ -30,13 +29,13 @@ use Rattle.engine_api.specs.Rebuilds.{fresh_of, is_switch, is_held_up}
 use Rattle.engine_api.specs.declared.deeds.Room.{Room}
 use Rattle.engine_api.specs.Machine.{Machine, opening, step, unless, room_of, command_done, content_done, content_after, copied_after, moved_by, items_of}
 use Rattle.rebuild_shell.specs.Filling.{IsFilling, IsFilled}
-use Rattle.rebuild_shell.proofs.StepLaws.{acting, done, never, connect_stage, first_none, somebody_member, active_of, active_member, rebuild-onward}
-use Rattle.rebuild_shell.specs.Members.{HasMembers, Somebody, IsManned}
+use Rattle.rebuild_shell.proofs.StepLaws.{acting, done, never, connect_stage, rebuild-onward}
+use Rattle.rebuild_shell.specs.Members.{Somebody, IsManned}
 use Rattle.engine_api.specs.History.{after_what, machine_after, replay}
-use Rattle.rebuild_shell.proofs.MemberLaws.{second_none, idle_rebuild, content_waits, manned-after, manned-opening}
+use Rattle.rebuild_shell.proofs.MemberLaws.{second_none, idle_rebuild, content_waits, manned-members, manned-after, manned-opening}
 
 -- a departure in COPY empties the new instance, or drops it with the rebuild
-departure_empties : (before after : Option Rebuild) (all : Bool) → IsFilling before
+pub departure_empties : (before after : Option Rebuild) (all : Bool) → IsFilling before
     → (is_restart before after || (false || (is_drop before after || all))) ≡ true
 departure_empties None after all filling = absurd filling
 departure_empties (Some rebuild) (Some other) all filling = rw (filling.0) refl
@@ -50,7 +49,7 @@ none_copied_yet true n is = refl
 none_copied_yet false n is = is
 
 -- and so does the forcing of a connection
-forced_empties : (rebuild : Option Rebuild) (all : Bool) → IsFilling rebuild
+pub forced_empties : (rebuild : Option Rebuild) (all : Bool) → IsFilling rebuild
     → (is_restart rebuild rebuild || (false || (false || all))) ≡ true
 forced_empties None all filling = absurd filling
 forced_empties (Some rebuild) all filling = rw (filling.0) refl
@@ -241,17 +240,11 @@ module _ {C R I S : Type 0} (meaning : Meaning C R I S) (form : StrForm) (machin
   idle_command command rest first fine filling =
       subst IsFilling (idle_rebuild machine.shell.rebuild (second_none first _ rest fine)) filling
 
-  -- the rebuild's members are active connectors, and whoever may give a COMPLETE is one
-  somebody_completes : IsManned machine.shell
-      → shell_cause form (room_of meaning form machine) machine.shell by cmd.RebuildComplete ≡ None
-      → (r : Rebuild) → machine.shell.rebuild ≡ Some r → Somebody r.members
-  somebody_completes manned fine r is =
-      let members : r.members ≡ actives machine.shell.conns =
-      subst (λ (o : Option Rebuild). HasMembers o (actives machine.shell.conns)) is manned.members in
-      let active : is_active machine.shell.conns by ≡ true =
-      active_of (is_active machine.shell.conns by) (first_none (unless_active machine.shell by) _ fine) in
-      subst (λ (l : List ConnId). Somebody l) (sym members)
-      (somebody_member by (actives machine.shell.conns) (active_member machine.shell.conns by manned.places active))
+  -- a rebuild has members
+  somebody_rebuilds : IsManned machine.shell → (r : Rebuild) → machine.shell.rebuild ≡ Some r → Somebody r.members
+  somebody_rebuilds manned r is =
+      let members = manned-members machine.shell r manned is in
+      subst (λ (l : List ConnId). Somebody l) (sym members.0) members.1
 
   not_connecting : (rebuild : Option Rebuild) → machine.shell.rebuild ≡ rebuild → IsFilling rebuild
       → shell_cause form (room_of meaning form machine) machine.shell by cmd.RebuildConnect ≡ None → ⊥
@@ -283,7 +276,7 @@ module _ {C R I S : Type 0} (meaning : Meaning C R I S) (form : StrForm) (machin
       absurd (not_connecting machine.shell.rebuild refl filling fine)
   filled_filling manned (cmd.Copy n) fine filling = filled_copy n (inr filling) fine
   filled_filling manned cmd.RebuildComplete fine filling =
-      filled_completion machine.shell.rebuild filling (somebody_completes manned fine)
+      filled_completion machine.shell.rebuild filling (somebody_rebuilds manned)
   filled_filling manned (cmd.ForceConn other) fine filling =
       empty_filled (command_done meaning form machine by (cmd.ForceConn other)).machine
       (none_copied _ (machine.copied + 0) (forced_empties machine.shell.rebuild _ filling))
@@ -405,7 +398,7 @@ module _ {C R I S : Type 0} (meaning : Meaning C R I S) (form : StrForm) (machin
       absurd (not_connecting machine.shell.rebuild refl filling fine)
   front_filling manned (cmd.Copy n) fine filling = inr refl
   front_filling manned cmd.RebuildComplete fine filling =
-      front_completion machine.shell.rebuild filling (somebody_completes manned fine)
+      front_completion machine.shell.rebuild filling (somebody_rebuilds manned)
   front_filling manned (cmd.ForceConn other) fine filling =
       inl (none_copied _ (machine.copied + 0) (forced_empties machine.shell.rebuild _ filling))
   front_filling manned cmd.ForceStr fine filling = inl refl
@@ -468,7 +461,7 @@ module _ {C R I S : Type 0} (meaning : Meaning C R I S) (form : StrForm) where
       by_filling (inl none) = none
       by_filling (inr filling) = absurd (none_filling machine.shell.rebuild refl filling)
 
-  filled-step : (machine : Machine S) (by : ConnId) (asked : Ask C) → IsManned machine.shell
+  pub filled-step : (machine : Machine S) (by : ConnId) (asked : Ask C) → IsManned machine.shell
       → IsFilled meaning form machine → IsFilled meaning form (step meaning form machine by asked).machine
   filled-step machine by (ask.Shell command) manned filled =
       go (shell_cause form (room_of meaning form machine) machine.shell by command) refl

@@ -1,5 +1,6 @@
--- In a rebuild the members are just the connectors that are active, and a primary stands where somebody is.
-use Rattle.std.proofs.Common.{◌≡◌, ◌≢◌, ◌≤◌, ℕ, Bool, true, false, List, [], ◌∷◌, Option, None, Some, refl, sym, ap, ◌∙◌, subst, arith}
+-- In a rebuild the members are just the connectors that are active, of whom there are some, and a primary stands where
+-- somebody is.
+use Rattle.std.proofs.Common.{◌≡◌, ◌≢◌, ◌≤◌, ℕ, Bool, true, false, List, [], ◌∷◌, length, Option, None, Some, refl, sym, ap, ◌∙◌, subst, arith}
 use Rattle.std.proofs.lemmas.Bool.{ltb-false}
 use Rattle.std.specs.Prelude.{is_some, nat_lt, if◌then◌else◌, unwrap_or, fold}
 use Rattle.cf_types.specs.declared.connections.ConnState.{ConnState}
@@ -31,33 +32,42 @@ use Rattle.engine_api.specs.Shell.{no_deeds, unless_active, unless_failed, conns
 use Rattle.rebuild_core.specs.declared.passed.Passed.{Passed}
 use Rattle.rebuild_core.specs.declared.passed.Passed.TheVariants.{No, Into, Ended}
 use Rattle.rebuild_core.specs.declared.rebuild.Rebuild.{Rebuild}
-use Rattle.rebuild_core.specs.Stages.{without_owing, rebuild_without, outcome_of, with_place, rebuild_emptied, rebuild_left, rebuild_onward, is_response}
+use Rattle.rebuild_core.specs.Stages.{without_owing, rebuild_without, outcome, with_place, rebuild_emptied, rebuild_left, rebuild_onward, is_response}
 use Rattle.rebuild_reading.specs.Tellings.{Telling, telling, is_awaited}
 use Rattle.rebuild_reading.specs.Tellings.Telling.{Starts, Places, Completes, Responds, Stops, Departs, Forces, Nothing}
-use Rattle.rebuild_reading.specs.Steps.{rebuild_next, rebuild_given}
+use Rattle.rebuild_reading.specs.Steps.{MayBeTold, rebuild_next, rebuild_given}
 use Rattle.rebuild_shell.specs.Members.{HasMembers, HasPlace, HasPrimary, Somebody, IsManned}
 use Rattle.rebuild_shell.proofs.PlaceLaws.{placed-next, switch_stands, primary-onward, primary-without, primary-unless_gone, primary-connect, nobody_active}
 use Rattle.engine_api.specs.History.{after_what, machine_after, replay}
 use Rattle.engine_api.specs.Rebuilds.{is_held_up}
 use Rattle.engine_api.specs.Machine.{Machine, opening, step, unless, room_of, command_done, content_done}
 use Rattle.engine_api.proofs.ShellLaws.{length-conns-step, length-conns-replay, conns-onward, conns-unless_gone}
-use Rattle.rebuild_shell.proofs.StepLaws.{room, acting, done, told, first_none, active_of, active_member, tells_command, rebuild-step, may-step}
+use Rattle.rebuild_shell.proofs.StepLaws.{room, acting, done, told, first_none, active_of, active_member, tells_command, rebuild-step, may_command, may-step}
 
 -- ---- members
 
-members-left : (passed : Passed) (rebuild : Rebuild) (conns : List ConnId) → rebuild.members ≡ conns
+members-left : (passed : Passed) (rebuild : Rebuild) (conns : List ConnId) → HasMembers (Some rebuild) conns
     → HasMembers (rebuild_left passed rebuild) conns
 members-left No rebuild conns are = are
 members-left (Into stage) rebuild conns are = are
 members-left Ended rebuild conns are = tt
 
+-- where no member is left the rebuild ends
+members_past : (members : List ConnId) (rebuild : Rebuild) → rebuild.members ≡ members
+    → HasMembers (rebuild_left (outcome rebuild.stage members rebuild.owing) rebuild) members
+members_past [] rebuild are = tt
+members_past (conn ∷ others) rebuild are =
+    members-left (outcome rebuild.stage (conn ∷ others) rebuild.owing) rebuild (conn ∷ others)
+    (are, (conn, (others, refl)))
+
 members-onward : (rebuild : Rebuild) (conns : List ConnId) → rebuild.members ≡ conns
     → HasMembers (rebuild_onward rebuild) conns
-members-onward rebuild conns are = members-left (outcome_of rebuild) rebuild conns are
+members-onward rebuild conns are =
+    subst (λ (l : List ConnId). HasMembers (rebuild_onward rebuild) l) are (members_past rebuild.members rebuild refl)
 
-members-given : (b : Bool) (by : ConnId) (rebuild : Rebuild) (conns : List ConnId) → rebuild.members ≡ conns
+members-given : (b : Bool) (by : ConnId) (rebuild : Rebuild) (conns : List ConnId) → HasMembers (Some rebuild) conns
     → HasMembers (rebuild_given b by rebuild) conns
-members-given true by rebuild conns are = members-onward _ conns are
+members-given true by rebuild conns are = members-onward _ conns (are.0)
 members-given false by rebuild conns are = are
 
 members-in_emptied : (stage : Stage) (rebuild : Rebuild)
@@ -79,27 +89,29 @@ active_past Departs by active = without_member by active
 active_past Forces by active = active
 active_past Nothing by active = active
 
+-- the members are just those active behind whatever may be told, and there are some
 members-next : (active : List ConnId) (by : ConnId) (told : Telling) (rebuild : Option Rebuild)
-    → HasMembers rebuild active → HasMembers (rebuild_next active by told rebuild) (active_past told by active)
-members-next active by (Starts number caps) rebuild are = refl
-members-next active by (Places cf) None are = tt
-members-next active by (Places cf) (Some rebuild) are =
+    → MayBeTold active told rebuild → HasMembers rebuild active
+    → HasMembers (rebuild_next active by told rebuild) (active_past told by active)
+members-next active by (Starts number caps) rebuild may are = (refl, may)
+members-next active by (Places cf) None may are = tt
+members-next active by (Places cf) (Some rebuild) may are =
     members-given (is_awaited rebuild.stage rebuild.number (Places cf)) by (with_place cf rebuild) active are
-members-next active by Completes None are = tt
-members-next active by Completes (Some rebuild) are =
+members-next active by Completes None may are = tt
+members-next active by Completes (Some rebuild) may are =
     members-given (is_awaited rebuild.stage rebuild.number Completes) by rebuild active are
-members-next active by (Responds event) None are = tt
-members-next active by (Responds event) (Some rebuild) are =
+members-next active by (Responds event) None may are = tt
+members-next active by (Responds event) (Some rebuild) may are =
     members-given (is_awaited rebuild.stage rebuild.number (Responds event)) by rebuild active are
-members-next active by Stops None are = tt
-members-next active by Stops (Some rebuild) are = are
-members-next active by Departs None are = tt
-members-next active by Departs (Some rebuild) are =
-    members-onward (rebuild_without by rebuild) (without_member by active) (ap (without_member by) are)
-members-next active by Forces None are = tt
-members-next active by Forces (Some rebuild) are = members-in_emptied rebuild.stage rebuild ∙ are
-members-next active by Nothing None are = tt
-members-next active by Nothing (Some rebuild) are = are
+members-next active by Stops None may are = tt
+members-next active by Stops (Some rebuild) may are = are
+members-next active by Departs None may are = tt
+members-next active by Departs (Some rebuild) may are =
+    members-onward (rebuild_without by rebuild) (without_member by active) (ap (without_member by) (are.0))
+members-next active by Forces None may are = tt
+members-next active by Forces (Some rebuild) may are = (members-in_emptied rebuild.stage rebuild ∙ are.0, are.1)
+members-next active by Nothing None may are = tt
+members-next active by Nothing (Some rebuild) may are = are
 
 -- ---- connections
 
@@ -122,7 +134,7 @@ actives-answering by (event.Granted r excl) conns = refl
 actives-answering by (event.Denied r) conns = refl
 
 -- whoever can be forced away isn't active
-idle_failed : (state : Option ConnState) → unless_failed state ≡ None → is_active_state state ≡ false
+pub idle_failed : (state : Option ConnState) → unless_failed state ≡ None → is_active_state state ≡ false
 idle_failed (Some (conn.Active keep)) fine = absurd (cc)
 idle_failed (Some (conn.Leaving keep awaits)) fine = refl
 idle_failed (Some conn.Failed) fine = refl
@@ -290,14 +302,15 @@ module _ {C R I S : Type 0} (meaning : Meaning C R I S) (form : StrForm) (machin
 
   -- ---- the members behind a command
 
-  members_other : (command : ShellCmd) → is_connection command ≡ false → HasMembers machine.shell.rebuild now
+  members_other : (command : ShellCmd) → is_connection command ≡ false → length machine.shell.conns ≡ 33
+      → HasMembers machine.shell.rebuild now
       → shell_cause form (room meaning form machine by) machine.shell by command ≡ None
       → HasMembers (outcome_by command).shell.rebuild (actives (outcome_by command).shell.conns)
-  members_other command other are fine =
+  members_other command other places are fine =
       let told : Telling = telling command (outcome_by command).reply in
       let follows : Follows command (outcome_by command) = follows_command command other fine in
       rw (tells_command meaning form machine by command fine, follows)
-      (members-next now by told machine.shell.rebuild are)
+      (members-next now by told machine.shell.rebuild (may_command meaning form machine by places command fine) are)
 
   members_connect : (keep : Bool)
       → shell_cause form (room meaning form machine by) machine.shell by (cmd.Connect keep) ≡ None
@@ -435,7 +448,7 @@ module _ {C R I S : Type 0} (meaning : Meaning C R I S) (form : StrForm) (machin
 
   -- ---- both
 
-  -- the members of a rebuild are those active, and a primary stands where somebody is
+  -- the members of a rebuild are those active, of whom there are some, and a primary stands where somebody is
   abbrev IsMannedBehind : ShellCmd → Type 0
   IsMannedBehind command =
       HasMembers (outcome_by command).shell.rebuild (actives (outcome_by command).shell.conns)
@@ -445,7 +458,7 @@ module _ {C R I S : Type 0} (meaning : Meaning C R I S) (form : StrForm) (machin
       → shell_cause form (room meaning form machine by) machine.shell by command ≡ None
       → IsMannedBehind command
   manned_other command other manned fine = (
-    members_other command other manned.members fine,
+    members_other command other manned.places manned.members fine,
     primary_other command other manned.placed manned.primary fine,
   )
 
@@ -541,6 +554,12 @@ module _ {C R I S : Type 0} (meaning : Meaning C R I S) (form : StrForm) where
 
 -- ---- who waits
 
+-- the members of a rebuild under way are those active, and there are some
+pub manned-members : (shell : Shell) (rebuild : Rebuild) → IsManned shell → shell.rebuild ≡ Some rebuild
+    → HasMembers (Some rebuild) (actives shell.conns)
+manned-members shell rebuild manned is =
+    subst (λ (r : Option Rebuild). HasMembers r (actives shell.conns)) is manned.members
+
 held_up_either : (at : Stage) (owes : Bool) → is_held_up at true ≡ true → is_held_up at owes ≡ true
 held_up_either Quiesce owes held = absurd (cc)
 held_up_either Connect owes held = refl
@@ -554,7 +573,7 @@ pub content_waits : (shell : Shell) (rebuild : Rebuild) (by : ConnId) → IsMann
 content_waits shell rebuild by manned is held = λ none. by_active (is_active shell.conns by) refl none
   where
     members : rebuild.members ≡ actives shell.conns
-    members = subst (λ (r : Option Rebuild). HasMembers r (actives shell.conns)) is manned.members
+    members = (manned-members shell rebuild manned is).0
 
     by_active : (b : Bool) → is_active shell.conns by ≡ b → content_cause shell by ≡ None → ⊥
     by_active false idle none = absurd (let wrong : Some refusal.NotConnected ≡ None = rw idle at none in cc)

@@ -123,7 +123,7 @@ placed-next active by Nothing (Some rebuild) may placed = placed
 
 -- ---- the new instance takes the primary's place
 
-switch_copy : (at : Stage) (members owing : List ConnId) → is_switch (outcome at members owing) ≡ true → at ≡ Copy
+pub switch_copy : (at : Stage) (members owing : List ConnId) → is_switch (outcome at members owing) ≡ true → at ≡ Copy
 switch_copy at [] owing switch = absurd (cc)
 switch_copy at (conn ∷ conns) (other ∷ others) switch = absurd (cc)
 switch_copy Quiesce (conn ∷ conns) [] switch = absurd (cc)

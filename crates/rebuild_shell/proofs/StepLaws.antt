@@ -41,7 +41,7 @@ rebuild-switched : (b : Bool) (rebuild : Rebuild) (shell : Shell) → (switched 
 rebuild-switched false rebuild shell = refl
 rebuild-switched true rebuild shell = refl
 
-rebuild-unless_gone : (form : StrForm) (shell : Shell) → (unless_gone form shell).rebuild ≡ shell.rebuild
+pub rebuild-unless_gone : (form : StrForm) (shell : Shell) → (unless_gone form shell).rebuild ≡ shell.rebuild
 rebuild-unless_gone form shell = go (goes form shell.conns)
   where
     go : (b : Bool) → (if b then deallocated form shell else shell).rebuild ≡ shell.rebuild
@@ -365,7 +365,7 @@ module _ {C R I S : Type 0} (meaning : Meaning C R I S) (form : StrForm) (machin
   may_completion None = tt
   may_completion (Some rebuild) = tt
 
-  may_command : length machine.shell.conns ≡ 33 → (command : ShellCmd)
+  pub may_command : length machine.shell.conns ≡ 33 → (command : ShellCmd)
       → shell_cause form room machine.shell by command ≡ None
       → MayBeTold active (telling command (done command).reply) machine.shell.rebuild
   may_command places (cmd.Connect keep) fine = tt

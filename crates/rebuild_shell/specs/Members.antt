@@ -9,10 +9,13 @@ use Rattle.cf_types.specs.Connections.{actives}
 use Rattle.rebuild_core.specs.declared.rebuild.Rebuild.{Rebuild}
 use Rattle.engine_api.specs.Shell.{Shell}
 
--- these are the members of a rebuild, where one is under way
+abbrev pub Somebody : List ConnId → Type 0
+Somebody conns = (conn : ConnId) × ((others : List ConnId) × (conns ≡ conn ∷ others))
+
+-- these are the members of a rebuild, where one is under way, and there are some
 abbrev pub HasMembers : Option Rebuild → List ConnId → Type 0
 HasMembers None conns = Unit {0}
-HasMembers (Some rebuild) conns = rebuild.members ≡ conns
+HasMembers (Some rebuild) conns = (rebuild.members ≡ conns) × Somebody conns
 
 -- a new instance goes with CONNECT and COPY alone; it stands in CONNECT once a member gave its part, and in COPY always
 abbrev pub IsPlaced : Stage → (members owing : List ConnId) → Option CfId → Type 0
@@ -25,9 +28,6 @@ IsPlaced Stopping members owing fresh = fresh ≡ None
 abbrev pub HasPlace : Option Rebuild → Type 0
 HasPlace None = Unit {0}
 HasPlace (Some rebuild) = IsPlaced rebuild.stage rebuild.members rebuild.owing rebuild.fresh
-
-abbrev pub Somebody : List ConnId → Type 0
-Somebody conns = (conn : ConnId) × ((others : List ConnId) × (conns ≡ conn ∷ others))
 
 -- a primary stands where somebody is active
 abbrev pub HasPrimary : Shell → Type 0

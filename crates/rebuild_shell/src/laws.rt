@@ -28,7 +28,8 @@ pub fn keeps_what_is_told<E: Engine>(form: &StrForm, history: &History<E::Cmd, E
         ≡ rebuild_told (actives_after E.meaning form.now) history.now }
 {}
 
-/// After whatever calls the members of a rebuild are just the connectors that are active.
+/// After whatever calls the members of a rebuild are just the connectors that are active, and there
+/// are some.
 pub fn members_are_active<E: Engine>(form: &StrForm, history: &History<E::Cmd, E::Reply>)
     ensures members { HasMembers (replay E.meaning form.now history.now).shell.rebuild
         (actives_after E.meaning form.now history.now) }

@@ -1,4 +1,5 @@
 mod gates;
+mod rebuilds;
 mod reports;
 mod runs;
 mod statuses;

@@ -5,11 +5,14 @@ ghost use Rattle.cf_types.specs.declared.limits.TheConstants.{CONNECTORS};
 ghost use Rattle.cf_types.specs.Forms.{IsForm};
 ghost use Rattle.engine_api.specs.Asking.{MayAsk, IsBuilt};
 ghost use Rattle.engine_api.specs.History.{calls, own, replay, IsLegal};
+ghost use Rattle.engine_api.specs.Meaning.{items_of};
+ghost use Rattle.engine_api.specs.Rebuilds.{fresh_of};
 ghost use Rattle.vec_words.specs.Logged.{count_of};
 ghost use Rattle.vec_words.specs.Tokens.{new_pass, learned_pass};
 ghost use Rattle.struct_cell.specs.Cells.{own_call_of, IsCell};
 ghost use Rattle.struct_cell.specs.Calls.{IsAnswered, IsLater};
 ghost use Rattle.struct_cell.specs.Telling.{IsTold};
+ghost use Rattle.struct_machine.specs.StructureView.{copied_items};
 ghost use Rattle.struct_cell.specs.declared.refused.CallRefused.TheVariants as refused;
 
 use crate::closed::Closed;
@@ -225,7 +228,12 @@ impl<E: Engine, L: Link> Cell<E, L> {
             (replay E.meaning self.form result.history).shell.instances.primary }
         ensures content { IfSome result.first (λ engine. (E.held engine).state
             ≡ (replay E.meaning self.form result.history).content) }
-        ensures no_other { (result.second ≡ None) × (result.fresh ≡ None) }
+        ensures second { result.second ≡ None }
+        ensures fresh { is_some result.fresh ≡ is_some (fresh_of
+            (replay E.meaning self.form result.history).shell.rebuild) }
+        ensures front { IfSome result.fresh (λ engine. items_of E.meaning (E.held engine)
+            ≡ copied_items E.meaning self.form
+            (replay E.meaning self.form result.history)) }
     {
         let Cell { lock, vectors } = self;
         let mut inside = lock.end(rt);
@@ -237,12 +245,13 @@ impl<E: Engine, L: Link> Cell<E, L> {
             links,
             ..
         } = inside;
+        let (first, fresh) = machine.into_instances();
         Closed {
             history: History::from_vec(journal),
             links,
-            first: machine.into_engine(),
+            first,
             second: None,
-            fresh: None,
+            fresh,
         }
     }
 }

@@ -3,14 +3,14 @@ use Rattle.std.proofs.Common.{◌≡◌, ℕ, Bool, true, false, ◌||◌, List,
 use Rattle.std.proofs.lemmas.List.Elements.{recursion_from_All}
 use Rattle.std.specs.List.{AllByRecursion}
 use Rattle.cf_types.specs.declared.effects.BitChange.{BitChange}
+use Rattle.cf_types.specs.declared.forms.StrForm.{StrForm}
 use Rattle.cf_types.specs.declared.numbers.CfId.{CfId}
 use Rattle.cf_types.specs.declared.numbers.ConnId.{ConnId}
 use Rattle.cf_types.specs.Gains.{Bits, Gains, is_for, bits_told, difference}
 use Rattle.engine_api.specs.declared.deeds.Deeds.{Deeds}
-use Rattle.engine_api.specs.declared.shapes.Shape.{Shape}
+use Rattle.engine_api.specs.Machine.{content_after}
 use Rattle.engine_api.specs.Meaning.{Meaning, Held, stands_in}
 use Rattle.struct_machine.specs.Changes.{ChangeList, Covers, has_deeds}
-use Rattle.struct_machine.specs.Kept.{state_with_deeds}
 
 -- ---- what is told covers what changed
 
@@ -52,9 +52,9 @@ covers_ready {C} {R} {I} {S} meaning before ready after named changed same none 
 
 -- ---- deeds that are none leave the content
 
-none_of : (a b c d e f g h : Bool) → a || b || c || d || e || f || g || h ≡ false → (a ≡ false) × (b ≡ false)
-    × (h ≡ false)
-none_of false false false false false false false false same = (refl, refl, refl)
+none_of : (a b c d e f g h : Bool) → a || b || c || d || e || f || g || h ≡ false
+    → (a ≡ false) × (b ≡ false) × (f ≡ false) × (h ≡ false)
+none_of false false false false false false false false same = (refl, refl, refl, refl)
 none_of true b c d e f g h same = absurd cc
 none_of false true c d e f g h same = absurd cc
 none_of false false true d e f g h same = absurd cc
@@ -64,29 +64,29 @@ none_of false false false false false true g h same = absurd cc
 none_of false false false false false false true h same = absurd cc
 none_of false false false false false false false true same = absurd cc
 
-module _ {C R I S : Type 0} (meaning : Meaning C R I S) (shape : Shape) where
-  deeds_none : (deeds : Deeds) (state : S) → has_deeds deeds ≡ false → state_with_deeds meaning shape deeds state ≡
-      state
+module _ {C R I S : Type 0} (meaning : Meaning C R I S) (form : StrForm) (rebuilding : Bool) where
+  deeds_none : (deeds : Deeds) (state : S) → has_deeds deeds ≡ false
+      → content_after meaning form rebuilding deeds state ≡ state
   deeds_none deeds state none =
       let none = none_of (is_some deeds.back) (is_some deeds.make) (is_some deeds.second) (is_some deeds.drop_at)
-      deeds.restart deeds.switch
-      deeds.drop_fresh deeds.drop_all none in
-      by_deeds deeds.back deeds.make deeds.drop_all none.0 none.1 none.2
+      deeds.restart deeds.switch deeds.drop_fresh deeds.drop_all none in
+      by_deeds deeds.back deeds.make deeds.switch deeds.drop_all none.0 none.1 none.2 none.3
     where
-      by_deeds : (back : Option ConnId) (make : Option CfId) (drop_all : Bool) → is_some back ≡ false
-          → is_some make ≡ false → drop_all ≡ false
-          → state_with_deeds meaning shape (record deeds { back = back; make = make; drop_all = drop_all }) state ≡
-          state
-      by_deeds None None false no_back no_make kept = refl
-      by_deeds (Some conn) make drop_all no_back no_make kept = absurd cc
-      by_deeds None (Some cf) drop_all no_back no_make kept = absurd cc
-      by_deeds None None true no_back no_make kept = absurd cc
+      by_deeds : (back : Option ConnId) (make : Option CfId) (switch drop_all : Bool) → is_some back ≡ false
+          → is_some make ≡ false → switch ≡ false → drop_all ≡ false
+          → content_after meaning form rebuilding
+          (record deeds { back = back; make = make; switch = switch; drop_all = drop_all }) state ≡ state
+      by_deeds None None false false no_back no_make stays kept = refl
+      by_deeds (Some conn) make switch drop_all no_back no_make stays kept = absurd cc
+      by_deeds None (Some cf) switch drop_all no_back no_make stays kept = absurd cc
+      by_deeds None None true drop_all no_back no_make stays kept = absurd cc
+      by_deeds None None false true no_back no_make stays kept = absurd cc
 
   -- a departure whose bits are named, and then a command's deeds
-  pub covers_deeds : (deeds : Deeds) (before middle after : S) (named changed : ChangeList) → changed ≡ record named
-      { all = has_deeds deeds }
-      → after ≡ state_with_deeds meaning shape deeds middle → Gains (meaning.stands before) (meaning.stands middle)
-      [] named.bits
+  pub covers_deeds : (deeds : Deeds) (before middle after : S) (named changed : ChangeList)
+      → changed ≡ record named { all = has_deeds deeds }
+      → after ≡ content_after meaning form rebuilding deeds middle
+      → Gains (meaning.stands before) (meaning.stands middle) [] named.bits
       → Covers changed (meaning.stands before) (meaning.stands after)
   covers_deeds deeds before middle after named changed noted done gains =
       subst (λ (list : ChangeList). Covers list (meaning.stands before) (meaning.stands after)) (sym noted)

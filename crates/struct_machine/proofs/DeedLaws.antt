@@ -1,6 +1,8 @@
 -- What a command's deeds name, and what they do.
-use Rattle.std.specs.Prelude.{if◌then◌else◌}
-use Rattle.std.proofs.Common.{◌≡◌, Bool, true, false, Option, None, Some, IfSome, refl, arith, is_some, cond}
+use Rattle.std.specs.Prelude.{if◌then◌else◌, ◌||◌, ◌&&◌, not}
+use Rattle.std.proofs.lemmas.Bool.{and_parts}
+use Rattle.cf_types.specs.declared.forms.Caps.{Caps}
+use Rattle.std.proofs.Common.{◌≡◌, Bool, true, false, Option, None, Some, IfSome, refl, sym, ap, arith, is_some, cond}
 use Rattle.cf_types.specs.declared.forms.StrForm.{StrForm}
 use Rattle.cf_types.specs.declared.numbers.CfId.{CfId}
 use Rattle.cf_types.specs.declared.numbers.ConnId.{ConnId}
@@ -14,12 +16,14 @@ use Rattle.engine_api.specs.declared.deeds.Deeds.{Deeds}
 use Rattle.engine_api.specs.declared.deeds.Room.{Room}
 use Rattle.engine_api.specs.Asking.{MayCommand}
 use Rattle.engine_api.specs.Shapes.{shape_of}
-use Rattle.engine_api.specs.Meaning.{Meaning}
-use Rattle.engine_api.specs.Machine.{content_after, with_back_of}
+use Rattle.engine_api.specs.Meaning.{Meaning, Held}
+use Rattle.engine_api.specs.Machine.{content_after, copied_after, with_back_of}
 use Rattle.engine_api.specs.Shell.{Shell, Leaver, ShellOutcome, shell_done, leaver, take_event, responded, response_outcome, stop_outcome, rebuild_connect_outcome, complete_outcome}
 use Rattle.rebuild_core.specs.declared.rebuild.Rebuild.{Rebuild}
 use Rattle.rebuild_core.specs.Stages.{is_response}
-use Rattle.struct_machine.specs.Kept.{state_with_deeds, taken_back}
+use Rattle.rebuild_copy.specs.Rebuildable.{Fresh, caps_or, emptied}
+use Rattle.struct_machine.specs.Deeds.{fresh_made, fresh_ended, caps_past, fresh_past, held_back, held_switched}
+use Rattle.struct_machine.specs.Kept.{copied_in, caps_of}
 
 -- who departs is a caller
 pub leaver_caller : (shell : Shell) (by : ConnId) (command : ShellCmd) (who : Leaver) → MayCommand by command
@@ -108,22 +112,112 @@ back_caller form room shell by (cmd.Vary cf off) may = tt
 back_caller form room shell by cmd.DuplexStart may = tt
 back_caller form room shell by cmd.DuplexStop may = tt
 
--- the deeds, one after another or at once, where no rebuild is under way
-pub deeds_same : {C R I S : Type 0} (meaning : Meaning C R I S) (form : StrForm) (deeds : Deeds) (state : S)
-    → deeds.switch ≡ false
-    → state_with_deeds meaning (shape_of form) deeds state ≡ content_after meaning form false deeds state
-deeds_same meaning form deeds state kept = by_drop deeds.drop_all deeds.make deeds.back deeds.switch kept
-  where
-    by_back : (back : Option ConnId) → taken_back meaning back state ≡ with_back_of meaning form back state
-    by_back None = refl
-    by_back (Some conn) = refl
+-- ---- one deed after another, and all at once
 
-    by_drop : (drop : Bool) (make : Option CfId) (back : Option ConnId) (switch : Bool) → switch ≡ false
-        → state_with_deeds meaning (shape_of form)
-        (record deeds { drop_all = drop; make = make; back = back; switch = switch }) state
-        ≡ content_after meaning form false
-        (record deeds { drop_all = drop; make = make; back = back; switch = switch }) state
-    by_drop true make back switch kept = refl
-    by_drop false make back true kept = absurd cc
-    by_drop false (Some cf) back false kept = refl
-    by_drop false None back false kept = by_back back
+emptied_none : (fresh : Option Fresh) → copied_in (emptied fresh) ≡ 0
+emptied_none None = refl
+emptied_none (Some fresh) = refl
+
+emptied_caps : (fresh : Option Fresh) → caps_of (emptied fresh) ≡ caps_of fresh
+emptied_caps None = refl
+emptied_caps (Some fresh) = refl
+
+-- how many items the new instance has behind its own deeds
+copied_by : (restart switch drop made : Bool) (caps : Caps) (fresh : Option Fresh) → (made ≡ true → fresh ≡ None)
+    → copied_in (if switch || drop then None
+    else if restart then emptied (fresh_made made caps fresh) else fresh_made made caps fresh)
+    ≡ (if restart || (switch || (drop || false)) then 0 else copied_in fresh)
+copied_by true true drop made caps fresh alone = refl
+copied_by true false true made caps fresh alone = refl
+copied_by true false false made caps fresh alone = emptied_none (fresh_made made caps fresh)
+copied_by false true drop made caps fresh alone = refl
+copied_by false false true made caps fresh alone = refl
+copied_by false false false true caps fresh alone = sym (ap copied_in (alone refl))
+copied_by false false false false caps fresh alone = refl
+
+-- and its capacity
+caps_by : (restart switch drop made : Bool) (caps : Caps) (fresh : Option Fresh)
+    → caps_of (if switch || drop then None
+    else if restart then emptied (fresh_made made caps fresh) else fresh_made made caps fresh)
+    ≡ (if false || (switch || drop) then None else if made then Some caps else caps_of fresh)
+caps_by restart true drop made caps fresh = refl
+caps_by restart false true made caps fresh = refl
+caps_by true false false true caps fresh = refl
+caps_by true false false false caps fresh = emptied_caps fresh
+caps_by false false false true caps fresh = refl
+caps_by false false false false caps fresh = refl
+
+module _ {C R I S : Type 0} (meaning : Meaning C R I S) where
+  back_caps : (back : Option ConnId) (held : Held S) → (held_back meaning back held).caps ≡ held.caps
+  back_caps None held = refl
+  back_caps (Some conn) held = refl
+
+  pub back_shape : (back : Option ConnId) (held : Held S) → (held_back meaning back held).shape ≡ held.shape
+  back_shape None held = refl
+  back_shape (Some conn) held = refl
+
+  back_state : (form : StrForm) (back : Option ConnId) (held : Held S)
+      → (held_back meaning back held).state ≡ with_back_of meaning form back held.state
+  back_state form None held = refl
+  back_state form (Some conn) held = refl
+
+  -- what the primary holds, once it is taken up again, made anew, and replaced by the new instance
+  abbrev pub held_by : Bool → Deeds → Held S → Held S → Option Fresh → Held S
+  held_by rebuilding deeds spare held fresh =
+      held_switched meaning deeds.switch (fresh_made (is_some deeds.make && rebuilding) spare.caps fresh)
+      (if is_some deeds.make && not rebuilding then spare else held_back meaning deeds.back held)
+
+  pub state_by : (form : StrForm) (rebuilding : Bool) (deeds : Deeds) (spare held : Held S) (fresh : Option Fresh)
+      → spare.state ≡ meaning.empty (shape_of form) → deeds.drop_all ≡ false
+      → (held_by rebuilding deeds spare held fresh).state ≡ content_after meaning form rebuilding deeds held.state
+  state_by form rebuilding deeds spare held fresh empty kept =
+      go rebuilding deeds.make deeds.switch deeds.drop_all kept
+    where
+      go : (rebuilding : Bool) (make : Option CfId) (switch drop : Bool) → drop ≡ false
+          → (held_by rebuilding (record deeds { make = make; switch = switch }) spare held fresh).state
+          ≡ content_after meaning form rebuilding
+          (record deeds { make = make; switch = switch; drop_all = drop }) held.state
+      go rebuilding make switch true kept = absurd (cc)
+      go true None true false kept = ap meaning.forget (back_state form deeds.back held)
+      go true None false false kept = back_state form deeds.back held
+      go true (Some cf) true false kept = ap meaning.forget (back_state form deeds.back held)
+      go true (Some cf) false false kept = back_state form deeds.back held
+      go false None true false kept = ap meaning.forget (back_state form deeds.back held)
+      go false None false false kept = back_state form deeds.back held
+      go false (Some cf) true false kept = ap meaning.forget empty
+      go false (Some cf) false false kept = empty
+
+  pub caps_held_by : (rebuilding : Bool) (deeds : Deeds) (spare held : Held S) (fresh : Option Fresh)
+      → (deeds.switch ≡ true → deeds.make ≡ None) → deeds.drop_all ≡ false
+      → (held_by rebuilding deeds spare held fresh).caps ≡ caps_past rebuilding deeds spare.caps held.caps fresh
+  caps_held_by rebuilding deeds spare held fresh unmade kept =
+      go rebuilding deeds.make deeds.switch deeds.drop_all unmade kept
+    where
+      go : (rebuilding : Bool) (make : Option CfId) (switch drop : Bool) → (switch ≡ true → make ≡ None)
+          → drop ≡ false
+          → (held_by rebuilding (record deeds { make = make; switch = switch }) spare held fresh).caps
+          ≡ caps_past rebuilding (record deeds { make = make; switch = switch; drop_all = drop }) spare.caps held.caps
+          fresh
+      go rebuilding make switch true unmade kept = absurd (cc)
+      go rebuilding (Some cf) true false unmade kept = absurd (let wrong : Some cf ≡ None = unmade refl in cc)
+      go rebuilding None true false unmade kept = ap (caps_or fresh) (back_caps deeds.back held)
+      go rebuilding None false false unmade kept = back_caps deeds.back held
+      go true (Some cf) false false unmade kept = back_caps deeds.back held
+      go false (Some cf) false false unmade kept = refl
+
+pub copied_past : (rebuilding : Bool) (deeds : Deeds) (caps : Caps) (fresh : Option Fresh)
+    → (is_some deeds.make ≡ true → fresh ≡ None) → deeds.drop_all ≡ false
+    → copied_in (fresh_ended deeds (fresh_made (is_some deeds.make && rebuilding) caps fresh))
+    ≡ copied_after deeds (copied_in fresh)
+copied_past rebuilding deeds caps fresh alone kept =
+    rw kept
+    (copied_by deeds.restart deeds.switch deeds.drop_fresh (is_some deeds.make && rebuilding) caps fresh
+    (λ both. alone (and_parts (is_some deeds.make) rebuilding both).0))
+
+pub fresh_caps_past : (rebuilding : Bool) (deeds : Deeds) (caps : Caps) (fresh : Option Fresh)
+    → deeds.drop_all ≡ false
+    → caps_of (fresh_ended deeds (fresh_made (is_some deeds.make && rebuilding) caps fresh))
+    ≡ fresh_past rebuilding deeds caps fresh
+fresh_caps_past rebuilding deeds caps fresh kept =
+    rw kept
+    (caps_by deeds.restart deeds.switch deeds.drop_fresh (is_some deeds.make && rebuilding) caps fresh)

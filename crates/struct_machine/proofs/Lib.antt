@@ -1,5 +1,7 @@
 pub mod AskerLaws
 pub mod ChangeLaws
+pub mod CommandLaws
 pub mod DeedLaws
-pub mod BuiltLaws
+pub mod KeptLaws
+pub mod PostedLaws
 pub mod RefusalLaws

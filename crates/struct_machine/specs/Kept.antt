@@ -1,31 +1,37 @@
--- A machine in its parts: a shell, and what an engine holds.
-use Rattle.std.specs.Prelude.{◌≡◌, Option, None, Some, is_some, ◌||◌, if◌then◌else◌}
+-- A machine in its parts: a shell, and a primary with a rebuild's new instance.
+use Rattle.std.specs.Prelude.{◌≡◌, ℕ, Option, None, Some, option_map}
+use Rattle.cf_types.specs.declared.forms.Caps.{Caps}
 use Rattle.cf_types.specs.declared.forms.StrForm.{StrForm}
-use Rattle.cf_types.specs.declared.numbers.ConnId.{ConnId}
-use Rattle.engine_api.specs.declared.deeds.Deeds.{Deeds}
-use Rattle.engine_api.specs.declared.shapes.Shape.{Shape}
 use Rattle.engine_api.specs.Meaning.{Meaning, Held}
 use Rattle.engine_api.specs.Machine.{Machine}
 use Rattle.engine_api.specs.Shapes.{shape_of}
 use Rattle.plex_shell.specs.ShellView.{ShellView}
+use Rattle.rebuild_copy.specs.Rebuildable.{Fresh, RebuildableView}
+use Rattle.rebuild_shell.specs.Capacities.{fresh_caps}
+use Rattle.rebuild_shell.specs.Filling.{IsFilled}
+use Rattle.rebuild_shell.specs.Members.{IsManned}
 
--- the machine of a shell and of what an engine holds
-abbrev pub machine_of : {S : Type 0} → ShellView → Held S → Machine S
-machine_of shelled held = record { shell = shelled.shell; content = held.state; copied = 0 }
+-- how many items the new instance has, none where none stands
+abbrev pub copied_in : Option Fresh → ℕ
+copied_in None = 0
+copied_in (Some fresh) = fresh.copied
 
--- a shell and an engine are of one form, and no rebuild is under way
-pub record AreOf {S : Type 0} (form : StrForm) (shelled : ShellView) (held : Held S) : Type 0 where
-  pub shell_form : shelled.form ≡ form
-  pub shape : held.shape ≡ shape_of form
-  pub caps : held.caps ≡ form.caps
-  pub capacity : shelled.shell.caps ≡ form.caps
-  pub no_rebuild : shelled.shell.rebuild ≡ None
+-- its capacity, where it stands
+abbrev pub caps_of : Option Fresh → Option Caps
+caps_of fresh = option_map (λ (fresh : Fresh). fresh.caps) fresh
 
--- the content after a command's deeds, in a structure of this shape
-abbrev pub taken_back : {C R I S : Type 0} → Meaning C R I S → Option ConnId → S → S
-taken_back meaning None state = state
-taken_back meaning (Some conn) state = meaning.back state conn
+module _ {E S : Type 0} (held : E → Held S) where
+  -- the machine of a shell and of the instances
+  abbrev pub machine_of : ShellView → RebuildableView E → Machine S
+  machine_of shelled content =
+      record { shell = shelled.shell; content = (held content.primary).state; copied = copied_in content.fresh }
 
-abbrev pub state_with_deeds : {C R I S : Type 0} → Meaning C R I S → Shape → Deeds → S → S
-state_with_deeds meaning shape deeds state =
-    if deeds.drop_all || is_some deeds.make then meaning.empty shape else taken_back meaning deeds.back state
+  -- a shell and instances are of one form: they stand where the shell says so, at its capacities
+  pub record AreOf {C R I : Type 0} (meaning : Meaning C R I S) (form : StrForm) (shelled : ShellView)
+      (content : RebuildableView E) : Type 0 where
+    pub shell_form : shelled.form ≡ form
+    pub shape : (held content.primary).shape ≡ shape_of form
+    pub caps : (held content.primary).caps ≡ shelled.shell.caps
+    pub fresh : caps_of content.fresh ≡ fresh_caps shelled.shell.rebuild
+    pub manned : IsManned shelled.shell
+    pub filled : IsFilled meaning form (machine_of shelled content)

@@ -1,3 +1,4 @@
 pub mod Changes
+pub mod Deeds
 pub mod Kept
 pub mod StructureView

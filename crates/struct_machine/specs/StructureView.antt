@@ -1,9 +1,9 @@
 -- A structure as its machine keeps it: its form, its shell and its content.
-use Rattle.std.specs.Prelude.{ℕ, Bool}
+use Rattle.std.specs.Prelude.{ℕ, Bool, List, take}
 use Rattle.cf_types.specs.declared.forms.StrForm.{StrForm}
 use Rattle.cf_types.specs.declared.numbers.ConnId.{ConnId}
 use Rattle.engine_api.specs.Meaning.{Meaning}
-use Rattle.engine_api.specs.Machine.{Machine, opening}
+use Rattle.engine_api.specs.Machine.{Machine, items_of, opening}
 
 pub record StructureView (S : Type 0) : Type 0 where
   pub form : StrForm
@@ -16,3 +16,7 @@ new_structure meaning form = record { form = form; machine = opening meaning for
 -- the bit of a connector's vector
 abbrev pub stands_at : {C R I S : Type 0} → Meaning C R I S → Machine S → ConnId → ℕ → Bool
 stands_at meaning machine conn index = meaning.stands machine.content conn index
+
+-- the items in a rebuild's new instance: the first ones of the content
+abbrev pub copied_items : {C R I S : Type 0} → Meaning C R I S → StrForm → Machine S → List I
+copied_items meaning form machine = take machine.copied (items_of meaning form machine)

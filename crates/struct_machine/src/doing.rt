@@ -1,18 +1,20 @@
-//! What a call does to a shell and to an engine.
-ghost use Rattle.std.specs.Prelude.{◌≡◌, ◌≤◌, ◌+◌, [], IfOk, IfSome, OnOk, OnErr, IsTrue, None, Some, length};
-ghost use Rattle.cf_types.specs.Forms.{IsForm, IsCaller, IsConnector};
-ghost use Rattle.cf_types.specs.Gains.{Gains};
+//! What a call does to a shell and to a structure's instances.
+ghost use Rattle.std.specs.Prelude.{◌≡◌, [], IfOk, OnOk, OnErr, IsTrue, None};
+ghost use Rattle.cf_types.specs.Forms.{IsForm, IsConnector};
 ghost use Rattle.engine_api.specs.Asking.{MayAsk, MayCommand, IsBuilt};
-ghost use Rattle.engine_api.specs.Meaning.{departure, with_departure, stands_in};
-ghost use Rattle.engine_api.specs.Machine.{content_done, content_reply, command_done, departure_from, room_of, step};
-ghost use Rattle.engine_api.specs.Shell.{call_cause, shell_cause, is_built, leaver, with_posted};
+ghost use Rattle.engine_api.specs.Meaning.{stands_in};
+ghost use Rattle.engine_api.specs.Machine.{content_done, content_reply, command_done, room_of, step};
+ghost use Rattle.engine_api.specs.Shell.{call_cause, shell_cause, content_cause};
 ghost use Rattle.struct_machine.specs.Changes.{Covers};
-ghost use Rattle.struct_machine.specs.Kept.{AreOf, machine_of, state_with_deeds};
+ghost use Rattle.struct_machine.specs.Kept.{AreOf, machine_of};
 
 use crate::changed::Changed;
-use cf_types::{Caps, ConnId, Effects, Letter, NoMemory, Refusal, ShellCmd, StrForm};
-use engine_api::{Ask, Deeds, Engine, Reply};
-use plex_shell::{ACT_LETTERS, Room, Shell, Verdict};
+use crate::deeds::{do_deeds, spare_caps};
+use crate::departing::{letter_count, post_all, prepare};
+use cf_types::{Caps, ConnId, NoMemory, Refusal, ShellCmd, StrForm};
+use engine_api::{Ask, Engine, Reply, Room};
+use plex_shell::{Shell, Verdict};
+use rebuild_copy::Rebuildable;
 use std::alloc::Global;
 
 // A call is judged, and done where the shell doesn't refuse it. What bits it may have changed is
@@ -21,7 +23,7 @@ pub(crate) fn answer<E: Engine>(
     alloc: Global,
     form: &StrForm,
     shell: &mut Shell,
-    engine: &mut E,
+    content: &mut Rebuildable<E>,
     changed: &mut Changed,
     by: ConnId,
     ask: &Ask<E::Cmd>,
@@ -31,42 +33,44 @@ pub(crate) fn answer<E: Engine>(
     requires may { MayAsk by ask.now }
     requires built { IsBuilt ask.now }
     requires unnamed { changed.old.bits ≡ [] }
-    requires of_form { AreOf form.now shell.old (E.held engine.old) }
+    requires of_form { AreOf E.held E.meaning form.now shell.old content.old }
     ensures ok { IfOk result (λ reply.
-        record { reply = reply; machine = machine_of shell.new (E.held engine.new) }
-        ≡ step E.meaning form.now (machine_of shell.old (E.held engine.old)) by ask.now) }
-    ensures bits { OnOk result (Covers changed.new (stands_in E.meaning (E.held engine.old))
-        (stands_in E.meaning (E.held engine.new))) }
-    ensures of_form { AreOf form.now shell.new (E.held engine.new) }
-    ensures err { OnErr result (machine_of shell.new (E.held engine.new)
-        ≡ machine_of shell.old (E.held engine.old)) }
+        record { reply = reply; machine = machine_of E.held shell.new content.new }
+        ≡ step E.meaning form.now (machine_of E.held shell.old content.old) by ask.now) }
+    ensures bits { OnOk result (Covers changed.new
+        (stands_in E.meaning (E.held content.old.primary))
+        (stands_in E.meaning (E.held content.new.primary))) }
+    ensures of_form { AreOf E.held E.meaning form.now shell.new content.new }
+    ensures err { OnErr result (machine_of E.held shell.new content.new
+        ≡ machine_of E.held shell.old content.old) }
 {
-    let room = room_of(form, shell, engine);
+    let room = room_of(form, shell, content);
     if let Some(refusal) = refusal_of(shell, by, ask, &room) {
         return Ok(Reply::Refused(refusal));
     }
     match ask {
-        Ask::Shell(cmd) => do_command(alloc, form, shell, engine, changed, by, cmd, &room),
-        Ask::Content(cmd) => do_content(shell, engine, changed, by, cmd),
+        Ask::Shell(cmd) => do_command(alloc, form, shell, content, changed, by, cmd, &room),
+        Ask::Content(cmd) => do_content(shell, content, changed, by, cmd),
     }
 }
 
-// What the engine knows.
-fn room_of<E: Engine>(form: &StrForm, shell: &Shell, engine: &E) -> Room
-    requires { AreOf form.now shell.now (E.held engine.now) }
-    ensures { result ≡ room_of E.meaning form.now (machine_of shell.now (E.held engine.now)) }
+// What the instances know.
+fn room_of<E: Engine>(form: &StrForm, shell: &Shell, content: &Rebuildable<E>) -> Room
+    requires { AreOf E.held E.meaning form.now shell.now content.now }
+    ensures { result ≡ room_of E.meaning form.now (machine_of E.held shell.now content.now) }
 {
     let _ = form;
     let (primary, _, _) = shell.instances();
     let need = if primary.is_some() {
-        engine.need()
+        content.primary().need()
     } else {
         Caps {
             entries: 0,
             elements: 0,
         }
     };
-    Room { need, left: 0 }
+    let left = content.left();
+    Room { need, left }
 }
 
 // Why the shell refuses a call, if it does.
@@ -81,123 +85,37 @@ fn refusal_of<C>(shell: &Shell, by: ConnId, ask: &Ask<C>, room: &Room) -> Option
 }
 
 // A command on the content that the shell doesn't refuse. The bits that it changed are named.
+#[tactic(auto, using(crate::proofs::KeptLaws::content_alone))]
 fn do_content<E: Engine>(
     shell: &mut Shell,
-    engine: &mut E,
+    content: &mut Rebuildable<E>,
     changed: &mut Changed,
     by: ConnId,
     cmd: &E::Cmd,
 ) -> Result<Reply<E::Reply>, NoMemory>
     requires caller { IsConnector by }
+    requires accepted { content_cause shell.old.shell by ≡ None }
     requires unnamed { changed.old.bits ≡ [] }
-    requires of_form { AreOf shell.old.form shell.old (E.held engine.old) }
+    requires of_form { AreOf E.held E.meaning shell.old.form shell.old content.old }
     ensures ok { IfOk result (λ reply.
-        record { reply = reply; machine = machine_of shell.new (E.held engine.new) }
-        ≡ content_done E.meaning shell.old.form (machine_of shell.old (E.held engine.old)) by
+        record { reply = reply; machine = machine_of E.held shell.new content.new }
+        ≡ content_done E.meaning shell.old.form (machine_of E.held shell.old content.old) by
         cmd.now) }
-    ensures bits { OnOk result (Covers changed.new (stands_in E.meaning (E.held engine.old))
-        (stands_in E.meaning (E.held engine.new))) }
-    ensures of_form { AreOf shell.old.form shell.new (E.held engine.new) }
-    ensures err { OnErr result (machine_of shell.new (E.held engine.new)
-        ≡ machine_of shell.old (E.held engine.old)) }
+    ensures bits { OnOk result (Covers changed.new
+        (stands_in E.meaning (E.held content.old.primary))
+        (stands_in E.meaning (E.held content.new.primary))) }
+    ensures of_form { AreOf E.held E.meaning shell.old.form shell.new content.new }
+    ensures err { OnErr result (machine_of E.held shell.new content.new
+        ≡ machine_of E.held shell.old content.old) }
 {
     let out = &mut changed.effects;
     out.mail.clear();
-    engine.ready(by, cmd, out)?;
+    content.ready(by, cmd, out)?;
     let letters = letter_count(out)?;
     shell.ready(letters)?;
-    let answer = engine.apply(by, cmd, out);
+    let answer = content.apply(by, cmd, out);
     post_all(shell, out.mail.items());
     Ok(content_reply(answer))
-}
-
-// A connector departs from the content, and the letters that this brings are posted. The effects
-// name the bits that it changed. Room for the letters of the command itself is left.
-fn leave_content<E: Engine>(
-    shell: &mut Shell,
-    engine: &mut E,
-    out: &mut Effects,
-    conn: ConnId,
-    keep: bool,
-) -> Result<(), NoMemory>
-    requires caller { IsCaller conn }
-    requires unnamed { out.old.bits.items ≡ [] }
-    ensures form { shell.new.form ≡ shell.old.form }
-    ensures ok_held { OnOk result (E.held engine.new
-        ≡ with_departure E.meaning (E.held engine.old) conn keep) }
-    ensures ok_shell { OnOk result (shell.new.shell
-        ≡ with_posted (departure E.meaning (E.held engine.old) conn keep).letters shell.old.shell) }
-    ensures room { OnOk result (ACT_LETTERS ≤ shell.new.room) }
-    ensures bits { OnOk result (Gains (stands_in E.meaning (E.held engine.old))
-        (stands_in E.meaning (E.held engine.new)) [] out.new.bits.items) }
-    ensures err_held { OnErr result (E.held engine.new ≡ E.held engine.old) }
-    ensures err_shell { OnErr result (shell.new.shell ≡ shell.old.shell) }
-{
-    out.mail.clear();
-    engine.leave_ready(conn, out)?;
-    let letters = letter_count(out)?;
-    let Some(all) = letters.checked_add(ACT_LETTERS) else {
-        return Err(NoMemory);
-    };
-    shell.ready(all)?;
-    engine.leave(conn, keep, out);
-    post_all(shell, out.mail.items());
-    Ok(())
-}
-
-// What a command does to the content; a new instance begins with the spare one.
-fn do_deeds<E: Engine>(engine: &mut E, spare: E, deeds: Deeds)
-    requires back { IfSome deeds.back IsCaller }
-    requires shape { (E.held engine.old).shape ≡ (E.held spare).shape }
-    requires caps { (E.held engine.old).caps ≡ (E.held spare).caps }
-    requires spare { (E.held spare).state ≡ E.meaning.empty (E.held spare).shape }
-    ensures shape { (E.held engine.new).shape ≡ (E.held engine.old).shape }
-    ensures caps { (E.held engine.new).caps ≡ (E.held engine.old).caps }
-    ensures state { (E.held engine.new).state
-        ≡ state_with_deeds E.meaning (E.held engine.old).shape deeds (E.held engine.old).state }
-{
-    if deeds.drop_all || deeds.make.is_some() {
-        *engine = spare;
-    } else if let Some(conn) = deeds.back {
-        engine.back(conn);
-    }
-}
-
-// Who departs leaves the content first, where an instance stands; room for the command's own
-// letters is taken in any case. The effects name the bits that the departure changed.
-fn depart_first<E: Engine>(
-    shell: &mut Shell,
-    engine: &mut E,
-    out: &mut Effects,
-    by: ConnId,
-    cmd: &ShellCmd,
-) -> Result<(), NoMemory>
-    requires may { MayCommand by cmd.now }
-    requires built { IsTrue (is_built cmd.now) }
-    requires unnamed { out.old.bits.items ≡ [] }
-    requires of_form { AreOf shell.old.form shell.old (E.held engine.old) }
-    ensures form { shell.new.form ≡ shell.old.form }
-    ensures shape { (E.held engine.new).shape ≡ (E.held engine.old).shape }
-    ensures caps { (E.held engine.new).caps ≡ (E.held engine.old).caps }
-    ensures ok_state { let gone = departure_from E.meaning shell.old.form
-        (leaver shell.old.shell by cmd.now)
-        (machine_of shell.old (E.held engine.old)) in
-        OnOk result ((E.held engine.new).state ≡ gone.state) }
-    ensures ok_shell { let gone = departure_from E.meaning shell.old.form
-        (leaver shell.old.shell by cmd.now)
-        (machine_of shell.old (E.held engine.old)) in
-        OnOk result (shell.new.shell ≡ with_posted gone.letters shell.old.shell) }
-    ensures room { OnOk result (ACT_LETTERS ≤ shell.new.room) }
-    ensures bits { OnOk result (Gains (stands_in E.meaning (E.held engine.old))
-        (stands_in E.meaning (E.held engine.new)) [] out.new.bits.items) }
-    ensures err { OnErr result (machine_of shell.new (E.held engine.new)
-        ≡ machine_of shell.old (E.held engine.old)) }
-{
-    let (primary, _, _) = shell.instances();
-    match shell.leaving(by, cmd) {
-        Some((conn, keep)) if primary.is_some() => leave_content(shell, engine, out, conn, keep),
-        _ => shell.ready(ACT_LETTERS),
-    }
 }
 
 // A common command that the shell doesn't refuse. What bits it may have changed is told.
@@ -205,7 +123,7 @@ fn do_command<E: Engine>(
     alloc: Global,
     form: &StrForm,
     shell: &mut Shell,
-    engine: &mut E,
+    content: &mut Rebuildable<E>,
     changed: &mut Changed,
     by: ConnId,
     cmd: &ShellCmd,
@@ -214,39 +132,28 @@ fn do_command<E: Engine>(
     requires formed { IsForm form.now }
     requires kind { IsTrue (E.is_kind form.now.kind) }
     requires may { MayCommand by cmd.now }
-    requires built { IsTrue (is_built cmd.now) }
     requires room { room.now
-        ≡ room_of E.meaning form.now (machine_of shell.old (E.held engine.old)) }
+        ≡ room_of E.meaning form.now (machine_of E.held shell.old content.old) }
     requires accepted { shell_cause form.now room.now shell.old.shell by cmd.now ≡ None }
     requires unnamed { changed.old.bits ≡ [] }
-    requires of_form { AreOf form.now shell.old (E.held engine.old) }
+    requires of_form { AreOf E.held E.meaning form.now shell.old content.old }
     ensures ok { IfOk result (λ reply.
-        record { reply = reply; machine = machine_of shell.new (E.held engine.new) }
-        ≡ command_done E.meaning form.now (machine_of shell.old (E.held engine.old)) by cmd.now) }
-    ensures bits { OnOk result (Covers changed.new (stands_in E.meaning (E.held engine.old))
-        (stands_in E.meaning (E.held engine.new))) }
-    ensures of_form { AreOf form.now shell.new (E.held engine.new) }
-    ensures err { OnErr result (machine_of shell.new (E.held engine.new)
-        ≡ machine_of shell.old (E.held engine.old)) }
+        record { reply = reply; machine = machine_of E.held shell.new content.new }
+        ≡ command_done E.meaning form.now (machine_of E.held shell.old content.old) by cmd.now) }
+    ensures bits { OnOk result (Covers changed.new
+        (stands_in E.meaning (E.held content.old.primary))
+        (stands_in E.meaning (E.held content.new.primary))) }
+    ensures of_form { AreOf E.held E.meaning form.now shell.new content.new }
+    ensures err { OnErr result (machine_of E.held shell.new content.new
+        ≡ machine_of E.held shell.old content.old) }
 {
-    let spare = E::empty(alloc, form, form.caps)?;
-    depart_first(shell, engine, &mut changed.effects, by, cmd)?;
+    let spare = E::empty(alloc, form, spare_caps(form, shell, cmd))?;
+    let rebuilding = shell.is_rebuilding();
+    prepare(alloc, shell, content, &mut changed.effects, by, cmd)?;
     let (reply, deeds) = shell.act(by, cmd, room);
     changed.note(deeds);
-    do_deeds(engine, spare, deeds);
+    do_deeds(form, content, spare, deeds, rebuilding);
     Ok(Reply::Shell(reply))
-}
-
-// Posts letters in their order.
-fn post_all(shell: &mut Shell, letters: &[Letter])
-    requires { length letters.now ≤ shell.old.room }
-    ensures form { shell.new.form ≡ shell.old.form }
-    ensures shell { shell.new.shell ≡ with_posted letters.now shell.old.shell }
-    ensures room { shell.old.room ≤ shell.new.room + length letters.now }
-{
-    for letter in letters {
-        shell.post(*letter);
-    }
 }
 
 // The reply to a command on the content.
@@ -256,15 +163,5 @@ fn content_reply<R: Drop>(answer: Result<R, Refusal>) -> Reply<R>
     match answer {
         Ok(reply) => Reply::Content(reply),
         Err(refusal) => Reply::Refused(refusal),
-    }
-}
-
-// For how many letters the effects have room.
-fn letter_count(out: &Effects) -> Result<u32, NoMemory>
-    ensures { IfOk result (λ count. count ≡ out.now.mail.room) }
-{
-    match u32::try_from(out.mail.room()) {
-        Ok(count) => Ok(count),
-        Err(_) => Err(NoMemory),
     }
 }

@@ -1,7 +1,9 @@
-//! The one-thread machine of a structure: its shell and its content, without a journal.
+//! The one-thread machine of a structure: its shell and its instances, without a journal.
 #![tactic(auto)]
 
 mod changed;
+mod deeds;
+mod departing;
 mod doing;
 mod machine;
 

@@ -3,8 +3,10 @@ ghost use Rattle.cf_types.specs.Forms.{IsForm, IsCaller};
 ghost use Rattle.cf_types.specs.declared.numbers.ConnId.{ConnId};
 ghost use Rattle.engine_api.specs.Asking.{MayAsk, IsBuilt};
 ghost use Rattle.engine_api.specs.Machine.{step};
+ghost use Rattle.engine_api.specs.Meaning.{items_of};
+ghost use Rattle.engine_api.specs.Rebuilds.{fresh_of};
 ghost use Rattle.struct_machine.specs.Changes.{IsUntouched};
-ghost use Rattle.struct_machine.specs.StructureView.{new_structure, stands_at};
+ghost use Rattle.struct_machine.specs.StructureView.{new_structure, stands_at, copied_items};
 
 use crate::changed::Changed;
 use crate::doing::answer;
@@ -12,16 +14,17 @@ use cf_types::limits::CONNECTORS;
 use cf_types::{ConnId, NoMemory, StrForm};
 use engine_api::{Ask, Engine, Reply};
 use plex_shell::Shell;
+use rebuild_copy::Rebuildable;
 use std::alloc::Global;
 use std::marker::Model;
 
-/// A structure on one thread: its form, its shell and its content. It keeps no journal: contracts
-/// see the form and the state that the calls so far have led to.
+/// A structure on one thread: its form, its shell, and its primary with a rebuild's new instance.
+/// It keeps no journal: contracts see the form and the state that the calls so far have led to.
 #[derive(Drop)]
 pub struct Machine<E: Engine> {
     form: StrForm,
     shell: Shell,
-    engine: E,
+    content: Rebuildable<E>,
 }
 
 impl<E: Engine> Model for Machine<E> {
@@ -32,9 +35,9 @@ impl<E: Engine> Model for Machine<E> {
 
     ghost Value = { StructureView E.State };
 
-    ghost view = { λ m. record { form = m.form; machine = machine_of m.shell (E.held m.engine) } };
+    ghost view = { λ m. record { form = m.form; machine = machine_of E.held m.shell m.content } };
 
-    ghost invariant = { λ m. IsForm m.form × AreOf m.form m.shell (E.held m.engine)
+    ghost invariant = { λ m. IsForm m.form × AreOf E.held E.meaning m.form m.shell m.content
         × IsTrue (E.is_kind m.form.kind) };
 }
 
@@ -46,11 +49,12 @@ impl<E: Engine> Machine<E> {
         ensures { IfOk result (λ machine. machine ≡ new_structure E.meaning form) }
     {
         let shell = Shell::start(alloc, &form, CONNECTORS)?;
-        let engine = E::empty(alloc, &form, form.caps)?;
+        let primary = E::empty(alloc, &form, form.caps)?;
+        let content = Rebuildable::start(primary);
         Ok(Machine {
             form,
             shell,
-            engine,
+            content,
         })
     }
 
@@ -68,7 +72,7 @@ impl<E: Engine> Machine<E> {
         requires { IsCaller conn }
         ensures { result ≡ stands_at E.meaning self.now.machine conn index }
     {
-        self.engine.stands(conn, index)
+        self.content.primary().stands(conn, index)
     }
 
     /// A call is judged, and done where nothing refuses it. What vector bits it may have changed is
@@ -95,23 +99,28 @@ impl<E: Engine> Machine<E> {
             alloc,
             &self.form,
             &mut self.shell,
-            &mut self.engine,
+            &mut self.content,
             changed,
             by,
             ask,
         )
     }
 
-    /// The content, where an instance stands.
-    pub fn into_engine(self) -> Option<E>
-        ensures stands { is_some result ≡ is_some self.machine.shell.instances.primary }
-        ensures content { IfSome result (λ engine. (E.held engine).state ≡ self.machine.content) }
+    /// The primary, and a rebuild's new instance, where they stand.
+    pub fn into_instances(self) -> (Option<E>, Option<E>)
+        ensures stands { is_some result.0 ≡ is_some self.machine.shell.instances.primary }
+        ensures content { IfSome result.0
+            (λ engine. (E.held engine).state ≡ self.machine.content) }
+        ensures fresh { is_some result.1 ≡ is_some (fresh_of self.machine.shell.rebuild) }
+        ensures front { IfSome result.1 (λ engine. items_of E.meaning (E.held engine)
+            ≡ copied_items E.meaning self.form self.machine) }
     {
-        let Machine { shell, engine, .. } = self;
-        let (primary, _, _) = shell.instances();
-        match primary {
-            Some(_) => Some(engine),
-            None => None,
+        let Machine { shell, content, .. } = self;
+        let (standing, _, _) = shell.instances();
+        let (primary, fresh) = content.into_instances();
+        match standing {
+            Some(_) => (Some(primary), fresh),
+            None => (None, fresh),
         }
     }
 }

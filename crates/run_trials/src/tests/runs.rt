@@ -40,6 +40,22 @@ fn steady(alloc: Global) -> Result<Vec<Steady>, AllocError>
     vec![in alloc; Steady; 64]
 }
 
+/// The status of the script's run by this word, and what it wrote.
+pub(super) fn ran_by<R: Threads + Wait + Sync, G: Gate>(
+    rt: &R,
+    alloc: Global,
+    word: &str,
+    script: &str,
+    gate: &G,
+) -> Result<(u8, String), Fail> {
+    let mut source = source_of(alloc, script)?;
+    let mut sink = MemSink::new(alloc, ROOM, PIECE, Vec::new(alloc))?;
+    let words = words_of(alloc, word)?;
+    let mut links = steady(alloc)?;
+    let status = run(rt, alloc, &words, &mut source, &mut sink, &mut links, gate);
+    Ok((status, String::from_utf8(sink.bytes)?))
+}
+
 /// The status of the script's run on threads, and what it wrote.
 pub(super) fn ran<R: Threads + Wait + Sync, G: Gate>(
     rt: &R,
@@ -47,10 +63,5 @@ pub(super) fn ran<R: Threads + Wait + Sync, G: Gate>(
     script: &str,
     gate: &G,
 ) -> Result<(u8, String), Fail> {
-    let mut source = source_of(alloc, script)?;
-    let mut sink = MemSink::new(alloc, ROOM, PIECE, Vec::new(alloc))?;
-    let words = words_of(alloc, "threads")?;
-    let mut links = steady(alloc)?;
-    let status = run(rt, alloc, &words, &mut source, &mut sink, &mut links, gate);
-    Ok((status, String::from_utf8(sink.bytes)?))
+    ran_by(rt, alloc, "threads", script, gate)
 }

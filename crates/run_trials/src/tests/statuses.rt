@@ -216,7 +216,7 @@ fn unbuilt_line(rt: HostRuntime) -> Result<(), Fail> {
         &rt,
         rt.alloc(),
         "serial",
-        "A GBP CONNECT DELETE\nA GBP REBUILD COMPLETE\n",
+        "A GBP CONNECT DELETE\nOP GBP DUPLEX START\n",
     )?;
     assert_eq!(rt; status, 3);
     assert_eq!(rt; text.as_slice(), b"SCRIPT 9 NOTYET\n".as_slice());

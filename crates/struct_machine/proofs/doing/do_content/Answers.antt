@@ -1,12 +1,20 @@
 use Rattle.std.proofs.Common.{ap, ◌∙◌}
 use Rattle.struct_machine.specs.Changes.{ChangeList}
 use Rattle.struct_machine.proofs.ChangeLaws.{covers_ready}
+use Rattle.struct_machine.proofs.KeptLaws.{content_alone}
 use Rattle.struct_machine.proofs.doing.do_content.Goals as goal
+
+pub apply-answer-requires-clause-alone : goal.apply-answer-requires-clause-alone
+apply-answer-requires-clause-alone g c κs within =
+    c.ready.ensures.fresh
+    ∙ content_alone g.E.Engine.held g.E.Engine.meaning c.args.shell.now.form c.args.shell.now c.args.content.now
+    c.requires.of_form c.args.by c.requires.accepted
 
 pub returns-clause-bits : goal.returns-clause-bits
 returns-clause-bits g c =
-    covers_ready g.E.Engine.meaning (g.E.Engine.held c.args.engine.now) (g.E.Engine.held c.ready.new.self)
-    (g.E.Engine.held c.apply-answer.new.self) c.ready.new.out.bits.items
-    (record { all = c.changed.inside.all; bits = c.apply-answer.new.out.bits.items }) c.ready.ensures.held
+    covers_ready g.E.Engine.meaning (g.E.Engine.held c.args.content.now.primary)
+    (g.E.Engine.held c.ready.new.self.primary) (g.E.Engine.held c.apply-answer.new.self.primary)
+    c.ready.new.out.bits.items (record { all = c.changed.inside.all; bits = c.apply-answer.new.out.bits.items })
+    c.ready.ensures.held
     (c.ready.ensures.bits ∙ ap (λ (changed : ChangeList). changed.bits) c.changed.view_is ∙ c.requires.unnamed)
     c.apply-answer.ensures.bits

@@ -1,6 +1,6 @@
 use Rattle.std.proofs.Common.{◌≡◌, ◌≤◌, ◌+◌, drop}
 use Rattle.engine_api.specs.Shell.{with_posted}
-use Rattle.struct_machine.proofs.doing.post_all.Given as goal
+use Rattle.struct_machine.proofs.departing.post_all.Given as goal
 
 abbrev pub invariant-loop-letter : goal.invariant-loop-letter
 invariant-loop-letter l = record {

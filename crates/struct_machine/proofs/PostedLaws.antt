@@ -1,0 +1,44 @@
+-- Letters that come before a command.
+use Rattle.std.proofs.Common.{◌≡◌, List, [], Option, None, refl, sym, subst}
+use Rattle.cf_types.specs.declared.events.Letter.{Letter}
+use Rattle.cf_types.specs.declared.forms.StrForm.{StrForm}
+use Rattle.cf_types.specs.declared.numbers.ConnId.{ConnId}
+use Rattle.cf_types.specs.declared.shell_commands.ShellCmd.{ShellCmd}
+use Rattle.cf_types.specs.declared.shell_commands.ShellCmd.TheVariants as cmd
+use Rattle.engine_api.specs.declared.deeds.Room.{Room}
+use Rattle.engine_api.specs.Machine.{Machine, departure_from}
+use Rattle.engine_api.specs.Meaning.{Meaning}
+use Rattle.engine_api.specs.Shell.{Shell, Leaver, shell_cause, leaver, with_posted}
+
+-- they change no refusal: a command that looks at its caller's events brings no departure
+pub accepted_posted : (form : StrForm) (room : Room) (shell : Shell) (by : ConnId) (command : ShellCmd)
+    (letters : List Letter)
+    → (leaver shell by command ≡ None → letters ≡ []) → shell_cause form room shell by command ≡ None
+    → shell_cause form room (with_posted letters shell) by command ≡ None
+accepted_posted form room shell by (cmd.Connect keep) letters none accepted = accepted
+accepted_posted form room shell by cmd.Disconnect letters none accepted = accepted
+accepted_posted form room shell by cmd.Fail letters none accepted = accepted
+accepted_posted form room shell by cmd.Next letters none accepted =
+    subst (λ (l : List Letter). shell_cause form room (with_posted l shell) by cmd.Next ≡ None) (sym (none refl))
+    accepted
+accepted_posted form room shell by cmd.Respond letters none accepted =
+    subst (λ (l : List Letter). shell_cause form room (with_posted l shell) by cmd.Respond ≡ None) (sym (none refl))
+    accepted
+accepted_posted form room shell by (cmd.RebuildStart caps) letters none accepted = accepted
+accepted_posted form room shell by cmd.RebuildStop letters none accepted = accepted
+accepted_posted form room shell by cmd.RebuildConnect letters none accepted = accepted
+accepted_posted form room shell by (cmd.Copy n) letters none accepted = accepted
+accepted_posted form room shell by cmd.RebuildComplete letters none accepted = accepted
+accepted_posted form room shell by (cmd.ForceConn other) letters none accepted = accepted
+accepted_posted form room shell by cmd.ForceStr letters none accepted = accepted
+accepted_posted form room shell by (cmd.LoseConn other cf) letters none accepted = accepted
+accepted_posted form room shell by (cmd.RestoreConn other cf) letters none accepted = accepted
+accepted_posted form room shell by (cmd.Vary cf off) letters none accepted = accepted
+accepted_posted form room shell by cmd.DuplexStart letters none accepted = accepted
+accepted_posted form room shell by cmd.DuplexStop letters none accepted = accepted
+
+-- a departure's letters come from a departure alone
+pub letters_none : {C R I S : Type 0} (meaning : Meaning C R I S) (form : StrForm) (machine : Machine S)
+    (who : Option Leaver)
+    → who ≡ None → (departure_from meaning form who machine).letters ≡ []
+letters_none meaning form machine who none = rw none refl

@@ -1,0 +1,170 @@
+//! What comes before a command: a departure from the content, or the next items of a copy.
+ghost use Rattle.std.specs.Prelude.{◌≡◌, ◌≤◌, ◌+◌, [], min, IfOk, OnOk, OnErr, IsTrue, length};
+ghost use Rattle.cf_types.specs.Forms.{IsCaller};
+ghost use Rattle.cf_types.specs.Gains.{Gains};
+ghost use Rattle.engine_api.specs.Asking.{MayCommand};
+ghost use Rattle.engine_api.specs.Machine.{departure_from};
+ghost use Rattle.engine_api.specs.Meaning.{departure, with_departure, stands_in};
+ghost use Rattle.engine_api.specs.Shell.{leaver, with_posted};
+ghost use Rattle.rebuild_copy.specs.Rebuildable.{emptied, lacking, with_copied};
+ghost use Rattle.struct_machine.specs.Deeds.{fresh_left, fresh_before};
+ghost use Rattle.struct_machine.specs.Kept.{AreOf, machine_of};
+
+use cf_types::{ConnId, Effects, Letter, NoMemory, ShellCmd};
+use engine_api::Engine;
+use plex_shell::{ACT_LETTERS, Shell};
+use rebuild_copy::Rebuildable;
+use std::alloc::Global;
+
+// Who departs leaves the content first, where an instance stands, and COPY's items are copied; room
+// for the command's own letters is taken in any case. The effects name the bits that the departure
+// changed.
+pub(crate) fn prepare<E: Engine>(
+    alloc: Global,
+    shell: &mut Shell,
+    content: &mut Rebuildable<E>,
+    out: &mut Effects,
+    by: ConnId,
+    cmd: &ShellCmd,
+) -> Result<(), NoMemory>
+    requires may { MayCommand by cmd.now }
+    requires unnamed { out.old.bits.items ≡ [] }
+    requires of_form { AreOf E.held E.meaning shell.old.form shell.old content.old }
+    ensures form { shell.new.form ≡ shell.old.form }
+    ensures shape { (E.held content.new.primary).shape ≡ (E.held content.old.primary).shape }
+    ensures caps { (E.held content.new.primary).caps ≡ (E.held content.old.primary).caps }
+    ensures ok_state { let gone = departure_from E.meaning shell.old.form
+        (leaver shell.old.shell by cmd.now) (machine_of E.held shell.old content.old) in
+        OnOk result ((E.held content.new.primary).state ≡ gone.state) }
+    ensures ok_shell { let gone = departure_from E.meaning shell.old.form
+        (leaver shell.old.shell by cmd.now) (machine_of E.held shell.old content.old) in
+        OnOk result (shell.new.shell ≡ with_posted gone.letters shell.old.shell) }
+    ensures ok_fresh { OnOk result (content.new.fresh ≡ fresh_before E.meaning shell.old.shell by
+        cmd.now (E.held content.old.primary) content.old.fresh) }
+    ensures room { OnOk result (ACT_LETTERS ≤ shell.new.room) }
+    ensures bits { OnOk result (Gains (stands_in E.meaning (E.held content.old.primary))
+        (stands_in E.meaning (E.held content.new.primary)) [] out.new.bits.items) }
+    ensures err_shell { OnErr result (shell.new.shell ≡ shell.old.shell) }
+    ensures err_held { OnErr result (E.held content.new.primary ≡ E.held content.old.primary) }
+    ensures err_fresh { OnErr result (content.new.fresh ≡ content.old.fresh) }
+{
+    match cmd {
+        ShellCmd::Copy { n } => copy_items(alloc, shell, content, *n),
+        _ => depart_first(shell, content, out, by, cmd),
+    }
+}
+
+// Copies the next items. Room for the letters of the command itself is taken.
+fn copy_items<E: Engine>(
+    alloc: Global,
+    shell: &mut Shell,
+    content: &mut Rebuildable<E>,
+    n: u32,
+) -> Result<(), NoMemory>
+    ensures form { shell.new.form ≡ shell.old.form }
+    ensures shell { shell.new.shell ≡ shell.old.shell }
+    ensures primary { content.new.primary ≡ content.old.primary }
+    ensures room { OnOk result (ACT_LETTERS ≤ shell.new.room) }
+    ensures ok { OnOk result (content.new.fresh ≡ with_copied (min n (lacking E.meaning
+        (E.held content.old.primary) content.old.fresh)) content.old.fresh) }
+    ensures err { OnErr result (content.new.fresh ≡ content.old.fresh) }
+{
+    shell.ready(ACT_LETTERS)?;
+    content.copy(alloc, n)?;
+    Ok(())
+}
+
+// Who departs leaves the content first, where an instance stands; room for the command's own
+// letters is taken in any case. The effects name the bits that the departure changed.
+fn depart_first<E: Engine>(
+    shell: &mut Shell,
+    content: &mut Rebuildable<E>,
+    out: &mut Effects,
+    by: ConnId,
+    cmd: &ShellCmd,
+) -> Result<(), NoMemory>
+    requires may { MayCommand by cmd.now }
+    requires unnamed { out.old.bits.items ≡ [] }
+    requires of_form { AreOf E.held E.meaning shell.old.form shell.old content.old }
+    ensures form { shell.new.form ≡ shell.old.form }
+    ensures shape { (E.held content.new.primary).shape ≡ (E.held content.old.primary).shape }
+    ensures caps { (E.held content.new.primary).caps ≡ (E.held content.old.primary).caps }
+    ensures ok_state { let gone = departure_from E.meaning shell.old.form
+        (leaver shell.old.shell by cmd.now) (machine_of E.held shell.old content.old) in
+        OnOk result ((E.held content.new.primary).state ≡ gone.state) }
+    ensures ok_shell { let gone = departure_from E.meaning shell.old.form
+        (leaver shell.old.shell by cmd.now) (machine_of E.held shell.old content.old) in
+        OnOk result (shell.new.shell ≡ with_posted gone.letters shell.old.shell) }
+    ensures ok_fresh { OnOk result (content.new.fresh
+        ≡ fresh_left shell.old.shell (leaver shell.old.shell by cmd.now) content.old.fresh) }
+    ensures room { OnOk result (ACT_LETTERS ≤ shell.new.room) }
+    ensures bits { OnOk result (Gains (stands_in E.meaning (E.held content.old.primary))
+        (stands_in E.meaning (E.held content.new.primary)) [] out.new.bits.items) }
+    ensures err_shell { OnErr result (shell.new.shell ≡ shell.old.shell) }
+    ensures err_held { OnErr result (E.held content.new.primary ≡ E.held content.old.primary) }
+    ensures err_fresh { OnErr result (content.new.fresh ≡ content.old.fresh) }
+{
+    let (primary, _, _) = shell.instances();
+    match shell.leaving(by, cmd) {
+        Some((conn, keep)) if primary.is_some() => leave_content(shell, content, out, conn, keep),
+        _ => shell.ready(ACT_LETTERS),
+    }
+}
+
+// A connector departs from the content, and the letters that this brings are posted. The effects
+// name the bits that it changed. Room for the letters of the command itself is left.
+fn leave_content<E: Engine>(
+    shell: &mut Shell,
+    content: &mut Rebuildable<E>,
+    out: &mut Effects,
+    conn: ConnId,
+    keep: bool,
+) -> Result<(), NoMemory>
+    requires caller { IsCaller conn }
+    requires unnamed { out.old.bits.items ≡ [] }
+    ensures form { shell.new.form ≡ shell.old.form }
+    ensures ok_held { OnOk result (E.held content.new.primary
+        ≡ with_departure E.meaning (E.held content.old.primary) conn keep) }
+    ensures ok_fresh { OnOk result (content.new.fresh ≡ emptied content.old.fresh) }
+    ensures ok_shell { OnOk result (shell.new.shell ≡ with_posted
+        (departure E.meaning (E.held content.old.primary) conn keep).letters shell.old.shell) }
+    ensures room { OnOk result (ACT_LETTERS ≤ shell.new.room) }
+    ensures bits { OnOk result (Gains (stands_in E.meaning (E.held content.old.primary))
+        (stands_in E.meaning (E.held content.new.primary)) [] out.new.bits.items) }
+    ensures err_held { OnErr result (E.held content.new.primary ≡ E.held content.old.primary) }
+    ensures err_fresh { OnErr result (content.new.fresh ≡ content.old.fresh) }
+    ensures err_shell { OnErr result (shell.new.shell ≡ shell.old.shell) }
+{
+    out.mail.clear();
+    content.leave_ready(conn, out)?;
+    let letters = letter_count(out)?;
+    let Some(all) = letters.checked_add(ACT_LETTERS) else {
+        return Err(NoMemory);
+    };
+    shell.ready(all)?;
+    content.leave(conn, keep, out);
+    post_all(shell, out.mail.items());
+    Ok(())
+}
+
+// Posts letters in their order.
+pub(crate) fn post_all(shell: &mut Shell, letters: &[Letter])
+    requires { length letters.now ≤ shell.old.room }
+    ensures form { shell.new.form ≡ shell.old.form }
+    ensures shell { shell.new.shell ≡ with_posted letters.now shell.old.shell }
+    ensures room { shell.old.room ≤ shell.new.room + length letters.now }
+{
+    for letter in letters {
+        shell.post(*letter);
+    }
+}
+
+// For how many letters the effects have room.
+pub(crate) fn letter_count(out: &Effects) -> Result<u32, NoMemory>
+    ensures { IfOk result (λ count. count ≡ out.now.mail.room) }
+{
+    match u32::try_from(out.mail.room()) {
+        Ok(count) => Ok(count),
+        Err(_) => Err(NoMemory),
+    }
+}
