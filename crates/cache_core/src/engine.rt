@@ -47,6 +47,7 @@ impl Engine for CacheEngine {
     ghost use Rattle.cache_model.specs.Contents.{IsContent};
     ghost use Rattle.cache_model.specs.Meaning.{cache_meaning};
     ghost use Rattle.cache_model.proofs.EngineLaws.{content-nothing, step-content, leave-content, content-moved, content-forgotten, made-items, content-next, unplace-place, need-front, need-leave, need-same};
+    ghost use Rattle.engine_api.proofs.ReadyLaws.{le-trans, room-cases};
 
     type Cmd = CacheCmd;
 
@@ -192,6 +193,16 @@ impl Engine for CacheEngine {
     fn stands(&self, conn: ConnId, index: u32) -> bool {
         self.regs.stands(conn, index)
     }
+
+    ghost ready_more = { λ e. room-cases (IsReady e)
+        (λ by cmd out other is bits mail. record {
+          planned = is.planned;
+          row = is.row;
+          reg = is.reg;
+          bits = le-trans is.bits bits;
+        })
+        (λ conn out other is bits mail. le-trans is bits)
+        (λ out other is bits mail. le-trans is bits) };
 
     ghost content_empty = { λ shape caps. content-nothing caps };
 

@@ -6,7 +6,9 @@ use Rattle.cf_types.specs.Connections.{is_active, actives}
 use Rattle.engine_api.specs.declared.histories.Entry.{Entry}
 use Rattle.engine_api.specs.History.{replay}
 use Rattle.engine_api.specs.Meaning.{Meaning}
-use Rattle.engine_api.specs.Shell.{Shell, unless_active, content_cause}
+use Rattle.cf_types.specs.declared.refusals.Refusal.TheVariants as refusal
+use Rattle.engine_api.specs.Shell.{Shell, unless_active, if_lost, if_failed, content_cause}
+use Rattle.rebuild_shell.proofs.CauseLaws.{third_none, not_so}
 use Rattle.rebuild_shell.proofs.MemberLaws.{manned-replay}
 use Rattle.rebuild_shell.proofs.StepLaws.{active_of, active_member, first_none, somebody_member}
 
@@ -20,4 +22,7 @@ module _ {C R I S : Type 0} (meaning : Meaning C R I S) (form : StrForm) where
       let manned = manned-replay meaning form history in
       let active : is_active shell.conns by ≡ true =
       active_of (is_active shell.conns by) (first_none (unless_active shell by) _ accepted) in
+      let failure : if_failed shell ≡ None =
+      third_none (unless_active shell by) (if_lost shell) (if_failed shell) _ accepted in
       manned.primary (somebody_member by (actives shell.conns) (active_member shell.conns by manned.places active))
+      (not_so shell.failed refusal.StructureFailed failure)

@@ -17,13 +17,14 @@ use Rattle.cf_types.specs.Mailboxes.{next_event, owed_event, with_cleared, with_
 use Rattle.engine_api.specs.declared.asks.Ask.TheVariants as ask
 use Rattle.engine_api.specs.declared.deeds.Room.{Room}
 use Rattle.engine_api.specs.Instances.{place_for, units_of}
-use Rattle.engine_api.specs.Machine.{Machine, unless, room_of, command_done, departure_from, with_back_of, with_made, step}
+use Rattle.engine_api.specs.Machine.{Machine, unless, room_of, command_done, departure_from, with_back_of, with_made, step, entered_machine, loss_step, content_after, copied_after}
 use Rattle.engine_api.specs.Meaning.{Departure}
-use Rattle.engine_api.specs.Shell.{Shell, Leaver, ShellOutcome, shell_cause, shell_done, leaver, no_deeds, with_posted, goes, deallocated, shell_without, departure_outcome, candidates, connect_outcome, given_outcome, stop_outcome, rebuild_connect_outcome, complete_outcome, conns_answered, responded, emptied, force_connection, take_event, response_outcome, is_kept}
+use Rattle.engine_api.specs.Shell.{Shell, Leaver, ShellOutcome, shell_cause, shell_done, leaver, no_deeds, with_posted, goes, deallocated, shell_without, departure_outcome, candidates, connect_outcome, given_outcome, stop_outcome, rebuild_connect_outcome, complete_outcome, conns_answered, responded, emptied, force_connection, take_event, response_outcome, is_kept, vary_outcome, simplex_again}
 use Rattle.rebuild_core.specs.declared.rebuild.Rebuild.{Rebuild}
 use Rattle.rebuild_core.specs.Stages.{is_response}
 use Rattle.cache_model.specs.Contents.{Content, no_content, content_without, content_forgotten}
 use Rattle.cache_model.specs.Meaning.{cache_meaning}
+use Rattle.rebuild_shell.proofs.LossLaws.{loss-cases, vary-cases}
 
 -- an instance stands
 abbrev pub stands_in : Machine Content → Bool
@@ -137,6 +138,21 @@ cautious_completion : (shell : Shell) (by : ConnId) (rebuild : Option Rebuild)
 cautious_completion shell by None = idle shell _ refl refl
 cautious_completion shell by (Some rebuild) = idle shell _ refl refl
 
+cautious_vary : (form : StrForm) (shell : Shell) (cf : CfId) (off : Bool)
+    → Cautious shell (vary_outcome form cf off shell)
+cautious_vary form shell cf off =
+    vary-cases form cf off shell (Cautious shell) (idle shell _ refl refl)
+    (record {
+      none = idle shell _ refl refl;
+      simplex = λ left lost. idle shell _ refl refl;
+      stops = λ rebuild is lost. idle shell _ refl refl;
+      fails = record { drop = λ e. refl; make = λ e none. absurd (false≢true e) };
+    })
+
+cautious_simplex : (shell : Shell) (second : Option CfId) → Cautious shell (simplex_again second shell)
+cautious_simplex shell None = idle shell _ refl refl
+cautious_simplex shell (Some cf) = idle shell _ refl refl
+
 cautious : (form : StrForm) (room : Room) (shell : Shell) (by : ConnId) (command : ShellCmd)
     → Cautious shell (shell_done form room shell by command)
 cautious form room shell by (cmd.Connect keep) = cautious_connect form shell by keep
@@ -154,9 +170,9 @@ cautious form room shell by cmd.ForceStr =
     record { drop = λ e. refl; make = λ e none. absurd (false≢true e) }
 cautious form room shell by (cmd.LoseConn other cf) = idle shell _ refl refl
 cautious form room shell by (cmd.RestoreConn other cf) = idle shell _ refl refl
-cautious form room shell by (cmd.Vary cf off) = idle shell _ refl refl
+cautious form room shell by (cmd.Vary cf off) = cautious_vary form shell cf off
 cautious form room shell by cmd.DuplexStart = idle shell _ refl refl
-cautious form room shell by cmd.DuplexStop = idle shell _ refl refl
+cautious form room shell by cmd.DuplexStop = cautious_simplex shell shell.instances.secondary
 
 -- nobody leaves the content with a command that lets the new instance take the old one's place
 nobody_leaves : (form : StrForm) (room : Room) (shell before : Shell) (by : ConnId) (command : ShellCmd)
@@ -256,10 +272,37 @@ command_change form machine by command =
     refl careful.drop
     (λ e. stays form machine who (nobody_leaves form room shell machine.shell by command e))
 
+-- that a call has come makes no difference to the content
+change_entered : (before after : Machine Content) → Change before after → Change before (entered_machine after)
+change_entered before after (Same e) = Same e
+change_entered before after (Without conn e) = Without conn e
+change_entered before after (Forgotten e) = Forgotten e
+change_entered before after (Cleared e gone) = Cleared e gone
+
+-- a lost facility changes nothing of it, or takes it with the only instance
+abbrev marked : (form : StrForm) (machine : Machine Content) (cf : CfId) (acted : ShellOutcome) → Machine Content
+marked form machine cf acted =
+    record {
+      shell = record acted.shell { lost = cond acted.shell.failed (Some cf) None };
+      content = content_after cache_meaning form (is_some machine.shell.rebuild) acted.deeds machine.content;
+      copied = copied_after acted.deeds machine.copied;
+    }
+
+pub loss_change : (form : StrForm) (machine : Machine Content) (cf : CfId)
+    → Change machine (loss_step cache_meaning form machine cf).machine
+loss_change form machine cf =
+    loss-cases form cf machine.shell (λ acted. Change machine (marked form machine cf acted))
+    (record {
+      none = Same refl;
+      simplex = λ left lost. Same refl;
+      stops = λ rebuild is lost. Same refl;
+      fails = Cleared refl (and-false (stands_in machine) false refl);
+    })
+
 pub shell_change : (form : StrForm) (machine : Machine Content) (by : ConnId) (command : ShellCmd)
     → Change machine (step cache_meaning form machine by (ask.Shell command)).machine
 shell_change form machine by command =
-    go (shell_cause form (room_of cache_meaning form machine) machine.shell by command)
+    change_entered machine _ (go (shell_cause form (room_of cache_meaning form machine) machine.shell by command))
   where
     go : (cause : Option Refusal)
         → Change machine (unless cache_meaning form cause machine

@@ -32,7 +32,7 @@ use Rattle.cache_model.proofs.EngineLaws.{content-nothing}
 use Rattle.cache_model.proofs.OrderLaws.{orderly-deed}
 use Rattle.cache_laws.specs.Histories.{CacheHistory, content_after}
 use Rattle.cache_laws.specs.Unique.{IsUnique}
-use Rattle.cache_laws.proofs.Steps.{Change, shell_change}
+use Rattle.cache_laws.proofs.Steps.{Change, shell_change, loss_change}
 use Rattle.cache_laws.proofs.Steps.Change.{Same, Without, Forgotten, Cleared}
 
 -- ---- one at most
@@ -125,7 +125,7 @@ orderly-step form machine by (ask.Content command) is = go (content_cause machin
 orderly-after : (form : StrForm) (machine : Machine Content) (by : ConnId) (told : What CacheCmd)
     → IsOrderly machine.content → IsOrderly (after_what cache_meaning form machine by told).content
 orderly-after form machine by (what.Call asked) is = orderly-step form machine by asked is
-orderly-after form machine by (what.Lost cf) is = is
+orderly-after form machine by (what.Lost cf) is = orderly_change form machine _ (loss_change form machine cf) is
 
 orderly-fold : (form : StrForm) (machine : Machine Content) (history : CacheHistory) → IsOrderly machine.content
     → IsOrderly (fold (machine_after cache_meaning form) machine history).content

@@ -1,17 +1,18 @@
 -- What one more entry does to a history, and what a front of a history has of the whole.
-use Rattle.std.proofs.Common.{◌≡◌, ℕ, zero, suc, ◌+◌, ◌<◌, ◌==◌, inl, inr, true, false, List, [], ◌∷◌, ◌++◌, length, take, filter, slice_get, Some, refl, sym, ap, subst, ◌∙◌, le_of_lt, take_at, append_assoc, append-nil, arith, map, lit<}
+use Rattle.std.proofs.Common.{◌≡◌, ℕ, zero, suc, ◌+◌, ◌<◌, ◌==◌, inl, inr, true, false, List, [], ◌∷◌, ◌++◌, length, take, filter, slice_get, Some, refl, sym, ap, subst, ◌∙◌, le_of_lt, take_at, append_assoc, append-nil, arith, map, lit<, fold}
 use Rattle.std.proofs.lemmas.List.{take-append-le, length-take, map-append}
 use Rattle.std.proofs.lemmas.List.Sums.{fold_push}
 use Rattle.std.proofs.lemmas.List.Elements.{filter-append, filter_map-append, Contains-append_left, Contains-append_right}
 use Rattle.cf_types.specs.declared.forms.StrForm.{StrForm}
+use Rattle.cf_types.specs.declared.numbers.CfId.{CfId}
 use Rattle.cf_types.specs.declared.numbers.ConnId.{ConnId}
 use Rattle.engine_api.specs.declared.asks.Ask.{Ask}
 use Rattle.engine_api.specs.declared.asks.What.{What}
 use Rattle.engine_api.specs.declared.asks.What.TheVariants as what
 use Rattle.engine_api.specs.declared.histories.Entry.{Entry}
 use Rattle.engine_api.specs.Meaning.{Meaning}
-use Rattle.engine_api.specs.Machine.{opening}
-use Rattle.engine_api.specs.History.{Call, call_of, calls, numbers, own, losses_after, AreGroupsAfter, machine_after, replay, next_entry, next, next_reply, IsNext, IsNextAs, IsLegal, Continues, IsPoint}
+use Rattle.engine_api.specs.Machine.{Machine, opening}
+use Rattle.engine_api.specs.History.{Call, call_of, calls, numbers, own, marks_behind, AreGroups, began_behind, machine_after, replay, next_entry, next, next_reply, IsNext, IsNextAs, IsLegal, Continues, IsPoint}
 use Rattle.engine_api.proofs.Pushed.{pushed_cases, get_front}
 
 -- ---- calls
@@ -25,22 +26,37 @@ module _ {C R : Type 0} where
       ap (filter (λ (call : Call C R). call.by.0 == conn.0)) (calls-append xs ys)
       ∙ filter-append (λ (call : Call C R). call.by.0 == conn.0) (calls xs) (calls ys)
 
-  -- groups, and groups behind them
-  pub groups-append : (losses : ℕ) (xs ys : List (Entry C R)) → AreGroupsAfter losses xs → AreGroupsAfter 0 ys
-      → AreGroupsAfter losses (xs ++ ys)
-  groups-append losses [] ys none groups = rw none groups
-  groups-append losses (x ∷ xs) ys first groups = (
-    first.0,
-    groups-append (losses_after losses x.what) xs ys first.1
-        groups,
-  )
-
 module _ {C R I S : Type 0} (meaning : Meaning C R I S) (form : StrForm) where
   -- ---- replay
 
   pub replay-push : (history : List (Entry C R)) (entry : Entry C R)
       → replay meaning form (history ++ entry ∷ []) ≡ machine_after meaning form (replay meaning form history) entry
   replay-push history entry = fold_push (machine_after meaning form) (opening meaning form) history entry
+
+  -- ---- groups
+
+  -- a group without marks begins where the history stands
+  abbrev IsBegun : Machine S → List CfId → Machine S → Type 0
+  IsBegun began marks now = marks ≡ [] → began ≡ now
+
+  begun_behind : (began : Machine S) (marks : List CfId) (now : Machine S) (told : What C)
+      → IsBegun (began_behind meaning form began now told) (marks_behind marks told) now
+  begun_behind began marks now (what.Call ask) none = refl
+  begun_behind began [] now (what.Lost cf) none = absurd cc
+  begun_behind began (mark ∷ marks) now (what.Lost cf) none = absurd cc
+
+  -- groups, and groups behind them
+  pub groups-append : (began : Machine S) (marks : List CfId) (now : Machine S) (xs ys : List (Entry C R))
+      → IsBegun began marks now → AreGroups meaning form began marks now xs
+      → (let behind = fold (machine_after meaning form) now xs in AreGroups meaning form behind [] behind ys)
+      → AreGroups meaning form began marks now (xs ++ ys)
+  groups-append began marks now [] ys begun none groups = rw (none, begun none) groups
+  groups-append began marks now (x ∷ xs) ys begun first groups =
+      let then = machine_after meaning form now x in (
+        first.0,
+        groups-append (began_behind meaning form began then x.what) (marks_behind marks x.what) then xs ys
+            (begun_behind began marks then x.what) first.1 groups,
+      )
 
   -- ---- legality
 
@@ -62,7 +78,9 @@ module _ {C R I S : Type 0} (meaning : Meaning C R I S) (form : StrForm) where
   legal_next history by ask legal =
       let added : Entry C R = next_entry meaning form history by ask in
       record {
-        groups = groups-append 0 history (added ∷ []) legal.groups (tt, refl);
+        groups =
+            groups-append (opening meaning form) [] (opening meaning form) history (added ∷ []) (λ none. refl)
+            legal.groups (inl refl, refl);
         entries = λ i entry e. elim (pushed_cases history added i entry e) [
           | inl h ↦
               let before : take i (history ++ added ∷ []) ≡ take i history = take-append-le i history _ (le_of_lt h.0)
@@ -76,7 +94,7 @@ module _ {C R I S : Type 0} (meaning : Meaning C R I S) (form : StrForm) where
 
   -- groups at the front of a legal history are legal
   pub legal_front : (front others : List (Entry C R)) → IsLegal meaning form (front ++ others)
-      → AreGroupsAfter 0 front
+      → AreGroups meaning form (opening meaning form) [] (opening meaning form) front
       → IsLegal meaning form front
   legal_front front others legal groups =
       record {
@@ -179,6 +197,8 @@ module _ {C R I S : Type 0} (meaning : Meaning C R I S) (form : StrForm) where
       [] history
   continues_legal history legal = continues_each [] history legal.entries
 
-  pub legal_continues : (history : List (Entry C R)) → AreGroupsAfter 0 history → Continues meaning form [] history
+  pub legal_continues : (history : List (Entry C R))
+      → AreGroups meaning form (opening meaning form) [] (opening meaning form) history
+      → Continues meaning form [] history
       → IsLegal meaning form history
   legal_continues history groups goes = record { groups = groups; entries = each_continues [] history goes }

@@ -1,3 +1,4 @@
 pub mod Pushed
 pub mod HistoryLaws
 pub mod ShellLaws
+pub mod ReadyLaws

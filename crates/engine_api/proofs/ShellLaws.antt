@@ -30,10 +30,11 @@ use Rattle.engine_api.specs.declared.deeds.Room.{Room}
 use Rattle.engine_api.specs.declared.histories.Entry.{Entry}
 use Rattle.engine_api.specs.Asking.{MayAsk, MayCommand, IsBuilt}
 use Rattle.engine_api.specs.History.{Call, own, after_what, machine_after, replay, next_entry, next, next_reply}
-use Rattle.engine_api.specs.Machine.{Machine, CallOutcome, opening, refusal_outcome, unless, content_reply, content_done, capacity, room_of, departure_from, command_done, step}
+use Rattle.engine_api.specs.Machine.{Machine, CallOutcome, opening, refusal_outcome, unless, content_reply, content_done, capacity, room_of, departure_from, command_done, step, entered_machine, with_entered}
 use Rattle.engine_api.specs.Meaning.{Meaning, Outcome, first_refusal, unless_refused}
 use Rattle.engine_api.specs.Rebuilds.{is_switch}
-use Rattle.engine_api.specs.Shell.{Shell, unless_active, unless_failed, shell_cause, content_cause, shell_done, leaver, with_posted, no_deeds, goes, deallocated, unless_gone, facility_of, connected_shell, connect_outcome, switched, shell_onward, given_outcome, stop_outcome, rebuild_connect_outcome, complete_outcome, departure_outcome, conns_answered, take_event, responded, response_outcome, force_connection, is_kept, is_built}
+use Rattle.engine_api.specs.Instances.{is_at}
+use Rattle.engine_api.specs.Shell.{Shell, unless_active, unless_failed, shell_cause, content_cause, shell_done, leaver, with_posted, no_deeds, goes, deallocated, unless_gone, facility_of, connected_shell, connect_outcome, switched, shell_onward, given_outcome, stop_outcome, rebuild_connect_outcome, complete_outcome, departure_outcome, conns_answered, take_event, responded, response_outcome, force_connection, is_kept, is_built, fresh_loss, primary_loss, loss_outcome, vary_outcome, simplex_again, stopped_outcome, simplex_outcome, idle_outcome, with_off}
 use Rattle.engine_api.specs.Told.{link_of, told_of}
 use Rattle.rebuild_core.specs.declared.rebuild.Rebuild.{Rebuild}
 use Rattle.rebuild_core.specs.Stages.{without_owing, outcome_of, is_response}
@@ -154,6 +155,43 @@ conns-onward rebuild shell = conns-switched (is_switch (outcome_of rebuild)) reb
 conns-stop : (shell : Shell) (rebuild : Option Rebuild) → (stop_outcome shell rebuild).shell.conns ≡ shell.conns
 conns-stop shell None = refl
 conns-stop shell (Some rebuild) = refl
+
+-- nor where an instance is lost, or made or dropped
+conns-fresh_loss : (cf : CfId) (rebuild : Option Rebuild) (shell : Shell)
+    → (fresh_loss cf rebuild shell).shell.conns ≡ shell.conns
+conns-fresh_loss cf None shell = refl
+conns-fresh_loss cf (Some rebuild) shell = go (is_at cf rebuild.fresh)
+  where
+    go : (there : Bool) → (cond there (stopped_outcome rebuild shell) (idle_outcome answer.OkNone shell)).shell.conns
+        ≡ shell.conns
+    go true = refl
+    go false = refl
+
+conns-primary_loss : (form : StrForm) (cf : CfId) (other : Option CfId) (shell : Shell)
+    → (primary_loss form cf other shell).shell.conns ≡ shell.conns
+conns-primary_loss form cf None shell = refl
+conns-primary_loss form cf (Some other) shell = refl
+
+pub conns-loss : (form : StrForm) (cf : CfId) (shell : Shell) → (loss_outcome form cf shell).shell.conns ≡ shell.conns
+conns-loss form cf shell = go (is_at cf shell.instances.primary) (is_at cf shell.instances.secondary)
+  where
+    go : (first second : Bool) → (cond first (primary_loss form cf shell.instances.secondary shell)
+        (cond second (simplex_outcome cf (facility_of shell.instances.primary) shell)
+        (fresh_loss cf shell.rebuild shell))).shell.conns
+        ≡ shell.conns
+    go true second = conns-primary_loss form cf shell.instances.secondary shell
+    go false true = refl
+    go false false = conns-fresh_loss cf shell.rebuild shell
+
+pub conns-vary : (form : StrForm) (cf : CfId) (off : Bool) (shell : Shell)
+    → (vary_outcome form cf off shell).shell.conns ≡ shell.conns
+conns-vary form cf true shell = conns-loss form cf (with_off cf true shell)
+conns-vary form cf false shell = refl
+
+pub conns-simplex_again : (second : Option CfId) (shell : Shell)
+    → (simplex_again second shell).shell.conns ≡ shell.conns
+conns-simplex_again None shell = refl
+conns-simplex_again (Some cf) shell = refl
 
 conns-rebuild_connect : (form : StrForm) (shell : Shell) (by : ConnId) (rebuild : Option Rebuild)
     → (rebuild_connect_outcome form shell by rebuild).shell.conns ≡ shell.conns
@@ -294,11 +332,11 @@ command_changes form room room' shell shell' by (cmd.LoseConn other cf) conn sam
 command_changes form room room' shell shell' by (cmd.RestoreConn other cf) conn same within built accepted =
     nobody_changes by conn shell'.conns shell'.conns refl
 command_changes form room room' shell shell' by (cmd.Vary cf off) conn same within built accepted =
-    nobody_changes by conn shell'.conns shell'.conns refl
+    unchanged shell'.conns _ by conn (conns-vary form cf off shell')
 command_changes form room room' shell shell' by cmd.DuplexStart conn same within built accepted =
     nobody_changes by conn shell'.conns shell'.conns refl
 command_changes form room room' shell shell' by cmd.DuplexStop conn same within built accepted =
-    nobody_changes by conn shell'.conns shell'.conns refl
+    unchanged shell'.conns _ by conn (conns-simplex_again shell'.instances.secondary shell')
 
 -- there are as many connections after a command as before
 length-shell_done : (form : StrForm) (room : Room) (shell : Shell) (by : ConnId) (command : ShellCmd)
@@ -326,9 +364,11 @@ length-shell_done form room shell by cmd.RebuildComplete =
     ap (λ (c : Connections). length c) (conns-complete shell by shell.rebuild)
 length-shell_done form room shell by (cmd.LoseConn other cf) = refl
 length-shell_done form room shell by (cmd.RestoreConn other cf) = refl
-length-shell_done form room shell by (cmd.Vary cf off) = refl
+length-shell_done form room shell by (cmd.Vary cf off) =
+    ap (λ (c : Connections). length c) (conns-vary form cf off shell)
 length-shell_done form room shell by cmd.DuplexStart = refl
-length-shell_done form room shell by cmd.DuplexStop = refl
+length-shell_done form room shell by cmd.DuplexStop =
+    ap (λ (c : Connections). length c) (conns-simplex_again shell.instances.secondary shell)
 
 length-unconnected : length no_connections ≡ 33
 unfolding no_connections
@@ -449,7 +489,8 @@ module _ {C R I S : Type 0} (meaning : Meaning C R I S) (form : StrForm) where
   length-conns-after : (machine : Machine S) (by : ConnId) (told : What C)
       → length (after_what meaning form machine by told).shell.conns ≡ length machine.shell.conns
   length-conns-after machine by (what.Call asked) = length-conns-step machine by asked
-  length-conns-after machine by (what.Lost cf) = refl
+  length-conns-after machine by (what.Lost cf) =
+      ap (λ (c : Connections). length c) (conns-loss form cf machine.shell)
 
   length-conns-fold : (machine : Machine S) (history : List (Entry C R))
       → length (fold (machine_after meaning form) machine history).shell.conns ≡ length machine.shell.conns
@@ -551,12 +592,16 @@ module _ {C R I S : Type 0} (meaning : Meaning C R I S) (form : StrForm) where
 
   refused_by : (machine : Machine S) (done : CallOutcome R S) (cause : Option Refusal) (why : Refusal)
       → cause ≡ Some why
-      → unless meaning form cause machine done ≡ refusal_outcome machine why
-  refused_by machine done cause why is = ap (λ (cause : Option Refusal). unless meaning form cause machine done) is
+      → with_entered (unless meaning form cause machine done)
+      ≡ refusal_outcome (entered_machine machine) why
+  refused_by machine done cause why is =
+      ap (λ (cause : Option Refusal). with_entered (unless meaning form cause machine done)) is
 
   -- whoever isn't active is refused what only an active connector may ask
   pub step-inactive : (machine : Machine S) (by : ConnId) (asked : Ask C) → is_active_in machine by ≡ false
-      → IsTrue (needs_link asked) → step meaning form machine by asked ≡ refusal_outcome machine refusal.NotConnected
+      → IsTrue (needs_link asked)
+      → step meaning form machine by asked
+      ≡ refusal_outcome (entered_machine machine) refusal.NotConnected
   step-inactive machine by (ask.Shell (cmd.Connect keep)) idle needs = absurd (false≢true needs)
   step-inactive machine by (ask.Shell cmd.Disconnect) idle needs =
       refused_by machine _ _ refusal.NotConnected (inactive_cause machine.shell by _ idle)
@@ -606,19 +651,22 @@ module _ {C R I S : Type 0} (meaning : Meaning C R I S) (form : StrForm) where
       refused_stepped machine (meaning.cause held.shape held.caps held.state by command)
       (meaning.done held.shape held.caps held.state by command) refusal is
 
-  -- a refused call changes nothing
+  -- a refused call changes nothing, but that a call has come
   pub machine-refused : (machine : Machine S) (by : ConnId) (asked : Ask C) (refusal : Refusal)
       → (step meaning form machine by asked).reply ≡ reply.Refused refusal
-      → (step meaning form machine by asked).machine ≡ machine
+      → (step meaning form machine by asked).machine ≡ entered_machine machine
   machine-refused machine by (ask.Shell command) refusal is =
-      refused_done machine by command (shell_cause form (room_of meaning form machine) machine.shell by command)
-      refusal is
+      ap (entered_machine)
+      (refused_done machine by command (shell_cause form (room_of meaning form machine) machine.shell by command)
+      refusal is)
   machine-refused machine by (ask.Content command) refusal is =
-      refused_content machine by command (content_cause machine.shell by) refusal is
+      ap (entered_machine)
+      (refused_content machine by command (content_cause machine.shell by) refusal is)
 
   pub replay-refused : (history : List (Entry C R)) (by : ConnId) (asked : Ask C) (refusal : Refusal)
       → next_reply meaning form history by asked ≡ reply.Refused refusal
-      → replay meaning form (next meaning form history by asked) ≡ replay meaning form history
+      → replay meaning form (next meaning form history by asked)
+      ≡ entered_machine (replay meaning form history)
   replay-refused history by asked refusal is =
       replay-push meaning form history (next_entry meaning form history by asked)
       ∙ machine-refused (replay meaning form history) by asked refusal is

@@ -1,15 +1,21 @@
 -- The history of a structure: the entries of its journal, in order.
-use Rattle.std.specs.Prelude.{◌≡◌, ℕ, ◌+◌, ◌≤◌, ◌<◌, ◌⊎◌, ◌==◌, Bool, nat_lt, List, [], ◌∷◌, ◌++◌, length, take, fold, filter, slice_get, Option, None, Some, Contains, map}
+use Rattle.std.specs.Prelude.{◌≡◌, ℕ, ◌+◌, ◌≤◌, ◌<◌, ◌⊎◌, ◌==◌, ◌&&◌, not, if◌then◌else◌, Bool, nat_lt, List, [], ◌∷◌, ◌++◌, length, take, fold, filter, slice_get, Option, None, Some, Contains, map}
 use Rattle.std.specs.List.{filter_map}
 use Rattle.cf_types.specs.declared.forms.StrForm.{StrForm}
+use Rattle.cf_types.specs.declared.numbers.CfId.{CfId}
 use Rattle.cf_types.specs.declared.numbers.ConnId.{ConnId}
+use Rattle.cf_types.specs.declared.shell_commands.ShellCmd.{ShellCmd}
+use Rattle.cf_types.specs.declared.shell_commands.ShellCmd.TheVariants as cmd
 use Rattle.engine_api.specs.declared.asks.Ask.{Ask}
+use Rattle.engine_api.specs.declared.asks.Ask.TheVariants as ask
 use Rattle.engine_api.specs.declared.asks.Reply.{Reply}
 use Rattle.engine_api.specs.declared.asks.What.{What}
 use Rattle.engine_api.specs.declared.asks.What.TheVariants as what
 use Rattle.engine_api.specs.declared.histories.Entry.{Entry}
 use Rattle.engine_api.specs.Meaning.{Meaning}
-use Rattle.engine_api.specs.Machine.{Machine, opening, step}
+use Rattle.engine_api.specs.Machine.{Machine, opening, room_of, step, loss_step}
+use Rattle.engine_api.specs.Rebuilds.{fresh_of}
+use Rattle.engine_api.specs.Shell.{Shell, call_cause}
 
 -- ---- calls
 
@@ -20,14 +26,27 @@ pub record Call (C R : Type 0) : Type 0 where
   pub ask : Ask C
   pub reply : Reply R
 
--- groups: at most two losses of facilities, and then a call. So many losses stand before an entry, and behind it
-abbrev pub losses_after : {C : Type 0} → ℕ → What C → ℕ
-losses_after losses (what.Call ask) = 0
-losses_after losses (what.Lost cf) = losses + 1
+-- the facilities whose loss has been told in a group, behind one more entry
+abbrev pub marks_behind : {C : Type 0} → List CfId → What C → List CfId
+marks_behind marks (what.Call ask) = []
+marks_behind marks (what.Lost cf) = marks ++ cf ∷ []
 
-abbrev pub IsGroupPart : {C : Type 0} → ℕ → What C → Type 0
-IsGroupPart losses (what.Call ask) = Unit {0}
-IsGroupPart losses (what.Lost cf) = losses < 2
+-- the facility of an instance whose link was down
+abbrev pub mark_told : Bool → Option CfId → List CfId
+mark_told down None = []
+mark_told down (Some cf) = if down then cf ∷ [] else []
+
+-- the marks that a call brings whose first link is down or isn't, and its second. A command on the content asks the
+-- primary's, and then the secondary's; COPY asks the old instance's, and the new one's where that wasn't down
+abbrev pub marks_of_command : (first second : Bool) → Shell → ShellCmd → List CfId
+marks_of_command first second shell (cmd.Copy n) =
+    mark_told first shell.instances.primary ++ mark_told (not first && second) (fresh_of shell.rebuild)
+marks_of_command first second shell _ = []
+
+abbrev pub marks_told : {C : Type 0} → (first second : Bool) → Shell → Ask C → List CfId
+marks_told first second shell (ask.Shell command) = marks_of_command first second shell command
+marks_told first second shell (ask.Content command) =
+    mark_told first shell.instances.primary ++ mark_told second shell.instances.secondary
 
 module _ {C R : Type 0} where
   -- the call that an entry tells, if it tells one
@@ -60,19 +79,13 @@ module _ {C R : Type 0} where
   abbrev pub last_call_below : List (Entry C R) → ℕ → ℕ
   last_call_below history n = fold last_number 0 (filter (λ call. nat_lt call.no n) (calls history))
 
-  -- entries that go on behind so many losses, and end with a call
-  abbrev pub AreGroupsAfter : ℕ → List (Entry C R) → Type 0
-  AreGroupsAfter losses [] = losses ≡ 0
-  AreGroupsAfter losses (entry ∷ entries) =
-      IsGroupPart losses entry.what × AreGroupsAfter (losses_after losses entry.what) entries
-
 -- ---- what a history leads to
 
 module _ {C R I S : Type 0} (meaning : Meaning C R I S) (form : StrForm) where
   -- the machine after one more entry
   abbrev pub after_what : Machine S → ConnId → What C → Machine S
   after_what machine by (what.Call ask) = (step meaning form machine by ask).machine
-  after_what machine by (what.Lost cf) = machine
+  after_what machine by (what.Lost cf) = (loss_step meaning form machine cf).machine
 
   abbrev pub machine_after : Machine S → Entry C R → Machine S
   machine_after machine entry = after_what machine entry.by entry.what
@@ -93,7 +106,7 @@ module _ {C R I S : Type 0} (meaning : Meaning C R I S) (form : StrForm) where
   abbrev pub next : List (Entry C R) → ConnId → Ask C → List (Entry C R)
   next history by ask = history ++ next_entry history by ask ∷ []
 
-  -- an entry is the next one of a history. Facilities are not lost yet
+  -- an entry is the next one of a history. No link is asked yet, so that no mark is
   abbrev pub IsNextAs : List (Entry C R) → Entry C R → What C → Type 0
   IsNextAs history entry (what.Call ask) = entry ≡ next_entry history entry.by ask
   IsNextAs history entry (what.Lost cf) = ⊥
@@ -101,10 +114,36 @@ module _ {C R I S : Type 0} (meaning : Meaning C R I S) (form : StrForm) where
   abbrev pub IsNext : List (Entry C R) → Entry C R → Type 0
   IsNext history entry = IsNextAs history entry entry.what
 
+  -- ---- groups: marks, and then the call whose links told them
+
+  -- A call may have these marks before it: none; or, where it asks links and the shell doesn't refuse it as things
+  -- stood before them, those of the links that were down.
+  abbrev pub AreMarksOf : Machine S → ConnId → Ask C → List CfId → Type 0
+  AreMarksOf machine by asked marks =
+      (marks ≡ []) ⊎ ((call_cause form (room_of meaning form machine) machine.shell by asked ≡ None)
+      × ((first second : Bool) × (marks ≡ marks_told first second machine.shell asked)))
+
+  -- an entry ends the group that began at a machine, and has these marks so far, or goes on with it
+  abbrev pub IsOfGroup : Machine S → List CfId → ConnId → What C → Type 0
+  IsOfGroup began marks by (what.Call asked) = AreMarksOf began by asked marks
+  IsOfGroup began marks by (what.Lost cf) = Unit {0}
+
+  abbrev pub began_behind : (began now : Machine S) → What C → Machine S
+  began_behind began now (what.Call asked) = now
+  began_behind began now (what.Lost cf) = began
+
+  -- entries that go on behind these marks of a group, which began at a machine, and end with a call
+  abbrev pub AreGroups : (began : Machine S) → List CfId → (now : Machine S) → List (Entry C R) → Type 0
+  AreGroups began marks now [] = marks ≡ []
+  AreGroups began marks now (entry ∷ entries) =
+      IsOfGroup began marks entry.by entry.what
+      × AreGroups (began_behind began (machine_after now entry) entry.what) (marks_behind marks entry.what)
+      (machine_after now entry) entries
+
   -- entries are numbered from 1 without a gap, stand in groups, and each reply is that of the machine at the entries
   -- before it
   pub record IsLegal (history : List (Entry C R)) : Type 0 where
-    pub groups : AreGroupsAfter 0 history
+    pub groups : AreGroups (opening meaning form) [] (opening meaning form) history
     pub entries : (i : ℕ) (entry : Entry C R) → slice_get history i ≡ Some entry → IsNext (take i history) entry
 
   -- the same, entry by entry: what may follow a history

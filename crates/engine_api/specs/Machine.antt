@@ -15,7 +15,7 @@ use Rattle.engine_api.specs.declared.deeds.Room.{Room}
 use Rattle.engine_api.specs.Meaning.{Meaning, Held, Departure, step_result}
 use Rattle.engine_api.specs.Shapes.{shape_of}
 use Rattle.engine_api.specs.Rebuilds.{fresh_of}
-use Rattle.engine_api.specs.Shell.{Shell, Leaver, opening_shell, call_cause, shell_done, leaver, with_posted}
+use Rattle.engine_api.specs.Shell.{Shell, Leaver, opening_shell, call_cause, shell_done, mark_outcome, entered, leaver, with_posted}
 
 -- the part that is the same for every kind, the content, and how many of its items stand in the new instance. Where no
 -- instance stands there is nothing in the content
@@ -32,6 +32,13 @@ pub record CallOutcome (R S : Type 0) : Type 0 where
 -- a refused call changes nothing
 abbrev pub refusal_outcome : {R S : Type 0} → Machine S → Refusal → CallOutcome R S
 refusal_outcome machine refusal = record { reply = reply.Refused refusal; machine = machine }
+
+-- a call has come
+abbrev pub entered_machine : {S : Type 0} → Machine S → Machine S
+entered_machine machine = record machine { shell = entered machine.shell }
+
+abbrev pub with_entered : {R S : Type 0} → CallOutcome R S → CallOutcome R S
+with_entered outcome = record outcome { machine = entered_machine outcome.machine }
 
 abbrev pub content_reply : {R : Type 0} → Result R Refusal → Reply R
 content_reply (Ok answer) = reply.Content answer
@@ -129,4 +136,18 @@ module _ {C R I S : Type 0} (meaning : Meaning C R I S) (form : StrForm) where
   -- the step of a call
   abbrev pub step : Machine S → ConnId → Ask C → CallOutcome R S
   step machine by asked =
-      unless (call_cause form (room_of machine) machine.shell by asked) machine (call_done machine by asked)
+      with_entered
+      (unless (call_cause form (room_of machine) machine.shell by asked) machine (call_done machine by asked))
+
+  -- the step of a mark: what stands in the facility is lost
+  abbrev pub loss_step : Machine S → CfId → CallOutcome R S
+  loss_step machine cf =
+      let acted = mark_outcome form cf machine.shell in
+      record {
+        reply = reply.Shell acted.reply;
+        machine = record {
+          shell = acted.shell;
+          content = content_after (is_some machine.shell.rebuild) acted.deeds machine.content;
+          copied = copied_after acted.deeds machine.copied;
+        };
+      }

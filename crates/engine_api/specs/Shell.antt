@@ -1,6 +1,6 @@
 -- What structures of every kind share: instances, connections, events and rebuilds, and the commands on them. A command
 -- is two columns: the first refusal that holds, and what the command does where none holds.
-use Rattle.std.specs.Prelude.{ℕ, ◌+◌, ◌-◌, Bool, true, false, not, ◌&&◌, ◌||◌, ◌==◌, nat_le, nat_lt, min, if◌then◌else◌, List, [], ◌∷◌, ◌++◌, filter, replicate, Option, None, Some, is_none, is_some, unwrap_or, slice_get, slice_set}
+use Rattle.std.specs.Prelude.{ℕ, ◌+◌, ◌-◌, Bool, true, false, not, ◌&&◌, ◌||◌, ◌==◌, nat_le, nat_lt, min, if◌then◌else◌, List, [], ◌∷◌, ◌++◌, filter, replicate, Option, None, Some, is_none, is_some, unwrap_or, slice_get, slice_set, option_map}
 use Rattle.cf_types.specs.declared.limits.TheConstants.{FACILITIES}
 use Rattle.cf_types.specs.declared.forms.Caps.{Caps}
 use Rattle.cf_types.specs.declared.forms.Kind.{Kind}
@@ -45,6 +45,12 @@ pub record Shell : Type 0 where
   pub started : ℕ
   -- for each facility by its number, the connectors that can't reach it
   pub severed : List (List ConnId)
+  -- for each facility by its number, whether it is varied off for the structure
+  pub off : List Bool
+  -- the structure has lost its last instance
+  pub failed : Bool
+  -- the facility whose loss was that, as long as no call has come behind it
+  pub lost : Option CfId
   -- the capacity of an instance that is made now
   pub caps : Caps
 
@@ -58,6 +64,9 @@ opening_shell form =
       rebuild = None;
       started = 0;
       severed = replicate (FACILITIES + 1) [];
+      off = replicate (FACILITIES + 1) false;
+      failed = false;
+      lost = None;
       caps = form.caps;
     }
 
@@ -74,9 +83,13 @@ abbrev pub stands_at : Shell → CfId → Bool
 stands_at shell cf =
     is_at cf shell.instances.primary || (is_at cf shell.instances.secondary || is_at cf (fresh_of shell.rebuild))
 
--- no instance stands in the facility, and the caller reaches it
+abbrev pub is_off : Shell → CfId → Bool
+is_off shell cf = unwrap_or (slice_get shell.off cf.0) false
+
+-- the facility isn't varied off, no instance stands in it, and the caller reaches it
 abbrev pub is_candidate : Shell → ConnId → Pref → Bool
-is_candidate shell by pref = not (stands_at shell pref.cf) && not (is_severed shell by pref.cf)
+is_candidate shell by pref =
+    not (is_off shell pref.cf) && (not (stands_at shell pref.cf) && not (is_severed shell by pref.cf))
 
 -- those of the facilities that the policy prefers, in order
 abbrev pub candidates : StrForm → Shell → ConnId → List Pref
@@ -147,6 +160,18 @@ unless_reached form shell by =
     if is_none shell.instances.primary
     then if_no_place (units_of shell.caps) (candidates form shell by) ∷ []
     else if_severed shell by shell.instances.primary ∷ if_severed shell by shell.instances.secondary ∷ []
+
+abbrev pub if_lost : Shell → Option Refusal
+if_lost shell = option_map refusal.LostFacility shell.lost
+
+abbrev pub if_failed : Shell → Option Refusal
+if_failed shell = refusal_when shell.failed refusal.StructureFailed
+
+abbrev pub if_duplexed : Shell → Option Refusal
+if_duplexed shell = refusal_when (is_some shell.instances.secondary) refusal.AlreadyDuplexed
+
+abbrev pub unless_allocated : Shell → Option Refusal
+unless_allocated shell = refusal_when (is_none shell.instances.primary) refusal.NotAllocated
 
 abbrev pub if_rebuilding : Option Rebuild → Option Refusal
 if_rebuilding None = None
@@ -219,12 +244,11 @@ unless_failed None = Some (refusal.NotFailed word.Gone)
 abbrev pub if_left : ℕ → Option Refusal
 if_left left = refusal_when (nat_lt 0 left) (refusal.ItemsLeft left)
 
--- the refusals of each command, in their order. Those on lost facilities and duplexing are refused, and reach no
--- structure
+-- the refusals of each command, in their order
 abbrev pub shell_causes : StrForm → Room → Shell → ConnId → ShellCmd → List (Option Refusal)
 shell_causes form room shell by (cmd.Connect keep) =
-    if_connected (state_of shell.conns by) ∷ if_rebuilding shell.rebuild ∷ if_too_many form shell by
-    ∷ unless_reached form shell by
+    if_failed shell ∷ if_connected (state_of shell.conns by) ∷ if_rebuilding shell.rebuild
+    ∷ if_too_many form shell by ∷ unless_reached form shell by
 shell_causes form room shell by cmd.Disconnect = unless_active shell by ∷ []
 shell_causes form room shell by cmd.Fail = unless_active shell by ∷ []
 shell_causes form room shell by cmd.Next =
@@ -232,26 +256,30 @@ shell_causes form room shell by cmd.Next =
 shell_causes form room shell by cmd.Respond =
     unless_active shell by ∷ refusal_when (is_none (owed_event shell.mail by)) refusal.NothingOwed ∷ []
 shell_causes form room shell by (cmd.RebuildStart caps) =
-    unless_somebody shell by ∷ if_rebuilding shell.rebuild ∷ []
+    unless_somebody shell by ∷ if_failed shell ∷ if_rebuilding shell.rebuild ∷ if_duplexed shell ∷ []
 shell_causes form room shell by cmd.RebuildStop =
-    unless_operator shell by ∷ unless_rebuilding shell.rebuild ∷ unless_in can_stop shell.rebuild ∷ []
+    unless_operator shell by ∷ if_failed shell ∷ unless_rebuilding shell.rebuild
+    ∷ unless_in can_stop shell.rebuild ∷ []
 shell_causes form room shell by cmd.RebuildConnect =
-    unless_active shell by ∷ unless_rebuilding shell.rebuild ∷ unless_owed is_connect by shell.rebuild
-    ∷ unless_copied_to form shell room by shell.rebuild
+    unless_active shell by ∷ if_failed shell ∷ unless_rebuilding shell.rebuild
+    ∷ unless_owed is_connect by shell.rebuild ∷ unless_copied_to form shell room by shell.rebuild
 shell_causes form room shell by (cmd.Copy n) =
-    unless_active shell by ∷ unless_rebuilding shell.rebuild ∷ unless_in is_copy shell.rebuild
-    ∷ if_severed shell by shell.instances.primary ∷ if_severed shell by (fresh_of shell.rebuild) ∷ []
+    unless_active shell by ∷ if_lost shell ∷ if_failed shell ∷ unless_rebuilding shell.rebuild
+    ∷ unless_in is_copy shell.rebuild ∷ if_severed shell by shell.instances.primary
+    ∷ if_severed shell by (fresh_of shell.rebuild) ∷ []
 shell_causes form room shell by cmd.RebuildComplete =
-    unless_active shell by ∷ unless_rebuilding shell.rebuild ∷ unless_owed is_copy by shell.rebuild
-    ∷ if_left room.left ∷ []
+    unless_active shell by ∷ if_failed shell ∷ unless_rebuilding shell.rebuild
+    ∷ unless_owed is_copy by shell.rebuild ∷ if_left room.left ∷ []
 shell_causes form room shell by (cmd.ForceConn other) = unless_failed (state_of shell.conns other) ∷ []
 shell_causes form room shell by cmd.ForceStr =
     refusal_when (nat_lt 0 (defined_count shell.conns)) (refusal.HasConnections (defined_count shell.conns)) ∷ []
 shell_causes form room shell by (cmd.LoseConn other cf) = []
 shell_causes form room shell by (cmd.RestoreConn other cf) = []
-shell_causes form room shell by (cmd.Vary cf off) = Some refusal.NotAllocated ∷ []
-shell_causes form room shell by cmd.DuplexStart = Some refusal.NotAllocated ∷ []
-shell_causes form room shell by cmd.DuplexStop = Some refusal.NotAllocated ∷ []
+shell_causes form room shell by (cmd.Vary cf off) = []
+shell_causes form room shell by cmd.DuplexStart =
+    if_failed shell ∷ if_rebuilding shell.rebuild ∷ if_duplexed shell ∷ unless_allocated shell
+    ∷ if_no_place (units_of shell.caps) (candidates form shell by) ∷ []
+shell_causes form room shell by cmd.DuplexStop = []
 
 abbrev pub shell_cause : StrForm → Room → Shell → ConnId → ShellCmd → Option Refusal
 shell_cause form room shell by command = first_refusal (shell_causes form room shell by command)
@@ -259,8 +287,8 @@ shell_cause form room shell by command = first_refusal (shell_causes form room s
 -- the refusal of a command on the content, before the engine is asked
 abbrev pub content_cause : Shell → ConnId → Option Refusal
 content_cause shell by =
-    first_refusal (unless_active shell by ∷ if_quiesced by shell.rebuild ∷ if_severed shell by shell.instances.primary
-    ∷ if_severed shell by shell.instances.secondary ∷ [])
+    first_refusal (unless_active shell by ∷ if_lost shell ∷ if_failed shell ∷ if_quiesced by shell.rebuild
+    ∷ if_severed shell by shell.instances.primary ∷ if_severed shell by shell.instances.secondary ∷ [])
 
 -- the refusal of a call by the shell
 abbrev pub call_cause : {C : Type 0} → StrForm → Room → Shell → ConnId → Ask C → Option Refusal
@@ -328,9 +356,9 @@ with_posted letters shell = record shell { mail = with_letters shell.mail letter
 abbrev pub goes : StrForm → Connections → Bool
 goes form conns = not form.keep && (defined_count conns == 0)
 
--- it has the policy's capacity again then
+-- it has the policy's capacity again then, and has not failed
 abbrev pub deallocated : StrForm → Shell → Shell
-deallocated form shell = record shell { instances = no_instance; caps = form.caps }
+deallocated form shell = record shell { instances = no_instance; failed = false; caps = form.caps }
 
 abbrev pub unless_gone : StrForm → Shell → Shell
 unless_gone form shell = if goes form shell.conns then deallocated form shell else shell
@@ -406,15 +434,19 @@ start_outcome shell caps =
       deeds = no_deeds;
     }
 
--- the new instance is dropped, and the members are told
+-- the members are told that the rebuild stops
+abbrev pub stopped_shell : Rebuild → Shell → Shell
+stopped_shell rebuild shell =
+    with_posted (letters_to rebuild.members (event.Stop rebuild.number))
+    (record shell { rebuild = Some (rebuild_in stage.Stopping rebuild) })
+
+-- the new instance is dropped
 abbrev pub stop_outcome : Shell → Option Rebuild → ShellOutcome
 stop_outcome shell None = record { reply = reply.Ok; shell = shell; deeds = no_deeds }
 stop_outcome shell (Some rebuild) =
     record {
       reply = reply.Ok;
-      shell = with_posted (letters_to rebuild.members (event.Stop rebuild.number)) (record shell {
-        rebuild = Some (rebuild_in stage.Stopping rebuild);
-      });
+      shell = stopped_shell rebuild shell;
       deeds = record no_deeds { drop_fresh = is_some rebuild.fresh };
     }
 
@@ -555,8 +587,103 @@ restore_outcome shell other cf =
       deeds = no_deeds;
     }
 
-abbrev pub idle_outcome : Shell → ShellOutcome
-idle_outcome shell = record { reply = reply.Ok; shell = shell; deeds = no_deeds }
+-- ---- instances that are lost
+
+-- a duplexed structure loses the one in this facility, and the other is its only one; which stands there
+abbrev pub with_simplex : CfId → Shell → Shell
+with_simplex left shell = record shell { instances = record { primary = Some left; secondary = None } }
+
+abbrev pub simplex_outcome : (lost left : CfId) → Shell → ShellOutcome
+simplex_outcome lost left shell =
+    record {
+      reply = reply.Simplex left;
+      shell = with_simplex left shell;
+      deeds = record no_deeds { drop_at = Some lost };
+    }
+
+-- a rebuild loses its new instance, and stops
+abbrev pub stopped_outcome : Rebuild → Shell → ShellOutcome
+stopped_outcome rebuild shell =
+    record {
+      reply = reply.Stopped rebuild.number;
+      shell = stopped_shell rebuild shell;
+      deeds = record no_deeds { drop_fresh = true };
+    }
+
+-- the last instance is lost: the structure fails, a rebuild that there is ends, and the active connectors are told
+abbrev pub failed_outcome : StrForm → Shell → ShellOutcome
+failed_outcome form shell =
+    record {
+      reply = reply.FailedNow;
+      shell = with_posted (letters_to (actives shell.conns) event.StrFail)
+          (record shell { instances = no_instance; rebuild = None; failed = true; caps = form.caps });
+      deeds = record no_deeds { drop_all = true };
+    }
+
+abbrev pub idle_outcome : ShellReply → Shell → ShellOutcome
+idle_outcome answer shell = record { reply = answer; shell = shell; deeds = no_deeds }
+
+-- the new instance of a rebuild stands in the facility, or nothing does
+abbrev pub fresh_loss : CfId → Option Rebuild → Shell → ShellOutcome
+fresh_loss cf None shell = idle_outcome reply.OkNone shell
+fresh_loss cf (Some rebuild) shell =
+    if is_at cf rebuild.fresh then stopped_outcome rebuild shell else idle_outcome reply.OkNone shell
+
+-- the primary in the facility is lost: the secondary is the primary then, where one stands
+abbrev pub primary_loss : StrForm → CfId → Option CfId → Shell → ShellOutcome
+primary_loss form cf None shell = failed_outcome form shell
+primary_loss form cf (Some other) shell = simplex_outcome cf other shell
+
+-- what stands in a facility is lost
+abbrev pub loss_outcome : StrForm → CfId → Shell → ShellOutcome
+loss_outcome form cf shell =
+    if is_at cf shell.instances.primary then primary_loss form cf shell.instances.secondary shell
+    else if is_at cf shell.instances.secondary
+    then simplex_outcome cf (facility_of shell.instances.primary) shell
+    else fresh_loss cf shell.rebuild shell
+
+-- as a link tells it: where the structure failed, the call behind it is told of which facility
+abbrev pub mark_outcome : StrForm → CfId → Shell → ShellOutcome
+mark_outcome form cf shell =
+    let lost = loss_outcome form cf shell in
+    record lost { shell = record lost.shell { lost = if lost.shell.failed then Some cf else None } }
+
+-- a call has come
+abbrev pub entered : Shell → Shell
+entered shell = record shell { lost = None }
+
+-- a facility is varied off, or on again, for the structure
+abbrev pub with_off : CfId → Bool → Shell → Shell
+with_off cf off shell = record shell { off = slice_set shell.off cf.0 off }
+
+abbrev pub vary_outcome : StrForm → CfId → Bool → Shell → ShellOutcome
+vary_outcome form cf true shell = loss_outcome form cf (with_off cf true shell)
+vary_outcome form cf false shell = idle_outcome reply.Ok (with_off cf false shell)
+
+-- ---- duplexing
+
+abbrev pub with_secondary : Option CfId → Shell → Shell
+with_secondary at shell = record shell { instances = record shell.instances { secondary = at } }
+
+-- a second instance is made in the first place that is large enough
+abbrev pub duplex_outcome : StrForm → Shell → ConnId → ShellOutcome
+duplex_outcome form shell by =
+    let at = facility_of (place_for (units_of shell.caps) (candidates form shell by)) in
+    record {
+      reply = reply.OkAt at;
+      shell = with_secondary (Some at) shell;
+      deeds = record no_deeds { second = Some at };
+    }
+
+-- the secondary is dropped
+abbrev pub simplex_again : Option CfId → Shell → ShellOutcome
+simplex_again None shell = idle_outcome reply.OkNone shell
+simplex_again (Some cf) shell =
+    record {
+      reply = reply.OkAt cf;
+      shell = with_secondary None shell;
+      deeds = record no_deeds { drop_at = Some cf };
+    }
 
 -- so many items are moved, as long as there are any
 abbrev pub copy_outcome : Shell → Room → ℕ → ShellOutcome
@@ -580,9 +707,9 @@ shell_done form room shell by (cmd.ForceConn other) = force_connection form shel
 shell_done form room shell by cmd.ForceStr = force_structure form shell
 shell_done form room shell by (cmd.LoseConn other cf) = lose_outcome shell other cf
 shell_done form room shell by (cmd.RestoreConn other cf) = restore_outcome shell other cf
-shell_done form room shell by (cmd.Vary cf off) = idle_outcome shell
-shell_done form room shell by cmd.DuplexStart = idle_outcome shell
-shell_done form room shell by cmd.DuplexStop = idle_outcome shell
+shell_done form room shell by (cmd.Vary cf off) = vary_outcome form cf off shell
+shell_done form room shell by cmd.DuplexStart = duplex_outcome form shell by
+shell_done form room shell by cmd.DuplexStop = simplex_again shell.instances.secondary shell
 
 -- ---- which commands are built, and who may give them
 
@@ -601,6 +728,6 @@ is_built (cmd.Copy n) = true
 is_built cmd.RebuildComplete = true
 is_built (cmd.LoseConn other cf) = true
 is_built (cmd.RestoreConn other cf) = true
-is_built (cmd.Vary cf off) = false
+is_built (cmd.Vary cf off) = true
 is_built cmd.DuplexStart = false
 is_built cmd.DuplexStop = false

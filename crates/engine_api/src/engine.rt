@@ -161,6 +161,11 @@ pub trait Engine: Sized + Send + Drop {
         requires { IsCaller conn }
         ensures { result ≡ stands_in meaning (held self.now) conn index };
 
+    /// An engine that is ready with some effects is ready with others that have as much room.
+    ghost ready_more: { (engine : Self) (wish : Wish Self.Cmd) (out other : Effects)
+        → is_ready engine wish out → out.bits.room ≤ other.bits.room
+        → out.mail.room ≤ other.mail.room → is_ready engine wish other };
+
     /// Nothing is a content, in which no bit stands, and whose items are none.
     ghost content_empty: { (shape : Shape) (caps : Caps) → is_content shape caps
         (meaning.empty shape) };

@@ -4,16 +4,17 @@ ghost use Rattle.cf_types.specs.declared.refusals.Refusal.{Refusal};
 ghost use Rattle.engine_api.specs.declared.asks.Ask.{Ask};
 ghost use Rattle.engine_api.specs.declared.asks.Reply.TheVariants as reply;
 ghost use Rattle.engine_api.specs.History.{next, next_reply, replay};
+ghost use Rattle.engine_api.specs.Machine.{entered_machine};
 
 use crate::engine::Engine;
 use crate::histories::History;
 use cf_types::StrForm;
 
 /// A refused call changes the journal and nothing else: behind it instances, connections, mail and
-/// content are those before it.
+/// content are those before it, and a call has come behind whatever was lost.
 pub fn refused_changes_nothing<E: Engine>(form: &StrForm, history: &History<E::Cmd, E::Reply>)
     ensures { (by : ConnId) (asked : Ask E.Cmd) (refusal : Refusal)
         → next_reply E.meaning form.now history.now by asked ≡ reply.Refused refusal
         → replay E.meaning form.now (next E.meaning form.now history.now by asked)
-        ≡ replay E.meaning form.now history.now }
+        ≡ entered_machine (replay E.meaning form.now history.now) }
 {}

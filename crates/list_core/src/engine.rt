@@ -47,6 +47,7 @@ impl Engine for ListEngine {
     ghost use Rattle.list_model.specs.Contents.{IsContent};
     ghost use Rattle.list_model.specs.Meaning.{list_meaning};
     ghost use Rattle.list_model.proofs.EngineLaws.{content-nothing, items-nothing, step-content, leave-content, content-moved, made-items, content-place, items-place, unplace-place, need-front, need-leave, need-same};
+    ghost use Rattle.engine_api.proofs.ReadyLaws.{le-trans, room-cases};
 
     type Cmd = ListCmd;
 
@@ -163,6 +164,19 @@ impl Engine for ListEngine {
     fn stands(&self, conn: ConnId, index: u32) -> bool {
         self.kept.stands(conn, index)
     }
+
+    ghost ready_more = { λ e. room-cases (IsReady e)
+        (λ by cmd out other is bits mail. record {
+          planned = is.planned;
+          room = record {
+            records = is.room.records;
+            monitors = is.room.monitors;
+            bits = le-trans is.room.bits bits;
+            ids = is.room.ids;
+          };
+        })
+        (λ conn out other is bits mail. le-trans is bits)
+        (λ out other is bits mail. is) };
 
     ghost content_empty = { λ shape caps. content-nothing shape caps };
 

@@ -51,6 +51,7 @@ impl Engine for LockEngine {
     ghost use Rattle.lock_model.specs.Meaning.{lock_meaning};
     ghost use Rattle.lock_model.proofs.ItemLaws.{content-next};
     ghost use Rattle.lock_model.proofs.EngineLaws.{content-nothing, step-content, leave-content, content-moved, back-content, made-items, items-place, unplace-place, need-front, need-leave, need-same};
+    ghost use Rattle.engine_api.proofs.ReadyLaws.{le-trans, room-cases};
 
     type Cmd = LockCmd;
 
@@ -176,6 +177,28 @@ impl Engine for LockEngine {
     fn stands(&self, _conn: ConnId, _index: u32) -> bool {
         false
     }
+
+    ghost ready_more = { λ e. room-cases (IsReady e)
+        (λ by cmd out other is bits mail. record {
+          planned = is.planned;
+          room = record {
+            owners = is.room.owners;
+            records = is.room.records;
+            letters = le-trans is.room.letters mail;
+          };
+          waiter = is.waiter;
+          told = le-trans is.told mail;
+          counted = is.counted;
+        })
+        (λ conn out other is bits mail. record {
+          planned = is.planned;
+          room = record {
+            owners = is.room.owners;
+            records = is.room.records;
+            letters = le-trans is.room.letters mail;
+          };
+        })
+        (λ out other is bits mail. is) };
 
     ghost content_empty = { λ shape caps. content-nothing caps };
 

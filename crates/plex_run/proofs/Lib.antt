@@ -6,3 +6,6 @@ pub mod FullLaws
 pub mod OutcomeLaws
 pub mod ReportLaws
 pub mod ReadingLaws
+pub mod LoadRunLaws
+pub mod WordLaws
+pub mod WorkLaws

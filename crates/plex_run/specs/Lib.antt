@@ -3,3 +3,4 @@ pub mod NotYet
 pub mod Full
 pub mod StatusLines
 pub mod Outcome
+pub mod Loading

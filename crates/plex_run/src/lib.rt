@@ -1,8 +1,9 @@
-//! The program's one call: a script comes in from a source, and the report of its run goes out to a
-//! sink.
+//! The program's one call: a script comes in from a source, or a number makes one, and the report
+//! or the summary of its run goes out to a sink.
 #![tactic(auto)]
 
 mod full;
+mod loading;
 mod not_yet;
 mod program;
 mod running;

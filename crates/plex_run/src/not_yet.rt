@@ -10,10 +10,7 @@ use plex_script::{Act, AnyAsk, Line, Script};
 fn is_built(cmd: &ShellCmd) -> bool
     ensures { result ≡ is_built cmd.now }
 {
-    !matches!(
-        cmd,
-        ShellCmd::Vary { .. } | ShellCmd::DuplexStart | ShellCmd::DuplexStop
-    )
+    !matches!(cmd, ShellCmd::DuplexStart | ShellCmd::DuplexStop)
 }
 
 // Whether a common command is asked that isn't built.

@@ -1,5 +1,5 @@
 //! The program's one call.
-ghost use Rattle.std.specs.Prelude.{◌≡◌, ◌⊎◌, ◌↔◌, ◌≤◌, ◌<◌, length, IfSome};
+ghost use Rattle.std.specs.Prelude.{◌≡◌, ◌⊎◌, ◌↔◌, ℕ, ◌≤◌, ◌<◌, length, IfSome};
 ghost use Rattle.std.specs.Io.KnownBytes.{IsAtEnd};
 ghost use Rattle.std.specs.Vec.{vec_len};
 ghost use Rattle.cf_types.specs.declared.limits.TheConstants.{LINKS};
@@ -8,11 +8,13 @@ ghost use Rattle.plex_run.specs.declared.way.Way.{Way};
 ghost use Rattle.plex_run.specs.StatusLines.{script_line, memory_line};
 ghost use Rattle.plex_run.specs.Written.{output, HasFailed, Gains};
 ghost use Rattle.plex_run.specs.Outcome.{IsSerial, IsThreads, Say, IsStatus, status_line, script_limit, EndsWith, EndsRight};
+ghost use Rattle.plex_run.specs.Loading.{IsLoading, EndsLoad};
 
+use crate::loading::loaded;
 use crate::running::reported;
 use crate::serving::{Unserved, served};
 use crate::status_lines::{script_line, why_text};
-use crate::way::{Way, way_of};
+use crate::way::{Way, Work, work_of};
 use crate::writing::{say, say_no_memory, say_too_long};
 use cf_io::{ReadEnd, Sink, Source, read_all};
 use cf_link::Link;
@@ -102,13 +104,17 @@ fn judged<R: Threads + Wait + Sync, K: Sink, L: Link, G: Gate>(
 /// report, may then differ from run to run. The gate is told of each line on threads, before and
 /// after it.
 ///
+/// With the two words `load` and N, a number from 0 to 4294967295 as scripts spell numbers, nothing
+/// is read: the script that N makes (`plex_load::make`) is run on threads, and a summary of its run
+/// (`plex_load::summary`) is written in place of a report. No journal gets full by it.
+///
 /// | Status | Comes | Written to the sink |
 /// |---|---|---|
-/// | 0 | the script was read and run whole, and the report written whole | the report |
-/// | 2 | the words are not the one word `serial` or `threads` | `USAGE plexrun serial or threads or load N` |
+/// | 0 | the script was read and run whole, and the report written whole; or the load was run, and its summary written whole | the report; the summary |
+/// | 2 | the words are none of these forms | `USAGE plexrun serial or threads or load N` |
 /// | 3 | the text is no script, or not all of it is built yet | `SCRIPT line why` |
 /// | 4 | a read failed | `FAULT READ` |
-/// | 5 | a write failed while a report that belongs to 0 was written | a front of it |
+/// | 5 | a write failed while a report that belongs to 0, or a summary, was written | a front of it |
 /// | 6 | there was no memory | `NOMEMORY`, alone or behind a front of what belongs to 0 or 8 |
 /// | 7 | more than 1,048,576 bytes came | `TOOLONG 1048576` |
 /// | 8 | a journal of 65,536 calls got full | `JOURNALFULL structure 65536`, and the report: whole unless a write failed |
@@ -117,7 +123,7 @@ fn judged<R: Threads + Wait + Sync, K: Sink, L: Link, G: Gate>(
 /// SPACE; or else the first line that isn't built, and NOTYET. With 8 the structure is the first in
 /// the policy whose journal got full. Lines are counted from 1. The causes are tried in the order
 /// 2, 4, 7, 3, 8, 5; want of memory may stand in place of any but 2. Memory is taken for one line
-/// of the report at a time.
+/// of the report at a time. A load has 0, 5 or 6, and with 6 nothing stands before the line.
 pub fn run<R: Threads + Wait + Sync, S: Source, K: Sink, L: Link, G: Gate>(
     rt: &R,
     alloc: Global,
@@ -129,8 +135,8 @@ pub fn run<R: Threads + Wait + Sync, S: Source, K: Sink, L: Link, G: Gate>(
 ) -> u8
     requires links { vec_len links.old ≡ LINKS }
 
-    // With either word, and whatever bytes the source had left, the status says what they are and
-    // what was written. With 0 and 8 they are a script that is built, and the report that is
+    // With `serial` or `threads`, whatever bytes the source had left, the status says what they are
+    // and what was written. With 0 and 8 they are a script that is built, and the report that is
     // written shows a legal history of each structure, each caller's calls in them once and in
     // their order, and tests that tell what stood at a numbered point; where a cache's test tells
     // VALID, the connector's copy was fresh there. With `serial` it is the report of the run on one
@@ -148,8 +154,16 @@ pub fn run<R: Threads + Wait + Sync, S: Source, K: Sink, L: Link, G: Gate>(
     ensures headline { (way : Way) → Say words.now way → IfSome (S.left source.old)
         (λ text. EndsRight way text (output K.held K.faults sink.old sink.new) result) }
 
+    // With `load` and a number the summary of a run of the script that it makes is written: with 0
+    // whole and nothing else, and with 5 a front of it. That run is one on threads, as above, whose
+    // script is what its text says, and no journal got full in it. Nothing is read.
+    ensures load { (n : ℕ) → IsLoading words.now n
+        → EndsLoad n (output K.held K.faults sink.old sink.new) result }
+    ensures load_unread { (n : ℕ) → IsLoading words.now n → source.new ≡ source.old }
+
     // The other causes, and what is written where the source doesn't tell its bytes.
-    ensures usage { (result ≡ 2) ↔ (IsSerial words.now ⊎ IsThreads words.now → ⊥) }
+    ensures usage { (result ≡ 2) ↔ (IsSerial words.now ⊎ (IsThreads words.now
+        ⊎ ((n : ℕ) × IsLoading words.now n)) → ⊥) }
     ensures read_fault { result ≡ 4 → Rises (S.faults source.old) (S.faults source.new) }
     ensures write_fault { result ≡ 5 → HasFailed (output K.held K.faults sink.old sink.new) }
     ensures no_memory { result ≡ 6 → EndsWith (output K.held K.faults sink.old sink.new)
@@ -161,7 +175,8 @@ pub fn run<R: Threads + Wait + Sync, S: Source, K: Sink, L: Link, G: Gate>(
     ensures statuses { IsStatus result }
 
     // A text that is judged was read to its end. With faulty words nothing is read.
-    ensures at_end { (result ≡ 0) ⊎ ((result ≡ 3) ⊎ ((result ≡ 5) ⊎ (result ≡ 8)))
+    ensures at_end { (way : Way) → Say words.now way
+        → (result ≡ 0) ⊎ ((result ≡ 3) ⊎ ((result ≡ 5) ⊎ (result ≡ 8)))
         → IsAtEnd (S.left source.new) }
     ensures unread { result ≡ 2 → source.new ≡ source.old }
 
@@ -172,9 +187,13 @@ pub fn run<R: Threads + Wait + Sync, S: Source, K: Sink, L: Link, G: Gate>(
     // The links are put back before it returns; none is asked yet.
     ensures links { links.new.items ≡ links.old.items }
 {
-    let Some(way) = way_of(words) else {
-        say(sink, b"USAGE plexrun serial or threads or load N\n");
-        return 2;
+    let way = match work_of(words) {
+        Some(Work::Script(way)) => way,
+        Some(Work::Load(n)) => return loaded(rt, alloc, n, sink, links, gate),
+        None => {
+            say(sink, b"USAGE plexrun serial or threads or load N\n");
+            return 2;
+        }
     };
     let text = match read_all(alloc, source, SCRIPT_LIMIT) {
         Ok(text) => text,

@@ -46,8 +46,8 @@ fn run_by<R: Threads + Wait + Sync, L: Link, G: Gate>(
     }
 }
 
-// Runs a script in this way over these links, and puts them back.
-fn run_over<R: Threads + Wait + Sync, L: Link, G: Gate>(
+/// Runs a script in this way over these links, and puts them back.
+pub(crate) fn run_over<R: Threads + Wait + Sync, L: Link, G: Gate>(
     rt: &R,
     alloc: Global,
     way: Way,

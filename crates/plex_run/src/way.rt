@@ -1,7 +1,12 @@
-//! How a script is run, and which words say so.
-ghost use Rattle.std.specs.Prelude.{◌≡◌, ◌⊎◌, ◌↔◌, Some, None, codes, string_bytes};
+//! What the program does, and which words say so.
+ghost use Rattle.std.specs.Prelude.{◌≡◌, ◌≢◌, ◌⊎◌, ◌↔◌, ℕ, Some, None, codes, string_bytes};
 ghost use Rattle.plex_run.specs.Outcome.{IsSerial, IsThreads};
+ghost use Rattle.plex_run.specs.Loading.{IsLoading, number_said};
+ghost use Rattle.plex_run.specs.declared.way.Way.{Way};
 ghost use Rattle.plex_run.specs.declared.way.Way.TheVariants as ways;
+ghost use Rattle.plex_run.specs.declared.way.Work.TheVariants as works;
+
+use plex_spell::{Rigour, number};
 
 /// How a script is run.
 #[derive(Clone, Copy, Debug, PartialEq, Eq)]
@@ -12,28 +17,57 @@ pub enum Way {
     OnThreads,
 }
 
-// The way that a word says.
-fn way_of_word(word: &String) -> Option<Way>
-    ensures in_turn { (result ≡ Some ways.InTurn) ↔ (string_bytes word.now ≡ codes "serial") }
-    ensures on_threads { (result ≡ Some ways.OnThreads)
+/// What the words ask for.
+#[derive(Clone, Copy)]
+pub(crate) enum Work {
+    /// The script that comes in is run in this way.
+    Script(Way),
+    /// The script that this number makes is run on threads.
+    Load(u32),
+}
+
+// What one word asks for.
+fn work_of_word(word: &String) -> Option<Work>
+    ensures in_turn { (result ≡ Some (works.Script ways.InTurn))
+        ↔ (string_bytes word.now ≡ codes "serial") }
+    ensures on_threads { (result ≡ Some (works.Script ways.OnThreads))
         ↔ (string_bytes word.now ≡ codes "threads") }
+    ensures no_load { (n : ℕ) → result ≢ Some (works.Load n) }
 {
     if word.as_str() == "serial" {
-        return Some(Way::InTurn);
+        return Some(Work::Script(Way::InTurn));
     }
     if word.as_str() == "threads" {
-        return Some(Way::OnThreads);
+        return Some(Work::Script(Way::OnThreads));
     }
     None
 }
 
-/// The way that the words say, where they are one word that says one.
-pub(crate) fn way_of(words: &[String]) -> Option<Way>
-    ensures in_turn { (result ≡ Some ways.InTurn) ↔ IsSerial words.now }
-    ensures on_threads { (result ≡ Some ways.OnThreads) ↔ IsThreads words.now }
+// What a word and one that says a number ask for.
+fn work_of_two(word: &String, numeral: &String) -> Option<Work>
+    ensures load { (n : ℕ) → (result ≡ Some (works.Load n))
+        ↔ ((string_bytes word.now ≡ codes "load")
+        × (number_said (string_bytes numeral.now) ≡ Some n)) }
+    ensures no_script { (way : Way) → result ≢ Some (works.Script way) }
+{
+    if word.as_str() != "load" {
+        return None;
+    }
+    match number(Rigour::Limits, numeral.as_bytes(), 0, u32::MAX) {
+        Some(n) => Some(Work::Load(n)),
+        None => None,
+    }
+}
+
+/// What the words ask for, where they ask for anything.
+pub(crate) fn work_of(words: &[String]) -> Option<Work>
+    ensures in_turn { (result ≡ Some (works.Script ways.InTurn)) ↔ IsSerial words.now }
+    ensures on_threads { (result ≡ Some (works.Script ways.OnThreads)) ↔ IsThreads words.now }
+    ensures load { (n : ℕ) → (result ≡ Some (works.Load n)) ↔ IsLoading words.now n }
 {
     match words {
-        [word] => way_of_word(word),
+        [word] => work_of_word(word),
+        [word, numeral] => work_of_two(word, numeral),
         _ => None,
     }
 }

@@ -25,6 +25,9 @@ view_of s =
         rebuild = s.rebuild;
         started = s.started;
         severed = s.reach;
+        off = s.off;
+        failed = s.failed;
+        lost = s.lost;
         caps = s.caps;
       };
       room = min s.mail.room (4294967295 - s.started);

@@ -1,6 +1,8 @@
 pub(crate) mod connect;
 mod departures;
+mod duplexing;
 mod events;
 mod forces;
+mod losses;
 mod reach;
 mod rebuilds;

@@ -9,7 +9,7 @@ use cf_types::{CfId, ConnId, ConnSet};
 use std::marker::Model;
 
 /// How many places there are: one for each facility by its number, from 0, which is none's.
-const PLACES: usize = FACILITIES as usize + 1;
+pub(crate) const PLACES: usize = FACILITIES as usize + 1;
 
 /// For each facility, the connectors that can't reach it. Contracts see their list.
 #[derive(Debug, Drop)]

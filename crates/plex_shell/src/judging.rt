@@ -5,7 +5,7 @@ ghost use Rattle.cf_types.specs.Mailboxes.{next_event, owed_event};
 ghost use Rattle.cf_types.specs.declared.refusals.Refusal.TheVariants as refusal;
 ghost use Rattle.engine_api.specs.Asking.{MayCommand};
 ghost use Rattle.engine_api.specs.Meaning.{first_refusal};
-ghost use Rattle.engine_api.specs.Shell.{refusal_when, unless_active, if_connected, if_rebuilding, if_too_many, unless_reached, unless_failed, shell_cause, content_cause};
+ghost use Rattle.engine_api.specs.Shell.{refusal_when, unless_active, if_lost, if_failed, if_connected, if_rebuilding, if_too_many, if_quiesced, if_severed, unless_reached, unless_failed, shell_cause, content_cause};
 
 use crate::shell::Shell;
 use cf_types::{ConnId, ConnState, Refusal, ShellCmd, StateWord};
@@ -30,9 +30,8 @@ impl Shell {
             ShellCmd::ForceConn { conn } => self.unless_failed(*conn),
             ShellCmd::ForceStr => self.if_defined(),
             ShellCmd::LoseConn { .. } | ShellCmd::RestoreConn { .. } => None,
-            ShellCmd::Vary { .. } | ShellCmd::DuplexStart | ShellCmd::DuplexStop => {
-                Some(Refusal::NotAllocated)
-            }
+            ShellCmd::Vary { .. } | ShellCmd::DuplexStop => None,
+            ShellCmd::DuplexStart => self.judge_duplex(by),
         }
     }
 
@@ -42,27 +41,50 @@ impl Shell {
         ensures { result ≡ content_cause self.now.shell by }
     {
         self.unless_active(by)
-            .or(self.if_quiesced(by))
-            .or(self.unless_in_reach(by))
+            .or(self.if_lost())
+            .or(self.unless_usable(by))
+    }
+
+    fn unless_usable(&self, by: ConnId) -> Option<Refusal>
+        requires { IsCaller by }
+        ensures { result ≡ first_refusal (if_failed self.now.shell
+            ∷ if_quiesced by self.now.shell.rebuild
+            ∷ if_severed self.now.shell by self.now.shell.instances.primary
+            ∷ if_severed self.now.shell by self.now.shell.instances.secondary ∷ []) }
+    {
+        self.if_failed().or(self.unless_let_in(by))
+    }
+
+    fn unless_let_in(&self, by: ConnId) -> Option<Refusal>
+        requires { IsCaller by }
+        ensures { result ≡ first_refusal (if_quiesced by self.now.shell.rebuild
+            ∷ if_severed self.now.shell by self.now.shell.instances.primary
+            ∷ if_severed self.now.shell by self.now.shell.instances.secondary ∷ []) }
+    {
+        self.if_quiesced(by).or(self.unless_in_reach(by))
     }
 
     fn judge_connect(&self, by: ConnId) -> Option<Refusal>
         requires { IsCaller by }
-        ensures { result ≡ first_refusal (if_connected (state_of self.now.shell.conns by)
+        ensures { result ≡ first_refusal (if_failed self.now.shell
+            ∷ if_connected (state_of self.now.shell.conns by)
             ∷ if_rebuilding self.now.shell.rebuild ∷ if_too_many self.now.form self.now.shell by
             ∷ unless_reached self.now.form self.now.shell by) }
     {
-        self.if_connected(by)
-            .or(self.if_rebuilding())
+        self.if_failed()
+            .or(self.if_connected(by))
             .or(self.unless_admitted(by))
     }
 
     fn unless_admitted(&self, by: ConnId) -> Option<Refusal>
         requires { IsCaller by }
-        ensures { result ≡ first_refusal (if_too_many self.now.form self.now.shell by
+        ensures { result ≡ first_refusal (if_rebuilding self.now.shell.rebuild
+            ∷ if_too_many self.now.form self.now.shell by
             ∷ unless_reached self.now.form self.now.shell by) }
     {
-        self.if_too_many(by).or(self.unless_reached(by))
+        self.if_rebuilding()
+            .or(self.if_too_many(by))
+            .or(self.unless_reached(by))
     }
 
     fn judge_next(&self, by: ConnId) -> Option<Refusal>

@@ -4,6 +4,7 @@
 
 mod commands;
 mod connectivity;
+mod duplex_causes;
 mod judging;
 mod letters;
 mod places;
@@ -11,6 +12,7 @@ mod rebuild_causes;
 mod shell;
 #[cfg(test)]
 mod tests;
+mod varied;
 mod verdicts;
 
 pub use engine_api::{Deeds, Room};

@@ -25,17 +25,17 @@ impl Shell {
         self.reach.severed_from(cf).has(by)
     }
 
-    // Whether an instance can be made there for the connector: none stands there, and it reaches
-    // the facility.
+    // Whether an instance can be made there for the connector: the facility isn't varied off, no
+    // instance stands there, and the connector reaches it.
     fn is_candidate(&self, by: ConnId, pref: &Pref) -> bool
         requires { IsCaller by }
         ensures { result ≡ is_candidate self.now.shell by pref.now }
     {
-        !self.stands_at(pref.cf) && !self.is_severed(by, pref.cf)
+        !self.off.has(pref.cf) && (!self.stands_at(pref.cf) && !self.is_severed(by, pref.cf))
     }
 
-    // The first candidate that has the units.
-    fn place(&self, by: ConnId, units: u32) -> Option<CfId>
+    /// The first candidate that has the units.
+    pub(crate) fn place(&self, by: ConnId, units: u32) -> Option<CfId>
         requires { IsCaller by }
         ensures { result ≡ place_for units (candidates self.now.form self.now.shell by) }
     {
@@ -156,8 +156,8 @@ impl Shell {
     }
 }
 
-// Whether an instance that stands there, if there is one, stands in the facility.
-fn is_at(cf: CfId, at: Option<CfId>) -> bool
+/// Whether an instance that stands there, if there is one, stands in the facility.
+pub(crate) fn is_at(cf: CfId, at: Option<CfId>) -> bool
     ensures { result ≡ is_at cf at }
 {
     match at {
@@ -166,8 +166,8 @@ fn is_at(cf: CfId, at: Option<CfId>) -> bool
     }
 }
 
-// The units that an instance of this capacity takes.
-fn units_of(caps: Caps) -> u32
+/// The units that an instance of this capacity takes.
+pub(crate) fn units_of(caps: Caps) -> u32
     requires { IsCapacity caps }
     ensures { result ≡ units_of caps }
 {

@@ -4,7 +4,7 @@ ghost use Rattle.cf_types.specs.Forms.{IsCaller, IsCapacity};
 ghost use Rattle.engine_api.specs.Instances.{units_of};
 ghost use Rattle.engine_api.specs.Meaning.{first_refusal};
 ghost use Rattle.engine_api.specs.Rebuilds.{fresh_of, is_copy, is_held_up, is_quiesced};
-ghost use Rattle.engine_api.specs.Shell.{is_connect, can_stop, is_empty, unless_active, unless_somebody, unless_operator, if_rebuilding, unless_rebuilding, unless_owed, unless_in, wrong_stage, if_small, if_too_small, if_no_place, candidates, unless_copied_to, if_quiesced, if_left, if_severed};
+ghost use Rattle.engine_api.specs.Shell.{is_connect, can_stop, is_empty, unless_active, unless_somebody, unless_operator, if_lost, if_failed, if_duplexed, if_rebuilding, unless_rebuilding, unless_owed, unless_in, wrong_stage, if_small, if_too_small, if_no_place, candidates, unless_copied_to, if_quiesced, if_left, if_severed};
 
 use crate::shell::Shell;
 use cf_types::{ConnId, ConnSet, Kind, Refusal, Stage};
@@ -16,66 +16,107 @@ impl Shell {
     pub(crate) fn judge_start(&self, by: ConnId) -> Option<Refusal>
         requires { IsCaller by }
         ensures { result ≡ first_refusal (unless_somebody self.now.shell by
-            ∷ if_rebuilding self.now.shell.rebuild ∷ []) }
+            ∷ if_failed self.now.shell ∷ if_rebuilding self.now.shell.rebuild
+            ∷ if_duplexed self.now.shell ∷ []) }
     {
-        self.unless_somebody(by).or(self.if_rebuilding())
+        self.unless_somebody(by)
+            .or(self.if_failed())
+            .or(self.unless_free())
+    }
+
+    fn unless_free(&self) -> Option<Refusal>
+        ensures { result ≡ first_refusal (if_rebuilding self.now.shell.rebuild
+            ∷ if_duplexed self.now.shell ∷ []) }
+    {
+        self.if_rebuilding().or(self.if_duplexed())
     }
 
     /// Why REBUILD STOP is refused, if it is.
     pub(crate) fn judge_stop(&self, by: ConnId) -> Option<Refusal>
         requires { IsCaller by }
         ensures { result ≡ first_refusal (unless_operator self.now.shell by
-            ∷ unless_rebuilding self.now.shell.rebuild
+            ∷ if_failed self.now.shell ∷ unless_rebuilding self.now.shell.rebuild
             ∷ unless_in can_stop self.now.shell.rebuild ∷ []) }
     {
         self.unless_operator(by)
-            .or(self.unless_rebuilding())
-            .or(self.unless_stoppable())
+            .or(self.if_failed())
+            .or(self.unless_stopping())
+    }
+
+    fn unless_stopping(&self) -> Option<Refusal>
+        ensures { result ≡ first_refusal (unless_rebuilding self.now.shell.rebuild
+            ∷ unless_in can_stop self.now.shell.rebuild ∷ []) }
+    {
+        self.unless_rebuilding().or(self.unless_stoppable())
     }
 
     /// Why REBUILD CONNECT is refused, if it is.
     pub(crate) fn judge_rebuild_connect(&self, by: ConnId, room: &Room) -> Option<Refusal>
         requires { IsCaller by }
         ensures { result ≡ first_refusal (unless_active self.now.shell by
-            ∷ unless_rebuilding self.now.shell.rebuild
+            ∷ if_failed self.now.shell ∷ unless_rebuilding self.now.shell.rebuild
             ∷ unless_owed is_connect by self.now.shell.rebuild
             ∷ unless_copied_to self.now.form self.now.shell room.now by self.now.shell.rebuild) }
     {
         self.unless_active(by)
-            .or(self.unless_rebuilding())
+            .or(self.if_failed())
             .or(self.unless_joining(by, room))
     }
 
     fn unless_joining(&self, by: ConnId, room: &Room) -> Option<Refusal>
         requires { IsCaller by }
-        ensures { result ≡ first_refusal (unless_owed is_connect by self.now.shell.rebuild
+        ensures { result ≡ first_refusal (unless_rebuilding self.now.shell.rebuild
+            ∷ unless_owed is_connect by self.now.shell.rebuild
             ∷ unless_copied_to self.now.form self.now.shell room.now by self.now.shell.rebuild) }
     {
-        self.unless_connecting(by)
+        self.unless_rebuilding()
+            .or(self.unless_connecting(by))
             .or(self.unless_copied_to(by, room))
     }
 
     /// Why COPY is refused, if it is.
     pub(crate) fn judge_copy(&self, by: ConnId) -> Option<Refusal>
         requires { IsCaller by }
-        ensures { result ≡ first_refusal (unless_active self.now.shell by
-            ∷ unless_rebuilding self.now.shell.rebuild ∷ unless_in is_copy self.now.shell.rebuild
+        ensures { result ≡ first_refusal (unless_active self.now.shell by ∷ if_lost self.now.shell
+            ∷ if_failed self.now.shell ∷ unless_rebuilding self.now.shell.rebuild
+            ∷ unless_in is_copy self.now.shell.rebuild
             ∷ if_severed self.now.shell by self.now.shell.instances.primary
             ∷ if_severed self.now.shell by (fresh_of self.now.shell.rebuild) ∷ []) }
     {
         self.unless_active(by)
-            .or(self.unless_rebuilding())
-            .or(self.unless_copying(by))
+            .or(self.if_lost())
+            .or(self.unless_copied(by))
+    }
+
+    fn unless_copied(&self, by: ConnId) -> Option<Refusal>
+        requires { IsCaller by }
+        ensures { result ≡ first_refusal (if_failed self.now.shell
+            ∷ unless_rebuilding self.now.shell.rebuild ∷ unless_in is_copy self.now.shell.rebuild
+            ∷ if_severed self.now.shell by self.now.shell.instances.primary
+            ∷ if_severed self.now.shell by (fresh_of self.now.shell.rebuild) ∷ []) }
+    {
+        self.if_failed().or(self.unless_copying(by))
     }
 
     fn unless_copying(&self, by: ConnId) -> Option<Refusal>
         requires { IsCaller by }
-        ensures { result ≡ first_refusal (unless_in is_copy self.now.shell.rebuild
+        ensures { result ≡ first_refusal (unless_rebuilding self.now.shell.rebuild
+            ∷ unless_in is_copy self.now.shell.rebuild
             ∷ if_severed self.now.shell by self.now.shell.instances.primary
             ∷ if_severed self.now.shell by (fresh_of self.now.shell.rebuild) ∷ []) }
     {
-        self.unless_in_copy()
-            .or(self.if_severed(by, self.primary))
+        self.unless_rebuilding()
+            .or(self.unless_in_copy())
+            .or(self.unless_both_reached(by))
+    }
+
+    fn unless_both_reached(&self, by: ConnId) -> Option<Refusal>
+        requires { IsCaller by }
+        ensures { result ≡ first_refusal (
+            if_severed self.now.shell by self.now.shell.instances.primary
+            ∷ if_severed self.now.shell by (fresh_of self.now.shell.rebuild) ∷ []) }
+    {
+        self.if_severed(by, self.primary)
             .or(self.if_severed(by, self.fresh()))
     }
 
@@ -83,20 +124,22 @@ impl Shell {
     pub(crate) fn judge_complete(&self, by: ConnId, room: &Room) -> Option<Refusal>
         requires { IsCaller by }
         ensures { result ≡ first_refusal (unless_active self.now.shell by
-            ∷ unless_rebuilding self.now.shell.rebuild
+            ∷ if_failed self.now.shell ∷ unless_rebuilding self.now.shell.rebuild
             ∷ unless_owed is_copy by self.now.shell.rebuild ∷ if_left room.now.left ∷ []) }
     {
         self.unless_active(by)
-            .or(self.unless_rebuilding())
+            .or(self.if_failed())
             .or(self.unless_done(by, room))
     }
 
     fn unless_done(&self, by: ConnId, room: &Room) -> Option<Refusal>
         requires { IsCaller by }
-        ensures { result ≡ first_refusal (unless_owed is_copy by self.now.shell.rebuild
-            ∷ if_left room.now.left ∷ []) }
+        ensures { result ≡ first_refusal (unless_rebuilding self.now.shell.rebuild
+            ∷ unless_owed is_copy by self.now.shell.rebuild ∷ if_left room.now.left ∷ []) }
     {
-        self.unless_completing(by).or(if_left(room.left))
+        self.unless_rebuilding()
+            .or(self.unless_completing(by))
+            .or(if_left(room.left))
     }
 
     // The operator asks where nobody is active, or a connector that isn't active itself.

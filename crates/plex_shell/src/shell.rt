@@ -4,11 +4,12 @@ ghost use Rattle.cf_types.specs.Forms.{IsForm, IsCaller, IsCapacity};
 ghost use Rattle.cf_types.specs.declared.shell_commands.ShellReply.TheVariants as replies;
 ghost use Rattle.engine_api.specs.Asking.{MayAsk, MayCommand};
 ghost use Rattle.engine_api.specs.Rebuilds.{fresh_of};
-ghost use Rattle.engine_api.specs.Shell.{opening_shell, shell_cause, shell_done, leaver, is_kept, with_posted, no_deeds, caps_made};
+ghost use Rattle.engine_api.specs.Shell.{opening_shell, entered, shell_cause, shell_done, leaver, is_kept, with_posted, no_deeds, caps_made};
 ghost use Rattle.cf_types.specs.Connections.{state_of};
 ghost use Rattle.plex_shell.specs.Verdicts.{refused_or, doer_of, verdict, leaver_pair, instances_of};
 
 use crate::connectivity::Connectivity;
+use crate::varied::VariedOff;
 use crate::verdicts::Verdict;
 use cf_types::{
     Caps, CfId, ConnId, ConnState, Letter, Listing, NoMemory, Refusal, ShellCmd, ShellReply,
@@ -21,7 +22,7 @@ use rebuild_core::Rebuild;
 use std::alloc::Global;
 use std::marker::Model;
 
-/// The most letters that `act` posts.
+/// The most letters that `act` posts, and `lost`.
 pub const ACT_LETTERS: u32 = 66;
 
 /// The shell of one structure. Contracts see the form, what the shell keeps (instances, connections
@@ -36,6 +37,9 @@ pub struct Shell {
     pub(crate) rebuild: Option<Rebuild>,
     pub(crate) started: u32,
     pub(crate) reach: Connectivity,
+    pub(crate) off: VariedOff,
+    pub(crate) failed: bool,
+    pub(crate) lost: Option<CfId>,
     pub(crate) caps: Caps,
 }
 
@@ -70,6 +74,9 @@ impl Shell {
             rebuild: None,
             started: 0,
             reach: Connectivity::whole(),
+            off: VariedOff::none(),
+            failed: false,
+            lost: None,
             caps,
         })
     }
@@ -150,15 +157,20 @@ impl Shell {
             ShellCmd::ForceStr => self.force_structure(),
             ShellCmd::LoseConn { conn, cf } => self.lose_connectivity(*conn, *cf),
             ShellCmd::RestoreConn { conn, cf } => self.restore_connectivity(*conn, *cf),
-            ShellCmd::Vary { .. } | ShellCmd::DuplexStart | ShellCmd::DuplexStop => unreachable!(),
+            ShellCmd::Vary { cf, off } => self.vary(*cf, *off),
+            ShellCmd::DuplexStart => self.start_duplex(by),
+            ShellCmd::DuplexStop => self.stop_duplex(),
         }
     }
 
-    /// The call's entry stands in the journal. No command that is built looks back at the entry
-    /// before it, so nothing changes.
+    /// A call has come: what was lost before it isn't told to later ones.
     pub fn entered(&mut self)
-        ensures { self.new ≡ self.old }
-    {}
+        ensures form { self.new.form ≡ self.old.form }
+        ensures shell { self.new.shell ≡ entered self.old.shell }
+        ensures room { self.new.room ≡ self.old.room }
+    {
+        self.lost = None;
+    }
 
     /// The facilities of the primary, of the secondary, and of a rebuild's new instance.
     pub fn instances(&self) -> (Option<CfId>, Option<CfId>, Option<CfId>)

@@ -1,6 +1,6 @@
--- Three rebuilds, read at each place where something changes: one that ends, one that is stopped, and one in which a
--- connector fails while the new instance is filled.
-use Rattle.std.proofs.Common.{◌≡◌, ℕ, List, [], ◌∷◌, ◌++◌, Option, None, Some, take, false, refl}
+-- Rebuilds, read at each place where something changes: one that ends, one that is stopped, one in which a connector
+-- fails while the new instance is filled, and two in which a facility is varied off.
+use Rattle.std.proofs.Common.{◌≡◌, ℕ, List, [], ◌∷◌, ◌++◌, Option, None, Some, take, true, false, refl}
 use Rattle.cf_types.specs.declared.events.Event.{Event}
 use Rattle.cf_types.specs.declared.events.Event.TheVariants as event
 use Rattle.cf_types.specs.declared.events.Stage.{Stage}
@@ -177,3 +177,33 @@ completed-again : read_at 20
     (begin ++ (said 19 a cmd.RebuildComplete shown.Ok ∷ said 20 b cmd.Fail shown.Ok ∷ []))
     ≡ Some (rebuild 1 Copy (a ∷ []) (a ∷ []) (Some cf2))
 completed-again = refl
+
+-- ---- two in which a facility is varied off: that of the new instance, and that of the only one
+
+abbrev cf1 : CfId
+cf1 = record { 0 = 1 }
+
+abbrev new_lost : List Row
+new_lost =
+    begin ++ (said 19 op (cmd.Vary cf2 true) (shown.Stopped 1) ∷ event_taken 20 a (event.RebuildConnect 1)
+    ∷ event_taken 21 a (event.ConnectsDone 1) ∷ event_taken 22 a (event.Stop 1) ∷ answered 23 a (event.Stop 1) ∷ [])
+
+at-vary : read_at 19 new_lost ≡ Some (rebuild 1 Stopping both both None)
+at-vary = refl
+
+a-answered : read_at 23 new_lost ≡ Some (rebuild 1 Stopping both (b ∷ []) None)
+a-answered = refl
+
+abbrev old_lost : List Row
+old_lost =
+    take 5 begin ++ (said 6 op (cmd.Vary cf1 true) shown.FailedNow ∷ event_taken 7 a (event.NewConn b)
+    ∷ event_taken 8 a (event.Quiesce 1) ∷ answered 9 a (event.Quiesce 1) ∷ [])
+
+begun-once : read_at 5 old_lost ≡ Some (rebuild 1 Quiesce both both None)
+begun-once = refl
+
+at-failure : read_at 6 old_lost ≡ None
+at-failure = refl
+
+none-behind : read_at 9 old_lost ≡ None
+none-behind = refl

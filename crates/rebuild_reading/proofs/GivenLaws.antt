@@ -1,4 +1,4 @@
--- Who is left and who has given what a stage waits for, with one entry more.
+-- Who is left, who has given what a stage waits for, and whether the structure failed, with one entry more.
 use Rattle.std.proofs.Common.{◌≡◌, ◌≢◌, ℕ, Bool, true, false, not, ◌&&◌, ◌||◌, ◌==◌, List, [], ◌∷◌, ◌++◌, Option, None, Some, unwrap_or, filter, refl, sym, ap, ◌∙◌}
 use Rattle.std.specs.List.{list_any}
 use Rattle.std.proofs.lemmas.List.Elements.{filter_agree}
@@ -8,10 +8,10 @@ use Rattle.cf_types.specs.declared.numbers.CfId.{CfId}
 use Rattle.cf_types.specs.declared.numbers.ConnId.{ConnId}
 use Rattle.cf_types.specs.ConnSets.{without_member}
 use Rattle.list_laws.proofs.FilterLaws.{filter-filter, filter_all, filter_swap, list_all_always}
-use Rattle.rebuild_reading.specs.Tellings.{Telling, TellingEntry, is_departure, is_emptying, is_awaited}
-use Rattle.rebuild_reading.specs.Tellings.Telling.{Starts, Places, Completes, Responds, Stops, Departs, Forces, Nothing}
-use Rattle.rebuild_reading.specs.Readings.{departs, gives, members_left, counted_entries, has_given, place_or, first_place}
-use Rattle.rebuild_reading.proofs.ListFacts.{any-more, since_last-new, since_last-old, or_false}
+use Rattle.rebuild_reading.specs.Tellings.{Telling, TellingEntry, is_failure, is_departure, is_emptying, is_awaited}
+use Rattle.rebuild_reading.specs.Tellings.Telling.{Starts, Places, Completes, Responds, Stops, Departs, Forces, Fails, Nothing}
+use Rattle.rebuild_reading.specs.Readings.{departs, gives, has_failure, members_left, counted_entries, has_given, place_or, first_place}
+use Rattle.rebuild_reading.proofs.ListFacts.{any-more, since_last-new, since_last-old, or_false, or_true}
 
 not_either : (a b : Bool) → not (a || b) ≡ (not a && not b)
 not_either true b = refl
@@ -138,6 +138,28 @@ all-owe given none left =
     filter_all (λ conn. not (given conn)) left
     (list_all_always (λ conn. not (given conn)) (λ conn. ap not (none conn)) left)
 
+-- ---- failures of the structure
+
+pub failed-more : (since : List TellingEntry) (entry : TellingEntry)
+    → has_failure (since ++ entry ∷ []) ≡ (has_failure since || is_failure entry.telling)
+failed-more since entry = any-more (λ (x : TellingEntry). is_failure x.telling) since entry
+
+-- it stays without one
+pub intact-more : (since : List TellingEntry) (entry : TellingEntry) → has_failure since ≡ false
+    → is_failure entry.telling ≡ false → has_failure (since ++ entry ∷ []) ≡ false
+intact-more since entry intact other =
+    failed-more since entry ∙ ap (λ b. b || is_failure entry.telling) intact ∙ other
+
+-- and once it failed it has failed
+pub failed-still : (since : List TellingEntry) (entry : TellingEntry) → has_failure since ≡ true
+    → has_failure (since ++ entry ∷ []) ≡ true
+failed-still since entry failed = failed-more since entry ∙ ap (λ b. b || is_failure entry.telling) failed
+
+pub failed-now : (since : List TellingEntry) (entry : TellingEntry) → is_failure entry.telling ≡ true
+    → has_failure (since ++ entry ∷ []) ≡ true
+failed-now since entry fails =
+    failed-more since entry ∙ ap (λ b. has_failure since || b) fails ∙ or_true (has_failure since)
+
 -- ---- the place of the new instance
 
 pub place-more : (since : List TellingEntry) (entry : TellingEntry) → place_or entry.telling None ≡ None
@@ -154,6 +176,7 @@ place_kept (Responds event) place cf = refl
 place_kept Stops place cf = refl
 place_kept Departs place cf = refl
 place_kept Forces place cf = refl
+place_kept Fails place cf = refl
 place_kept Nothing place cf = refl
 
 pub place-first : (since : List TellingEntry) (by : ConnId) (cf : CfId)

@@ -10,14 +10,14 @@ use Rattle.cf_types.specs.ConnSets.{without_member}
 use Rattle.rebuild_core.specs.declared.passed.Passed.TheVariants.{Into}
 use Rattle.rebuild_core.specs.declared.rebuild.Rebuild.{Rebuild}
 use Rattle.rebuild_core.specs.Stages.{next_stage, fresh_in, owing_after, rebuild_emptied, with_place}
-use Rattle.rebuild_reading.specs.Tellings.{TellingEntry, is_stop, is_departure, is_emptying, is_awaited}
-use Rattle.rebuild_reading.specs.Tellings.Telling.{Places, Stops, Departs, Forces}
-use Rattle.rebuild_reading.specs.Readings.{Start, counted_entries, has_given, is_empty, is_passed, members_left, place_or, first_place, stage_of, rebuild_during, rebuild_since}
+use Rattle.rebuild_reading.specs.Tellings.{TellingEntry, is_stop, is_failure, is_departure, is_emptying, is_awaited}
+use Rattle.rebuild_reading.specs.Tellings.Telling.{Places, Stops, Departs, Forces, Fails}
+use Rattle.rebuild_reading.specs.Readings.{Start, counted_entries, has_failure, has_given, is_empty, is_passed, members_left, place_or, first_place, stage_of, rebuild_during, rebuild_since}
 use Rattle.rebuild_reading.specs.Steps.{rebuild_given, rebuild_by, IsEarly}
 use Rattle.rebuild_reading.proofs.ListFacts.{all-none_left}
 use Rattle.rebuild_reading.proofs.StageLaws.{given-none, during_next, stage-more, stage-stopped, stage-goes, no-stop}
-use Rattle.rebuild_reading.proofs.GivenLaws.{members-same, members-without, given-same, owing-given, more-counted, elsewhere-counted, given-emptied, owing-without, all-owe, place-more, place-first}
-use Rattle.rebuild_reading.proofs.OnwardLaws.{same_rebuild, reading_of, owing_of, IsPlaced, onward-read, going-read}
+use Rattle.rebuild_reading.proofs.GivenLaws.{members-same, members-without, given-same, owing-given, more-counted, elsewhere-counted, given-emptied, owing-without, all-owe, intact-more, failed-now, place-more, place-first}
+use Rattle.rebuild_reading.proofs.OnwardLaws.{same_rebuild, intact-read, failed-read, reading_of, owing_of, IsPlaced, onward-read, going-read}
 
 placed_next : (stage next : Stage) (place : Option CfId) → (stage ≡ Quiesce → place ≡ None)
     → next_stage stage ≡ Into next
@@ -35,7 +35,7 @@ never false = refl
 
 module _ {C R : Type 0} (begun : List ConnId) (start : Start C R) (stage : Stage) (entries : List TellingEntry)
     (found : stage_of begun start.number start.since ≡ Some (record { stage = stage; entries = entries }))
-    (some : is_empty (members_left begun start.since) ≡ false)
+    (some : is_empty (members_left begun start.since) ≡ false) (intact : has_failure start.since ≡ false)
     (quiet : stage ≡ Quiesce → first_place start.since ≡ None) where
   abbrev pub now : Rebuild
   now = rebuild_during begun start (record { stage = stage; entries = entries })
@@ -49,13 +49,14 @@ module _ {C R : Type 0} (begun : List ConnId) (start : Start C R) (stage : Stage
   abbrev pub more : TellingEntry → Start C R
   more entry = record start { since = start.since ++ entry ∷ [] }
 
-  -- what is read with one entry more that is no stop
-  read-more : (entry : TellingEntry) → is_stop entry.telling ≡ false
+  -- what is read with one entry more that is no stop and no failure
+  read-more : (entry : TellingEntry) → is_stop entry.telling ≡ false → is_failure entry.telling ≡ false
       → rebuild_since begun (more entry)
       ≡ reading_of begun (more entry) stage (entries ++ entry ∷ []) (is_empty (members_left begun (more entry).since))
       (is_passed begun start.number stage (more entry).since (entries ++ entry ∷ []))
-  read-more entry other =
-      ap (λ d. cond (is_empty (members_left begun (more entry).since)) None
+  read-more entry other works =
+      intact-read begun (more entry) (intact-more start.since entry intact works)
+      ∙ ap (λ d. cond (is_empty (members_left begun (more entry).since)) None
       (option_map (rebuild_during begun (more entry)) d))
       (stage-more begun start.number start.since entry other
       ∙ ap (during_next begun start.number (more entry).since entry) found)
@@ -69,12 +70,13 @@ module _ {C R : Type 0} (begun : List ConnId) (start : Start C R) (stage : Stage
       )
 
   -- an entry that changes nothing
-  pub unchanged : (entry : TellingEntry) → is_stop entry.telling ≡ false → is_departure entry.telling ≡ false
+  pub unchanged : (entry : TellingEntry) → is_stop entry.telling ≡ false → is_failure entry.telling ≡ false
+      → is_departure entry.telling ≡ false
       → place_or entry.telling None ≡ None
       → counted_entries stage (entries ++ entry ∷ []) ≡ counted_entries stage entries ++ entry ∷ []
       → is_awaited stage start.number entry.telling ≡ false
       → Some now ≡ rebuild_since begun (more entry)
-  unchanged entry no_stop stays none more_counted other =
+  unchanged entry no_stop works stays none more_counted other =
       let left : members ≡ members_left begun (more entry).since = sym (members-same begun start.since entry stays) in
       let owes : owing ≡ owing_of begun (more entry) stage (entries ++ entry ∷ []) =
       filter_agree (λ conn. not (has_given stage start.number entries conn))
@@ -92,15 +94,16 @@ module _ {C R : Type 0} (begun : List ConnId) (start : Start C R) (stage : Stage
       going-read begun (more entry) stage (entries ++ entry ∷ []) members owing
       (fresh_in stage (first_place start.since))
       left owes (place-same entry none).0 (ap is_empty (sym left) ∙ some) goes
-      ∙ sym (read-more entry no_stop)
+      ∙ sym (read-more entry no_stop works)
 
   -- an entry that gives what the stage waits for
   given : (entry : TellingEntry) (fresh : Option CfId) → is_stop entry.telling ≡ false
+      → is_failure entry.telling ≡ false
       → is_emptying entry.telling ≡ false
       → is_departure entry.telling ≡ false → is_awaited stage start.number entry.telling ≡ true
       → IsPlaced begun (more entry) stage (entries ++ entry ∷ []) fresh
       → rebuild_given true entry.by (record now { fresh = fresh }) ≡ rebuild_since begun (more entry)
-  given entry fresh no_stop keeps stays awaited placed =
+  given entry fresh no_stop works keeps stays awaited placed =
       let left : members ≡ members_left begun (more entry).since = sym (members-same begun start.since entry stays) in
       let owes : without_member entry.by owing ≡ owing_of begun (more entry) stage (entries ++ entry ∷ []) =
       sym (owing-given stage start.number entries entry keeps awaited members)
@@ -109,17 +112,18 @@ module _ {C R : Type 0} (begun : List ConnId) (start : Start C R) (stage : Stage
       onward-read begun (more entry) stage (entries ++ entry ∷ []) members (without_member entry.by owing) fresh left
       owes
       placed
-      ∙ sym (read-more entry no_stop)
+      ∙ sym (read-more entry no_stop works)
 
   pub given_or_not : (b : Bool) (entry : TellingEntry) → is_stop entry.telling ≡ false
+      → is_failure entry.telling ≡ false
       → is_emptying entry.telling ≡ false
       → is_departure entry.telling ≡ false → place_or entry.telling None ≡ None
       → is_awaited stage start.number entry.telling ≡ b
       → rebuild_given b entry.by now ≡ rebuild_since begun (more entry)
-  given_or_not true entry no_stop keeps stays none awaited =
-      given entry (fresh_in stage (first_place start.since)) no_stop keeps stays awaited (place-same entry none)
-  given_or_not false entry no_stop keeps stays none other =
-      unchanged entry no_stop stays none (more-counted stage entries entry keeps) other
+  given_or_not true entry no_stop works keeps stays none awaited =
+      given entry (fresh_in stage (first_place start.since)) no_stop works keeps stays awaited (place-same entry none)
+  given_or_not false entry no_stop works keeps stays none other =
+      unchanged entry no_stop works stays none (more-counted stage entries entry keeps) other
 
   -- a departure
   owes_without : (by : ConnId) (s : Stage) → stage ≡ s
@@ -168,7 +172,7 @@ module _ {C R : Type 0} (begun : List ConnId) (start : Start C R) (stage : Stage
       ∙ ap (λ (l : List ConnId). filter (λ conn. not (has_given stage start.number (entries ++ entry ∷ []) conn)) l)
       left)
       (place-same entry refl)
-      ∙ sym (read-more entry refl)
+      ∙ sym (read-more entry refl refl)
 
   -- a connection is forced away
   pub forced_by : (by : ConnId) (s : Stage) → stage ≡ s
@@ -178,7 +182,7 @@ module _ {C R : Type 0} (begun : List ConnId) (start : Start C R) (stage : Stage
       elsewhere : stage ≢ Copy → is_awaited stage start.number Forces ≡ false
           → Some now ≡ rebuild_since begun (more (record { by = by; telling = Forces }))
       elsewhere other none =
-          unchanged (record { by = by; telling = Forces }) refl refl refl
+          unchanged (record { by = by; telling = Forces }) refl refl refl refl
           (elsewhere-counted stage entries (record { by = by; telling = Forces }) other) none
 
       by_stage : (s : Stage) → stage ≡ s
@@ -204,7 +208,7 @@ module _ {C R : Type 0} (begun : List ConnId) (start : Start C R) (stage : Stage
           going-read begun (more entry) stage (entries ++ entry ∷ []) members members
           (fresh_in stage (first_place start.since)) left owes (place-same entry refl).0 (ap is_empty (sym left) ∙ some)
           goes
-          ∙ sym (read-more entry refl)
+          ∙ sym (read-more entry refl refl)
       by_stage Cleanup e = elsewhere (λ c. absurd cc) (ap (λ s. is_awaited s start.number Forces) e)
       by_stage Stopping e = elsewhere (λ c. absurd cc) (ap (λ s. is_awaited s start.number Forces) e)
 
@@ -217,7 +221,7 @@ module _ {C R : Type 0} (begun : List ConnId) (start : Start C R) (stage : Stage
       let fresh : Some (unwrap_or (fresh_in stage (first_place start.since)) cf) ≡ first_place (more entry).since =
       ap (λ s. Some (unwrap_or (fresh_in s (first_place start.since)) cf)) is ∙ sym place in
       ap (λ b. rebuild_given b by (with_place cf now)) (ap (λ s. is_awaited s start.number (Places cf)) is)
-      ∙ given entry (Some (unwrap_or (fresh_in stage (first_place start.since)) cf)) refl refl refl
+      ∙ given entry (Some (unwrap_or (fresh_in stage (first_place start.since)) cf)) refl refl refl refl
       (ap (λ s. is_awaited s start.number (Places cf)) is) (
         fresh ∙ sym (ap (λ s. fresh_in s (first_place (more entry).since)) is),
         λ next after. ap (fresh_in next) fresh,
@@ -235,10 +239,18 @@ module _ {C R : Type 0} (begun : List ConnId) (start : Start C R) (stage : Stage
       left
       (left ∙ sym (all-owe (has_given Stopping start.number []) (given-none Stopping start.number)
       (members_left begun (more entry).since))) refl)
-      ∙ sym (ap (λ d. cond (is_empty (members_left begun (more entry).since)) None
+      ∙ sym (intact-read begun (more entry) (intact-more start.since entry intact refl)
+      ∙ ap (λ d. cond (is_empty (members_left begun (more entry).since)) None
       (option_map (rebuild_during begun (more entry)) d)) (stage-stopped begun start.number start.since entry refl none)
       ∙ ap (λ b. cond b None (Some (rebuild_during begun (more entry) (record { stage = Stopping; entries = [] }))))
       (ap is_empty (sym left) ∙ some))
+
+  -- a failure of the structure
+  pub failed : (by : ConnId)
+      → rebuild_by by Fails now ≡ rebuild_since begun (more (record { by = by; telling = Fails }))
+  failed by =
+      let entry : TellingEntry = record { by = by; telling = Fails } in
+      sym (failed-read begun (more entry) (failed-now start.since entry refl))
 
   pub early_is : IsEarly stage → stage ≢ Stopping
   early_is early stopping =

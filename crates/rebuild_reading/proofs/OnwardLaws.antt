@@ -1,5 +1,5 @@
 -- A stage that may have passed with an entry, as counters move it on and as it is read.
-use Rattle.std.proofs.Common.{◌≡◌, ◌≢◌, ℕ, Bool, true, false, not, ◌&&◌, cond, List, [], ◌∷◌, Option, None, Some, option_map, filter, refl, sym, ap, ◌∙◌}
+use Rattle.std.proofs.Common.{◌≡◌, ◌≢◌, ℕ, Bool, true, false, not, ◌&&◌, ◌||◌, cond, List, [], ◌∷◌, Option, None, Some, option_map, filter, refl, sym, ap, ◌∙◌}
 use Rattle.cf_types.specs.declared.events.Stage.{Stage}
 use Rattle.cf_types.specs.declared.events.Stage.TheVariants.{Quiesce, Connect, Copy, Cleanup, Stopping}
 use Rattle.cf_types.specs.declared.forms.Caps.{Caps}
@@ -10,8 +10,8 @@ use Rattle.rebuild_core.specs.declared.passed.Passed.TheVariants.{No, Into, Ende
 use Rattle.rebuild_core.specs.declared.rebuild.Rebuild.{Rebuild}
 use Rattle.rebuild_core.specs.Stages.{next_stage, fresh_in, rebuild_onward}
 use Rattle.rebuild_reading.specs.Tellings.{TellingEntry}
-use Rattle.rebuild_reading.specs.Readings.{Start, has_given, is_empty, is_passed, members_left, first_place, rebuild_during}
-use Rattle.rebuild_reading.proofs.ListFacts.{all-none_left}
+use Rattle.rebuild_reading.specs.Readings.{Start, has_failure, has_given, is_empty, is_passed, members_left, first_place, stage_of, rebuild_during, rebuild_since}
+use Rattle.rebuild_reading.proofs.ListFacts.{all-none_left, or_false, or_true}
 use Rattle.rebuild_reading.proofs.StageLaws.{given-none, during_behind}
 use Rattle.rebuild_reading.proofs.GivenLaws.{all-owe}
 
@@ -30,6 +30,28 @@ pub same_rebuild : (number : ℕ) (stage : Stage) (caps : Caps) (members members
     (fresh fresh' : Option CfId) → members ≡ members' → owing ≡ owing' → fresh ≡ fresh'
     → rebuild_of number stage caps members owing fresh ≡ rebuild_of number stage caps members' owing' fresh'
 same_rebuild number stage caps members members' owing owing' fresh fresh' a b c = rw (a, b, c) refl
+
+-- ---- the structure, failed or not
+
+module _ {C R : Type 0} (begun : List ConnId) (start : Start C R) where
+  abbrev read_if : Bool → Option Rebuild
+  read_if ended =
+      cond ended None (option_map (rebuild_during begun start) (stage_of begun start.number start.since))
+
+  -- where it didn't fail, a rebuild has ended only with nobody left, or behind its stages
+  pub intact-read : has_failure start.since ≡ false
+      → rebuild_since begun start ≡ read_if (is_empty (members_left begun start.since))
+  intact-read intact =
+      ap (λ b. read_if (is_empty (members_left begun start.since) || b)) intact
+      ∙ ap read_if (or_false (is_empty (members_left begun start.since)))
+
+  -- where it failed there is none
+  pub failed-read : has_failure start.since ≡ true → rebuild_since begun start ≡ None
+  failed-read failed =
+      ap (λ b. read_if (is_empty (members_left begun start.since) || b)) failed
+      ∙ ap read_if (or_true (is_empty (members_left begun start.since)))
+
+-- ---- a stage that may have passed
 
 module _ {C R : Type 0} (begun : List ConnId) (start : Start C R) (stage : Stage) (entries : List TellingEntry) where
   abbrev pub left : List ConnId

@@ -1,5 +1,5 @@
 -- The rebuild that counters keep is the one that the history tells of.
-use Rattle.std.proofs.Common.{◌≡◌, ◌≢◌, ⊎_elim, ℕ, Bool, true, false, not, cond, List, [], ◌∷◌, ◌++◌, Option, None, Some, option_map, filter, refl, sym, ap, ◌∙◌, subst, append_assoc, append-nil}
+use Rattle.std.proofs.Common.{◌≡◌, ◌≢◌, ⊎_elim, ℕ, Bool, true, false, not, ◌||◌, cond, List, [], ◌∷◌, ◌++◌, Option, None, Some, option_map, filter, refl, sym, ap, ◌∙◌, subst, append_assoc, append-nil}
 use Rattle.std.proofs.lemmas.List.{map-append}
 use Rattle.cf_types.specs.declared.events.Stage.{Stage}
 use Rattle.cf_types.specs.declared.events.Stage.TheVariants.{Quiesce, Connect, Copy, Cleanup, Stopping}
@@ -10,13 +10,13 @@ use Rattle.engine_api.specs.declared.histories.Entry.{Entry}
 use Rattle.rebuild_core.specs.declared.rebuild.Rebuild.{Rebuild}
 use Rattle.rebuild_core.specs.Stages.{next_stage, new_rebuild}
 use Rattle.rebuild_reading.specs.Tellings.{Telling, TellingEntry, telling_entry, is_stop, is_awaited}
-use Rattle.rebuild_reading.specs.Tellings.Telling.{Starts, Places, Completes, Responds, Stops, Departs, Forces, Nothing}
-use Rattle.rebuild_reading.specs.Readings.{Start, During, departs, has_given, is_empty, is_passed, members_left, place_or, first_place, stage_from, stage_of, start_at, start_or, last_start, rebuild_during, rebuild_since, rebuild_from, rebuild_told}
+use Rattle.rebuild_reading.specs.Tellings.Telling.{Starts, Places, Completes, Responds, Stops, Departs, Forces, Fails, Nothing}
+use Rattle.rebuild_reading.specs.Readings.{Start, During, departs, has_failure, has_given, is_empty, is_passed, members_left, place_or, first_place, stage_from, stage_of, start_at, start_or, last_start, rebuild_during, rebuild_since, rebuild_from, rebuild_told}
 use Rattle.rebuild_reading.specs.Steps.{rebuild_by, rebuild_if, rebuild_next, rebuild_kept, IsInStage, IsEarly, MayBeTold, MayAllBeTold}
 use Rattle.rebuild_reading.proofs.StageLaws.{given-none, passed-none, during_behind, during_next, stage-more, stage-stopped, no-stop}
-use Rattle.rebuild_reading.proofs.GivenLaws.{members-more, more-counted, all-owe, place-more}
-use Rattle.rebuild_reading.proofs.OnwardLaws.{same_rebuild}
-use Rattle.rebuild_reading.proofs.NextLaws.{unchanged, given_or_not, departed, forced_by, placed, stopped, early_is}
+use Rattle.rebuild_reading.proofs.GivenLaws.{members-more, more-counted, all-owe, failed-still, place-more}
+use Rattle.rebuild_reading.proofs.OnwardLaws.{same_rebuild, failed-read}
+use Rattle.rebuild_reading.proofs.NextLaws.{unchanged, given_or_not, departed, forced_by, placed, stopped, failed, early_is}
 
 -- ---- the last start
 
@@ -37,6 +37,7 @@ module _ {C R : Type 0} where
   no_start entries Stops none = refl
   no_start entries Departs none = refl
   no_start entries Forces none = refl
+  no_start entries Fails none = refl
   no_start entries Nothing none = refl
 
   start_longer : (entries : List (Entry C R)) (entry : Entry C R) (telling : Telling)
@@ -50,6 +51,7 @@ module _ {C R : Type 0} where
   start_longer entries entry Stops = refl
   start_longer entries entry Departs = refl
   start_longer entries entry Forces = refl
+  start_longer entries entry Fails = refl
   start_longer entries entry Nothing = refl
 
   or_longer : (first : Entry C R) (entries : List (Entry C R)) (entry : Entry C R) (later : Option (Start C R))
@@ -88,7 +90,7 @@ begins : {C R : Type 0} (begun : List ConnId) (number : ℕ) (caps : Caps) (befo
 begins {C} {R} begun number caps before conn others some =
     let left = filter-always begun in
     let start : Start C R = record { number = number; caps = caps; before = before; since = [] } in
-    ap (λ b. cond b None (option_map (rebuild_during begun start) (stage_of begun number [])))
+    ap (λ b. cond (b || false) None (option_map (rebuild_during begun start) (stage_of begun number [])))
     (ap is_empty (left ∙ some))
     ∙ ap (λ b. option_map (rebuild_during begun start)
     (cond b (stage_from begun number (Connect ∷ Copy ∷ Cleanup ∷ []) [] []) (Some (record {
@@ -123,27 +125,32 @@ module _ {C R : Type 0} (begun : List ConnId) (start : Start C R) (by : ConnId) 
   under_way : (actives : List ConnId) (telling : Telling) (stage : Stage) (entries : List TellingEntry)
       → is_start telling ≡ false
       → stage_of begun start.number start.since ≡ Some (record { stage = stage; entries = entries })
-      → is_empty (members_left begun start.since) ≡ false → (stage ≡ Quiesce → first_place start.since ≡ None)
+      → is_empty (members_left begun start.since) ≡ false → has_failure start.since ≡ false
+      → (stage ≡ Quiesce → first_place start.since ≡ None)
       → MayBeTold actives telling (Some (rebuild_during begun start (record { stage = stage; entries = entries })))
       → rebuild_by by telling (rebuild_during begun start (record { stage = stage; entries = entries }))
       ≡ rebuild_since begun (more telling)
-  under_way actives (Starts number caps) stage entries none found some quiet may = absurd cc
-  under_way actives (Places cf) stage entries none found some quiet may =
-      placed begun start stage entries found some quiet by cf may
-  under_way actives Completes stage entries none found some quiet may =
-      given_or_not begun start stage entries found some quiet (is_awaited stage start.number Completes)
-      (record { by = by; telling = Completes }) refl refl refl refl refl
-  under_way actives (Responds event) stage entries none found some quiet may =
-      given_or_not begun start stage entries found some quiet (is_awaited stage start.number (Responds event))
-      (record { by = by; telling = Responds event }) refl refl refl refl refl
-  under_way actives Stops stage entries none found some quiet may =
-      stopped begun start stage entries found some quiet by (early_is begun start stage entries found some quiet may)
-  under_way actives Departs stage entries none found some quiet may =
-      departed begun start stage entries found some quiet by
-  under_way actives Forces stage entries none found some quiet may =
-      forced_by begun start stage entries found some quiet by stage refl
-  under_way actives Nothing stage entries none found some quiet may =
-      unchanged begun start stage entries found some quiet (record { by = by; telling = Nothing }) refl refl refl
+  under_way actives (Starts number caps) stage entries none found some intact quiet may = absurd cc
+  under_way actives (Places cf) stage entries none found some intact quiet may =
+      placed begun start stage entries found some intact quiet by cf may
+  under_way actives Completes stage entries none found some intact quiet may =
+      given_or_not begun start stage entries found some intact quiet (is_awaited stage start.number Completes)
+      (record { by = by; telling = Completes }) refl refl refl refl refl refl
+  under_way actives (Responds event) stage entries none found some intact quiet may =
+      given_or_not begun start stage entries found some intact quiet (is_awaited stage start.number (Responds event))
+      (record { by = by; telling = Responds event }) refl refl refl refl refl refl
+  under_way actives Stops stage entries none found some intact quiet may =
+      stopped begun start stage entries found some intact quiet by
+      (early_is begun start stage entries found some intact quiet may)
+  under_way actives Departs stage entries none found some intact quiet may =
+      departed begun start stage entries found some intact quiet by
+  under_way actives Forces stage entries none found some intact quiet may =
+      forced_by begun start stage entries found some intact quiet by stage refl
+  under_way actives Fails stage entries none found some intact quiet may =
+      failed begun start stage entries found some intact quiet by
+  under_way actives Nothing stage entries none found some intact quiet may =
+      unchanged begun start stage entries found some intact quiet (record { by = by; telling = Nothing })
+      refl refl refl refl
       (more-counted stage entries (record { by = by; telling = Nothing }) refl) (never_awaited stage start.number)
 
   -- nobody is left
@@ -180,33 +187,41 @@ module _ {C R : Type 0} (begun : List ConnId) (start : Start C R) (by : ConnId) 
   over actives Forces found may none =
       stage-more begun start.number start.since (record { by = by; telling = Forces }) refl
       ∙ ap (during_next begun start.number (more Forces).since (record { by = by; telling = Forces })) found
+  over actives Fails found may none =
+      stage-more begun start.number start.since (record { by = by; telling = Fails }) refl
+      ∙ ap (during_next begun start.number (more Fails).since (record { by = by; telling = Fails })) found
   over actives Nothing found may none =
       stage-more begun start.number start.since (record { by = by; telling = Nothing }) refl
       ∙ ap (during_next begun start.number (more Nothing).since (record { by = by; telling = Nothing })) found
 
-  by_state : (actives : List ConnId) (telling : Telling) (empty : Bool) (during : Option During)
+  abbrev is_ended : List TellingEntry → Bool
+  is_ended since = is_empty (members_left begun since) || has_failure since
+
+  by_state : (actives : List ConnId) (telling : Telling) (empty fails : Bool) (during : Option During)
       → is_start telling ≡ false → IsQuiet → is_empty (members_left begun start.since) ≡ empty
-      → stage_of begun start.number start.since ≡ during
-      → MayBeTold actives telling (cond empty None (option_map (rebuild_during begun start) during))
-      → rebuild_if by telling (cond empty None (option_map (rebuild_during begun start) during))
+      → has_failure start.since ≡ fails → stage_of begun start.number start.since ≡ during
+      → MayBeTold actives telling (cond (empty || fails) None (option_map (rebuild_during begun start) during))
+      → rebuild_if by telling (cond (empty || fails) None (option_map (rebuild_during begun start) during))
       ≡ rebuild_since begun (more telling)
-  by_state actives telling true during none quiet empty found may =
-      sym (ap (λ b. cond b None (option_map (rebuild_during begun (more telling))
+  by_state actives telling true fails during none quiet empty fail found may =
+      sym (ap (λ b. cond (b || has_failure (more telling).since) None (option_map (rebuild_during begun (more telling))
       (stage_of begun start.number (more telling).since))) (ended telling empty))
-  by_state actives telling false None none quiet empty found may =
-      sym (ap (λ d. cond (is_empty (members_left begun (more telling).since)) None
-      (option_map (rebuild_during begun (more telling)) d)) (over actives telling found may none)
-      ∙ cond_none (is_empty (members_left begun (more telling).since)))
-  by_state actives telling false (Some during) none quiet empty found may =
-      under_way actives telling during.stage during.entries none found empty (quiet during found) may
+  by_state actives telling false true during none quiet some fail found may =
+      sym (failed-read begun (more telling) (failed-still start.since (record { by = by; telling = telling }) fail))
+  by_state actives telling false false None none quiet some intact found may =
+      sym (ap (λ d. cond (is_ended (more telling).since) None (option_map (rebuild_during begun (more telling)) d))
+      (over actives telling found may none)
+      ∙ cond_none (is_ended (more telling).since))
+  by_state actives telling false false (Some during) none quiet some intact found may =
+      under_way actives telling during.stage during.entries none found some intact (quiet during found) may
 
   -- the rebuild as it is read moves on with each entry that is no start
   read-more : (actives : List ConnId) (telling : Telling) → is_start telling ≡ false → IsQuiet
       → MayBeTold actives telling (rebuild_since begun start)
       → rebuild_if by telling (rebuild_since begun start) ≡ rebuild_since begun (more telling)
   read-more actives telling none quiet may =
-      by_state actives telling (is_empty (members_left begun start.since)) (stage_of begun start.number start.since)
-      none quiet refl refl may
+      by_state actives telling (is_empty (members_left begun start.since)) (has_failure start.since)
+      (stage_of begun start.number start.since) none quiet refl refl refl may
 
   -- ---- no place is told before CONNECT
 
@@ -244,8 +259,8 @@ module _ {C R : Type 0} (begun : List ConnId) (start : Start C R) (by : ConnId) 
       (sym (stage-more begun start.number start.since entry other) ∙ found) is in
       place-more start.since entry none ∙ quiet was.0 was.1.0 was.1.1
 
-  in_stage : (holds : Stage → Type 0) (empty : Bool) (rebuild : Rebuild)
-      → IsInStage holds (cond empty None (Some rebuild)) → holds rebuild.stage
+  in_stage : (holds : Stage → Type 0) (ended : Bool) (rebuild : Rebuild)
+      → IsInStage holds (cond ended None (Some rebuild)) → holds rebuild.stage
   in_stage holds true rebuild is = absurd is
   in_stage holds false rebuild is = is
 
@@ -257,17 +272,16 @@ module _ {C R : Type 0} (begun : List ConnId) (start : Start C R) (by : ConnId) 
       let was = was_quiet (Places cf) (stage_of begun start.number start.since) during
       (sym (stage-more begun start.number start.since entry refl) ∙ found) is in
       let connect : was.0.stage ≡ Connect =
-      in_stage (λ stage. stage ≡ Connect) (is_empty (members_left begun start.since)) (rebuild_during begun start was.0)
+      in_stage (λ stage. stage ≡ Connect) (is_ended start.since) (rebuild_during begun start was.0)
       (subst (λ (d : Option During). IsInStage (λ stage. stage ≡ Connect)
-      (cond (is_empty (members_left begun start.since)) None (option_map (rebuild_during begun start) d))) was.1.0 may)
-      in
+      (cond (is_ended start.since) None (option_map (rebuild_during begun start) d))) was.1.0 may) in
       absurd (apart (sym connect ∙ was.1.1))
     where
       apart : Connect ≡ Quiesce → ⊥
       apart e = cc
 
-  some_stage : (empty : Bool) (during : Option During)
-      → IsInStage IsEarly (cond empty None (option_map (rebuild_during begun start) during))
+  some_stage : (ended : Bool) (during : Option During)
+      → IsInStage IsEarly (cond ended None (option_map (rebuild_during begun start) during))
       → (d : During) × ((during ≡ Some d) × IsEarly d.stage)
   some_stage true during is = absurd is
   some_stage false None is = absurd is
@@ -278,7 +292,7 @@ module _ {C R : Type 0} (begun : List ConnId) (start : Start C R) (by : ConnId) 
       → first_place (more Stops).since ≡ None
   quiet_stopped may during found is =
       let entry : TellingEntry = record { by = by; telling = Stops } in
-      let now = some_stage (is_empty (members_left begun start.since)) (stage_of begun start.number start.since) may in
+      let now = some_stage (is_ended start.since) (stage_of begun start.number start.since) may in
       let none = no-stop begun start.number start.since now.0 now.1.0 (not_stopping now.0.stage now.1.1) in
       absurd (apart (sym (stage-stopped begun start.number start.since entry refl none) ∙ found) is)
     where
@@ -301,6 +315,7 @@ module _ {C R : Type 0} (begun : List ConnId) (start : Start C R) (by : ConnId) 
   quiet-more actives Stops none quiet may = quiet_stopped may
   quiet-more actives Departs none quiet may = quiet_other Departs refl refl quiet
   quiet-more actives Forces none quiet may = quiet_other Forces refl refl quiet
+  quiet-more actives Fails none quiet may = quiet_other Fails refl refl quiet
   quiet-more actives Nothing none quiet may = quiet_other Nothing refl refl quiet
 
 -- ---- whole histories
@@ -314,6 +329,7 @@ next_if actives by (Responds event) rebuild none = refl
 next_if actives by Stops rebuild none = refl
 next_if actives by Departs rebuild none = refl
 next_if actives by Forces rebuild none = refl
+next_if actives by Fails rebuild none = refl
 next_if actives by Nothing rebuild none = refl
 
 module _ {C R : Type 0} (actives_after : List (Entry C R) → List ConnId) where
@@ -384,6 +400,8 @@ module _ {C R : Type 0} (actives_after : List (Entry C R) → List ConnId) where
   reads_either before entry Departs is quiet may =
       reads_other before entry (last_start before) (ap is_start is) refl quiet may
   reads_either before entry Forces is quiet may =
+      reads_other before entry (last_start before) (ap is_start is) refl quiet may
+  reads_either before entry Fails is quiet may =
       reads_other before entry (last_start before) (ap is_start is) refl quiet may
   reads_either before entry Nothing is quiet may =
       reads_other before entry (last_start before) (ap is_start is) refl quiet may

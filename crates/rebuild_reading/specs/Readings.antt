@@ -1,5 +1,5 @@
 -- The rebuild that a history tells of, read from its entries.
-use Rattle.std.specs.Prelude.{ℕ, Bool, true, false, not, ◌&&◌, ◌==◌, if◌then◌else◌, List, [], ◌∷◌, ◌++◌, length, drop, filter, Option, None, Some, option_map}
+use Rattle.std.specs.Prelude.{ℕ, Bool, true, false, not, ◌&&◌, ◌||◌, ◌==◌, if◌then◌else◌, List, [], ◌∷◌, ◌++◌, length, drop, filter, Option, None, Some, option_map}
 use Rattle.std.specs.List.{list_any, list_all}
 use Rattle.cf_types.specs.declared.events.Stage.{Stage}
 use Rattle.cf_types.specs.declared.events.Stage.TheVariants.{Quiesce, Connect, Copy, Cleanup, Stopping}
@@ -10,7 +10,7 @@ use Rattle.engine_api.specs.declared.histories.Entry.{Entry}
 use Rattle.list_laws.specs.Prefixes.{shortest_prefix}
 use Rattle.rebuild_core.specs.declared.rebuild.Rebuild.{Rebuild}
 use Rattle.rebuild_core.specs.Stages.{fresh_in}
-use Rattle.rebuild_reading.specs.Tellings.{Telling, TellingEntry, telling_entry, told_by, is_stop, is_departure, is_emptying, is_awaited}
+use Rattle.rebuild_reading.specs.Tellings.{Telling, TellingEntry, telling_entry, told_by, is_stop, is_failure, is_departure, is_emptying, is_awaited}
 use Rattle.rebuild_reading.specs.Tellings.Telling.{Starts, Places}
 
 -- the elements behind the last one at which p holds; all of them where it holds of none
@@ -56,6 +56,9 @@ gives stage number conn entry = (conn.0 == entry.by.0) && is_awaited stage numbe
 
 abbrev pub has_stop : List TellingEntry → Bool
 has_stop entries = list_any (λ entry. is_stop entry.telling) entries
+
+abbrev pub has_failure : List TellingEntry → Bool
+has_failure entries = list_any (λ entry. is_failure entry.telling) entries
 
 -- who was active at the start and hasn't departed since
 abbrev pub members_left : List ConnId → List TellingEntry → List ConnId
@@ -127,10 +130,10 @@ module _ {C R : Type 0} where
         fresh = fresh_in during.stage (first_place start.since);
       }
 
-  -- it has ended where no member is left
+  -- it has ended where no member is left, and where the structure failed
   abbrev pub rebuild_since : List ConnId → Start C R → Option Rebuild
   rebuild_since begun start =
-      if is_empty (members_left begun start.since) then None
+      if is_empty (members_left begun start.since) || has_failure start.since then None
       else option_map (rebuild_during begun start) (stage_of begun start.number start.since)
 
   -- given who is active behind the first entries of a history

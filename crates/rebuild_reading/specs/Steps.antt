@@ -7,7 +7,7 @@ use Rattle.engine_api.specs.declared.histories.Entry.{Entry}
 use Rattle.rebuild_core.specs.declared.rebuild.Rebuild.{Rebuild}
 use Rattle.rebuild_core.specs.Stages.{new_rebuild, rebuild_in, without_owing, rebuild_without, rebuild_onward, rebuild_emptied, with_place}
 use Rattle.rebuild_reading.specs.Tellings.{Telling, telling_entry, is_awaited}
-use Rattle.rebuild_reading.specs.Tellings.Telling.{Starts, Places, Completes, Responds, Stops, Departs, Forces, Nothing}
+use Rattle.rebuild_reading.specs.Tellings.Telling.{Starts, Places, Completes, Responds, Stops, Departs, Forces, Fails, Nothing}
 
 -- a connector gave what the stage waits for, if it does
 abbrev pub rebuild_given : Bool → ConnId → Rebuild → Option Rebuild
@@ -25,6 +25,7 @@ rebuild_by by (Responds event) rebuild =
 rebuild_by by Stops rebuild = Some (rebuild_in Stopping rebuild)
 rebuild_by by Departs rebuild = rebuild_onward (rebuild_without by rebuild)
 rebuild_by by Forces rebuild = Some (rebuild_emptied rebuild.stage rebuild)
+rebuild_by by Fails rebuild = None
 rebuild_by by Nothing rebuild = Some rebuild
 
 abbrev pub rebuild_if : ConnId → Telling → Option Rebuild → Option Rebuild
@@ -40,6 +41,7 @@ rebuild_next actives by (Responds event) rebuild = rebuild_if by (Responds event
 rebuild_next actives by Stops rebuild = rebuild_if by Stops rebuild
 rebuild_next actives by Departs rebuild = rebuild_if by Departs rebuild
 rebuild_next actives by Forces rebuild = rebuild_if by Forces rebuild
+rebuild_next actives by Fails rebuild = rebuild_if by Fails rebuild
 rebuild_next actives by Nothing rebuild = rebuild_if by Nothing rebuild
 
 -- what may be told next: a start with somebody active, a place in CONNECT, a stop up to COPY
@@ -58,6 +60,7 @@ MayBeTold actives (Responds event) rebuild = Unit {0}
 MayBeTold actives Stops rebuild = IsInStage IsEarly rebuild
 MayBeTold actives Departs rebuild = Unit {0}
 MayBeTold actives Forces rebuild = Unit {0}
+MayBeTold actives Fails rebuild = Unit {0}
 MayBeTold actives Nothing rebuild = Unit {0}
 
 -- ---- a whole history

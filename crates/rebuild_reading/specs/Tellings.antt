@@ -19,8 +19,8 @@ use Rattle.engine_api.specs.declared.histories.Entry.{Entry}
 use Rattle.rebuild_core.specs.Stages.{is_response}
 
 -- what an accepted command tells: that a rebuild starts, with its number and capacity; where the new instance is; that
--- a caller completed its part, or responded to an event; that the rebuild is stopped, the caller departs, or a failed
--- connection is forced away
+-- a caller completed its part, or responded to an event; that the rebuild is stopped, the caller departs, a failed
+-- connection is forced away, or the structure fails
 pub data Telling : Type 0 where
   Starts : ℕ → Caps → Telling
   Places : CfId → Telling
@@ -29,7 +29,14 @@ pub data Telling : Type 0 where
   Stops : Telling
   Departs : Telling
   Forces : Telling
+  Fails : Telling
   Nothing : Telling
+
+-- what stood in a facility is lost: the new instance, so that the rebuild is stopped, or the structure's last one
+abbrev pub mark_telling : ShellReply → Telling
+mark_telling (shown.Stopped number) = Stops
+mark_telling shown.FailedNow = Fails
+mark_telling _ = Nothing
 
 abbrev pub telling : ShellCmd → ShellReply → Telling
 telling (cmd.RebuildStart caps) (shown.OkNumber number) = Starts number caps
@@ -40,6 +47,7 @@ telling cmd.RebuildStop shown.Ok = Stops
 telling cmd.Disconnect shown.Ok = Departs
 telling cmd.Fail shown.Ok = Departs
 telling (cmd.ForceConn conn) shown.Ok = Forces
+telling (cmd.Vary cf off) answer = mark_telling answer
 telling _ _ = Nothing
 
 -- an entry as far as it tells of a rebuild
@@ -50,6 +58,7 @@ pub record TellingEntry : Type 0 where
 module _ {C R : Type 0} where
   abbrev pub telling_of : What C → Reply R → Telling
   telling_of (what.Call (ask.Shell command)) (reply.Shell answer) = telling command answer
+  telling_of (what.Lost cf) (reply.Shell answer) = mark_telling answer
   telling_of _ _ = Nothing
 
   abbrev pub telling_entry : Entry C R → TellingEntry
@@ -63,6 +72,10 @@ module _ {C R : Type 0} where
 abbrev pub is_stop : Telling → Bool
 is_stop Stops = true
 is_stop _ = false
+
+abbrev pub is_failure : Telling → Bool
+is_failure Fails = true
+is_failure _ = false
 
 abbrev pub is_departure : Telling → Bool
 is_departure Departs = true

@@ -12,6 +12,7 @@ use Rattle.cf_types.specs.declared.forms.StrForm.{StrForm}
 use Rattle.cf_types.specs.declared.numbers.CfId.{CfId}
 use Rattle.cf_types.specs.declared.numbers.ConnId.{ConnId}
 use Rattle.cf_types.specs.declared.refusals.Refusal.{Refusal}
+use Rattle.cf_types.specs.declared.refusals.Refusal.TheVariants as refusal
 use Rattle.cf_types.specs.declared.shell_commands.ShellCmd.{ShellCmd}
 use Rattle.cf_types.specs.declared.shell_commands.ShellCmd.TheVariants as cmd
 use Rattle.cf_types.specs.declared.shell_commands.ShellReply.TheVariants as shown
@@ -27,21 +28,23 @@ use Rattle.engine_api.specs.declared.histories.Entry.{Entry}
 use Rattle.engine_api.specs.declared.shapes.Shape.{Shape}
 use Rattle.engine_api.specs.History.{after_what, machine_after, replay}
 use Rattle.engine_api.specs.Items.{Fits, IsNoMore, IsNoMoreOf}
-use Rattle.engine_api.specs.Machine.{Machine, opening, step, unless, room_of, command_done, content_done, content_after, departure_from, with_made, with_back_of}
+use Rattle.engine_api.specs.Machine.{Machine, opening, step, loss_step, unless, with_entered, room_of, command_done, content_done, content_after, departure_from, with_made, with_back_of}
 use Rattle.engine_api.specs.Meaning.{Meaning, step_result, first_refusal}
 use Rattle.engine_api.specs.Rebuilds.{fresh_of, is_switch, is_held_up, letters_past}
 use Rattle.engine_api.specs.Shapes.{shape_of}
-use Rattle.engine_api.specs.Shell.{Shell, ShellOutcome, Leaver, shell_cause, content_cause, if_small, if_too_small, if_rebuilding, unless_active, unless_rebuilding, unless_owed, is_connect, unless_copied_to, no_deeds, with_posted, goes, deallocated, unless_gone, facility_of, is_kept, switched, shell_onward, shell_without, given_outcome, stop_outcome, fresh_made, rebuild_connect_outcome, complete_outcome, departing_shell, emptied, take_event, conns_answered, responded, response_outcome}
+use Rattle.engine_api.specs.Shell.{if_failed, simplex_again, with_off, Shell, ShellOutcome, Leaver, shell_cause, content_cause, if_small, if_too_small, if_rebuilding, unless_active, unless_rebuilding, unless_owed, is_connect, unless_copied_to, no_deeds, with_posted, goes, deallocated, unless_gone, facility_of, is_kept, switched, shell_onward, shell_without, given_outcome, stop_outcome, fresh_made, rebuild_connect_outcome, complete_outcome, departing_shell, emptied, take_event, conns_answered, responded, response_outcome}
 use Rattle.rebuild_core.specs.declared.passed.Passed.{Passed}
 use Rattle.rebuild_core.specs.declared.passed.Passed.TheVariants.{No, Into, Ended}
 use Rattle.rebuild_core.specs.declared.rebuild.Rebuild.{Rebuild}
 use Rattle.rebuild_core.specs.Stages.{outcome_of, rebuild_in, rebuild_left, rebuild_emptied, rebuild_without, with_place, without_owing, is_response}
 use Rattle.rebuild_shell.specs.Capacities.{HasRoom, IsHeld}
 use Rattle.rebuild_shell.specs.Members.{IsPlaced, HasPlace, IsManned}
+use Rattle.rebuild_shell.proofs.LossLaws.{InEachCase, loss-cases, vary-cases}
+use Rattle.rebuild_shell.proofs.CauseLaws.{idle_rebuild, not_above, not_so, past_first, past_second, second_none, third_none}
 use Rattle.rebuild_shell.proofs.StepLaws.{acting, done, first_none, active_of, active_member, somebody_member}
 use Rattle.rebuild_shell.proofs.PlaceLaws.{switch_stands, no_switch}
 use Rattle.engine_api.proofs.ShellLaws.{conns-unless_gone}
-use Rattle.rebuild_shell.proofs.MemberLaws.{second_none, past_first, not_above, idle_rebuild, content_waits, manned-after, manned-opening}
+use Rattle.rebuild_shell.proofs.MemberLaws.{content_waits, manned-after, manned-opening}
 
 -- ---- needs and capacities
 
@@ -252,6 +255,17 @@ module _ {C R I S : Type 0} (meaning : Meaning C R I S) (is_kind : Kind → Bool
     made_rebuilding true (Some cf) content is = refl
     made_rebuilding false (Some cf) content is = absurd (cc)
 
+    -- where an instance is lost
+    holds_lost : (machine : Machine S) (cf : CfId) (shell : Shell) → Holds shell machine.content
+        → InEachCase form cf shell (λ acted. Holds acted.shell
+        (content_after meaning form (is_some machine.shell.rebuild) acted.deeds machine.content))
+    holds_lost machine cf shell holds = record {
+      none = holds;
+      simplex = λ left lost. holds;
+      stops = λ rebuild is lost. (holds.0, λ stands. absurd (cc));
+      fails = (laws.content_empty (shape_of form) form.caps, tt);
+    }
+
     module _ (machine : Machine S) (by : ConnId) (manned : IsManned machine.shell)
         (held : IsHeld meaning IsContent form machine) where
       abbrev before_it : ShellCmd → Shell
@@ -285,7 +299,7 @@ module _ {C R I S : Type 0} (meaning : Meaning C R I S) (is_kind : Kind → Bool
       holds_connect keep fine =
           let deeds = (done meaning form machine by (cmd.Connect keep)).deeds in
           let idle : machine.shell.rebuild ≡ None =
-          idle_rebuild machine.shell.rebuild (second_none _ (if_rebuilding machine.shell.rebuild) _ fine) in (
+          idle_rebuild machine.shell.rebuild (third_none _ _ (if_rebuilding machine.shell.rebuild) _ fine) in (
             content_made machine.shell.caps (is_some machine.shell.rebuild) deeds.make _
                 (content_taken_up machine.shell.caps deeds.back machine.content held.content),
             subst (λ (r : Option Rebuild). HasRoom meaning form r
@@ -352,14 +366,17 @@ module _ {C R I S : Type 0} (meaning : Meaning C R I S) (is_kind : Kind → Bool
               manned.primary (somebody_member by (actives shell.conns)
               (active_member shell.conns by manned.places
               (active_of (is_active shell.conns by) (first_none (unless_active shell by) _ fine))))
+              (not_so shell.failed refusal.StructureFailed
+              (second_none (unless_active shell by) (if_failed shell) _ fine))
 
           go : (fresh : Option CfId) → rebuild.fresh ≡ fresh → Fits form.kind (need_of machine.content) rebuild.caps
           go (Some cf) at_place =
               subst (λ (r : Option Rebuild). HasRoom meaning form r machine.content) is held.room (rw at_place refl)
           go None at_place =
               let past : first_refusal (unless_copied_to form shell room by shell.rebuild) ≡ None =
-              past_first owed copied (past_first (unless_rebuilding shell.rebuild) (owed ∷ copied)
-              (past_first (unless_active shell by) (unless_rebuilding shell.rebuild ∷ owed ∷ copied) fine)) in
+              past_second (unless_rebuilding shell.rebuild) owed copied
+              (past_second (unless_active shell by) (if_failed shell)
+              (unless_rebuilding shell.rebuild ∷ owed ∷ copied) fine) in
               let fits : Fits form.kind room.need rebuild.caps =
               fits_first form shell room by rebuild at_place
               (subst (λ (r : Option Rebuild). first_refusal (unless_copied_to form shell room by r) ≡ None) is past) in
@@ -385,6 +402,17 @@ module _ {C R I S : Type 0} (meaning : Meaning C R I S) (is_kind : Kind → Bool
       holds_completion None placed room = same
       holds_completion (Some rebuild) placed room =
           holds_given rebuild (before_it cmd.RebuildComplete) placed room held.content
+
+      -- ---- instances that are lost or dropped
+
+      holds_vary : (cf : CfId) (off : Bool) → HoldsBehind (done meaning form machine by (cmd.Vary cf off))
+      holds_vary cf off =
+          vary-cases form cf off (before_it (cmd.Vary cf off)) HoldsBehind same
+          (holds_lost machine cf (with_off cf true (before_it (cmd.Vary cf off))) same)
+
+      holds_again : (second : Option CfId) → HoldsBehind (simplex_again second (before_it cmd.DuplexStop))
+      holds_again None = same
+      holds_again (Some cf) = same
 
       holds_forced : (other : ConnId)
           → Holds (command_done meaning form machine by (cmd.ForceConn other)).machine.shell
@@ -424,9 +452,9 @@ module _ {C R I S : Type 0} (meaning : Meaning C R I S) (is_kind : Kind → Bool
       )
       holds_command (cmd.LoseConn other cf) fine = same
       holds_command (cmd.RestoreConn other cf) fine = same
-      holds_command (cmd.Vary cf off) fine = same
+      holds_command (cmd.Vary cf off) fine = holds_vary cf off
       holds_command cmd.DuplexStart fine = same
-      holds_command cmd.DuplexStop fine = same
+      holds_command cmd.DuplexStop fine = holds_again machine.shell.instances.secondary
 
       -- no new instance stands where a command on the content is accepted
       room_for_any : (rebuild : Option Rebuild) → machine.shell.rebuild ≡ rebuild
@@ -451,8 +479,8 @@ module _ {C R I S : Type 0} (meaning : Meaning C R I S) (is_kind : Kind → Bool
         go : (cause : Option Refusal)
             → shell_cause form (room_of meaning form machine) machine.shell by command ≡ cause
             → IsHeld meaning IsContent form
-            (unless meaning form cause machine (command_done meaning form machine by command)).machine
-        go (Some refusal) is = held
+            (with_entered (unless meaning form cause machine (command_done meaning form machine by command))).machine
+        go (Some refusal) is = record { content = held.content; room = held.room }
         go None is =
             let holds = holds_command machine by manned held command is in
             record { content = holds.0; room = holds.1 }
@@ -460,18 +488,26 @@ module _ {C R I S : Type 0} (meaning : Meaning C R I S) (is_kind : Kind → Bool
       where
         go : (cause : Option Refusal) → content_cause machine.shell by ≡ cause
             → IsHeld meaning IsContent form
-            (unless meaning form cause machine (content_done meaning form machine by command)).machine
-        go (Some refusal) is = held
+            (with_entered (unless meaning form cause machine (content_done meaning form machine by command))).machine
+        go (Some refusal) is = record { content = held.content; room = held.room }
         go None is = record {
           content = laws.content_step (shape_of form) machine.shell.caps machine.content by command held.content;
           room = room_for_any machine by manned held machine.shell.rebuild refl is _;
         }
 
+    pub held-loss : (machine : Machine S) → IsHeld meaning IsContent form machine → (cf : CfId)
+        → IsHeld meaning IsContent form (loss_step meaning form machine cf).machine
+    held-loss machine held cf =
+        let holds = loss-cases form cf machine.shell (λ acted. Holds acted.shell
+        (content_after meaning form (is_some machine.shell.rebuild) acted.deeds machine.content))
+        (holds_lost machine cf machine.shell (held.content, held.room)) in
+        record { content = holds.0; room = holds.1 }
+
     pub held-after : (machine : Machine S) → IsManned machine.shell → IsHeld meaning IsContent form machine
         → (by : ConnId) (told : What C)
         → IsHeld meaning IsContent form (after_what meaning form machine by told)
     held-after machine manned held by (what.Call asked) = held-step machine manned held by asked
-    held-after machine manned held by (what.Lost cf) = held
+    held-after machine manned held by (what.Lost cf) = held-loss machine held cf
 
     held-fold : (machine : Machine S) (entries : List (Entry C R)) → IsManned machine.shell
         → IsHeld meaning IsContent form machine

@@ -11,6 +11,7 @@ use Rattle.cf_types.specs.declared.forms.StrForm.{StrForm}
 use Rattle.cf_types.specs.declared.numbers.CfId.{CfId}
 use Rattle.cf_types.specs.declared.numbers.ConnId.{ConnId}
 use Rattle.cf_types.specs.declared.refusals.Refusal.{Refusal}
+use Rattle.cf_types.specs.declared.refusals.Refusal.TheVariants as refusal
 use Rattle.cf_types.specs.declared.shell_commands.ShellCmd.{ShellCmd}
 use Rattle.cf_types.specs.declared.shell_commands.ShellCmd.TheVariants as cmd
 use Rattle.cf_types.specs.declared.shell_commands.ShellReply.{ShellReply}
@@ -26,7 +27,7 @@ use Rattle.engine_api.specs.Items.{Fits}
 use Rattle.engine_api.specs.Machine.{Machine, items_of, room_of}
 use Rattle.engine_api.specs.Meaning.{Meaning, first_refusal}
 use Rattle.engine_api.specs.Rebuilds.{fresh_of, is_copy, is_switch, letters_past}
-use Rattle.engine_api.specs.Shell.{Shell, ShellOutcome, candidates, caps_in, caps_made, complete_outcome, conns_answered, deallocated, departing_shell, departure_outcome, emptied, facility_of, force_connection, fresh_made, given_outcome, goes, if_left, if_no_place, if_rebuilding, if_too_small, is_connect, is_drop, is_kept, no_deeds, rebuild_connect_outcome, responded, response_outcome, shell_cause, shell_onward, shell_without, stop_outcome, switched, take_event, unless_active, unless_copied_to, unless_failed, unless_gone, unless_owed, unless_rebuilding, with_posted}
+use Rattle.engine_api.specs.Shell.{mark_outcome, with_off, if_failed, simplex_again, Shell, ShellOutcome, candidates, caps_in, caps_made, complete_outcome, conns_answered, deallocated, departing_shell, departure_outcome, emptied, facility_of, force_connection, fresh_made, given_outcome, goes, if_left, if_no_place, if_rebuilding, if_too_small, is_connect, is_drop, is_kept, no_deeds, rebuild_connect_outcome, responded, response_outcome, shell_cause, shell_onward, shell_without, stop_outcome, switched, take_event, unless_active, unless_copied_to, unless_failed, unless_gone, unless_owed, unless_rebuilding, with_posted}
 use Rattle.engine_api.proofs.ShellLaws.{conns-unless_gone}
 use Rattle.rebuild_core.specs.declared.rebuild.Rebuild.{Rebuild}
 use Rattle.rebuild_core.specs.Stages.{fresh_in, is_response, outcome, outcome_of, rebuild_emptied, rebuild_left, rebuild_onward, rebuild_without, with_place, without_owing}
@@ -36,7 +37,9 @@ use Rattle.rebuild_shell.specs.Capacities.{AreFitting, caps_behind, fresh_behind
 use Rattle.rebuild_shell.specs.Members.{HasPlace, IsManned, IsPlaced, Somebody}
 use Rattle.rebuild_shell.proofs.StepLaws.{acting, active_member, active_of, connect_stage, done, first_none, rebuild-departing, rebuild-onward, rebuild-unless_gone, somebody_member}
 use Rattle.rebuild_shell.proofs.PlaceLaws.{no_switch, nobody_active, placed_for, switch_copy, switch_stands}
-use Rattle.rebuild_shell.proofs.MemberLaws.{idle_failed, manned-members, idle_rebuild, not_above, past_first, second_none}
+use Rattle.rebuild_shell.proofs.MemberLaws.{idle_failed, manned-members}
+use Rattle.rebuild_shell.proofs.LossLaws.{InEachCase, loss-cases, vary-cases}
+use Rattle.rebuild_shell.proofs.CauseLaws.{idle_rebuild, not_above, not_so, past_second, second_none, third_none}
 use Rattle.rebuild_shell.proofs.CapacityLaws.{fits_first}
 
 -- what the deeds make of the capacities is what the shell has behind them
@@ -336,6 +339,23 @@ place_found form shell room by rebuild fine none = go rebuild.fresh refl
         (rw is at fine) in
         rw is (placed_for units (candidates form shell by) past)
 
+-- ---- what is lost
+
+matches_lost : (form : StrForm) (cf : CfId) (shell : Shell) → InEachCase form cf shell (Matches form shell)
+matches_lost form cf shell = record {
+  none = (refl, refl);
+  simplex = λ left lost. (refl, refl);
+  stops = λ rebuild is lost. (refl, refl);
+  fails = (refl, refl);
+}
+
+-- what the deeds of a mark make of the capacities is what the shell has behind it
+pub capacities-loss : (form : StrForm) (cf : CfId) (shell : Shell)
+    → let acted = mark_outcome form cf shell in
+    (acted.shell.caps ≡ caps_behind form shell acted.deeds)
+    × (fresh_caps acted.shell.rebuild ≡ fresh_behind shell acted.deeds)
+capacities-loss form cf shell = loss-cases form cf shell (Matches form shell) (matches_lost form cf shell)
+
 -- ---- commands
 
 module _ {C R I S : Type 0} (meaning : Meaning C R I S) (form : StrForm) (machine : Machine S) (by : ConnId) where
@@ -361,8 +381,8 @@ module _ {C R I S : Type 0} (meaning : Meaning C R I S) (form : StrForm) (machin
       → first_refusal (unless_copied_to form machine.shell (room_of meaning form machine) by (Some rebuild)) ≡ None
   connecting_past rebuild is fine =
       subst (λ (r : Option Rebuild). first_refusal (unless_copied_to form shell room by r) ≡ None) is
-      (past_first owed copied (past_first (unless_rebuilding shell.rebuild) (owed ∷ copied)
-      (past_first (unless_active shell by) (unless_rebuilding shell.rebuild ∷ owed ∷ copied) fine)))
+      (past_second (unless_rebuilding shell.rebuild) owed copied
+      (past_second (unless_active shell by) (if_failed shell) (unless_rebuilding shell.rebuild ∷ owed ∷ copied) fine))
     where
       shell : Shell
       shell = machine.shell
@@ -383,10 +403,11 @@ module _ {C R I S : Type 0} (meaning : Meaning C R I S) (form : StrForm) (machin
       connect_stage form (room_of meaning form machine) machine.shell by rebuild rebuild.stage is refl fine in
       rw connect refl
 
-  idle_taken : (first : Option Refusal) (rest : List (Option Refusal))
-      → first_refusal (first ∷ if_rebuilding machine.shell.rebuild ∷ rest) ≡ None → machine.shell.rebuild ≡ None
-  idle_taken first rest fine =
-      idle_rebuild machine.shell.rebuild (second_none first (if_rebuilding machine.shell.rebuild) rest fine)
+  idle_taken : (first second : Option Refusal) (rest : List (Option Refusal))
+      → first_refusal (first ∷ second ∷ if_rebuilding machine.shell.rebuild ∷ rest) ≡ None
+      → machine.shell.rebuild ≡ None
+  idle_taken first second rest fine =
+      idle_rebuild machine.shell.rebuild (third_none first second (if_rebuilding machine.shell.rebuild) rest fine)
 
   -- ---- the capacities behind a command
 
@@ -441,6 +462,15 @@ module _ {C R I S : Type 0} (meaning : Meaning C R I S) (form : StrForm) (machin
       none : (b : Bool) → (if b then None else if b then Some rebuild.caps else None) ≡ None
       none true = refl
       none false = refl
+
+  matches_vary : (cf : CfId) (off : Bool) → MatchesBehind (done meaning form machine by (cmd.Vary cf off))
+  matches_vary cf off =
+      vary-cases form cf off (before_it (cmd.Vary cf off)) MatchesBehind (refl, refl)
+      (matches_lost form cf (with_off cf true (before_it (cmd.Vary cf off))))
+
+  matches_again : (second : Option CfId) → MatchesBehind (simplex_again second (before_it cmd.DuplexStop))
+  matches_again None = (refl, refl)
+  matches_again (Some cf) = (refl, refl)
 
   matches_connection : (rebuild : Option Rebuild) → machine.shell.rebuild ≡ rebuild → HasSomebody rebuild
       → IsTaken cmd.RebuildConnect
@@ -498,7 +528,7 @@ module _ {C R I S : Type 0} (meaning : Meaning C R I S) (form : StrForm) (machin
       (acted.shell.caps ≡ caps_behind form machine.shell acted.deeds)
       × (fresh_caps acted.shell.rebuild ≡ fresh_behind machine.shell acted.deeds)
   capacities-command (cmd.Connect keep) manned fine =
-      let idle = idle_taken _ _ fine in
+      let idle = idle_taken _ _ _ fine in
       matches_idle (done meaning form machine by (cmd.Connect keep)) idle refl (ap fresh_caps idle) refl refl
   capacities-command cmd.Disconnect manned fine =
       matches_departing (before_it cmd.Disconnect) false refl refl manned
@@ -510,7 +540,7 @@ module _ {C R I S : Type 0} (meaning : Meaning C R I S) (form : StrForm) (machin
   capacities-command cmd.Respond manned fine =
       matches_response (owed_event (before_it cmd.Respond).mail by) manned.placed (somebody_in manned)
   capacities-command (cmd.RebuildStart caps) manned fine =
-      matches_idle (done meaning form machine by (cmd.RebuildStart caps)) (idle_taken _ _ fine) refl refl refl refl
+      matches_idle (done meaning form machine by (cmd.RebuildStart caps)) (idle_taken _ _ _ fine) refl refl refl refl
   capacities-command cmd.RebuildStop manned fine = matches_stop machine.shell.rebuild refl
   capacities-command cmd.RebuildConnect manned fine =
       matches_connection machine.shell.rebuild refl (somebody_in manned) fine
@@ -531,9 +561,9 @@ module _ {C R I S : Type 0} (meaning : Meaning C R I S) (form : StrForm) (machin
       )
   capacities-command (cmd.LoseConn other cf) manned fine = (refl, refl)
   capacities-command (cmd.RestoreConn other cf) manned fine = (refl, refl)
-  capacities-command (cmd.Vary cf off) manned fine = (refl, refl)
+  capacities-command (cmd.Vary cf off) manned fine = matches_vary cf off
   capacities-command cmd.DuplexStart manned fine = (refl, refl)
-  capacities-command cmd.DuplexStop manned fine = (refl, refl)
+  capacities-command cmd.DuplexStop manned fine = matches_again machine.shell.instances.secondary
 
   -- ---- what may be done
 
@@ -565,7 +595,7 @@ module _ {C R I S : Type 0} (meaning : Meaning C R I S) (form : StrForm) (machin
   }
     where
       idle : machine.shell.rebuild ≡ None
-      idle = idle_taken _ _ fine
+      idle = idle_taken _ _ _ fine
 
   fitting_next : (taken : Option Event) → MayBeDone (take_event (before_it cmd.Next) by taken).deeds
   fitting_next None = fitting_any no_deeds refl refl refl
@@ -592,6 +622,23 @@ module _ {C R I S : Type 0} (meaning : Meaning C R I S) (form : StrForm) (machin
   fitting_stop None = fitting_any no_deeds refl refl refl
   fitting_stop (Some rebuild) = fitting_any _ refl refl refl
 
+  fitting_lost : (cf : CfId) (shell : Shell) → InEachCase form cf shell (λ acted. MayBeDone acted.deeds)
+  fitting_lost cf shell = record {
+    none = fitting_any no_deeds refl refl refl;
+    simplex = λ left lost. fitting_any _ refl refl refl;
+    stops = λ rebuild is lost. fitting_any _ refl refl refl;
+    fails = fitting_any _ refl refl refl;
+  }
+
+  fitting_vary : (cf : CfId) (off : Bool) → MayBeDone (done meaning form machine by (cmd.Vary cf off)).deeds
+  fitting_vary cf off =
+      vary-cases form cf off (before_it (cmd.Vary cf off)) (λ acted. MayBeDone acted.deeds)
+      (fitting_any no_deeds refl refl refl) (fitting_lost cf (with_off cf true (before_it (cmd.Vary cf off))))
+
+  fitting_again : (second : Option CfId) → MayBeDone (simplex_again second (before_it cmd.DuplexStop)).deeds
+  fitting_again None = fitting_any no_deeds refl refl refl
+  fitting_again (Some cf) = fitting_any _ refl refl refl
+
   -- what there is fits a new instance that is made
   fitting_made : (rebuild : Rebuild) → machine.shell.rebuild ≡ Some rebuild → IsManned machine.shell
       → IsTaken cmd.RebuildConnect → rebuild.fresh ≡ None
@@ -607,6 +654,8 @@ module _ {C R I S : Type 0} (meaning : Meaning C R I S) (form : StrForm) (machin
           manned.primary (somebody_member by (actives machine.shell.conns)
           (active_member machine.shell.conns by manned.places
           (active_of (is_active machine.shell.conns by) (first_none (unless_active machine.shell by) _ fine))))
+          (not_so machine.shell.failed refusal.StructureFailed
+          (second_none (unless_active machine.shell by) (if_failed machine.shell) _ fine))
 
   fitting_connection : (rebuild : Option Rebuild) → machine.shell.rebuild ≡ rebuild → IsManned machine.shell
       → IsTaken cmd.RebuildConnect
@@ -657,10 +706,10 @@ module _ {C R I S : Type 0} (meaning : Meaning C R I S) (form : StrForm) (machin
 
       none_left : left ≡ 0
       none_left =
-          let few = not_above 0 left _ [] (past_first owed (if_left left ∷ [])
-          (past_first (unless_rebuilding machine.shell.rebuild) (owed ∷ if_left left ∷ [])
-          (past_first (unless_active machine.shell by)
-          (unless_rebuilding machine.shell.rebuild ∷ owed ∷ if_left left ∷ []) fine))) in
+          let few = not_above 0 left _ []
+          (past_second (unless_rebuilding machine.shell.rebuild) owed (if_left left ∷ [])
+          (past_second (unless_active machine.shell by) (if_failed machine.shell)
+          (unless_rebuilding machine.shell.rebuild ∷ owed ∷ if_left left ∷ []) fine)) in
           omega (arith, few)
 
   -- the deeds of a command are such as may be done
@@ -682,6 +731,13 @@ module _ {C R I S : Type 0} (meaning : Meaning C R I S) (form : StrForm) (machin
   fitting-command cmd.ForceStr manned fine = fitting_any _ refl refl refl
   fitting-command (cmd.LoseConn other cf) manned fine = fitting_any _ refl refl refl
   fitting-command (cmd.RestoreConn other cf) manned fine = fitting_any _ refl refl refl
-  fitting-command (cmd.Vary cf off) manned fine = fitting_any _ refl refl refl
+  fitting-command (cmd.Vary cf off) manned fine = fitting_vary cf off
   fitting-command cmd.DuplexStart manned fine = fitting_any _ refl refl refl
-  fitting-command cmd.DuplexStop manned fine = fitting_any _ refl refl refl
+  fitting-command cmd.DuplexStop manned fine = fitting_again machine.shell.instances.secondary
+
+-- and so are those of a mark
+pub fitting-loss : {C R I S : Type 0} (meaning : Meaning C R I S) (form : StrForm) (machine : Machine S) (cf : CfId)
+    → AreFitting meaning form machine (mark_outcome form cf machine.shell).deeds
+fitting-loss meaning form machine cf =
+    loss-cases form cf machine.shell (λ acted. AreFitting meaning form machine acted.deeds)
+    (fitting_lost meaning form machine (record { 0 = 0 }) cf machine.shell)

@@ -6,6 +6,7 @@ use Rattle.cf_types.specs.declared.events.Event.{Event}
 use Rattle.cf_types.specs.declared.events.Stage.{Stage}
 use Rattle.cf_types.specs.declared.events.Stage.TheVariants.{Quiesce, Connect, Copy, Cleanup, Stopping}
 use Rattle.cf_types.specs.declared.forms.StrForm.{StrForm}
+use Rattle.cf_types.specs.declared.numbers.CfId.{CfId}
 use Rattle.cf_types.specs.declared.numbers.ConnId.{ConnId}
 use Rattle.cf_types.specs.declared.refusals.Refusal.{Refusal}
 use Rattle.cf_types.specs.declared.refusals.Refusal.TheVariants as refusal
@@ -20,19 +21,21 @@ use Rattle.engine_api.specs.declared.asks.What.TheVariants as what
 use Rattle.engine_api.specs.declared.deeds.Deeds.{Deeds}
 use Rattle.engine_api.specs.declared.histories.Entry.{Entry}
 use Rattle.engine_api.specs.Meaning.{Meaning, first_refusal}
-use Rattle.engine_api.specs.Shell.{no_deeds, conns_answered, Shell, ShellOutcome, unless_active, if_rebuilding, shell_cause, content_cause, is_restart, is_drop, take_event, responded, response_outcome, given_outcome, stop_outcome, complete_outcome, shell_onward}
+use Rattle.engine_api.specs.Shell.{if_failed, if_lost, loss_outcome, failed_outcome, simplex_again, stopped_outcome, with_off, no_deeds, conns_answered, Shell, ShellOutcome, unless_active, if_rebuilding, shell_cause, content_cause, is_restart, is_drop, take_event, responded, response_outcome, given_outcome, stop_outcome, complete_outcome, shell_onward}
 use Rattle.rebuild_core.specs.declared.passed.Passed.{Passed}
 use Rattle.rebuild_core.specs.declared.passed.Passed.TheVariants.{No, Into}
 use Rattle.rebuild_core.specs.declared.rebuild.Rebuild.{Rebuild}
 use Rattle.rebuild_core.specs.Stages.{without_owing, outcome_of, rebuild_left, is_response}
 use Rattle.engine_api.specs.Rebuilds.{fresh_of, is_switch, is_held_up}
 use Rattle.engine_api.specs.declared.deeds.Room.{Room}
-use Rattle.engine_api.specs.Machine.{Machine, opening, step, unless, room_of, command_done, content_done, content_after, copied_after, moved_by, items_of}
+use Rattle.engine_api.specs.Machine.{Machine, opening, step, loss_step, unless, room_of, command_done, content_done, content_after, copied_after, moved_by, items_of}
 use Rattle.rebuild_shell.specs.Filling.{IsFilling, IsFilled}
-use Rattle.rebuild_shell.proofs.StepLaws.{acting, done, never, connect_stage, rebuild-onward}
+use Rattle.rebuild_shell.proofs.LossLaws.{InEachCase, loss-cases, vary-cases}
+use Rattle.rebuild_shell.proofs.CauseLaws.{idle_rebuild, never, past_first, third_none}
+use Rattle.rebuild_shell.proofs.StepLaws.{acting, called, done, connect_stage, rebuild-onward}
 use Rattle.rebuild_shell.specs.Members.{Somebody, IsManned}
 use Rattle.engine_api.specs.History.{after_what, machine_after, replay}
-use Rattle.rebuild_shell.proofs.MemberLaws.{second_none, idle_rebuild, content_waits, manned-members, manned-after, manned-opening}
+use Rattle.rebuild_shell.proofs.MemberLaws.{content_waits, manned-members, manned-after, manned-opening}
 
 -- a departure in COPY empties the new instance, or drops it with the rebuild
 pub departure_empties : (before after : Option Rebuild) (all : Bool) → IsFilling before
@@ -86,14 +89,18 @@ module _ (form : StrForm) (room : Room) (shell : Shell) (by : ConnId) where
   copy_stage : (n : ℕ) (rebuild : Rebuild) (at : Stage) → shell.rebuild ≡ Some rebuild → rebuild.stage ≡ at
       → shell_cause form room shell by (cmd.Copy n) ≡ None → rebuild.stage ≡ Copy
   copy_stage n rebuild Quiesce is in_stage fine =
-      absurd (never (unless_active shell by) (refusal.WrongStage Quiesce) _ (rw (is, in_stage) at fine))
+      absurd (never (if_lost shell) (if_failed shell) (refusal.WrongStage Quiesce) _
+      (past_first (unless_active shell by) _ (rw (is, in_stage) at fine)))
   copy_stage n rebuild Connect is in_stage fine =
-      absurd (never (unless_active shell by) (refusal.WrongStage Connect) _ (rw (is, in_stage) at fine))
+      absurd (never (if_lost shell) (if_failed shell) (refusal.WrongStage Connect) _
+      (past_first (unless_active shell by) _ (rw (is, in_stage) at fine)))
   copy_stage n rebuild Copy is in_stage fine = in_stage
   copy_stage n rebuild Cleanup is in_stage fine =
-      absurd (never (unless_active shell by) (refusal.WrongStage Cleanup) _ (rw (is, in_stage) at fine))
+      absurd (never (if_lost shell) (if_failed shell) (refusal.WrongStage Cleanup) _
+      (past_first (unless_active shell by) _ (rw (is, in_stage) at fine)))
   copy_stage n rebuild Stopping is in_stage fine =
-      absurd (never (unless_active shell by) (refusal.WrongStage Stopping) _ (rw (is, in_stage) at fine))
+      absurd (never (if_lost shell) (if_failed shell) (refusal.WrongStage Stopping) _
+      (past_first (unless_active shell by) _ (rw (is, in_stage) at fine)))
 
 module _ {C R I S : Type 0} (meaning : Meaning C R I S) (form : StrForm) (machine : Machine S) (by : ConnId)
     (low : machine.copied ≤ length (items_of meaning form machine)) where
@@ -106,14 +113,18 @@ module _ {C R I S : Type 0} (meaning : Meaning C R I S) (form : StrForm) (machin
   abbrev before_it : ShellCmd → Shell
   before_it command = acting meaning form machine by command
 
-  -- the machine that a command leaves which moves nothing, and brings no departure from the content
-  abbrev left_by : ShellOutcome → Machine S
-  left_by acted =
+  -- what an outcome leaves of the machine, and of so many items in the new instance
+  abbrev left_from : ℕ → ShellOutcome → Machine S
+  left_from n acted =
       record {
         shell = acted.shell;
         content = content_after meaning form (is_some machine.shell.rebuild) acted.deeds machine.content;
-        copied = copied_after acted.deeds (machine.copied + 0);
+        copied = copied_after acted.deeds n;
       }
+
+  -- the machine that a command leaves which moves nothing, and brings no departure from the content
+  abbrev left_by : ShellOutcome → Machine S
+  left_by acted = left_from (machine.copied + 0) acted
 
   empty_filled : (after : Machine S) → after.copied ≡ 0 → Filled after
   empty_filled after is = record { filling = inl is; within = omega (arith, is) }
@@ -156,6 +167,38 @@ module _ {C R I S : Type 0} (meaning : Meaning C R I S) (form : StrForm) (machin
   filled_stop (Some rebuild) filling =
       empty_filled (left_by (stop_outcome (before_it cmd.RebuildStop) (Some rebuild)))
       (none_copied (false || (false || (is_some rebuild.fresh || false))) _ (rw (filling.1) refl))
+
+  -- ---- instances that are lost or dropped
+
+  filled_lost : (cf : CfId) (shell : Shell) (n : ℕ) → n ≤ length (items_of meaning form machine)
+      → IsFilling shell.rebuild → InEachCase form cf shell (λ acted. Filled (left_from n acted))
+  filled_lost cf shell n within filling = record {
+    none = record { filling = inr filling; within = within };
+    simplex = λ left lost. record { filling = inr filling; within = within };
+    stops = λ rebuild is lost. empty_filled (left_from n (stopped_outcome rebuild shell)) refl;
+    fails = empty_filled (left_from n (failed_outcome form shell)) refl;
+  }
+
+  filled_vary : (cf : CfId) (off : Bool) → IsFilling machine.shell.rebuild
+      → Filled (left_by (outcome_by (cmd.Vary cf off)))
+  filled_vary cf off filling =
+      let shell : Shell = before_it (cmd.Vary cf off) in
+      vary-cases form cf off shell (λ acted. Filled (left_by acted)) (same_filled _ filling)
+      (filled_lost cf (with_off cf true shell) (machine.copied + 0) (omega (arith, low)) filling)
+
+  filled_marked : (cf : CfId) → (machine.copied ≡ 0) ⊎ IsFilling machine.shell.rebuild
+      → Filled (left_from machine.copied (loss_outcome form cf machine.shell))
+  filled_marked cf (inl none) =
+      empty_filled (left_from machine.copied (loss_outcome form cf machine.shell))
+      (none_copied_yet _ machine.copied none)
+  filled_marked cf (inr filling) =
+      loss-cases form cf machine.shell (λ acted. Filled (left_from machine.copied acted))
+      (filled_lost cf machine.shell machine.copied low filling)
+
+  filled_again : (second : Option CfId) → IsFilling machine.shell.rebuild
+      → Filled (left_by (simplex_again second (before_it cmd.DuplexStop)))
+  filled_again None filling = same_filled _ filling
+  filled_again (Some cf) filling = same_filled _ filling
 
   filled_departure : (command : ShellCmd) (deeds : Deeds) (after : Option Rebuild) (content : S) (shell : Shell)
       (all : Bool) → IsFilling machine.shell.rebuild
@@ -235,10 +278,11 @@ module _ {C R I S : Type 0} (meaning : Meaning C R I S) (form : StrForm) (machin
           (is_some (fresh_of machine.shell.rebuild)) stands in
           inl (omega (arith, none, nothing))
 
-  idle_command : (command : ShellCmd) → (rest : List (Option Refusal)) (first : Option Refusal)
-      → first_refusal (first ∷ if_rebuilding machine.shell.rebuild ∷ rest) ≡ None → IsFilling machine.shell.rebuild → ⊥
-  idle_command command rest first fine filling =
-      subst IsFilling (idle_rebuild machine.shell.rebuild (second_none first _ rest fine)) filling
+  idle_command : (first second : Option Refusal) (rest : List (Option Refusal))
+      → first_refusal (first ∷ second ∷ if_rebuilding machine.shell.rebuild ∷ rest) ≡ None
+      → IsFilling machine.shell.rebuild → ⊥
+  idle_command first second rest fine filling =
+      subst IsFilling (idle_rebuild machine.shell.rebuild (third_none first second _ rest fine)) filling
 
   -- a rebuild has members
   somebody_rebuilds : IsManned machine.shell → (r : Rebuild) → machine.shell.rebuild ≡ Some r → Somebody r.members
@@ -257,7 +301,7 @@ module _ {C R I S : Type 0} (meaning : Meaning C R I S) (form : StrForm) (machin
       → shell_cause form (room_of meaning form machine) machine.shell by command ≡ None
       → IsFilling machine.shell.rebuild → Filled (command_done meaning form machine by command).machine
   filled_filling manned (cmd.Connect keep) fine filling =
-      absurd (idle_command (cmd.Connect keep) _ _ fine filling)
+      absurd (idle_command _ _ _ fine filling)
   filled_filling manned cmd.Disconnect fine filling =
       filled_departure cmd.Disconnect (outcome_by cmd.Disconnect).deeds (outcome_by cmd.Disconnect).shell.rebuild
       (command_done meaning form machine by cmd.Disconnect).machine.content (outcome_by cmd.Disconnect).shell
@@ -270,7 +314,7 @@ module _ {C R I S : Type 0} (meaning : Meaning C R I S) (form : StrForm) (machin
   filled_filling manned cmd.Respond fine filling =
       filled_response (owed_event (before_it cmd.Respond).mail by) filling
   filled_filling manned (cmd.RebuildStart caps) fine filling =
-      absurd (idle_command (cmd.RebuildStart caps) _ _ fine filling)
+      absurd (idle_command _ _ _ fine filling)
   filled_filling manned cmd.RebuildStop fine filling = filled_stop machine.shell.rebuild filling
   filled_filling manned cmd.RebuildConnect fine filling =
       absurd (not_connecting machine.shell.rebuild refl filling fine)
@@ -284,9 +328,9 @@ module _ {C R I S : Type 0} (meaning : Meaning C R I S) (form : StrForm) (machin
       empty_filled (command_done meaning form machine by cmd.ForceStr).machine refl
   filled_filling manned (cmd.LoseConn other cf) fine filling = same_filled _ filling
   filled_filling manned (cmd.RestoreConn other cf) fine filling = same_filled _ filling
-  filled_filling manned (cmd.Vary cf off) fine filling = same_filled _ filling
+  filled_filling manned (cmd.Vary cf off) fine filling = filled_vary cf off filling
   filled_filling manned cmd.DuplexStart fine filling = same_filled _ filling
-  filled_filling manned cmd.DuplexStop fine filling = same_filled _ filling
+  filled_filling manned cmd.DuplexStop fine filling = filled_again machine.shell.instances.secondary filling
 
   filled_command : IsManned machine.shell → (command : ShellCmd)
       → shell_cause form (room_of meaning form machine) machine.shell by command ≡ None
@@ -364,6 +408,28 @@ module _ {C R I S : Type 0} (meaning : Meaning C R I S) (form : StrForm) (machin
   front_stop None = inr refl
   front_stop (Some rebuild) = inr refl
 
+  front_lost : (cf : CfId) (shell : Shell) (n : ℕ) → InEachCase form cf shell (λ acted. IsFront (left_from n acted))
+  front_lost cf shell n = record {
+    none = inr refl;
+    simplex = λ left lost. inr refl;
+    stops = λ rebuild is lost. inr refl;
+    fails = inl refl;
+  }
+
+  front_vary : (cf : CfId) (off : Bool) → IsFront (left_by (outcome_by (cmd.Vary cf off)))
+  front_vary cf off =
+      vary-cases form cf off (before_it (cmd.Vary cf off)) (λ acted. IsFront (left_by acted)) (inr refl)
+      (front_lost cf (with_off cf true (before_it (cmd.Vary cf off))) (machine.copied + 0))
+
+  front_marked : (cf : CfId) → IsFront (loss_step meaning form machine cf).machine
+  front_marked cf =
+      loss-cases form cf machine.shell (λ acted. IsFront (left_from machine.copied acted))
+      (front_lost cf machine.shell machine.copied)
+
+  front_again : (second : Option CfId) → IsFront (left_by (simplex_again second (before_it cmd.DuplexStop)))
+  front_again None = inr refl
+  front_again (Some cf) = inr refl
+
   front_departure : (after : Option Rebuild) (all : Bool) (content : S) (shell : Shell) (n : ℕ)
       → IsFilling machine.shell.rebuild
       → IsFront (record {
@@ -379,7 +445,7 @@ module _ {C R I S : Type 0} (meaning : Meaning C R I S) (form : StrForm) (machin
       → shell_cause form (room_of meaning form machine) machine.shell by command ≡ None
       → IsFilling machine.shell.rebuild → IsFront (command_done meaning form machine by command).machine
   front_filling manned (cmd.Connect keep) fine filling =
-      absurd (idle_command (cmd.Connect keep) _ _ fine filling)
+      absurd (idle_command _ _ _ fine filling)
   front_filling manned cmd.Disconnect fine filling =
       front_departure (outcome_by cmd.Disconnect).shell.rebuild (outcome_by cmd.Disconnect).deeds.drop_all
       (command_done meaning form machine by cmd.Disconnect).machine.content (outcome_by cmd.Disconnect).shell
@@ -392,7 +458,7 @@ module _ {C R I S : Type 0} (meaning : Meaning C R I S) (form : StrForm) (machin
   front_filling manned cmd.Respond fine filling =
       front_response (owed_event (before_it cmd.Respond).mail by) filling
   front_filling manned (cmd.RebuildStart caps) fine filling =
-      absurd (idle_command (cmd.RebuildStart caps) _ _ fine filling)
+      absurd (idle_command _ _ _ fine filling)
   front_filling manned cmd.RebuildStop fine filling = front_stop machine.shell.rebuild
   front_filling manned cmd.RebuildConnect fine filling =
       absurd (not_connecting machine.shell.rebuild refl filling fine)
@@ -404,9 +470,9 @@ module _ {C R I S : Type 0} (meaning : Meaning C R I S) (form : StrForm) (machin
   front_filling manned cmd.ForceStr fine filling = inl refl
   front_filling manned (cmd.LoseConn other cf) fine filling = inr refl
   front_filling manned (cmd.RestoreConn other cf) fine filling = inr refl
-  front_filling manned (cmd.Vary cf off) fine filling = inr refl
+  front_filling manned (cmd.Vary cf off) fine filling = front_vary cf off
   front_filling manned cmd.DuplexStart fine filling = inr refl
-  front_filling manned cmd.DuplexStop fine filling = inr refl
+  front_filling manned cmd.DuplexStop fine filling = front_again machine.shell.instances.secondary
 
   front_unmoved : (command : ShellCmd) → machine.copied ≡ 0 → moved_by (room_of meaning form machine) command ≡ 0
       → IsFront (command_done meaning form machine by command).machine
@@ -430,9 +496,9 @@ module _ {C R I S : Type 0} (meaning : Meaning C R I S) (form : StrForm) (machin
   front_empty cmd.ForceStr none = inl refl
   front_empty (cmd.LoseConn other cf) none = inr refl
   front_empty (cmd.RestoreConn other cf) none = inr refl
-  front_empty (cmd.Vary cf off) none = inr refl
+  front_empty (cmd.Vary cf off) none = front_vary cf off
   front_empty cmd.DuplexStart none = inr refl
-  front_empty cmd.DuplexStop none = inr refl
+  front_empty cmd.DuplexStop none = front_again machine.shell.instances.secondary
 
   front_command : IsManned machine.shell → (command : ShellCmd)
       → shell_cause form (room_of meaning form machine) machine.shell by command ≡ None
@@ -461,9 +527,14 @@ module _ {C R I S : Type 0} (meaning : Meaning C R I S) (form : StrForm) where
       by_filling (inl none) = none
       by_filling (inr filling) = absurd (none_filling machine.shell.rebuild refl filling)
 
-  pub filled-step : (machine : Machine S) (by : ConnId) (asked : Ask C) → IsManned machine.shell
-      → IsFilled meaning form machine → IsFilled meaning form (step meaning form machine by asked).machine
-  filled-step machine by (ask.Shell command) manned filled =
+  -- the facility whose loss a call is told of has no part in it
+  filled_told : (lost : Option CfId) (machine : Machine S) → IsFilled meaning form machine
+      → IsFilled meaning form (record machine { shell = record machine.shell { lost = lost } })
+  filled_told lost machine filled = record { filling = filled.filling; within = filled.within }
+
+  filled_called : (machine : Machine S) (by : ConnId) (asked : Ask C) → IsManned machine.shell
+      → IsFilled meaning form machine → IsFilled meaning form (called meaning form machine by asked).machine
+  filled_called machine by (ask.Shell command) manned filled =
       go (shell_cause form (room_of meaning form machine) machine.shell by command) refl
     where
       go : (cause : Option Refusal)
@@ -472,7 +543,7 @@ module _ {C R I S : Type 0} (meaning : Meaning C R I S) (form : StrForm) where
           (unless meaning form cause machine (command_done meaning form machine by command)).machine
       go (Some refusal) is = filled
       go None is = filled_command meaning form machine by filled.within manned command is filled.filling
-  filled-step machine by (ask.Content command) manned filled = go (content_cause machine.shell by) refl
+  filled_called machine by (ask.Content command) manned filled = go (content_cause machine.shell by) refl
     where
       go : (cause : Option Refusal) → content_cause machine.shell by ≡ cause
           → IsFilled meaning form
@@ -482,10 +553,24 @@ module _ {C R I S : Type 0} (meaning : Meaning C R I S) (form : StrForm) where
           let none = none_copied_then machine by manned filled is in
           record { filling = inl none; within = omega (arith, none) }
 
+  pub filled-step : (machine : Machine S) (by : ConnId) (asked : Ask C) → IsManned machine.shell
+      → IsFilled meaning form machine → IsFilled meaning form (step meaning form machine by asked).machine
+  filled-step machine by asked manned filled =
+      filled_told None (called meaning form machine by asked).machine (filled_called machine by asked manned filled)
+
+  pub filled-loss : (machine : Machine S) (cf : CfId) → IsFilled meaning form machine
+      → IsFilled meaning form (loss_step meaning form machine cf).machine
+  filled-loss machine cf filled =
+      let nobody : ConnId = record { 0 = 0 } in
+      let acted : ShellOutcome = loss_outcome form cf machine.shell in
+      filled_told (if acted.shell.failed then Some cf else None)
+      (left_from meaning form machine nobody filled.within machine.copied acted)
+      (filled_marked meaning form machine nobody filled.within cf filled.filling)
+
   filled-after : (machine : Machine S) (by : ConnId) (told : What C) → IsManned machine.shell
       → IsFilled meaning form machine → IsFilled meaning form (after_what meaning form machine by told)
   filled-after machine by (what.Call asked) manned filled = filled-step machine by asked manned filled
-  filled-after machine by (what.Lost cf) manned filled = filled
+  filled-after machine by (what.Lost cf) manned filled = filled-loss machine cf filled
 
   filled-fold : (machine : Machine S) (entries : List (Entry C R)) → IsManned machine.shell
       → IsFilled meaning form machine → IsFilled meaning form (fold (machine_after meaning form) machine entries)
@@ -520,3 +605,8 @@ module _ {C R I S : Type 0} (meaning : Meaning C R I S) (form : StrForm) where
           (after.copied ≡ 0) ⊎ (after.content ≡ machine.content)
       go (Some refusal) is = inr refl
       go None is = inl (none_copied_then machine by manned filled is)
+
+  pub front-loss : (machine : Machine S) (cf : CfId) → IsFilled meaning form machine
+      → ((loss_step meaning form machine cf).machine.copied ≡ 0)
+      ⊎ ((loss_step meaning form machine cf).machine.content ≡ machine.content)
+  front-loss machine cf filled = front_marked meaning form machine (record { 0 = 0 }) filled.within cf

@@ -5,7 +5,6 @@ use Rattle.std.proofs.lemmas.List.Sums.{fold_push}
 use Rattle.cf_types.specs.declared.forms.StrForm.{StrForm}
 use Rattle.cf_types.specs.declared.numbers.ConnId.{ConnId}
 use Rattle.cf_types.specs.Connections.{actives}
-use Rattle.engine_api.specs.declared.asks.Ask.{Ask}
 use Rattle.engine_api.specs.declared.asks.Reply.{Reply}
 use Rattle.engine_api.specs.declared.asks.What.{What}
 use Rattle.engine_api.specs.declared.asks.What.TheVariants as what
@@ -15,46 +14,52 @@ use Rattle.rebuild_reading.specs.Tellings.{telling_of, telling_entry}
 use Rattle.rebuild_reading.specs.Readings.{rebuild_told}
 use Rattle.rebuild_reading.specs.Steps.{rebuild_next, rebuild_kept, MayBeTold, MayAllBeTold}
 use Rattle.rebuild_reading.proofs.ReadingLaws.{kept-is-told}
-use Rattle.engine_api.specs.Machine.{Machine, opening, step}
+use Rattle.engine_api.specs.Machine.{Machine, opening}
 use Rattle.engine_api.specs.History.{after_what, machine_after, replay}
-use Rattle.rebuild_shell.specs.History.{actives_after, AreCalls}
+use Rattle.rebuild_shell.specs.History.{actives_after, reply_for, AreAnswered}
 use Rattle.engine_api.proofs.ShellLaws.{length-conns-replay}
-use Rattle.rebuild_shell.proofs.StepLaws.{rebuild-step, may-step}
+use Rattle.rebuild_shell.specs.Members.{HasPlace}
+use Rattle.rebuild_shell.proofs.MemberLaws.{manned-replay}
+use Rattle.rebuild_shell.proofs.StepLaws.{rebuild-step, rebuild-loss, may-step, may-loss}
 
 module _ {C R I S : Type 0} (meaning : Meaning C R I S) (form : StrForm) where
-  -- what a call's entry tells is what the machine keeps
-  kept_next : (machine : Machine S) (by : ConnId) (call : What C) (answer : Reply R) (asked : Ask C)
-      → call ≡ what.Call asked → answer ≡ (step meaning form machine by asked).reply
-      → rebuild_next (actives machine.shell.conns) by (telling_of call answer) machine.shell.rebuild
-      ≡ (after_what meaning form machine by call).shell.rebuild
-  kept_next machine by call answer asked is answered =
-      rw (is, answered) (sym (rebuild-step meaning form machine by asked))
+  -- what an entry tells is what the machine keeps
+  kept_next : (machine : Machine S) (by : ConnId) (told : What C) (answer : Reply R)
+      → answer ≡ reply_for meaning form machine by told
+      → rebuild_next (actives machine.shell.conns) by (telling_of told answer) machine.shell.rebuild
+      ≡ (after_what meaning form machine by told).shell.rebuild
+  kept_next machine by (what.Call asked) answer answered =
+      rw answered (sym (rebuild-step meaning form machine by asked))
+  kept_next machine by (what.Lost cf) answer answered =
+      rw answered (sym (rebuild-loss meaning form machine by cf))
 
-  may_next : (machine : Machine S) (by : ConnId) (call : What C) (answer : Reply R) (asked : Ask C)
-      → length machine.shell.conns ≡ 33
-      → call ≡ what.Call asked → answer ≡ (step meaning form machine by asked).reply
-      → MayBeTold (actives machine.shell.conns) (telling_of call answer) machine.shell.rebuild
-  may_next machine by call answer asked places is answered =
-      rw (is, answered) (may-step meaning form machine by places asked)
+  may_next : (machine : Machine S) (by : ConnId) (told : What C) (answer : Reply R)
+      → length machine.shell.conns ≡ 33 → HasPlace machine.shell.rebuild
+      → answer ≡ reply_for meaning form machine by told
+      → MayBeTold (actives machine.shell.conns) (telling_of told answer) machine.shell.rebuild
+  may_next machine by (what.Call asked) answer places placed answered =
+      rw answered (may-step meaning form machine by places placed asked)
+  may_next machine by (what.Lost cf) answer places placed answered =
+      rw answered (may-loss meaning form machine by placed cf)
 
   replay-more : (before : List (Entry C R)) (entry : Entry C R)
       → replay meaning form (before ++ entry ∷ []) ≡ machine_after meaning form (replay meaning form before) entry
   replay-more before entry = fold_push (machine_after meaning form) (opening meaning form) before entry
 
-  kept : (before entries : List (Entry C R)) → AreCalls meaning form (replay meaning form before) entries
+  kept : (before entries : List (Entry C R)) → AreAnswered meaning form (replay meaning form before) entries
       → (rebuild_kept (actives_after meaning form) before entries (replay meaning form before).shell.rebuild
       ≡ (fold (machine_after meaning form) (replay meaning form before) entries).shell.rebuild)
       × MayAllBeTold (actives_after meaning form) before entries (replay meaning form before).shell.rebuild
-  kept before [] calls = (refl, tt)
-  kept before (entry ∷ entries) calls =
+  kept before [] answered = (refl, tt)
+  kept before (entry ∷ entries) answered =
       let machine = replay meaning form before in
-      let call = calls.0 in
-      let next = kept_next machine entry.by entry.what entry.reply call.asked call.call call.answered in
+      let next = kept_next machine entry.by entry.what entry.reply answered.0 in
       let places = length-conns-replay meaning form before in
-      let may = may_next machine entry.by entry.what entry.reply call.asked places call.call call.answered in
+      let placed = (manned-replay meaning form before).placed in
+      let may = may_next machine entry.by entry.what entry.reply places placed answered.0 in
       let more = replay-more before entry in
       let behind = kept (before ++ entry ∷ []) entries
-      (subst (λ (m : Machine S). AreCalls meaning form m entries) (sym more) calls.1) in
+      (subst (λ (m : Machine S). AreAnswered meaning form m entries) (sym more) answered.1) in
       let same : (replay meaning form (before ++ entry ∷ [])).shell.rebuild
       ≡ rebuild_next (actives machine.shell.conns) entry.by (telling_entry entry).telling machine.shell.rebuild =
       ap (λ (m : Machine S). m.shell.rebuild) more ∙ sym next in (
@@ -64,8 +69,8 @@ module _ {C R I S : Type 0} (meaning : Meaning C R I S) (form : StrForm) where
         (may, subst (MayAllBeTold (actives_after meaning form) (before ++ entry ∷ []) entries) same behind.1),
       )
 
-  pub rebuild-told : (history : List (Entry C R)) → AreCalls meaning form (opening meaning form) history
+  pub rebuild-told : (history : List (Entry C R)) → AreAnswered meaning form (opening meaning form) history
       → (replay meaning form history).shell.rebuild ≡ rebuild_told (actives_after meaning form) history
-  rebuild-told history calls =
-      let all = kept [] history calls in
+  rebuild-told history answered =
+      let all = kept [] history answered in
       sym all.0 ∙ kept-is-told (actives_after meaning form) history all.1

@@ -1,5 +1,8 @@
+pub mod CauseLaws
+pub mod LossLaws
 pub mod StepLaws
 pub mod PlaceLaws
+pub mod PairLaws
 pub mod HistoryLaws
 pub mod MemberLaws
 pub mod FillingLaws

@@ -1,8 +1,7 @@
 -- In a rebuild the members are just the connectors that are active, of whom there are some, and a primary stands where
 -- somebody is.
-use Rattle.std.proofs.Common.{◌≡◌, ◌≢◌, ◌≤◌, ℕ, Bool, true, false, List, [], ◌∷◌, length, Option, None, Some, refl, sym, ap, ◌∙◌, subst, arith}
-use Rattle.std.proofs.lemmas.Bool.{ltb-false}
-use Rattle.std.specs.Prelude.{is_some, nat_lt, if◌then◌else◌, unwrap_or, fold}
+use Rattle.std.proofs.Common.{◌≡◌, ◌≢◌, Bool, true, false, List, [], ◌∷◌, length, Option, None, Some, refl, sym, ap, ◌∙◌, subst, arith}
+use Rattle.std.specs.Prelude.{is_some, if◌then◌else◌, unwrap_or, fold}
 use Rattle.cf_types.specs.declared.connections.ConnState.{ConnState}
 use Rattle.cf_types.specs.declared.connections.ConnState.TheVariants as conn
 use Rattle.cf_types.specs.declared.events.Event.{Event}
@@ -27,22 +26,26 @@ use Rattle.engine_api.specs.declared.histories.Entry.{Entry}
 use Rattle.engine_api.specs.declared.asks.Ask.{Ask}
 use Rattle.engine_api.specs.declared.asks.Ask.TheVariants as ask
 use Rattle.engine_api.specs.Instances.{units_of}
-use Rattle.engine_api.specs.Meaning.{Meaning, first_refusal}
-use Rattle.engine_api.specs.Shell.{no_deeds, unless_active, unless_failed, conns_answered, facility_of, is_kept, Shell, ShellOutcome, shell_cause, if_rebuilding, shell_onward, shell_without, departing_shell, take_event, with_posted, emptied, responded, response_outcome, given_outcome, stop_outcome, rebuild_connect_outcome, complete_outcome, fresh_made, content_cause, refusal_when, candidates, unless_reached, if_too_many, if_connected, if_severed}
+use Rattle.engine_api.specs.Meaning.{Meaning}
+use Rattle.engine_api.specs.Shell.{if_failed, if_lost, mark_outcome, with_off, if_quiesced, simplex_again, no_deeds, unless_active, unless_failed, conns_answered, facility_of, is_kept, Shell, ShellOutcome, shell_cause, if_rebuilding, shell_onward, shell_without, departing_shell, take_event, with_posted, emptied, responded, response_outcome, given_outcome, stop_outcome, rebuild_connect_outcome, complete_outcome, fresh_made, content_cause, candidates, unless_reached, if_too_many, if_connected, if_severed}
 use Rattle.rebuild_core.specs.declared.passed.Passed.{Passed}
 use Rattle.rebuild_core.specs.declared.passed.Passed.TheVariants.{No, Into, Ended}
 use Rattle.rebuild_core.specs.declared.rebuild.Rebuild.{Rebuild}
 use Rattle.rebuild_core.specs.Stages.{without_owing, rebuild_without, outcome, with_place, rebuild_emptied, rebuild_left, rebuild_onward, is_response}
-use Rattle.rebuild_reading.specs.Tellings.{Telling, telling, is_awaited}
-use Rattle.rebuild_reading.specs.Tellings.Telling.{Starts, Places, Completes, Responds, Stops, Departs, Forces, Nothing}
+use Rattle.rebuild_reading.specs.Tellings.{Telling, mark_telling, telling, is_awaited}
+use Rattle.rebuild_reading.specs.Tellings.Telling.{Starts, Places, Completes, Responds, Stops, Departs, Fails, Forces, Nothing}
 use Rattle.rebuild_reading.specs.Steps.{MayBeTold, rebuild_next, rebuild_given}
 use Rattle.rebuild_shell.specs.Members.{HasMembers, HasPlace, HasPrimary, Somebody, IsManned}
+use Rattle.rebuild_shell.proofs.CauseLaws.{fourth_none, idle_rebuild, not_above, past_second, third_none}
+use Rattle.rebuild_shell.proofs.LossLaws.{InEachCase, loss-cases, vary-cases}
+use Rattle.rebuild_shell.proofs.PairLaws.{Change, bare-change, change-command, change-loss, change-told, paired-change, paired_alone, unfailed-change}
+use Rattle.rebuild_shell.proofs.PairLaws.Change.{Keeps}
 use Rattle.rebuild_shell.proofs.PlaceLaws.{placed-next, switch_stands, primary-onward, primary-without, primary-unless_gone, primary-connect, nobody_active}
 use Rattle.engine_api.specs.History.{after_what, machine_after, replay}
 use Rattle.engine_api.specs.Rebuilds.{is_held_up}
-use Rattle.engine_api.specs.Machine.{Machine, opening, step, unless, room_of, command_done, content_done}
-use Rattle.engine_api.proofs.ShellLaws.{length-conns-step, length-conns-replay, conns-onward, conns-unless_gone}
-use Rattle.rebuild_shell.proofs.StepLaws.{room, acting, done, told, first_none, active_of, active_member, tells_command, rebuild-step, may_command, may-step}
+use Rattle.engine_api.specs.Machine.{Machine, opening, step, loss_step, unless, room_of, command_done, content_done}
+use Rattle.engine_api.proofs.ShellLaws.{length-conns-step, length-conns-replay, conns-loss, conns-onward, conns-unless_gone}
+use Rattle.rebuild_shell.proofs.StepLaws.{room, acting, done, called, told, first_none, active_of, active_member, tells_command, rebuild-step, rebuild-loss, may_command, may-step, may-loss}
 
 -- ---- members
 
@@ -87,6 +90,7 @@ active_past (Responds event) by active = active
 active_past Stops by active = active
 active_past Departs by active = without_member by active
 active_past Forces by active = active
+active_past Fails by active = active
 active_past Nothing by active = active
 
 -- the members are just those active behind whatever may be told, and there are some
@@ -110,6 +114,8 @@ members-next active by Departs (Some rebuild) may are =
     members-onward (rebuild_without by rebuild) (without_member by active) (ap (without_member by) (are.0))
 members-next active by Forces None may are = tt
 members-next active by Forces (Some rebuild) may are = (members-in_emptied rebuild.stage rebuild ∙ are.0, are.1)
+members-next active by Fails None may are = tt
+members-next active by Fails (Some rebuild) may are = tt
 members-next active by Nothing None may are = tt
 members-next active by Nothing (Some rebuild) may are = are
 
@@ -140,32 +146,6 @@ idle_failed (Some (conn.Leaving keep awaits)) fine = refl
 idle_failed (Some conn.Failed) fine = refl
 idle_failed None fine = refl
 
--- ---- causes
-
-pub second_none : (first second : Option Refusal) (rest : List (Option Refusal))
-    → first_refusal (first ∷ second ∷ rest) ≡ None → second ≡ None
-second_none None None rest fine = refl
-second_none None (Some refusal) rest fine = absurd (cc)
-second_none (Some refusal) second rest fine = absurd (cc)
-
-pub past_first : (first : Option Refusal) (rest : List (Option Refusal)) → first_refusal (first ∷ rest) ≡ None
-    → first_refusal rest ≡ None
-past_first None rest fine = fine
-past_first (Some refusal) rest fine = absurd (cc)
-
--- a number that is refused where it is above another isn't above it
-pub not_above : (low high : ℕ) (why : Refusal) (rest : List (Option Refusal))
-    → first_refusal (refusal_when (nat_lt low high) why ∷ rest) ≡ None → high ≤ low
-not_above low high why rest fine = go (nat_lt low high) refl fine
-  where
-    go : (b : Bool) → nat_lt low high ≡ b → first_refusal (refusal_when b why ∷ rest) ≡ None → high ≤ low
-    go true is fine = absurd (cc)
-    go false is fine = ltb-false low high is
-
-pub idle_rebuild : (rebuild : Option Rebuild) → if_rebuilding rebuild ≡ None → rebuild ≡ None
-idle_rebuild None fine = refl
-idle_rebuild (Some rebuild) fine = absurd (cc)
-
 -- ---- who is active behind a command
 
 conns-departing : (form : StrForm) (shell : Shell) (by : ConnId) (keep : Bool)
@@ -195,7 +175,28 @@ somebody_past (Responds event) by active somebody = somebody
 somebody_past Stops by active somebody = somebody
 somebody_past Departs by active somebody = somebody_without by active somebody
 somebody_past Forces by active somebody = somebody
+somebody_past Fails by active somebody = somebody
 somebody_past Nothing by active somebody = somebody
+
+-- ---- what is lost
+
+members_lost : (form : StrForm) (cf : CfId) (shell : Shell) → HasMembers shell.rebuild (actives shell.conns)
+    → InEachCase form cf shell (λ acted. HasMembers acted.shell.rebuild (actives acted.shell.conns))
+members_lost form cf shell members = record {
+  none = members;
+  simplex = λ left lost. members;
+  stops = λ rebuild is lost. subst (λ (r : Option Rebuild). HasMembers r (actives shell.conns)) is members;
+  fails = tt;
+}
+
+primary_lost : (form : StrForm) (cf : CfId) (shell : Shell) → HasPrimary shell
+    → InEachCase form cf shell (λ acted. HasPrimary acted.shell)
+primary_lost form cf shell primary = record {
+  none = primary;
+  simplex = λ left lost somebody unfailed. refl;
+  stops = λ rebuild is lost. primary;
+  fails = λ somebody unfailed. absurd (cc);
+}
 
 module _ {C R I S : Type 0} (meaning : Meaning C R I S) (form : StrForm) (machine : Machine S) (by : ConnId) where
   abbrev outcome_by : ShellCmd → ShellOutcome
@@ -275,6 +276,19 @@ module _ {C R I S : Type 0} (meaning : Meaning C R I S) (form : StrForm) (machin
       }))
       ∙ actives-with_forced other machine.shell.conns (idle_failed (state_of machine.shell.conns other) fine)
 
+  follows_vary : (cf : CfId) (off : Bool) → Follows (cmd.Vary cf off) (outcome_by (cmd.Vary cf off))
+  follows_vary cf off =
+      vary-cases form cf off (before_it (cmd.Vary cf off)) (Follows (cmd.Vary cf off)) refl (record {
+        none = refl;
+        simplex = λ left lost. refl;
+        stops = λ rebuild is lost. refl;
+        fails = refl;
+      })
+
+  follows_simplex : (second : Option CfId) → Follows cmd.DuplexStop (simplex_again second (before_it cmd.DuplexStop))
+  follows_simplex None = refl
+  follows_simplex (Some cf) = refl
+
   follows_command : (command : ShellCmd) → is_connection command ≡ false
       → shell_cause form (room meaning form machine by) machine.shell by command ≡ None
       → Follows command (outcome_by command)
@@ -296,21 +310,22 @@ module _ {C R I S : Type 0} (meaning : Meaning C R I S) (form : StrForm) (machin
   follows_command cmd.ForceStr other fine = refl
   follows_command (cmd.LoseConn conn cf) other fine = refl
   follows_command (cmd.RestoreConn conn cf) other fine = refl
-  follows_command (cmd.Vary cf off) other fine = refl
+  follows_command (cmd.Vary cf off) other fine = follows_vary cf off
   follows_command cmd.DuplexStart other fine = refl
-  follows_command cmd.DuplexStop other fine = refl
+  follows_command cmd.DuplexStop other fine = follows_simplex machine.shell.instances.secondary
 
   -- ---- the members behind a command
 
   members_other : (command : ShellCmd) → is_connection command ≡ false → length machine.shell.conns ≡ 33
-      → HasMembers machine.shell.rebuild now
+      → HasPlace machine.shell.rebuild → HasMembers machine.shell.rebuild now
       → shell_cause form (room meaning form machine by) machine.shell by command ≡ None
       → HasMembers (outcome_by command).shell.rebuild (actives (outcome_by command).shell.conns)
-  members_other command other places are fine =
+  members_other command other places placed are fine =
       let told : Telling = telling command (outcome_by command).reply in
       let follows : Follows command (outcome_by command) = follows_command command other fine in
       rw (tells_command meaning form machine by command fine, follows)
-      (members-next now by told machine.shell.rebuild (may_command meaning form machine by places command fine) are)
+      (members-next now by told machine.shell.rebuild
+      (may_command meaning form machine by places placed command fine) are)
 
   members_connect : (keep : Bool)
       → shell_cause form (room meaning form machine by) machine.shell by (cmd.Connect keep) ≡ None
@@ -318,7 +333,7 @@ module _ {C R I S : Type 0} (meaning : Meaning C R I S) (form : StrForm) (machin
       (actives (outcome_by (cmd.Connect keep)).shell.conns)
   members_connect keep fine =
       subst (λ (r : Option Rebuild). HasMembers r (actives (outcome_by (cmd.Connect keep)).shell.conns))
-      (sym (idle_rebuild machine.shell.rebuild (second_none _ _ _ fine))) tt
+      (sym (idle_rebuild machine.shell.rebuild (third_none _ _ _ _ fine))) tt
 
   -- ---- the primary behind a command
 
@@ -388,48 +403,62 @@ module _ {C R I S : Type 0} (meaning : Meaning C R I S) (form : StrForm) (machin
   primary_completion (Some rebuild) placed stands =
       primary_given rebuild (before_it cmd.RebuildComplete) placed stands
 
+  primary_vary : (cf : CfId) (off : Bool) → HasPrimary machine.shell → HasPrimary (outcome_by (cmd.Vary cf off)).shell
+  primary_vary cf off primary =
+      vary-cases form cf off (before_it (cmd.Vary cf off)) (λ acted. HasPrimary acted.shell) primary
+      (primary_lost form cf (with_off cf true (before_it (cmd.Vary cf off))) primary)
+
+  primary_simplex : (second : Option CfId) → is_some machine.shell.instances.primary ≡ true
+      → is_some (simplex_again second (before_it cmd.DuplexStop)).shell.instances.primary ≡ true
+  primary_simplex None stands = stands
+  primary_simplex (Some cf) stands = stands
+
   primary_command : (command : ShellCmd) → is_connection command ≡ false → HasPlace machine.shell.rebuild
       → shell_cause form (room meaning form machine by) machine.shell by command ≡ None
       → is_some machine.shell.instances.primary ≡ true → HasPrimary (outcome_by command).shell
   primary_command (cmd.Connect keep) other placed fine stands = absurd (cc)
-  primary_command cmd.Disconnect other placed fine stands =
-      primary_departing (before_it cmd.Disconnect) false stands
-  primary_command cmd.Fail other placed fine stands =
-      primary_departing (before_it cmd.Fail) (is_kept (state_of machine.shell.conns by)) stands
-  primary_command cmd.Next other placed fine stands = λ somebody.
+  primary_command cmd.Disconnect other placed fine stands = λ somebody unfailed.
+      primary_departing (before_it cmd.Disconnect) false stands somebody
+  primary_command cmd.Fail other placed fine stands = λ somebody unfailed.
+      primary_departing (before_it cmd.Fail) (is_kept (state_of machine.shell.conns by)) stands somebody
+  primary_command cmd.Next other placed fine stands = λ somebody unfailed.
       primary_next (next_event (before_it cmd.Next).mail by) stands
-  primary_command cmd.Respond other placed fine stands = λ somebody.
+  primary_command cmd.Respond other placed fine stands = λ somebody unfailed.
       primary_response (owed_event (before_it cmd.Respond).mail by) placed stands
-  primary_command (cmd.RebuildStart caps) other placed fine stands = λ somebody. stands
-  primary_command cmd.RebuildStop other placed fine stands = λ somebody. primary_stop machine.shell.rebuild stands
-  primary_command cmd.RebuildConnect other placed fine stands = λ somebody.
+  primary_command (cmd.RebuildStart caps) other placed fine stands = λ somebody unfailed. stands
+  primary_command cmd.RebuildStop other placed fine stands = λ somebody unfailed.
+      primary_stop machine.shell.rebuild stands
+  primary_command cmd.RebuildConnect other placed fine stands = λ somebody unfailed.
       primary_connection machine.shell.rebuild stands
-  primary_command (cmd.Copy n) other placed fine stands = λ somebody. stands
-  primary_command cmd.RebuildComplete other placed fine stands = λ somebody.
+  primary_command (cmd.Copy n) other placed fine stands = λ somebody unfailed. stands
+  primary_command cmd.RebuildComplete other placed fine stands = λ somebody unfailed.
       primary_completion machine.shell.rebuild placed stands
-  primary_command (cmd.ForceConn conn) other placed fine stands =
+  primary_command (cmd.ForceConn conn) other placed fine stands = λ somebody unfailed.
       primary-unless_gone form (record (before_it (cmd.ForceConn conn)) {
         conns = with_forced conn machine.shell.conns;
         rebuild = emptied machine.shell.rebuild;
-      }) stands
-  primary_command cmd.ForceStr other placed fine stands = λ somebody.
+      }) stands somebody
+  primary_command cmd.ForceStr other placed fine stands = λ somebody unfailed.
       let few = not_above 0 (defined_count machine.shell.conns) _ [] fine in
       absurd (nobody_active machine.shell.conns (omega (arith, few)) somebody)
-  primary_command (cmd.LoseConn conn cf) other placed fine stands = λ somebody. stands
-  primary_command (cmd.RestoreConn conn cf) other placed fine stands = λ somebody. stands
-  primary_command (cmd.Vary cf off) other placed fine stands = λ somebody. stands
-  primary_command cmd.DuplexStart other placed fine stands = λ somebody. stands
-  primary_command cmd.DuplexStop other placed fine stands = λ somebody. stands
+  primary_command (cmd.LoseConn conn cf) other placed fine stands = λ somebody unfailed. stands
+  primary_command (cmd.RestoreConn conn cf) other placed fine stands = λ somebody unfailed. stands
+  primary_command (cmd.Vary cf off) other placed fine stands = primary_vary cf off (λ somebody unfailed. stands)
+  primary_command cmd.DuplexStart other placed fine stands = λ somebody unfailed. stands
+  primary_command cmd.DuplexStop other placed fine stands = λ somebody unfailed.
+      primary_simplex machine.shell.instances.secondary stands
 
-  primary_other : (command : ShellCmd) → is_connection command ≡ false → HasPlace machine.shell.rebuild
-      → HasPrimary machine.shell
+  primary_other : (command : ShellCmd) → is_connection command ≡ false → IsManned machine.shell
       → shell_cause form (room meaning form machine by) machine.shell by command ≡ None
       → HasPrimary (outcome_by command).shell
-  primary_other command other placed primary fine = λ somebody.
+  primary_other command other manned fine = λ somebody unfailed.
       let told : Telling = telling command (outcome_by command).reply in
       let before : Somebody now =
       somebody_past told by now (subst Somebody (follows_command command other fine) somebody) in
-      primary_command command other placed fine (primary before) somebody
+      let fails : machine.shell.failed ≡ false =
+      unfailed-change machine.shell (outcome_by command).shell
+      (change-command meaning form machine by manned command fine) somebody unfailed in
+      primary_command command other manned.placed fine (manned.primary before fails) somebody unfailed
 
   primary_connecting : (keep : Bool)
       → shell_cause form (room meaning form machine by) machine.shell by (cmd.Connect keep) ≡ None
@@ -443,8 +472,8 @@ module _ {C R I S : Type 0} (meaning : Meaning C R I S) (form : StrForm) (machin
       primary-connect shell.instances.primary (units_of shell.caps) (candidates form shell by)
       (if_severed shell by shell.instances.primary ∷ if_severed shell by shell.instances.secondary ∷ [])
       shell.instances refl
-      (past_first many reached (past_first rebuilding (many ∷ reached)
-      (past_first connected (rebuilding ∷ many ∷ reached) fine)))
+      (past_second rebuilding many reached
+      (past_second (if_failed shell) connected (rebuilding ∷ many ∷ reached) fine))
 
   -- ---- both
 
@@ -458,15 +487,15 @@ module _ {C R I S : Type 0} (meaning : Meaning C R I S) (form : StrForm) (machin
       → shell_cause form (room meaning form machine by) machine.shell by command ≡ None
       → IsMannedBehind command
   manned_other command other manned fine = (
-    members_other command other manned.places manned.members fine,
-    primary_other command other manned.placed manned.primary fine,
+    members_other command other manned.places manned.placed manned.members fine,
+    primary_other command other manned fine,
   )
 
   pub manned-command : (command : ShellCmd) → IsManned machine.shell
       → shell_cause form (room meaning form machine by) machine.shell by command ≡ None
       → IsMannedBehind command
   manned-command (cmd.Connect keep) manned fine =
-      (members_connect keep fine, λ somebody. primary_connecting keep fine)
+      (members_connect keep fine, λ somebody unfailed. primary_connecting keep fine)
   manned-command cmd.Disconnect manned fine = manned_other cmd.Disconnect refl manned fine
   manned-command cmd.Fail manned fine = manned_other cmd.Fail refl manned fine
   manned-command cmd.Next manned fine = manned_other cmd.Next refl manned fine
@@ -509,30 +538,82 @@ module _ {C R I S : Type 0} (meaning : Meaning C R I S) (form : StrForm) where
       go (Some refusal) = (manned.members, manned.primary)
       go None = (manned.members, manned.primary)
 
+  -- what a call makes of the instances
+  changed : (machine : Machine S) (by : ConnId) (asked : Ask C) → IsManned machine.shell
+      → Change machine.shell (called meaning form machine by asked).machine.shell
+  changed machine by (ask.Shell command) manned =
+      go (shell_cause form (room_of meaning form machine) machine.shell by command) refl
+    where
+      go : (cause : Option Refusal)
+          → shell_cause form (room_of meaning form machine) machine.shell by command ≡ cause
+          → Change machine.shell
+          (unless meaning form cause machine (command_done meaning form machine by command)).machine.shell
+      go (Some refusal) is = Keeps refl refl (λ none. none)
+      go None is = change-command meaning form machine by manned command is
+  changed machine by (ask.Content command) manned = go (content_cause machine.shell by)
+    where
+      go : (cause : Option Refusal) → Change machine.shell
+          (unless meaning form cause machine (content_done meaning form machine by command)).machine.shell
+      go (Some refusal) = Keeps refl refl (λ none. none)
+      go None = Keeps refl refl (λ none. none)
+
   placed_behind : (machine : Machine S) (by : ConnId) (asked : Ask C) → IsManned machine.shell
       → HasPlace (step meaning form machine by asked).machine.shell.rebuild
   placed_behind machine by asked manned =
       let active : List ConnId = actives machine.shell.conns in
       let told : Telling = told meaning form machine by asked (step meaning form machine by asked) in
       subst HasPlace (sym (rebuild-step meaning form machine by asked))
-      (placed-next active by told machine.shell.rebuild (may-step meaning form machine by manned.places asked)
-      manned.placed)
+      (placed-next active by told machine.shell.rebuild
+      (may-step meaning form machine by manned.places manned.placed asked) manned.placed)
 
   pub manned-step : (machine : Machine S) (by : ConnId) (asked : Ask C) → IsManned machine.shell
       → IsManned (step meaning form machine by asked).machine.shell
   manned-step machine by asked manned =
       let both = behind machine by asked manned in
+      let after : Shell = (step meaning form machine by asked).machine.shell in
+      let change : Change machine.shell after =
+      change-told None machine.shell (called meaning form machine by asked).machine.shell
+      (changed machine by asked manned) in
       record {
         places = length-conns-step meaning form machine by asked ∙ manned.places;
         members = both.0;
         placed = placed_behind machine by asked manned;
         primary = both.1;
+        paired = paired-change machine.shell after change manned.paired;
+        bare = bare-change machine.shell after change manned.bare;
+      }
+
+  placed_lost : (machine : Machine S) (cf : CfId) → HasPlace machine.shell.rebuild
+      → HasPlace (loss_step meaning form machine cf).machine.shell.rebuild
+  placed_lost machine cf placed =
+      let nobody : ConnId = record { 0 = 0 } in
+      let told : Telling = mark_telling (mark_outcome form cf machine.shell).reply in
+      subst HasPlace (sym (rebuild-loss meaning form machine nobody cf))
+      (placed-next (actives machine.shell.conns) nobody told machine.shell.rebuild
+      (may-loss meaning form machine nobody placed cf) placed)
+
+  pub manned-loss : (machine : Machine S) (cf : CfId) → IsManned machine.shell
+      → IsManned (loss_step meaning form machine cf).machine.shell
+  manned-loss machine cf manned =
+      let shell : Shell = machine.shell in
+      let after : Shell = (mark_outcome form cf shell).shell in
+      let change : Change shell after = change-loss form cf shell manned.bare in
+      record {
+        places = ap (λ (c : Connections). length c) (conns-loss form cf shell) ∙ manned.places;
+        members = loss-cases form cf shell
+            (λ acted. HasMembers acted.shell.rebuild (actives acted.shell.conns))
+            (members_lost form cf shell manned.members);
+        placed = placed_lost machine cf manned.placed;
+        primary = loss-cases form cf shell (λ acted. HasPrimary acted.shell)
+            (primary_lost form cf shell manned.primary);
+        paired = paired-change shell after change manned.paired;
+        bare = bare-change shell after change manned.bare;
       }
 
   pub manned-after : (machine : Machine S) (by : ConnId) (told : What C) → IsManned machine.shell
       → IsManned (after_what meaning form machine by told).shell
   manned-after machine by (what.Call asked) manned = manned-step machine by asked manned
-  manned-after machine by (what.Lost cf) manned = manned
+  manned-after machine by (what.Lost cf) manned = manned-loss machine cf manned
 
   manned-fold : (machine : Machine S) (entries : List (Entry C R)) → IsManned machine.shell
       → IsManned (fold (machine_after meaning form) machine entries).shell
@@ -546,7 +627,9 @@ module _ {C R I S : Type 0} (meaning : Meaning C R I S) (form : StrForm) where
     places = length-conns-replay meaning form [];
     members = tt;
     placed = tt;
-    primary = λ somebody. absurd (nobody_active no_connections defined_count-unconnected somebody);
+    primary = λ somebody unfailed. absurd (nobody_active no_connections defined_count-unconnected somebody);
+    paired = paired_alone (opening meaning form).shell refl;
+    bare = λ failed. absurd (cc);
   }
 
   pub manned-replay : (history : List (Entry C R)) → IsManned (replay meaning form history).shell
@@ -570,17 +653,15 @@ held_up_either Stopping owes held = absurd (cc)
 -- all connectors' content commands are refused then
 pub content_waits : (shell : Shell) (rebuild : Rebuild) (by : ConnId) → IsManned shell → shell.rebuild ≡ Some rebuild
     → is_held_up rebuild.stage true ≡ true → content_cause shell by ≢ None
-content_waits shell rebuild by manned is held = λ none. by_active (is_active shell.conns by) refl none
-  where
-    members : rebuild.members ≡ actives shell.conns
-    members = (manned-members shell rebuild manned is).0
-
-    by_active : (b : Bool) → is_active shell.conns by ≡ b → content_cause shell by ≡ None → ⊥
-    by_active false idle none = absurd (let wrong : Some refusal.NotConnected ≡ None = rw idle at none in cc)
-    by_active true active none =
-        let member : is_member by rebuild.members ≡ true =
-        rw members (active_member shell.conns by manned.places active) in
-        let waits : is_held_up rebuild.stage (is_member by rebuild.owing) ≡ true =
-        held_up_either rebuild.stage (is_member by rebuild.owing) held in
-        absurd (let wrong : Some (refusal.Quiesced rebuild.number) ≡ None =
-        rw (active, is, member, waits) at none in cc)
+content_waits shell rebuild by manned is held = λ none.
+    let members : rebuild.members ≡ actives shell.conns = (manned-members shell rebuild manned is).0 in
+    let active : is_active shell.conns by ≡ true =
+    active_of (is_active shell.conns by) (first_none (unless_active shell by) _ none) in
+    let member : is_member by rebuild.members ≡ true =
+    rw members (active_member shell.conns by manned.places active) in
+    let waits : is_held_up rebuild.stage (is_member by rebuild.owing) ≡ true =
+    held_up_either rebuild.stage (is_member by rebuild.owing) held in
+    let accepted : if_quiesced by shell.rebuild ≡ None =
+    fourth_none (unless_active shell by) (if_lost shell) (if_failed shell) (if_quiesced by shell.rebuild) _ none in
+    let wrong : Some (refusal.Quiesced rebuild.number) ≡ None = rw (is, member, waits) at accepted in
+    absurd (cc)

@@ -22,7 +22,7 @@ use Rattle.rebuild_core.specs.declared.rebuild.Rebuild.{Rebuild}
 use Rattle.rebuild_core.specs.Stages.{outcome, outcome_of, owing_after, is_response, rebuild_left, rebuild_onward, rebuild_emptied, rebuild_without, with_place, without_owing}
 use Rattle.rebuild_reading.specs.Steps.{MayBeTold, rebuild_given, rebuild_next}
 use Rattle.rebuild_reading.specs.Tellings.{Telling, is_awaited}
-use Rattle.rebuild_reading.specs.Tellings.Telling.{Starts, Places, Completes, Responds, Stops, Departs, Forces, Nothing}
+use Rattle.rebuild_reading.specs.Tellings.Telling.{Starts, Places, Completes, Responds, Stops, Departs, Fails, Forces, Nothing}
 use Rattle.rebuild_shell.specs.Members.{IsPlaced, HasPlace, Somebody}
 
 -- ---- the new instance
@@ -118,6 +118,8 @@ placed-next active by Departs (Some rebuild) may placed =
     (placed_without rebuild.stage by rebuild.members rebuild.owing rebuild.fresh placed)
 placed-next active by Forces None may placed = tt
 placed-next active by Forces (Some rebuild) may placed = placed_emptied rebuild.stage rebuild refl placed
+placed-next active by Fails None may placed = tt
+placed-next active by Fails (Some rebuild) may placed = tt
 placed-next active by Nothing None may placed = tt
 placed-next active by Nothing (Some rebuild) may placed = placed
 

@@ -1,5 +1,5 @@
 -- What a call does to a rebuild is what its entry tells of it.
-use Rattle.std.proofs.Common.{◌≡◌, Bool, true, false, List, [], ◌∷◌, length, Option, None, Some, not, inl, inr, refl, sym, ap, ◌∙◌, arith}
+use Rattle.std.proofs.Common.{◌≡◌, Bool, true, false, List, [], ◌∷◌, length, Option, None, Some, not, inl, inr, refl, sym, ap, ◌∙◌, subst, arith}
 use Rattle.std.specs.Prelude.{if◌then◌else◌, unwrap_or}
 use Rattle.cf_types.specs.declared.events.Event.{Event}
 use Rattle.cf_types.specs.declared.events.Event.TheVariants as event
@@ -21,16 +21,19 @@ use Rattle.engine_api.specs.declared.asks.Ask.{Ask}
 use Rattle.engine_api.specs.declared.asks.Ask.TheVariants as ask
 use Rattle.engine_api.specs.declared.asks.What.TheVariants as what
 use Rattle.engine_api.specs.Meaning.{Meaning, first_refusal}
-use Rattle.engine_api.specs.Shell.{goes, refusal_when, no_deeds, conns_answered, facility_of, is_kept, Shell, shell_cause, content_cause, switched, shell_onward, shell_without, unless_gone, deallocated, departing_shell, take_event, response_outcome, responded, rebuild_connect_outcome, complete_outcome, stop_outcome, with_posted, ShellOutcome, shell_done, given_outcome, leaver, unless_active, fresh_made, emptied, is_operator, unless_operator, unless_somebody, is_empty}
+use Rattle.engine_api.specs.Instances.{is_at}
+use Rattle.engine_api.specs.Shell.{call_cause, with_off, if_failed, simplex_again, goes, refusal_when, no_deeds, conns_answered, facility_of, is_kept, Shell, shell_cause, content_cause, switched, shell_onward, shell_without, unless_gone, deallocated, departing_shell, take_event, response_outcome, responded, rebuild_connect_outcome, complete_outcome, stop_outcome, with_posted, ShellOutcome, shell_done, given_outcome, leaver, unless_active, fresh_made, emptied, is_operator, unless_operator, unless_somebody, is_empty}
 use Rattle.rebuild_core.specs.declared.rebuild.Rebuild.{Rebuild}
 use Rattle.rebuild_core.specs.Stages.{without_owing, rebuild_without, outcome_of, rebuild_onward, with_place, is_response}
-use Rattle.rebuild_reading.specs.Tellings.{Telling, telling, telling_of, is_awaited}
-use Rattle.rebuild_reading.specs.Tellings.Telling.{Places, Completes, Responds, Departs, Forces, Nothing}
-use Rattle.rebuild_reading.specs.Steps.{IsEarly, MayBeTold, rebuild_next, rebuild_given}
+use Rattle.rebuild_reading.specs.Tellings.{Telling, mark_telling, telling, telling_of, is_awaited}
+use Rattle.rebuild_reading.specs.Tellings.Telling.{Places, Completes, Responds, Departs, Fails, Forces, Nothing}
+use Rattle.rebuild_reading.specs.Steps.{IsEarly, IsInStage, MayBeTold, rebuild_next, rebuild_given}
 use Rattle.engine_api.specs.Rebuilds.{is_switch, letters_past}
 use Rattle.engine_api.specs.declared.deeds.Room.{Room}
-use Rattle.rebuild_shell.specs.Members.{Somebody}
-use Rattle.engine_api.specs.Machine.{Machine, CallOutcome, step, unless, command_done, content_done, room_of, departure_from}
+use Rattle.rebuild_shell.specs.Members.{HasPlace, IsPlaced, Somebody}
+use Rattle.rebuild_shell.proofs.LossLaws.{InEachCase, loss-cases, vary-cases}
+use Rattle.rebuild_shell.proofs.CauseLaws.{never, third_never}
+use Rattle.engine_api.specs.Machine.{Machine, CallOutcome, step, loss_step, unless, call_done, command_done, content_done, room_of, departure_from}
 
 nothing_told : (actives : List ConnId) (by : ConnId) (rebuild : Option Rebuild)
     → rebuild ≡ rebuild_next actives by Nothing rebuild
@@ -67,12 +70,6 @@ rebuild-departing active form shell by keep =
     let told : Shell = with_posted (letters_to (actives conns) (event.DiscFail by)) (record left { conns = conns }) in
     rebuild-unless_gone form told ∙ rebuild-without active by shell.rebuild cleared refl
 
--- a third cause that holds
-pub never : (first : Option Refusal) (refusal : Refusal) (rest : List (Option Refusal))
-    → first_refusal (first ∷ None ∷ Some refusal ∷ rest) ≡ None → ⊥
-never None refusal rest is = cc
-never (Some other) refusal rest is = cc
-
 -- a response changes the rebuild where its stage waits for it
 rebuild-responded : (active : List ConnId) (by : ConnId) (answered : Event) (rebuild : Option Rebuild) (shell : Shell)
     → shell.rebuild ≡ rebuild
@@ -103,17 +100,57 @@ rebuild-stopped : (active : List ConnId) (by : ConnId) (rebuild : Option Rebuild
 rebuild-stopped active by None shell is = is
 rebuild-stopped active by (Some rebuild) shell is = refl
 
+-- ---- what is lost
+
+fails_told : (active : List ConnId) (by : ConnId) (rebuild : Option Rebuild)
+    → None ≡ rebuild_next active by Fails rebuild
+fails_told active by None = refl
+fails_told active by (Some rebuild) = refl
+
+-- a new instance is lost in CONNECT or COPY
+early_placed : (at : Stage) (members owing : List ConnId) (fresh : Option CfId) (cf : CfId)
+    → IsPlaced at members owing fresh → is_at cf fresh ≡ true → IsEarly at
+early_placed stage.Quiesce members owing fresh cf placed lost = inl refl
+early_placed stage.Connect members owing fresh cf placed lost = inr (inl refl)
+early_placed stage.Copy members owing fresh cf placed lost = inr (inr refl)
+early_placed stage.Cleanup members owing fresh cf placed lost =
+    absurd (let wrong : false ≡ true = rw placed at lost in cc)
+early_placed stage.Stopping members owing fresh cf placed lost =
+    absurd (let wrong : false ≡ true = rw placed at lost in cc)
+
+-- what becomes of the rebuild is what the reply tells
+abbrev TellsOf : List ConnId → ConnId → Option Rebuild → ShellOutcome → Type 0
+TellsOf active by rebuild acted = acted.shell.rebuild ≡ rebuild_next active by (mark_telling acted.reply) rebuild
+
+tells_loss : (active : List ConnId) (by : ConnId) (form : StrForm) (cf : CfId) (shell : Shell)
+    → InEachCase form cf shell (TellsOf active by shell.rebuild)
+tells_loss active by form cf shell = record {
+  none = nothing_told active by shell.rebuild;
+  simplex = λ left lost. nothing_told active by shell.rebuild;
+  stops = λ rebuild is lost. rw is refl;
+  fails = fails_told active by shell.rebuild;
+}
+
+abbrev MayTell : List ConnId → Option Rebuild → ShellOutcome → Type 0
+MayTell active rebuild acted = MayBeTold active (mark_telling acted.reply) rebuild
+
+may_tell_loss : (active : List ConnId) (form : StrForm) (cf : CfId) (shell : Shell) → HasPlace shell.rebuild
+    → InEachCase form cf shell (MayTell active shell.rebuild)
+may_tell_loss active form cf shell placed = record {
+  none = tt;
+  simplex = λ left lost. tt;
+  stops = λ rebuild is lost.
+      subst (IsInStage IsEarly) (sym is)
+      (early_placed rebuild.stage rebuild.members rebuild.owing rebuild.fresh cf (subst HasPlace is placed) lost);
+  fails = tt;
+}
+
 -- ---- what may be told
 
 pub first_none : (first : Option Refusal) (rest : List (Option Refusal)) → first_refusal (first ∷ rest) ≡ None
     → first ≡ None
 first_none None rest fine = refl
 first_none (Some refusal) rest fine = absurd (cc)
-
-second_never : (first : Option Refusal) (refusal : Refusal) (rest : List (Option Refusal))
-    → first_refusal (first ∷ Some refusal ∷ rest) ≡ None → ⊥
-second_never None refusal rest is = cc
-second_never (Some other) refusal rest is = cc
 
 somebody : (conns : List ConnId) → refusal_when (is_empty conns) refusal.NotConnected ≡ None → Somebody conns
 somebody [] fine = absurd (cc)
@@ -149,14 +186,18 @@ module _ (form : StrForm) (room : Room) (shell : Shell) (by : ConnId) where
   pub connect_stage : (rebuild : Rebuild) (at : Stage) → shell.rebuild ≡ Some rebuild → rebuild.stage ≡ at
       → shell_cause form room shell by cmd.RebuildConnect ≡ None → rebuild.stage ≡ stage.Connect
   connect_stage rebuild stage.Quiesce is in_stage fine =
-      absurd (never (unless_active shell by) (refusal.WrongStage stage.Quiesce) _ (rw (is, in_stage) at fine))
+      absurd (never (unless_active shell by) (if_failed shell) (refusal.WrongStage stage.Quiesce)
+      _ (rw (is, in_stage) at fine))
   connect_stage rebuild stage.Connect is in_stage fine = in_stage
   connect_stage rebuild stage.Copy is in_stage fine =
-      absurd (never (unless_active shell by) (refusal.WrongStage stage.Copy) _ (rw (is, in_stage) at fine))
+      absurd (never (unless_active shell by) (if_failed shell) (refusal.WrongStage stage.Copy)
+      _ (rw (is, in_stage) at fine))
   connect_stage rebuild stage.Cleanup is in_stage fine =
-      absurd (never (unless_active shell by) (refusal.WrongStage stage.Cleanup) _ (rw (is, in_stage) at fine))
+      absurd (never (unless_active shell by) (if_failed shell) (refusal.WrongStage stage.Cleanup)
+      _ (rw (is, in_stage) at fine))
   connect_stage rebuild stage.Stopping is in_stage fine =
-      absurd (never (unless_active shell by) (refusal.WrongStage stage.Stopping) _ (rw (is, in_stage) at fine))
+      absurd (never (unless_active shell by) (if_failed shell) (refusal.WrongStage stage.Stopping)
+      _ (rw (is, in_stage) at fine))
 
   stop_stage : (rebuild : Rebuild) (at : Stage) → shell.rebuild ≡ Some rebuild → rebuild.stage ≡ at
       → shell_cause form room shell by cmd.RebuildStop ≡ None → IsEarly rebuild.stage
@@ -164,21 +205,27 @@ module _ (form : StrForm) (room : Room) (shell : Shell) (by : ConnId) where
   stop_stage rebuild stage.Connect is in_stage fine = inr (inl in_stage)
   stop_stage rebuild stage.Copy is in_stage fine = inr (inr in_stage)
   stop_stage rebuild stage.Cleanup is in_stage fine =
-      absurd (never (unless_operator shell by) (refusal.WrongStage stage.Cleanup) [] (rw (is, in_stage) at fine))
+      absurd (never (unless_operator shell by) (if_failed shell) (refusal.WrongStage stage.Cleanup)
+      [] (rw (is, in_stage) at fine))
   stop_stage rebuild stage.Stopping is in_stage fine =
-      absurd (never (unless_operator shell by) (refusal.WrongStage stage.Stopping) [] (rw (is, in_stage) at fine))
+      absurd (never (unless_operator shell by) (if_failed shell) (refusal.WrongStage stage.Stopping)
+      [] (rw (is, in_stage) at fine))
 
   complete_stage : (rebuild : Rebuild) (at : Stage) → shell.rebuild ≡ Some rebuild → rebuild.stage ≡ at
       → shell_cause form room shell by cmd.RebuildComplete ≡ None → rebuild.stage ≡ stage.Copy
   complete_stage rebuild stage.Quiesce is in_stage fine =
-      absurd (never (unless_active shell by) (refusal.WrongStage stage.Quiesce) _ (rw (is, in_stage) at fine))
+      absurd (never (unless_active shell by) (if_failed shell) (refusal.WrongStage stage.Quiesce)
+      _ (rw (is, in_stage) at fine))
   complete_stage rebuild stage.Connect is in_stage fine =
-      absurd (never (unless_active shell by) (refusal.WrongStage stage.Connect) _ (rw (is, in_stage) at fine))
+      absurd (never (unless_active shell by) (if_failed shell) (refusal.WrongStage stage.Connect)
+      _ (rw (is, in_stage) at fine))
   complete_stage rebuild stage.Copy is in_stage fine = in_stage
   complete_stage rebuild stage.Cleanup is in_stage fine =
-      absurd (never (unless_active shell by) (refusal.WrongStage stage.Cleanup) _ (rw (is, in_stage) at fine))
+      absurd (never (unless_active shell by) (if_failed shell) (refusal.WrongStage stage.Cleanup)
+      _ (rw (is, in_stage) at fine))
   complete_stage rebuild stage.Stopping is in_stage fine =
-      absurd (never (unless_active shell by) (refusal.WrongStage stage.Stopping) _ (rw (is, in_stage) at fine))
+      absurd (never (unless_active shell by) (if_failed shell) (refusal.WrongStage stage.Stopping)
+      _ (rw (is, in_stage) at fine))
 
   -- where the command isn't refused, the stage waits for it
   connect_awaited : (rebuild : Rebuild) (cf : CfId) → shell.rebuild ≡ Some rebuild
@@ -268,6 +315,17 @@ module _ {C R I S : Type 0} (meaning : Meaning C R I S) (form : StrForm) (machin
       ∙ ap (λ (b : Bool). rebuild_given b by rebuild)
       (sym (complete_awaited form room machine.shell by rebuild is fine))
 
+  tells_vary : (cf : CfId) (off : Bool) → Tells (cmd.Vary cf off)
+  tells_vary cf off =
+      vary-cases form cf off (acting (cmd.Vary cf off)) (TellsOf active by machine.shell.rebuild) quiet
+      (tells_loss active by form cf (with_off cf true (acting (cmd.Vary cf off))))
+
+  tells_simplex : (second : Option CfId) → (simplex_again second (acting cmd.DuplexStop)).shell.rebuild
+      ≡ rebuild_next active by (telling cmd.DuplexStop (simplex_again second (acting cmd.DuplexStop)).reply)
+      machine.shell.rebuild
+  tells_simplex None = quiet
+  tells_simplex (Some cf) = quiet
+
   pub tells_command : (command : ShellCmd) → shell_cause form room machine.shell by command ≡ None → Tells command
   tells_command (cmd.Connect keep) fine = quiet
   tells_command cmd.Disconnect fine = rebuild-departing active form (acting cmd.Disconnect) by false
@@ -290,11 +348,17 @@ module _ {C R I S : Type 0} (meaning : Meaning C R I S) (form : StrForm) (machin
   tells_command cmd.ForceStr fine = quiet
   tells_command (cmd.LoseConn other cf) fine = quiet
   tells_command (cmd.RestoreConn other cf) fine = quiet
-  tells_command (cmd.Vary cf off) fine = quiet
+  tells_command (cmd.Vary cf off) fine = tells_vary cf off
   tells_command cmd.DuplexStart fine = quiet
-  tells_command cmd.DuplexStop fine = quiet
+  tells_command cmd.DuplexStop fine = tells_simplex machine.shell.instances.secondary
 
   -- ---- a call
+
+  -- what it does, but that it has come
+  abbrev pub called : Ask C → CallOutcome R S
+  called asked =
+      unless meaning form (call_cause form room machine.shell by asked) machine
+      (call_done meaning form machine by asked)
 
   abbrev pub told : (asked : Ask C) → CallOutcome R S → Telling
   told asked answered = telling_of (what.Call asked) answered.reply
@@ -349,7 +413,8 @@ module _ {C R I S : Type 0} (meaning : Meaning C R I S) (form : StrForm) (machin
       → shell_cause form room machine.shell by cmd.RebuildStop ≡ None
       → MayBeTold active (telling cmd.RebuildStop (stop_outcome (acting cmd.RebuildStop) rebuild).reply) rebuild
   may_stop None is fine =
-      absurd (second_never (unless_operator machine.shell by) refusal.NoRebuild _ (rw is at fine))
+      absurd (third_never (unless_operator machine.shell by) (if_failed machine.shell) refusal.NoRebuild _
+      (rw is at fine))
   may_stop (Some rebuild) is fine = stop_stage form room machine.shell by rebuild rebuild.stage is refl fine
 
   may_connection : (rebuild : Option Rebuild) → machine.shell.rebuild ≡ rebuild
@@ -365,35 +430,64 @@ module _ {C R I S : Type 0} (meaning : Meaning C R I S) (form : StrForm) (machin
   may_completion None = tt
   may_completion (Some rebuild) = tt
 
-  pub may_command : length machine.shell.conns ≡ 33 → (command : ShellCmd)
+  may_vary : HasPlace machine.shell.rebuild → (cf : CfId) (off : Bool)
+      → MayBeTold active (telling (cmd.Vary cf off) (done (cmd.Vary cf off)).reply) machine.shell.rebuild
+  may_vary placed cf off =
+      vary-cases form cf off (acting (cmd.Vary cf off)) (MayTell active machine.shell.rebuild) tt
+      (may_tell_loss active form cf (with_off cf true (acting (cmd.Vary cf off))) placed)
+
+  may_simplex : (second : Option CfId)
+      → MayBeTold active (telling cmd.DuplexStop (simplex_again second (acting cmd.DuplexStop)).reply)
+      machine.shell.rebuild
+  may_simplex None = tt
+  may_simplex (Some cf) = tt
+
+  pub may_command : length machine.shell.conns ≡ 33 → HasPlace machine.shell.rebuild → (command : ShellCmd)
       → shell_cause form room machine.shell by command ≡ None
       → MayBeTold active (telling command (done command).reply) machine.shell.rebuild
-  may_command places (cmd.Connect keep) fine = tt
-  may_command places cmd.Disconnect fine = tt
-  may_command places cmd.Fail fine = tt
-  may_command places cmd.Next fine = may_next (next_event (acting cmd.Next).mail by)
-  may_command places cmd.Respond fine = may_response (owed_event (acting cmd.Respond).mail by)
-  may_command places (cmd.RebuildStart caps) fine =
+  may_command places placed (cmd.Connect keep) fine = tt
+  may_command places placed cmd.Disconnect fine = tt
+  may_command places placed cmd.Fail fine = tt
+  may_command places placed cmd.Next fine = may_next (next_event (acting cmd.Next).mail by)
+  may_command places placed cmd.Respond fine = may_response (owed_event (acting cmd.Respond).mail by)
+  may_command places placed (cmd.RebuildStart caps) fine =
       somebody_active machine.shell by places (first_none (unless_somebody machine.shell by) _ fine)
-  may_command places cmd.RebuildStop fine = may_stop machine.shell.rebuild refl fine
-  may_command places cmd.RebuildConnect fine = may_connection machine.shell.rebuild refl fine
-  may_command places (cmd.Copy n) fine = tt
-  may_command places cmd.RebuildComplete fine = may_completion machine.shell.rebuild
-  may_command places (cmd.ForceConn other) fine = tt
-  may_command places cmd.ForceStr fine = tt
-  may_command places (cmd.LoseConn other cf) fine = tt
-  may_command places (cmd.RestoreConn other cf) fine = tt
-  may_command places (cmd.Vary cf off) fine = tt
-  may_command places cmd.DuplexStart fine = tt
-  may_command places cmd.DuplexStop fine = tt
+  may_command places placed cmd.RebuildStop fine = may_stop machine.shell.rebuild refl fine
+  may_command places placed cmd.RebuildConnect fine = may_connection machine.shell.rebuild refl fine
+  may_command places placed (cmd.Copy n) fine = tt
+  may_command places placed cmd.RebuildComplete fine = may_completion machine.shell.rebuild
+  may_command places placed (cmd.ForceConn other) fine = tt
+  may_command places placed cmd.ForceStr fine = tt
+  may_command places placed (cmd.LoseConn other cf) fine = tt
+  may_command places placed (cmd.RestoreConn other cf) fine = tt
+  may_command places placed (cmd.Vary cf off) fine = may_vary placed cf off
+  may_command places placed cmd.DuplexStart fine = tt
+  may_command places placed cmd.DuplexStop fine = may_simplex machine.shell.instances.secondary
 
-  pub may-step : length machine.shell.conns ≡ 33 → (asked : Ask C)
+  pub may-step : length machine.shell.conns ≡ 33 → HasPlace machine.shell.rebuild → (asked : Ask C)
       → MayBeTold active (told asked (step meaning form machine by asked)) machine.shell.rebuild
-  may-step places (ask.Shell command) = go (shell_cause form room machine.shell by command) refl
+  may-step places placed (ask.Shell command) = go (shell_cause form room machine.shell by command) refl
     where
       go : (cause : Option Refusal) → shell_cause form room machine.shell by command ≡ cause
           → MayBeTold active (told (ask.Shell command)
           (unless meaning form cause machine (command_done meaning form machine by command))) machine.shell.rebuild
       go (Some refusal) is = tt
-      go None is = may_command places command is
-  may-step places (ask.Content command) = tt
+      go None is = may_command places placed command is
+  may-step places placed (ask.Content command) = tt
+
+  -- ---- a mark
+
+  abbrev marked : CfId → Telling
+  marked cf = telling_of {C = C} (what.Lost cf) (loss_step meaning form machine cf).reply
+
+  pub rebuild-loss : (cf : CfId)
+      → (loss_step meaning form machine cf).machine.shell.rebuild
+      ≡ rebuild_next active by (marked cf) machine.shell.rebuild
+  rebuild-loss cf =
+      loss-cases form cf machine.shell (TellsOf active by machine.shell.rebuild)
+      (tells_loss active by form cf machine.shell)
+
+  pub may-loss : HasPlace machine.shell.rebuild → (cf : CfId) → MayBeTold active (marked cf) machine.shell.rebuild
+  may-loss placed cf =
+      loss-cases form cf machine.shell (MayTell active machine.shell.rebuild)
+      (may_tell_loss active form cf machine.shell placed)

@@ -6,5 +6,5 @@ mod laws;
 
 pub use laws::{
     content_waits, copies_a_front, fills_in_copy_alone, holds_at_its_capacity, keeps_what_is_told,
-    members_are_active, stop_keeps_the_content,
+    loss_of_the_new_keeps_the_content, members_are_active, stop_keeps_the_content,
 };

@@ -1,4 +1,5 @@
 mod gates;
+mod loads;
 mod rebuilds;
 mod reports;
 mod runs;

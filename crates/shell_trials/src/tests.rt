@@ -1,5 +1,5 @@
 ghost use Rattle.std.specs.Prelude.{◌≡◌, ◌≤◌, IfOk};
-ghost use Rattle.cf_types.specs.Forms.{IsForm, IsConnector};
+ghost use Rattle.cf_types.specs.Forms.{IsForm, IsConnector, IsFacility};
 ghost use Rattle.engine_api.specs.Asking.{MayCommand};
 
 use cf_types::{
@@ -16,6 +16,10 @@ const OP: ConnId = ConnId(0);
 const A: ConnId = ConnId(1);
 
 const B: ConnId = ConnId(2);
+
+const FIRST: CfId = CfId(1);
+
+const SECOND: CfId = CfId(2);
 
 const LARGER: Caps = Caps {
     entries: 10,
@@ -40,11 +44,11 @@ fn cache(alloc: Global) -> Result<StrForm, NoMemory>
         elements: 8,
     };
     let first = Pref {
-        cf: CfId(1),
+        cf: FIRST,
         units: 100,
     };
     let second = Pref {
-        cf: CfId(2),
+        cf: SECOND,
         units: 100,
     };
     let prefs = Vec::from_slice(alloc, &[first, second])?;
@@ -142,6 +146,41 @@ fn stopping(alloc: Global) -> Result<Shell, NoMemory> {
     let _asked = next(&mut shell, A)?;
     let _answered = ask(&mut shell, A, ShellCmd::Respond)?;
     let _stopped = ask(&mut shell, OP, ShellCmd::RebuildStop)?;
+    Ok(shell)
+}
+
+// Varies a facility off for the structure, or on again.
+fn vary(shell: &mut Shell, cf: CfId, off: bool) -> Result<Result<ShellReply, Refusal>, NoMemory>
+    requires { IsFacility cf }
+{
+    ask(shell, OP, ShellCmd::Vary { cf, off })
+}
+
+// What a command on the content is refused for before the engine is asked.
+fn refused_content(shell: &Shell, by: ConnId) -> Option<Refusal>
+    requires { IsConnector by }
+{
+    let call: Ask<u8> = Ask::Content(0);
+    match shell.judge(by, &call, &EMPTY) {
+        Verdict::Refuse(refusal) => Some(refusal),
+        _ => None,
+    }
+}
+
+// A structure whose connector is A, with an instance in each facility.
+fn duplexed(alloc: Global) -> Result<Shell, NoMemory> {
+    let form = cache(alloc)?;
+    let mut shell = Shell::start(alloc, &form, 32)?;
+    let _made = ask(&mut shell, A, ShellCmd::Connect { keep: false })?;
+    let _second = ask(&mut shell, OP, ShellCmd::DuplexStart)?;
+    Ok(shell)
+}
+
+// The same with both facilities varied off.
+fn failed(alloc: Global) -> Result<Shell, NoMemory> {
+    let mut shell = duplexed(alloc)?;
+    let _first = vary(&mut shell, FIRST, true)?;
+    let _second = vary(&mut shell, SECOND, true)?;
     Ok(shell)
 }
 
@@ -247,5 +286,37 @@ fn lost_facility_is_told_once_and_takes_no_instance(rt: HostRuntime) -> Result<(
     assert_eq!(rt; told, Some(Event::LostConn { cf }));
     let nothing = next(&mut shell, A)?;
     assert_eq!(rt; nothing, None);
+    Ok(())
+}
+
+#[test]
+fn lost_facilities_leave_one_instance_and_then_none(rt: HostRuntime) -> Result<(), Fail> {
+    let mut shell = duplexed(rt.alloc())?;
+    assert_eq!(rt; shell.instances(), (Some(FIRST), Some(SECOND), None));
+    let again = ask(&mut shell, OP, ShellCmd::DuplexStart)?;
+    assert_eq!(rt; again, Err(Refusal::AlreadyDuplexed));
+    let simplex = vary(&mut shell, FIRST, true)?;
+    assert_eq!(rt; simplex, Ok(ShellReply::Simplex { cf: SECOND }));
+    assert_eq!(rt; shell.instances(), (Some(SECOND), None, None));
+    let failed = vary(&mut shell, SECOND, true)?;
+    assert_eq!(rt; failed, Ok(ShellReply::FailedNow));
+    assert_eq!(rt; shell.instances(), (None, None, None));
+    let told = next(&mut shell, A)?;
+    assert_eq!(rt; told, Some(Event::StrFail));
+    Ok(())
+}
+
+#[test]
+fn failed_structure_refuses_until_it_is_gone(rt: HostRuntime) -> Result<(), Fail> {
+    let mut shell = failed(rt.alloc())?;
+    let newcomer = ask(&mut shell, B, ShellCmd::Connect { keep: false })?;
+    assert_eq!(rt; newcomer, Err(Refusal::StructureFailed));
+    assert_eq!(rt; refused_content(&shell, A), Some(Refusal::StructureFailed));
+    let _left = ask(&mut shell, A, ShellCmd::Disconnect)?;
+    let nowhere = ask(&mut shell, A, ShellCmd::Connect { keep: false })?;
+    assert_eq!(rt; nowhere, Err(Refusal::NoFacility));
+    let _on = vary(&mut shell, FIRST, false)?;
+    let made = ask(&mut shell, A, ShellCmd::Connect { keep: false })?;
+    assert_eq!(rt; made, Ok(ShellReply::OkNew { cf: FIRST }));
     Ok(())
 }

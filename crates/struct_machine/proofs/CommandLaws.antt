@@ -2,7 +2,7 @@
 use Rattle.std.proofs.Common.{◌≡◌, ℕ, ◌+◌, ◌-◌, ◌⊎◌, inl, inr, Bool, true, false, length, Option, None, Some, refl, sym, ap, ◌∙◌, subst, subst₂, arith}
 use Rattle.std.proofs.Math.Nat.{min-le_right}
 use Rattle.std.proofs.lemmas.Bool.{both_ways}
-use Rattle.std.specs.Prelude.{◌||◌, ◌&&◌, not, if◌then◌else◌, is_some, min}
+use Rattle.std.specs.Prelude.{◌||◌, ◌&&◌, if◌then◌else◌, is_some, min}
 use Rattle.cf_types.specs.declared.events.Event.{Event}
 use Rattle.cf_types.specs.declared.forms.Caps.{Caps}
 use Rattle.cf_types.specs.declared.forms.StrForm.{StrForm}
@@ -18,11 +18,11 @@ use Rattle.engine_api.specs.declared.asks.Ask.TheVariants as ask
 use Rattle.engine_api.specs.declared.asks.Reply.TheVariants as reply
 use Rattle.engine_api.specs.declared.deeds.Deeds.{Deeds}
 use Rattle.engine_api.specs.declared.deeds.Room.{Room}
-use Rattle.engine_api.specs.Machine.{Machine, content_after, copied_after, moved_by, room_of, departure_from, command_done, unless, step, CallOutcome}
+use Rattle.engine_api.specs.Machine.{Machine, content_after, copied_after, moved_by, room_of, departure_from, command_done, unless, with_entered, entered_machine, CallOutcome}
 use Rattle.engine_api.specs.Meaning.{Meaning, Held, Departure}
 use Rattle.engine_api.specs.Rebuilds.{fresh_of}
 use Rattle.engine_api.specs.Shapes.{shape_of}
-use Rattle.engine_api.specs.Shell.{Shell, ShellOutcome, Leaver, is_kept, shell_cause, shell_done, leaver, with_posted, caps_made, caps_in, take_event, responded, response_outcome, given_outcome, no_deeds, stop_outcome, rebuild_connect_outcome, complete_outcome}
+use Rattle.engine_api.specs.Shell.{Shell, ShellOutcome, Leaver, is_kept, shell_cause, shell_done, leaver, with_posted, caps_made, caps_in, take_event, responded, response_outcome, given_outcome, no_deeds, stop_outcome, rebuild_connect_outcome, complete_outcome, entered, vary_outcome, simplex_again}
 use Rattle.plex_shell.specs.ShellView.{ShellView}
 use Rattle.rebuild_copy.specs.Rebuildable.{Fresh, RebuildableView, caps_or, emptied, lacking, with_copied}
 use Rattle.rebuild_core.specs.declared.rebuild.Rebuild.{Rebuild}
@@ -32,7 +32,9 @@ use Rattle.rebuild_shell.specs.Filling.{IsFilled, IsFilling}
 use Rattle.rebuild_shell.specs.Members.{IsManned}
 use Rattle.rebuild_shell.proofs.DeedLaws.{capacities-command, fitting-command}
 use Rattle.rebuild_shell.proofs.FillingLaws.{filled-step, departure_empties, forced_empties}
+use Rattle.rebuild_shell.proofs.LossLaws.{vary-cases}
 use Rattle.rebuild_shell.proofs.MemberLaws.{manned-step}
+use Rattle.struct_machine.proofs.ToldLaws.{manned-told, filled-told}
 use Rattle.rebuild_shell.proofs.StepLaws.{done}
 use Rattle.struct_machine.specs.Deeds.{is_making, fresh_left, fresh_before, caps_past, fresh_past, AreAdmitted}
 use Rattle.struct_machine.specs.Kept.{AreOf, machine_of, copied_in, caps_of}
@@ -120,6 +122,21 @@ stop_makes : (shell : Shell) (rebuild : Option Rebuild) → (stop_outcome shell 
 stop_makes shell None = refl
 stop_makes shell (Some rebuild) = refl
 
+vary_makes : (form : StrForm) (shell : Shell) (cf : CfId) (off : Bool)
+    → (vary_outcome form cf off shell).deeds.make ≡ None
+vary_makes form shell cf off =
+    vary-cases form cf off shell (λ acted. acted.deeds.make ≡ None) refl
+    (record {
+      none = refl;
+      simplex = λ left lost. refl;
+      stops = λ rebuild is lost. refl;
+      fails = refl;
+    })
+
+simplex_makes : (shell : Shell) (second : Option CfId) → (simplex_again second shell).deeds.make ≡ None
+simplex_makes shell None = refl
+simplex_makes shell (Some cf) = refl
+
 responded_makes : (by : ConnId) (answered : Event) (rebuild : Option Rebuild) (shell : Shell)
     → (responded by answered rebuild shell).deeds.make ≡ None
 responded_makes by answered None shell = refl
@@ -168,9 +185,9 @@ module _ (form : StrForm) (room : Room) (shell : Shell) (by : ConnId) where
   making cmd.ForceStr some = absurd (cc)
   making (cmd.LoseConn other cf) some = absurd (cc)
   making (cmd.RestoreConn other cf) some = absurd (cc)
-  making (cmd.Vary cf off) some = absurd (cc)
+  making (cmd.Vary cf off) some = absurd (unmade _ (vary_makes form shell cf off) some)
   making cmd.DuplexStart some = absurd (cc)
-  making cmd.DuplexStop some = absurd (cc)
+  making cmd.DuplexStop some = absurd (unmade _ (simplex_makes shell shell.instances.secondary) some)
 
   -- and they end none
   making_keeps : (command : ShellCmd) → is_making command ≡ true → (deeds_of command).drop_all ≡ false
@@ -492,15 +509,20 @@ module _ {E S : Type 0} (holds : E → Held S) {C R I : Type 0} (meaning : Meani
 
   pub manned_behind : IsManned acted.shell
   manned_behind =
-      subst (λ (cause : Option Refusal).
-      IsManned (unless meaning form cause machine (command_done meaning form machine by command)).machine.shell)
-      accepted (manned-step meaning form machine by (ask.Shell command) of.manned)
+      manned-told acted.shell.mail acted.shell.lost (entered acted.shell)
+      (subst (λ (cause : Option Refusal).
+      IsManned
+      (with_entered (unless meaning form cause machine (command_done meaning form machine by command))).machine.shell)
+      accepted (manned-step meaning form machine by (ask.Shell command) of.manned))
 
   pub filled_behind : IsFilled meaning form (command_done meaning form machine by command).machine
   filled_behind =
-      subst (λ (cause : Option Refusal).
-      IsFilled meaning form (unless meaning form cause machine (command_done meaning form machine by command)).machine)
-      accepted (filled-step meaning form machine by (ask.Shell command) of.manned of.filled)
+      filled-told meaning form acted.shell.mail acted.shell.lost
+      (entered_machine (command_done meaning form machine by command).machine)
+      (subst (λ (cause : Option Refusal).
+      IsFilled meaning form
+      (with_entered (unless meaning form cause machine (command_done meaning form machine by command))).machine)
+      accepted (filled-step meaning form machine by (ask.Shell command) of.manned of.filled))
 
   -- ---- all of it, of whatever shell acted and whatever deeds were done
 

@@ -18,12 +18,13 @@ use Rattle.engine_api.specs.Asking.{MayCommand}
 use Rattle.engine_api.specs.Shapes.{shape_of}
 use Rattle.engine_api.specs.Meaning.{Meaning, Held}
 use Rattle.engine_api.specs.Machine.{content_after, copied_after, with_back_of}
-use Rattle.engine_api.specs.Shell.{Shell, Leaver, ShellOutcome, shell_done, leaver, take_event, responded, response_outcome, stop_outcome, rebuild_connect_outcome, complete_outcome}
+use Rattle.engine_api.specs.Shell.{Shell, Leaver, ShellOutcome, shell_done, leaver, take_event, responded, response_outcome, stop_outcome, rebuild_connect_outcome, complete_outcome, vary_outcome, simplex_again}
 use Rattle.rebuild_core.specs.declared.rebuild.Rebuild.{Rebuild}
 use Rattle.rebuild_core.specs.Stages.{is_response}
 use Rattle.rebuild_copy.specs.Rebuildable.{Fresh, caps_or, emptied}
 use Rattle.struct_machine.specs.Deeds.{fresh_made, fresh_ended, caps_past, fresh_past, held_back, held_switched}
 use Rattle.struct_machine.specs.Kept.{copied_in, caps_of}
+use Rattle.rebuild_shell.proofs.LossLaws.{vary-cases}
 
 -- who departs is a caller
 pub leaver_caller : (shell : Shell) (by : ConnId) (command : ShellCmd) (who : Leaver) → MayCommand by command
@@ -85,6 +86,21 @@ completed_none : (shell : Shell) (by : ConnId) (rebuild : Option Rebuild)
 completed_none shell by None = tt
 completed_none shell by (Some rebuild) = tt
 
+varied_none : (form : StrForm) (shell : Shell) (cf : CfId) (off : Bool)
+    → IfSome (vary_outcome form cf off shell).deeds.back IsCaller
+varied_none form shell cf off =
+    vary-cases form cf off shell (λ acted. IfSome acted.deeds.back IsCaller) tt
+    (record {
+      none = tt;
+      simplex = λ left lost. tt;
+      stops = λ rebuild is lost. tt;
+      fails = tt;
+    })
+
+simplex_none : (shell : Shell) (second : Option CfId) → IfSome (simplex_again second shell).deeds.back IsCaller
+simplex_none shell None = tt
+simplex_none shell (Some cf) = tt
+
 back_if : (failed : Bool) (by : ConnId) → IsCaller by → IfSome (if failed then Some by else None) IsCaller
 back_if true by caller = caller
 back_if false by caller = tt
@@ -108,9 +124,9 @@ back_caller form room shell by (cmd.ForceConn other) may = tt
 back_caller form room shell by cmd.ForceStr may = tt
 back_caller form room shell by (cmd.LoseConn other cf) may = tt
 back_caller form room shell by (cmd.RestoreConn other cf) may = tt
-back_caller form room shell by (cmd.Vary cf off) may = tt
+back_caller form room shell by (cmd.Vary cf off) may = varied_none form shell cf off
 back_caller form room shell by cmd.DuplexStart may = tt
-back_caller form room shell by cmd.DuplexStop may = tt
+back_caller form room shell by cmd.DuplexStop may = simplex_none shell shell.instances.secondary
 
 -- ---- one deed after another, and all at once
 

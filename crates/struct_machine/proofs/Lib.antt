@@ -5,3 +5,4 @@ pub mod DeedLaws
 pub mod KeptLaws
 pub mod PostedLaws
 pub mod RefusalLaws
+pub mod ToldLaws

@@ -2,14 +2,23 @@
 use Rattle.std.specs.Prelude.{◌≡◌, ℕ, Option, None, Some, option_map}
 use Rattle.cf_types.specs.declared.forms.Caps.{Caps}
 use Rattle.cf_types.specs.declared.forms.StrForm.{StrForm}
+use Rattle.cf_types.specs.declared.numbers.ConnId.{ConnId}
+use Rattle.engine_api.specs.declared.asks.Ask.{Ask}
 use Rattle.engine_api.specs.Meaning.{Meaning, Held}
-use Rattle.engine_api.specs.Machine.{Machine}
+use Rattle.engine_api.specs.Machine.{Machine, CallOutcome, room_of, call_done, unless}
 use Rattle.engine_api.specs.Shapes.{shape_of}
+use Rattle.engine_api.specs.Shell.{call_cause}
 use Rattle.plex_shell.specs.ShellView.{ShellView}
 use Rattle.rebuild_copy.specs.Rebuildable.{Fresh, RebuildableView}
 use Rattle.rebuild_shell.specs.Capacities.{fresh_caps}
 use Rattle.rebuild_shell.specs.Filling.{IsFilled}
 use Rattle.rebuild_shell.specs.Members.{IsManned}
+
+-- what a call answers, and the machine that it leaves, before it counts as one that has come
+abbrev pub judged : {C R I S : Type 0} → Meaning C R I S → StrForm → Machine S → ConnId → Ask C → CallOutcome R S
+judged meaning form machine by asked =
+    unless meaning form (call_cause form (room_of meaning form machine) machine.shell by asked) machine
+    (call_done meaning form machine by asked)
 
 -- how many items the new instance has, none where none stands
 abbrev pub copied_in : Option Fresh → ℕ

@@ -6,7 +6,7 @@ ghost use Rattle.engine_api.specs.Meaning.{stands_in};
 ghost use Rattle.engine_api.specs.Machine.{content_done, content_reply, command_done, room_of, step};
 ghost use Rattle.engine_api.specs.Shell.{call_cause, shell_cause, content_cause};
 ghost use Rattle.struct_machine.specs.Changes.{Covers};
-ghost use Rattle.struct_machine.specs.Kept.{AreOf, machine_of};
+ghost use Rattle.struct_machine.specs.Kept.{AreOf, machine_of, judged};
 
 use crate::changed::Changed;
 use crate::deeds::{do_deeds, spare_caps};
@@ -17,8 +17,8 @@ use plex_shell::{Shell, Verdict};
 use rebuild_copy::Rebuildable;
 use std::alloc::Global;
 
-// A call is judged, and done where the shell doesn't refuse it. What bits it may have changed is
-// told.
+// A call is judged, done where the shell doesn't refuse it, and has come then. What bits it may have
+// changed is told.
 pub(crate) fn answer<E: Engine>(
     alloc: Global,
     form: &StrForm,
@@ -37,6 +37,37 @@ pub(crate) fn answer<E: Engine>(
     ensures ok { IfOk result (λ reply.
         record { reply = reply; machine = machine_of E.held shell.new content.new }
         ≡ step E.meaning form.now (machine_of E.held shell.old content.old) by ask.now) }
+    ensures bits { OnOk result (Covers changed.new
+        (stands_in E.meaning (E.held content.old.primary))
+        (stands_in E.meaning (E.held content.new.primary))) }
+    ensures of_form { AreOf E.held E.meaning form.now shell.new content.new }
+    ensures err { OnErr result (machine_of E.held shell.new content.new
+        ≡ machine_of E.held shell.old content.old) }
+{
+    let reply = answer_judged(alloc, form, shell, content, changed, by, ask)?;
+    shell.entered();
+    Ok(reply)
+}
+
+// A call is judged, and done where the shell doesn't refuse it.
+fn answer_judged<E: Engine>(
+    alloc: Global,
+    form: &StrForm,
+    shell: &mut Shell,
+    content: &mut Rebuildable<E>,
+    changed: &mut Changed,
+    by: ConnId,
+    ask: &Ask<E::Cmd>,
+) -> Result<Reply<E::Reply>, NoMemory>
+    requires formed { IsForm form.now }
+    requires kind { IsTrue (E.is_kind form.now.kind) }
+    requires may { MayAsk by ask.now }
+    requires built { IsBuilt ask.now }
+    requires unnamed { changed.old.bits ≡ [] }
+    requires of_form { AreOf E.held E.meaning form.now shell.old content.old }
+    ensures ok { IfOk result (λ reply.
+        record { reply = reply; machine = machine_of E.held shell.new content.new }
+        ≡ judged E.meaning form.now (machine_of E.held shell.old content.old) by ask.now) }
     ensures bits { OnOk result (Covers changed.new
         (stands_in E.meaning (E.held content.old.primary))
         (stands_in E.meaning (E.held content.new.primary))) }

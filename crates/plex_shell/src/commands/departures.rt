@@ -58,7 +58,7 @@ impl Shell {
         }
     }
 
-    /// All instances end, and the capacity is the policy's again.
+    /// All instances end, and the capacity is the policy's again. A failure is over.
     pub(crate) fn end(&mut self) -> Deeds
         ensures form { self.new.form ≡ self.old.form }
         ensures shell { self.new.shell ≡ deallocated self.old.form self.old.shell }
@@ -67,6 +67,7 @@ impl Shell {
     {
         self.primary = None;
         self.secondary = None;
+        self.failed = false;
         self.caps = self.form.caps;
         Deeds {
             drop_all: true,

@@ -3,7 +3,7 @@ ghost use Rattle.std.specs.Prelude.{◌≡◌, ◌≤◌, ◌+◌, Some, None};
 ghost use Rattle.cf_types.specs.Forms.{IsCapacity, IsCaller};
 ghost use Rattle.cf_types.specs.declared.shell_commands.ShellReply.TheVariants as replies;
 ghost use Rattle.engine_api.specs.Rebuilds.{event_past, beginning_of, end_of, is_switch, is_copy};
-ghost use Rattle.engine_api.specs.Shell.{no_deeds, shell_onward, shell_without, emptied, responded, unless_owed, start_outcome, stop_outcome, rebuild_connect_outcome, complete_outcome, is_connect};
+ghost use Rattle.engine_api.specs.Shell.{no_deeds, shell_onward, shell_without, emptied, responded, unless_owed, start_outcome, stopped_shell, stop_outcome, rebuild_connect_outcome, complete_outcome, is_connect};
 ghost use Rattle.rebuild_core.specs.Stages.{outcome_of, next_rebuild, without_owing, rebuild_without, with_place, is_response};
 ghost use Rattle.plex_shell.specs.ShellView.{IsKeptRebuild};
 
@@ -44,13 +44,7 @@ impl Shell {
         match self.rebuild {
             None => (ShellReply::Ok, no_deeds()),
             Some(rebuild) => {
-                let mut stopped = rebuild;
-                stopped.stop();
-                self.rebuild = Some(stopped);
-                let stop = Event::Stop {
-                    number: rebuild.number,
-                };
-                tell(&mut self.mail, rebuild.members, stop);
+                self.give_up(rebuild);
                 let drop_fresh = rebuild.fresh.is_some();
                 (
                     ShellReply::Ok,
@@ -61,6 +55,23 @@ impl Shell {
                 )
             }
         }
+    }
+
+    /// The rebuild stops without its new instance, and its members are told.
+    pub(crate) fn give_up(&mut self, rebuild: Rebuild)
+        requires kept { IsKeptRebuild rebuild }
+        requires room { 33 ≤ self.old.room }
+        ensures form { self.new.form ≡ self.old.form }
+        ensures shell { self.new.shell ≡ stopped_shell rebuild self.old.shell }
+        ensures room { self.old.room ≤ self.new.room + 33 }
+    {
+        let mut stopped = rebuild;
+        stopped.stop();
+        self.rebuild = Some(stopped);
+        let stop = Event::Stop {
+            number: rebuild.number,
+        };
+        tell(&mut self.mail, rebuild.members, stop);
     }
 
     // A rebuild goes on, or its stage has passed: the members are told, and behind COPY the new

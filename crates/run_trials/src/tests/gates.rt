@@ -1,5 +1,5 @@
-//! Gates at which callers wait for one another. No caller waits for ever: a gate tells how many
-//! waits ended well.
+//! Gates at which callers wait for one another, and one that counts lines. No caller waits for ever:
+//! a gate tells how many waits ended well.
 use cf_types::ConnId;
 use plex_agent::Gate;
 use std::hint::spin_loop;
@@ -159,4 +159,32 @@ impl<'a> Gate for Order<'a> {
             }
         }
     }
+}
+
+/// A gate that counts the lines that come to it.
+#[derive(Drop)]
+pub(super) struct Count {
+    lines: AtomicU64,
+}
+
+impl Count {
+    /// A gate to which no line has come.
+    pub(super) fn new() -> Count {
+        Count {
+            lines: AtomicU64::new(0),
+        }
+    }
+
+    /// How many lines have come.
+    pub(super) fn lines(&self) -> u64 {
+        self.lines.load(SeqCst)
+    }
+}
+
+impl Gate for Count {
+    fn before(&self, _who: ConnId, _line: u32) {
+        self.lines.fetch_add(1, SeqCst);
+    }
+
+    fn after(&self, _who: ConnId, _line: u32) {}
 }

@@ -27,9 +27,12 @@ fn source_of(alloc: Global, script: &str) -> Result<MemSource, AllocError> {
     })
 }
 
-fn words_of(alloc: Global, word: &str) -> Result<Vec<String>, AllocError> {
+// The words of a command line.
+fn words_of(alloc: Global, line: &str) -> Result<Vec<String>, AllocError> {
     let mut words = Vec::new(alloc);
-    words.push(String::from_str(alloc, word)?)?;
+    for word in line.split_whitespace() {
+        words.push(String::from_str(alloc, word)?)?;
+    }
     Ok(words)
 }
 
@@ -40,17 +43,17 @@ fn steady(alloc: Global) -> Result<Vec<Steady>, AllocError>
     vec![in alloc; Steady; 64]
 }
 
-/// The status of the script's run by this word, and what it wrote.
+/// The status of the script's run by these words, with a blank between them, and what it wrote.
 pub(super) fn ran_by<R: Threads + Wait + Sync, G: Gate>(
     rt: &R,
     alloc: Global,
-    word: &str,
+    words: &str,
     script: &str,
     gate: &G,
 ) -> Result<(u8, String), Fail> {
     let mut source = source_of(alloc, script)?;
     let mut sink = MemSink::new(alloc, ROOM, PIECE, Vec::new(alloc))?;
-    let words = words_of(alloc, word)?;
+    let words = words_of(alloc, words)?;
     let mut links = steady(alloc)?;
     let status = run(rt, alloc, &words, &mut source, &mut sink, &mut links, gate);
     Ok((status, String::from_utf8(sink.bytes)?))

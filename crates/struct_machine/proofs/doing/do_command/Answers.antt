@@ -1,14 +1,28 @@
-use Rattle.std.proofs.Common.{◌≡◌, None, IfSome, refl, sym, ◌∙◌, ap, subst}
+use Rattle.std.proofs.Common.{◌≡◌, None, IfSome, refl, sym, ◌∙◌, ap, subst, subst₂}
+use Rattle.cf_types.specs.declared.forms.StrForm.{StrForm}
 use Rattle.cf_types.specs.Forms.{IsCaller}
 use Rattle.engine_api.specs.declared.deeds.Room.{Room}
-use Rattle.engine_api.specs.Machine.{content_after, room_of}
+use Rattle.engine_api.specs.Machine.{departure_from, room_of}
 use Rattle.engine_api.specs.Meaning.{Held}
-use Rattle.engine_api.specs.Shell.{ShellOutcome, shell_cause}
+use Rattle.engine_api.specs.Shell.{Shell, ShellOutcome, leaver, shell_cause}
 use Rattle.struct_machine.specs.Kept.{machine_of}
 use Rattle.struct_machine.proofs.ChangeLaws.{covers_deeds}
 use Rattle.struct_machine.proofs.CommandLaws as law
 use Rattle.struct_machine.proofs.DeedLaws.{back_caller}
+use Rattle.struct_machine.proofs.PostedLaws.{accepted_posted, letters_none}
 use Rattle.struct_machine.proofs.doing.do_command.Goals as goal
+
+pub act-reply-requires-clause-accepted : goal.act-reply-requires-clause-accepted
+act-reply-requires-clause-accepted g c =
+    let machine = machine_of g.E.Engine.held c.args.shell.now c.args.content.now in
+    let who = leaver c.args.shell.now.shell c.args.by c.args.cmd.now in
+    let gone = departure_from g.E.Engine.meaning c.args.shell.now.form who machine in
+    let posted = c.in_ok-prepare.ensures.ok_shell in
+    let form = c.prepare.ensures.form ∙ c.requires.of_form.shell_form in
+    subst₂ (λ (form : StrForm) (shell : Shell). shell_cause form c.args.room.now shell c.args.by c.args.cmd.now ≡ None)
+    (sym form) (sym posted)
+    (accepted_posted c.args.form.now c.args.room.now c.args.shell.now.shell c.args.by c.args.cmd.now gone.letters
+    (letters_none g.E.Engine.meaning c.args.shell.now.form machine who) c.requires.accepted)
 
 pub do_deeds-requires-clause-caller : goal.do_deeds-requires-clause-caller
 do_deeds-requires-clause-caller g c κs within =

@@ -1,7 +1,4 @@
-use Rattle.std.proofs.Common.{refl, inl, ap, sym, ◌∙◌, ◌≤◌, subst, arith}
-use Rattle.engine_api.specs.Machine.{opening}
-use Rattle.engine_api.specs.Meaning.{Held}
-use Rattle.engine_api.specs.Shell.{Shell, opening_shell}
+use Rattle.std.proofs.Common.{ap, ◌∙◌}
 use Rattle.rebuild_copy.specs.Rebuildable.{RebuildableView}
 use Rattle.struct_machine.proofs.KeptLaws.{kept_opening}
 use Rattle.struct_machine.proofs.machine.Machine.start.Goals as goal

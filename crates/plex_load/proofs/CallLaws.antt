@@ -1,0 +1,66 @@
+-- The calls of a connector are entries that are counted one by one.
+use Rattle.std.proofs.Common.{◌≡◌, ℕ, ◌+◌, ◌==◌, ◌&&◌, Bool, true, false, cond, List, [], ◌∷◌, length, map, refl, sym, ap, ◌∙◌, arith, count_by}
+use Rattle.std.specs.List.{cons_option}
+use Rattle.std.proofs.lemmas.List.Sums.{sum_by-cons}
+use Rattle.cf_types.specs.declared.cache_commands.CacheCmd.{CacheCmd}
+use Rattle.cf_types.specs.declared.cache_commands.CacheReply.{CacheReply}
+use Rattle.cf_types.specs.declared.list_commands.ListCmd.{ListCmd}
+use Rattle.cf_types.specs.declared.list_commands.ListReply.{ListReply}
+use Rattle.cf_types.specs.declared.lock_commands.LockCmd.{LockCmd}
+use Rattle.cf_types.specs.declared.lock_commands.LockReply.{LockReply}
+use Rattle.cf_types.specs.declared.numbers.ConnId.{ConnId}
+use Rattle.engine_api.specs.declared.asks.Ask.{Ask}
+use Rattle.engine_api.specs.declared.asks.What.{What}
+use Rattle.engine_api.specs.declared.asks.What.TheVariants as what
+use Rattle.engine_api.specs.declared.histories.Entry.{Entry}
+use Rattle.engine_api.specs.History.{Call, call_told, calls}
+use Rattle.plex_script.specs.declared.scripts.AnyAsk.{AnyAsk}
+use Rattle.plex_script.specs.declared.scripts.AnyAsk.TheVariants as ask
+use Rattle.plex_script.specs.Heard.{any_call, own_calls}
+use Rattle.plex_load.specs.Counts.{is_call, is_call_by}
+
+module _ {C R : Type 0} (of : Ask C → AnyAsk) (conn : ConnId) where
+  abbrev own_of : List (Call C R) → ℕ
+  own_of told = length (own_calls (map (any_call of) told) conn)
+
+  one_call : (call : Call C R) (told : List (Call C R))
+      → own_of (call ∷ told) ≡ cond (call.by.0 == conn.0 && true) 1 0 + own_of told
+  one_call call told = by_test (call.by.0 == conn.0) refl
+    where
+      by_test : (b : Bool) → (call.by.0 == conn.0) ≡ b
+          → (let rest = own_calls (map (any_call of) told) conn in
+          length (cond b (any_call of call ∷ rest) rest) ≡ cond (b && true) 1 0 + own_of told)
+      by_test true e = omega arith
+      by_test false e = omega arith
+
+  pub counted : (entries : List (Entry C R)) → count_by (is_call_by conn) entries ≡ own_of (calls entries)
+  counted [] = refl
+  counted (entry ∷ entries) =
+      sum_by-cons (λ (x : Entry C R). cond (is_call_by conn x) 1 0) entry entries
+      ∙ at_what entry.what (counted entries)
+    where
+      none : (b : Bool) {n m : ℕ} → n ≡ m → cond (b && false) 1 0 + n ≡ m
+      none true e = omega (arith, e)
+      none false e = omega (arith, e)
+
+      at_what : (w : What C) → count_by (is_call_by {C = C} {R = R} conn) entries ≡ own_of (calls entries)
+          → cond (entry.by.0 == conn.0 && is_call w) 1 0 + count_by (is_call_by {C = C} {R = R} conn) entries
+          ≡ own_of (cons_option (call_told entry.no entry.by entry.reply w) (calls entries))
+      at_what (what.Call asked) rest =
+          ap (λ (n : ℕ). cond (entry.by.0 == conn.0 && true) 1 0 + n) rest
+          ∙ sym (one_call (record { no = entry.no; by = entry.by; ask = asked; reply = entry.reply }) (calls entries))
+      at_what (what.Lost cf) rest = none (entry.by.0 == conn.0) rest
+
+-- of each kind
+
+pub counted_cache : (conn : ConnId) (entries : List (Entry CacheCmd CacheReply))
+    → count_by (is_call_by conn) entries ≡ length (own_calls (map (any_call ask.Cache) (calls entries)) conn)
+counted_cache conn entries = counted ask.Cache conn entries
+
+pub counted_list : (conn : ConnId) (entries : List (Entry ListCmd ListReply))
+    → count_by (is_call_by conn) entries ≡ length (own_calls (map (any_call ask.List) (calls entries)) conn)
+counted_list conn entries = counted ask.List conn entries
+
+pub counted_lock : (conn : ConnId) (entries : List (Entry LockCmd LockReply))
+    → count_by (is_call_by conn) entries ≡ length (own_calls (map (any_call ask.Lock) (calls entries)) conn)
+counted_lock conn entries = counted ask.Lock conn entries

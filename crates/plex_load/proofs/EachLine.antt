@@ -1,0 +1,65 @@
+-- What holds of each line of a load.
+use Rattle.std.proofs.Common.{◌≡◌, ℕ, ◌+◌, ◌≤◌, ◌<◌, [], ◌++◌, length, get_or, map, refl, sym, ap, ◌∙◌, subst, arith, length-append, All}
+use Rattle.std.specs.List.{range_with_len}
+use Rattle.std.proofs.lemmas.List.Elements.{All-nil, All-cons, All-append, All-map}
+use Rattle.std.proofs.lemmas.List.FromFn.{length-range_with_len, length-map-range_with_len, get_or-range_with_len}
+use Rattle.plex_script.specs.declared.scripts.Line.{Line}
+use Rattle.plex_load.specs.Generated.{number_after, index_of, lines_each, own_line, work, connect_line, work_line, connector_lines, first_number, own_lines, lines_of_first, load_script}
+
+pub each-is : lines_each ≡ 1000
+unfolding lines_each
+each-is = refl
+
+-- the lines of the four connectors
+pub four_parts : (n : ℕ)
+    → lines_of_first n 4 ≡ own_lines n 0 ++ (own_lines n 1 ++ (own_lines n 2 ++ (own_lines n 3 ++ [])))
+unfolding lines_of_first
+four_parts n = refl
+
+pub length-connector : (c x : ℕ) → length (connector_lines c x) ≡ 1001
+length-connector c x = omega (arith, length-map-range_with_len (work_line c x) 1 lines_each, each-is)
+
+pub length-load : (n : ℕ) → length (load_script n).lines ≡ 4004
+unfolding load_script
+length-load n =
+    let long : (c : ℕ) → length (own_lines n c) ≡ 1001 = λ c. length-connector c (first_number n c) in
+    let third = own_lines n 3 ++ [] in
+    let second = own_lines n 2 ++ third in
+    let first = own_lines n 1 ++ second in
+    let parts = length-append (own_lines n 0) first in
+    let behind = length-append (own_lines n 1) second in
+    let last = length-append (own_lines n 2) third in
+    let none = length-append (own_lines n 3) [] in
+    ap length (four_parts n) ∙ omega (arith, parts, behind, last, none, long 0, long 1, long 2, long 3)
+
+module _ (P : Line → Type 0) where
+  each_work : (c x count : ℕ) → ((i number : ℕ) → 1 ≤ i → i ≤ count → P (own_line c i (work c i (index_of number))))
+      → All P (map (work_line c x) (range_with_len 1 count))
+  each_work c x count each = All-map P (work_line c x) (range_with_len 1 count) (λ k d low.
+      let within : k < count = omega (arith, low, length-range_with_len 1 count) in
+      let is : get_or (range_with_len 1 count) k d ≡ 1 + k = get_or-range_with_len 1 count k d within in
+      subst (λ (i : ℕ). P (work_line c x i)) (sym is)
+      (each (1 + k) (number_after (1 + k) x) (omega arith) (omega arith)))
+
+  each_of_connector : (c x : ℕ) → P (connect_line c)
+      → ((i number : ℕ) → 1 ≤ i → i ≤ 1000 → P (own_line c i (work c i (index_of number))))
+      → All P (connector_lines c x)
+  each_of_connector c x connect each =
+      All-cons P (connect_line c) (map (work_line c x) (range_with_len 1 lines_each)) connect
+      (each_work c x lines_each (λ i number low high. each i number low (omega (arith, high, each-is))))
+
+  -- what holds of each CONNECT, and of each line behind one, holds of each line
+  pub each_line : ((c : ℕ) → c < 4 → P (connect_line c))
+      → ((c i number : ℕ) → c < 4 → 1 ≤ i → i ≤ 1000 → P (own_line c i (work c i (index_of number))))
+      → (n : ℕ) → All P (lines_of_first n 4)
+  each_line connect each n =
+      let one : (c : ℕ) → c < 4 → All P (own_lines n c) =
+      λ c low. each_of_connector c (first_number n c) (connect c low) (λ i number. each c i number low) in
+      let third = own_lines n 3 ++ [] in
+      let second = own_lines n 2 ++ third in
+      let first = own_lines n 1 ++ second in
+      subst (All P) (sym (four_parts n))
+      (All-append P (own_lines n 0) first (one 0 (omega arith))
+      (All-append P (own_lines n 1) second (one 1 (omega arith))
+      (All-append P (own_lines n 2) third (one 2 (omega arith))
+      (All-append P (own_lines n 3) [] (one 3 (omega arith)) (All-nil P)))))

@@ -1,0 +1,9 @@
+pub mod NumberLaws
+pub mod TermLaws
+pub mod CallLaws
+pub mod SummaryLaws
+pub mod EachLine
+pub mod Numbering
+pub mod LoadLimits
+pub mod LoadCalls
+pub mod LoadLaws

@@ -1,0 +1,105 @@
+-- How many calls the lines of a load make.
+use Rattle.std.proofs.Common.{◌≡◌, ℕ, ◌+◌, ◌*◌, ◌%◌, ◌≤◌, ◌==◌, zero, suc, Bool, true, false, cond, [], ◌++◌, map, refl, ap, ◌∙◌, arith}
+use Rattle.std.specs.List.{range_with_len, sum_by}
+use Rattle.std.proofs.lemmas.Bool.Decides.{nat_tests}
+use Rattle.std.proofs.lemmas.List.FromFn.{sum_by-map-range_with_len_more}
+use Rattle.std.proofs.lemmas.List.Sums.{sum_by-append, sum_by-cons}
+use Rattle.cf_types.specs.declared.numbers.StrNo.{StrNo}
+use Rattle.plex_script.specs.declared.scripts.Act.TheVariants as act
+use Rattle.plex_script.specs.Agent.{first_step, most_asks}
+use Rattle.plex_load.specs.Generated.{number_after, index_of, lines_each, read, write, work, connect_line, work_line, connector_lines, first_number, own_lines, lines_of_first, load_script}
+use Rattle.plex_load.specs.Loads.{asks_on, asks_of}
+use Rattle.plex_load.proofs.EachLine.{each-is, four_parts}
+
+-- a test asks nothing, and any other line behind CONNECT asks once
+asks_work : (c i j : ℕ) → most_asks (first_step (work c i j) 0) ≡ cond (i % 4 == 0) 0 1
+asks_work c i j = at_test (i % 4 == 0) (i % 4 == 1)
+  where
+    at_test : (a b : Bool)
+        → most_asks (first_step (cond a (act.Test j) (cond b (write c i j) (read j))) 0) ≡ cond a 0 1
+    at_test true b = refl
+    at_test false true = refl
+    at_test false false = refl
+
+three_more : (b : Bool) (k next before one two three four : ℕ) → next ≡ k + 1 → before ≡ cond b (3 * k) 0
+    → one ≡ before + cond b 1 0 → two ≡ one + cond b 1 0 → three ≡ two + cond b 1 0 → four ≡ three + cond b 0 0
+    → four ≡ cond b (3 * next) 0
+three_more true k next before one two three four d e f g h i = omega arith
+three_more false k next before one two three four d e f g h i = omega arith
+
+nothing : (b : Bool) → 0 ≡ cond b (3 * 0) 0
+nothing true = refl
+nothing false = refl
+
+module _ (on : StrNo) where
+  -- what a line asks of the structure, if it is this one
+  asks_line : (c x i : ℕ) (tests : Bool) → (i % 4 == 0) ≡ tests
+      → asks_on on (work_line c x i) ≡ cond (0 == on.0) (cond tests 0 1) 0
+  asks_line c x i tests e =
+      ap (λ (n : ℕ). cond (0 == on.0) n 0) (asks_work c i (index_of (number_after i x)))
+      ∙ ap (λ (b : Bool). cond (0 == on.0) (cond b 0 1) 0) e
+
+  asks_more : (c x n i : ℕ) (tests : Bool) → 1 + n ≡ i → (i % 4 == 0) ≡ tests
+      → sum_by (asks_on on) (map (work_line c x) (range_with_len 1 (n + 1)))
+      ≡ sum_by (asks_on on) (map (work_line c x) (range_with_len 1 n)) + cond (0 == on.0) (cond tests 0 1) 0
+  asks_more c x n i tests at e =
+      sum_by-map-range_with_len_more (asks_on on) (work_line c x) 1 n i at
+      ∙ ap (λ (m : ℕ). sum_by (asks_on on) (map (work_line c x) (range_with_len 1 n)) + m) (asks_line c x i tests e)
+
+  -- three of each four lines ask once
+  asks_works : (c x k n : ℕ) → n ≡ 4 * k
+      → sum_by (asks_on on) (map (work_line c x) (range_with_len 1 n)) ≡ cond (0 == on.0) (3 * k) 0
+  asks_works c x zero n is =
+      ap (λ (m : ℕ). sum_by (asks_on on) (map (work_line c x) (range_with_len 1 m))) is ∙ nothing (0 == on.0)
+  asks_works c x (suc k) n is =
+      let total = λ (m : ℕ). sum_by (asks_on on) (map (work_line c x) (range_with_len 1 m)) in
+      let m = 4 * k in
+      let same : n ≡ m + 1 + 1 + 1 + 1 = omega (arith, is) in
+      ap total same
+      ∙ three_more (0 == on.0) k (suc k) (total m) (total (m + 1)) (total (m + 1 + 1)) (total (m + 1 + 1 + 1))
+      (total (m + 1 + 1 + 1 + 1)) (omega arith) (asks_works c x k m refl)
+      (asks_more c x m (m + 1) false (omega arith) (grind (arith, nat_tests)))
+      (asks_more c x (m + 1) (m + 2) false (omega arith) (grind (arith, nat_tests)))
+      (asks_more c x (m + 1 + 1) (m + 3) false (omega arith) (grind (arith, nat_tests)))
+      (asks_more c x (m + 1 + 1 + 1) (m + 4) true (omega arith) (grind (arith, nat_tests)))
+
+  asks_connector : (c x : ℕ) → sum_by (asks_on on) (connector_lines c x) ≡ cond (0 == on.0) 751 0
+  asks_connector c x =
+      let rest = asks_works c x 250 lines_each each-is in
+      let first = sum_by-cons (asks_on on) (connect_line c) (map (work_line c x) (range_with_len 1 lines_each)) in
+      at_test (0 == on.0) first rest
+    where
+      at_test : (b : Bool) {all work : ℕ} → all ≡ cond b 1 0 + work → work ≡ cond b 750 0 → all ≡ cond b 751 0
+      at_test true e f = omega arith
+      at_test false e f = omega arith
+
+  asks_lines : (n : ℕ) → sum_by (asks_on on) (lines_of_first n 4) ≡ cond (0 == on.0) 3004 0
+  asks_lines n =
+      let g = asks_on on in
+      let one : (c : ℕ) → sum_by g (own_lines n c) ≡ cond (0 == on.0) 751 0 =
+      λ c. asks_connector c (first_number n c) in
+      ap (sum_by g) (four_parts n)
+      ∙ at_test (0 == on.0)
+      (sum_by-append g (own_lines n 0) (own_lines n 1 ++ (own_lines n 2 ++ (own_lines n 3 ++ []))))
+      (sum_by-append g (own_lines n 1) (own_lines n 2 ++ (own_lines n 3 ++ [])))
+      (sum_by-append g (own_lines n 2) (own_lines n 3 ++ [])) (sum_by-append g (own_lines n 3) [])
+      (one 0) (one 1) (one 2) (one 3)
+    where
+      at_test : (b : Bool) {all behind second last a0 a1 a2 a3 : ℕ} → all ≡ a0 + behind → behind ≡ a1 + second
+          → second ≡ a2 + last → last ≡ a3 + 0 → a0 ≡ cond b 751 0 → a1 ≡ cond b 751 0 → a2 ≡ cond b 751 0
+          → a3 ≡ cond b 751 0 → all ≡ cond b 3004 0
+      at_test true p q r s d e f g = omega arith
+      at_test false p q r s d e f g = omega arith
+
+-- 3,004 calls of lines, and four departures
+pub calls_of_load : (n : ℕ) → asks_of (load_script n) (record { 0 = 0 }) ≡ 3008
+unfolding load_script
+calls_of_load n = ap (λ (lines : ℕ). lines + 4) (asks_lines (record { 0 = 0 }) n)
+
+pub load_calls : (n : ℕ) (on : StrNo) → asks_of (load_script n) on ≤ 3008
+unfolding load_script
+load_calls n on = at_test (0 == on.0) (asks_lines on n)
+  where
+    at_test : (b : Bool) {lines : ℕ} → lines ≡ cond b 3004 0 → lines + 4 ≤ 3008
+    at_test true e = omega (arith, e)
+    at_test false e = omega (arith, e)

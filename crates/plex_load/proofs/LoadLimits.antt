@@ -1,0 +1,189 @@
+-- A load keeps the forms, the ranges and the limits of the language.
+use Rattle.std.proofs.Common.{◌≡◌, ℕ, ◌+◌, ◌≤◌, ◌<◌, ◌==◌, ◌%◌, zero, suc, Bool, true, false, not, cond, List, [], ◌∷◌, ◌++◌, length, codes, get_or, refl, sym, ap, ◌∙◌, subst, arith, All}
+use Rattle.std.specs.Fmt.{decimal}
+use Rattle.std.proofs.lemmas.Bool.Decides.{nat_tests}
+use Rattle.std.proofs.lemmas.List.Elements.{All-nil, All-cons}
+use Rattle.std.proofs.lemmas.List.FromFn.{get_or-map-range_with_len}
+use Rattle.cf_types.specs.declared.forms.Kind.TheVariants as kind
+use Rattle.cf_types.specs.declared.forms.Pref.{Pref}
+use Rattle.cf_types.specs.declared.names.Name16.{Name16}
+use Rattle.cf_types.specs.Forms.{IsForm, IsPref}
+use Rattle.cf_types.specs.Term.{IsPadded}
+use Rattle.plex_spell.specs.Tokens.{Declared, is_term, is_name, is_declared}
+use Rattle.plex_spell.specs.Tokens.Token.{Term, NewName}
+use Rattle.plex_plain.specs.Ranges.{IsNamed, AreNames, AreWithin}
+use Rattle.plex_plain.proofs.Within.{words-within}
+use Rattle.plex_script.specs.declared.scripts.Act.{Act}
+use Rattle.plex_script.specs.declared.scripts.Act.TheVariants as act
+use Rattle.plex_script.specs.LineWords.{MayDo}
+use Rattle.plex_script.specs.Printed.{class_in, line_tokens}
+use Rattle.plex_script.specs.Limits.{AreFacilities, HasRoom, IsStructureIn, IsLineIn, KeepsLimits}
+use Rattle.plex_load.specs.Generated.{named, letter, page, read, write, connect, work, own_line, index_of, load_facility, load_pref, load_form, load_connectors, lines_of_first, load_script}
+use Rattle.plex_load.proofs.EachLine.{each_line}
+use Rattle.plex_load.proofs.TermLaws.{page_term, body_term}
+
+-- ---- names
+
+nobody : Declared
+nobody = record { facilities = []; structures = []; connectors = [] }
+
+padded_named : (word : List ℕ) → is_term word ≡ true → length word ≤ 16 → IsPadded (named word).0
+padded_named word term short =
+    (words-within nobody (Term (named word).0 ∷ []) (word ∷ []) [] ((term, (short, refl)), refl)).0
+
+-- ---- the policy
+
+cache_named : IsNamed load_form.name
+cache_named =
+    (words-within nobody (NewName load_form.name ∷ []) (codes "LOADCACHE" ∷ []) []
+    (((refl, omega arith), refl), refl)).0
+
+one_set : (pref : Pref) → IsPref pref → All IsPref (pref ∷ [])
+one_set pref is = All-cons IsPref pref [] is (All-nil IsPref)
+
+facilities_kept : AreFacilities (load_facility ∷ [])
+facilities_kept = (
+  one_set load_facility (omega arith, omega arith, omega arith),
+  λ i j d before low. absurd (omega (arith, before, low)),
+)
+
+form_is : IsForm load_form
+form_is = record {
+  kind = tt;
+  caps = record {
+    some_entries = omega arith;
+    most_entries = omega arith;
+    some_elements = omega arith;
+    most_elements = omega arith;
+  };
+  some_conns = omega arith;
+  most_conns = omega arith;
+  vector = (omega arith, omega arith);
+  prefs = one_set load_pref (omega arith, omega arith, omega arith);
+  apart = λ i j d before low. absurd (omega (arith, before, low));
+}
+
+form_kept : IsStructureIn (load_facility ∷ []) load_form
+form_kept =
+    let stands : Pref → Type 0 = λ pref. is_declared (load_facility ∷ []) pref.cf ≡ true in
+    record { formed = form_is; declared = All-cons stands load_pref [] refl (All-nil stands) }
+
+structures_kept : All (IsStructureIn (load_facility ∷ [])) (load_form ∷ [])
+structures_kept =
+    let kept = IsStructureIn (load_facility ∷ []) in All-cons kept load_form [] form_kept (All-nil kept)
+
+structure_names_kept : AreNames (load_form.name ∷ [])
+structure_names_kept = (
+  All-cons IsNamed load_form.name [] cache_named (All-nil IsNamed),
+  λ i j d before low. absurd (omega (arith, before, low)),
+)
+
+letter_is_name : (c : ℕ) → c < 4 → is_name (letter c) ≡ true
+letter_is_name zero low = refl
+letter_is_name (suc zero) low = refl
+letter_is_name (suc (suc zero)) low = refl
+letter_is_name (suc (suc (suc zero))) low = refl
+letter_is_name (suc (suc (suc (suc c)))) low = absurd (omega arith)
+
+letter_named : (c : ℕ) → c < 4 → IsNamed (named (letter c))
+letter_named c low =
+    (words-within nobody (NewName (named (letter c)) ∷ []) (letter c ∷ []) []
+    (((letter_is_name c low, omega arith), refl), refl)).0
+
+connector_at : (k : ℕ) (d : Name16) → k < 4 → get_or load_connectors k d ≡ named (letter k)
+connector_at k d low = get_or-map-range_with_len (λ (c : ℕ). named (letter c)) 0 4 k k d low (omega arith)
+
+connectors_kept : AreNames load_connectors
+connectors_kept = (
+  λ k d low. subst IsNamed (sym (connector_at k d low)) (letter_named k low),
+  λ i j d before low same.
+      let names : named (letter i) ≡ named (letter j) =
+      sym (connector_at i d (omega (arith, before, low))) ∙ same ∙ connector_at j d low in
+      let first : 65 + i ≡ 65 + j = ap (λ (name : Name16). get_or name.0 0 0) names in
+      absurd (omega (arith, first, before)),
+)
+
+-- the structure takes 512 of the facility's 1,000 units
+room_kept : (n : ℕ) → HasRoom (load_script n)
+unfolding load_script
+room_kept n cf = at_test (1 == cf.0)
+  where
+    at_test : (b : Bool) → 0 + cond b 512 0 ≤ cond b 1000 0
+    at_test true = omega arith
+    at_test false = omega arith
+
+-- ---- lines
+
+page_padded : (j : ℕ) → j < 64 → IsPadded (page j).0
+page_padded j low =
+    let text = page_term j (omega arith) in
+    padded_named (codes "N" ++ decimal j) text.characters text.short
+
+not_operator : (c : ℕ) → not (c + 1 == 0) ≡ true
+not_operator c = grind (arith, nat_tests)
+
+abbrev declared : Declared
+declared = record {
+  facilities = load_facility ∷ [];
+  structures = load_form ∷ [];
+  connectors = load_connectors;
+}
+
+-- what a connector may do at the structure, with values in their ranges
+abbrev MayAct : ℕ → Act → Type 0
+MayAct c done = MayDo (record { 0 = c + 1 }) kind.Cache (class_in done) done 0
+    × AreWithin declared (line_tokens (own_line c 0 done))
+
+connect_allowed : (c : ℕ) → MayAct c connect
+connect_allowed c = ((refl, (not_operator c, refl)), (tt, (tt, tt)))
+
+test_allowed : (c j : ℕ) → j < 64 → MayAct c (act.Test j)
+test_allowed c j low = ((refl, not_operator c, refl, refl), (tt, ((omega arith, omega arith), tt)))
+
+write_allowed : (c i j : ℕ) → c < 4 → i ≤ 1000 → j < 64 → MayAct c (write c i j)
+write_allowed c i j few short low =
+    let text = body_term c i few (omega arith) in (
+      (refl, (not_operator c, refl)),
+      (tt, (page_padded j low, ((omega arith, omega arith), (text, (tt, ((omega arith, omega arith), tt)))))),
+    )
+
+read_allowed : (c j : ℕ) → j < 64 → MayAct c (read j)
+read_allowed c j low =
+    ((refl, (not_operator c, refl)), (tt, (page_padded j low, ((omega arith, omega arith), tt))))
+
+work_allowed : (c i j : ℕ) → c < 4 → i ≤ 1000 → j < 64 → MayAct c (work c i j)
+work_allowed c i j few short low = at_test (i % 4 == 0) (i % 4 == 1)
+  where
+    at_test : (a b : Bool) → MayAct c (cond a (act.Test j) (cond b (write c i j) (read j)))
+    at_test true b = test_allowed c j low
+    at_test false true = write_allowed c i j few short low
+    at_test false false = read_allowed c j low
+
+line_kept : (n c i : ℕ) (done : Act) → c < 4 → MayAct c done → IsLineIn (load_script n) (own_line c i done)
+unfolding load_script
+line_kept n c i done few may = record {
+  form = load_form;
+  known = refl;
+  caller = omega arith;
+  allowed = may.0;
+  within = may.1;
+}
+
+lines_kept : (n : ℕ) → All (IsLineIn (load_script n)) (lines_of_first n 4)
+lines_kept n =
+    each_line (IsLineIn (load_script n)) (λ c few. line_kept n c 0 connect few (connect_allowed c))
+    (λ c i number few some short. line_kept n c i (work c i (index_of number)) few
+    (work_allowed c i (index_of number) few short (omega arith))) n
+
+pub load-keeps : (n : ℕ) → KeepsLimits (load_script n)
+unfolding load_script
+load-keeps n = record {
+  facilities = facilities_kept;
+  few_structures = omega arith;
+  structures = structures_kept;
+  structure_names = structure_names_kept;
+  few_connectors = omega arith;
+  connectors = connectors_kept;
+  room = room_kept n;
+  lines = lines_kept n;
+}

@@ -1,0 +1,6 @@
+use Rattle.std.proofs.Common.{◌≡◌, take}
+use Rattle.plex_load.specs.Summary.{calls_by}
+use Rattle.plex_load.proofs.counts.calls_by.Given as goal
+
+abbrev pub invariant-loop-history : goal.invariant-loop-history
+invariant-loop-history l = l.count ≡ calls_by l.conn (take l.history-index l.histories)

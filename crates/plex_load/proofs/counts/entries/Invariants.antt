@@ -1,0 +1,6 @@
+use Rattle.std.proofs.Common.{◌≡◌, sum_by, take}
+use Rattle.plex_script.specs.Heard.{any_length}
+use Rattle.plex_load.proofs.counts.entries.Given as goal
+
+abbrev pub invariant-loop-history : goal.invariant-loop-history
+invariant-loop-history l = l.count ≡ sum_by any_length (take l.history-index l.histories)

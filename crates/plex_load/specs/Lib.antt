@@ -1,0 +1,4 @@
+pub mod Generated
+pub mod Loads
+pub mod Counts
+pub mod Summary

@@ -1,0 +1,109 @@
+-- What comes of it where what stands in a facility is lost, as a mark tells it or a VARY: nothing is, one of two
+-- instances, the new one of a rebuild, or the only one.
+use Rattle.std.proofs.Common.{◌≡◌, ℕ, Bool, true, false, [], Option, None, Some, refl}
+use Rattle.std.specs.Prelude.{if◌then◌else◌, ◌||◌, is_some}
+use Rattle.cf_types.specs.declared.forms.StrForm.{StrForm}
+use Rattle.cf_types.specs.declared.numbers.CfId.{CfId}
+use Rattle.cf_types.specs.declared.numbers.ConnId.{ConnId}
+use Rattle.cf_types.specs.declared.shell_commands.ShellCmd.TheVariants as cmd
+use Rattle.cf_types.specs.declared.shell_commands.ShellReply.{ShellReply}
+use Rattle.cf_types.specs.declared.shell_commands.ShellReply.TheVariants as shown
+use Rattle.engine_api.specs.declared.asks.Ask.TheVariants as ask
+use Rattle.engine_api.specs.declared.asks.Reply.{Reply}
+use Rattle.engine_api.specs.declared.asks.Reply.TheVariants as reply
+use Rattle.engine_api.specs.Instances.{is_at}
+use Rattle.engine_api.specs.Machine.{Machine, content_after, loss_step, step}
+use Rattle.engine_api.specs.Meaning.{Meaning}
+use Rattle.engine_api.specs.Rebuilds.{fresh_of}
+use Rattle.engine_api.specs.Shell.{Shell, ShellOutcome, facility_of, failed_outcome, fresh_loss, idle_outcome, loss_outcome, primary_loss, simplex_outcome, stopped_outcome, vary_outcome, with_off, with_posted}
+use Rattle.rebuild_core.specs.declared.rebuild.Rebuild.{Rebuild}
+
+-- what holds in each case
+pub record InEachCase (form : StrForm) (cf : CfId) (shell : Shell) (Holds : ShellOutcome → Type 0) : Type 0 where
+  pub none : Holds (idle_outcome shown.OkNone shell)
+  pub simplex : (left : CfId) → (is_at cf shell.instances.primary || is_at cf shell.instances.secondary) ≡ true
+      → Holds (simplex_outcome cf left shell)
+  pub stops : (rebuild : Rebuild) → shell.rebuild ≡ Some rebuild → is_at cf rebuild.fresh ≡ true
+      → Holds (stopped_outcome rebuild shell)
+  pub fails : Holds (failed_outcome form shell)
+
+-- holds of a loss
+pub loss-cases : (form : StrForm) (cf : CfId) (shell : Shell) (Holds : ShellOutcome → Type 0)
+    → InEachCase form cf shell Holds → Holds (loss_outcome form cf shell)
+loss-cases form cf shell Holds cases =
+    go (is_at cf shell.instances.primary) (is_at cf shell.instances.secondary) cases.simplex
+  where
+    by_secondary : (second : Option CfId) → ((left : CfId) → Holds (simplex_outcome cf left shell))
+        → Holds (primary_loss form cf second shell)
+    by_secondary None simplex = cases.fails
+    by_secondary (Some other) simplex = simplex other
+
+    by_rebuild : (rebuild : Option Rebuild) → shell.rebuild ≡ rebuild → Holds (fresh_loss cf rebuild shell)
+    by_rebuild None is = cases.none
+    by_rebuild (Some rebuild) is = at_place (is_at cf rebuild.fresh) refl
+      where
+        at_place : (b : Bool) → is_at cf rebuild.fresh ≡ b
+            → Holds (if b then stopped_outcome rebuild shell else idle_outcome shown.OkNone shell)
+        at_place true there = cases.stops rebuild is there
+        at_place false elsewhere = cases.none
+
+    go : (first second : Bool) → ((left : CfId) → (first || second) ≡ true → Holds (simplex_outcome cf left shell))
+        → Holds (if first then primary_loss form cf shell.instances.secondary shell
+        else if second then simplex_outcome cf (facility_of shell.instances.primary) shell
+        else fresh_loss cf shell.rebuild shell)
+    go true second simplex = by_secondary shell.instances.secondary (λ left. simplex left refl)
+    go false true simplex = simplex (facility_of shell.instances.primary) refl
+    go false false simplex = by_rebuild shell.rebuild refl
+
+-- holds of a VARY
+pub vary-cases : (form : StrForm) (cf : CfId) (off : Bool) (shell : Shell) (Holds : ShellOutcome → Type 0)
+    → Holds (idle_outcome shown.Ok (with_off cf false shell)) → InEachCase form cf (with_off cf true shell) Holds
+    → Holds (vary_outcome form cf off shell)
+vary-cases form cf false shell Holds on cases = on
+vary-cases form cf true shell Holds on cases = loss-cases form cf (with_off cf true shell) Holds cases
+
+-- ---- a rebuild that loses its new instance
+
+shell_reply : {R : Type 0} (one other : ShellReply) → Path (Reply R) (reply.Shell one) (reply.Shell other)
+    → one ≡ other
+shell_reply one other is = cc
+
+module _ {C R I S : Type 0} (meaning : Meaning C R I S) (form : StrForm) (machine : Machine S) where
+  -- where the answer is that it stops: the content is as it was, the primary where it stood, and there is no new
+  -- instance
+  abbrev KeepsIfStopped : ℕ → ShellOutcome → Type 0
+  KeepsIfStopped number acted =
+      acted.reply ≡ shown.Stopped number
+      → (content_after meaning form (is_some machine.shell.rebuild) acted.deeds machine.content ≡ machine.content)
+      × (acted.shell.instances ≡ machine.shell.instances)
+      × (fresh_of acted.shell.rebuild ≡ None)
+
+  stop_keeps : (cf : CfId) (number : ℕ) (shell : Shell) → shell.instances ≡ machine.shell.instances
+      → InEachCase form cf shell (KeepsIfStopped number)
+  stop_keeps cf number shell same = record {
+    none = λ stops. absurd (cc);
+    simplex = λ left lost stops. absurd (cc);
+    stops = λ rebuild is lost stops. (refl, same, refl);
+    fails = λ stops. absurd (cc);
+  }
+
+  pub loss-keeps : (cf : CfId) (number : ℕ)
+      → (loss_step meaning form machine cf).reply ≡ reply.Shell (shown.Stopped number)
+      → let stopped = (loss_step meaning form machine cf).machine in
+      (stopped.content ≡ machine.content)
+      × (stopped.shell.instances ≡ machine.shell.instances)
+      × (fresh_of stopped.shell.rebuild ≡ None)
+  loss-keeps cf number stops =
+      loss-cases form cf machine.shell (KeepsIfStopped number) (stop_keeps cf number machine.shell refl)
+      (shell_reply _ _ stops)
+
+  pub vary-keeps : (by : ConnId) (cf : CfId) (off : Bool) (number : ℕ)
+      → (step meaning form machine by (ask.Shell (cmd.Vary cf off))).reply ≡ reply.Shell (shown.Stopped number)
+      → let stopped = (step meaning form machine by (ask.Shell (cmd.Vary cf off))).machine in
+      (stopped.content ≡ machine.content)
+      × (stopped.shell.instances ≡ machine.shell.instances)
+      × (fresh_of stopped.shell.rebuild ≡ None)
+  vary-keeps by cf off number stops =
+      let shell : Shell = with_posted [] machine.shell in
+      vary-cases form cf off shell (KeepsIfStopped number) (λ on. absurd (cc))
+      (stop_keeps cf number (with_off cf true shell) refl) (shell_reply _ _ stops)

@@ -1,0 +1,29 @@
+-- Letters, and what was told of a loss: the laws of rebuilds speak of neither.
+use Rattle.std.proofs.Common.{Option}
+use Rattle.cf_types.specs.declared.forms.StrForm.{StrForm}
+use Rattle.cf_types.specs.declared.numbers.CfId.{CfId}
+use Rattle.cf_types.specs.Mailboxes.{Mailboxes}
+use Rattle.engine_api.specs.Machine.{Machine}
+use Rattle.engine_api.specs.Meaning.{Meaning}
+use Rattle.engine_api.specs.Shell.{Shell}
+use Rattle.rebuild_shell.specs.Filling.{IsFilled}
+use Rattle.rebuild_shell.specs.Members.{IsManned}
+
+abbrev pub told_with : Mailboxes → Option CfId → Shell → Shell
+told_with mail lost shell = record shell { mail = mail; lost = lost }
+
+pub manned-told : (mail : Mailboxes) (lost : Option CfId) (shell : Shell) → IsManned shell
+    → IsManned (told_with mail lost shell)
+manned-told mail lost shell manned = record {
+  places = manned.places;
+  members = manned.members;
+  placed = manned.placed;
+  primary = manned.primary;
+  paired = record { primary = manned.paired.primary; apart = manned.paired.apart; rebuild = manned.paired.rebuild };
+  bare = λ failed. let bare = manned.bare failed in record { instances = bare.instances; rebuild = bare.rebuild };
+}
+
+pub filled-told : {C R I S : Type 0} (meaning : Meaning C R I S) (form : StrForm) (mail : Mailboxes)
+    (lost : Option CfId) (machine : Machine S) → IsFilled meaning form machine
+    → IsFilled meaning form (record machine { shell = told_with mail lost machine.shell })
+filled-told meaning form mail lost machine filled = record { filling = filled.filling; within = filled.within }
