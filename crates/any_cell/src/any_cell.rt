@@ -106,6 +106,8 @@ impl<L: Link> AnyCell<L> {
         ensures answered { IfOk result (λ told. pass_shown pass.new
             ≡ with_call ask told (pass_shown pass.old)) }
         ensures refused { IfErr result (λ _. IsLater (pass_shown pass.old) (pass_shown pass.new)) }
+        ensures no_memory { IfErr result (λ refusal. refusal ≡ refused.NoMemory
+            → pass_shown pass.new ≡ pass_shown pass.old) }
         ensures full { IfErr result (λ refusal. refusal ≢ refused.NoMemory
             → (refusal ≡ refused.JournalFull (cell_shown self.now).limit)
             × ((cell_shown self.now).limit ≤ (pass_shown pass.new).known)) }

@@ -1,5 +1,5 @@
 -- What a history of whatever kind says of its calls: how many there are, their numbers, and what was told of each.
-use Rattle.std.proofs.Common.{◌≡◌, ℕ, zero, suc, ◌+◌, ◌<◌, ◌≤◌, ◌==◌, Bool, true, false, List, [], ◌∷◌, ◌++◌, length, take, map, Some, refl, sym, ap, subst, ◌∙◌, arith, suc-le-suc, zero-lt-suc, append_assoc, append-nil, length-append}
+use Rattle.std.proofs.Common.{◌≡◌, ℕ, zero, suc, ◌+◌, ◌*◌, ◌<◌, ◌≤◌, ◌==◌, Bool, true, false, List, [], ◌∷◌, ◌++◌, length, take, map, Some, refl, sym, ap, subst, ◌∙◌, arith, suc-le-suc, zero-lt-suc, append_assoc, append-nil, length-append}
 use Rattle.std.specs.Prelude.{All}
 use Rattle.std.specs.List.{cons_option}
 use Rattle.std.proofs.lemmas.Bool.{eq-eqb, ne_eqb, false≢true}
@@ -15,9 +15,10 @@ use Rattle.engine_api.specs.declared.asks.Reply.{Reply}
 use Rattle.engine_api.specs.declared.asks.Reply.TheVariants as reply
 use Rattle.engine_api.specs.declared.histories.Entry.{Entry}
 use Rattle.engine_api.specs.Meaning.{Meaning}
-use Rattle.engine_api.specs.History.{Call, call_told, calls, next, next_reply, IsNext, IsNextAs, IsLegal, Continues}
+use Rattle.engine_api.specs.History.{Call, call_told, calls, with_call, next_reply, IsCall, IsCallAs, IsNext, IsNextAs, IsUnmarked, IsLegal, Continues}
 use Rattle.engine_api.specs.Told.{told_of}
 use Rattle.engine_api.proofs.HistoryLaws.{continues_legal}
+use Rattle.engine_api.proofs.NumberLaws.{RisesTo, numbers_rise, three_each}
 use Rattle.cache_model.specs.Meaning.{cache_meaning}
 use Rattle.list_model.specs.Meaning.{list_meaning}
 use Rattle.lock_model.specs.Meaning.{lock_meaning}
@@ -49,7 +50,7 @@ module _ {C R I S : Type 0} (meaning : Meaning C R I S) (of : Ask C → AnyAsk) 
     ask : call.ask ≡ of asked
     no : call.no ≡ length before + 1
     number : call.told.no ≡ call.no
-    next : after ≡ next meaning form before call.by asked
+    next : after ≡ with_call meaning form before call.by asked
     told : call.told ≡ told_of (length before + 1) asked (next_reply meaning form before call.by asked)
 
   -- an entry that continues a history is such a call
@@ -58,10 +59,9 @@ module _ {C R I S : Type 0} (meaning : Meaning C R I S) (of : Ask C → AnyAsk) 
       (call : Call C R) × (call_told entry.no entry.by entry.reply told ≡ Some call)
       × IsCalled before (before ++ entry ∷ []) (any_call of call)
 
-  tells_call : (before : List (Entry C R)) (entry : Entry C R) (told : What C) → IsNextAs meaning form before entry
-      told
-      → TellsCall before entry told
-  tells_call before entry (what.Call asked) e = (
+  tells_call : (before : List (Entry C R)) (entry : Entry C R) (told : What C) → IsCallAs told
+      → IsNextAs meaning form before entry told → TellsCall before entry told
+  tells_call before entry (what.Call asked) is_call e = (
     record { no = entry.no; by = entry.by; ask = asked; reply = entry.reply },
     refl,
     record {
@@ -73,89 +73,90 @@ module _ {C R I S : Type 0} (meaning : Meaning C R I S) (of : Ask C → AnyAsk) 
       told = ap (λ (it : Entry C R). told_of it.no asked it.reply) e;
     },
   )
-  tells_call before entry (what.Lost cf) e = absurd e
+  tells_call before entry (what.Lost cf) is_call e = absurd is_call
 
   abbrev IsHeard : List (Entry C R) → Entry C R → Type 0
   IsHeard before entry =
       (call : AnyCall) × ((more : List (Entry C R)) → heard_of (entry ∷ more) ≡ call ∷ heard_of more)
       × IsCalled before (before ++ entry ∷ []) call
 
-  is_heard : (before : List (Entry C R)) (entry : Entry C R) → IsNext meaning form before entry → IsHeard before entry
-  is_heard before entry e =
-      let it : TellsCall before entry entry.what = tells_call before entry entry.what e in
+  is_heard : (before : List (Entry C R)) (entry : Entry C R) → IsCall entry → IsNext meaning form before entry
+      → IsHeard before entry
+  is_heard before entry is_call e =
+      let it : TellsCall before entry entry.what = tells_call before entry entry.what is_call e in
       (any_call of it.0, λ more. ap (λ o. map (any_call of) (cons_option o (calls more))) it.1, it.2)
 
   -- ---- by what continues a history
 
-  length_heard : (before entries : List (Entry C R)) → Continues meaning form before entries
+  length_heard : (before entries : List (Entry C R)) → IsUnmarked entries → Continues meaning form before entries
       → length (heard_of entries) ≡ length entries
-  length_heard before [] goes = refl
-  length_heard before (entry ∷ entries) goes =
-      let it : IsHeard before entry = is_heard before entry goes.0 in
-      ap length (it.1 entries) ∙ ap suc (length_heard (before ++ entry ∷ []) entries goes.1)
+  length_heard before [] marks goes = refl
+  length_heard before (entry ∷ entries) marks goes =
+      let it : IsHeard before entry = is_heard before entry marks.0 goes.0 in
+      ap length (it.1 entries) ∙ ap suc (length_heard (before ++ entry ∷ []) entries marks.1 goes.1)
 
-  take_heard : (before entries : List (Entry C R)) (n : ℕ) → Continues meaning form before entries
+  take_heard : (before entries : List (Entry C R)) (n : ℕ) → IsUnmarked entries → Continues meaning form before entries
       → heard_of (take n entries) ≡ take n (heard_of entries)
-  take_heard before entries zero goes = refl
-  take_heard before [] (suc n) goes = refl
-  take_heard before (entry ∷ entries) (suc n) goes =
-      let it : IsHeard before entry = is_heard before entry goes.0 in
+  take_heard before entries zero marks goes = refl
+  take_heard before [] (suc n) marks goes = refl
+  take_heard before (entry ∷ entries) (suc n) marks goes =
+      let it : IsHeard before entry = is_heard before entry marks.0 goes.0 in
       it.1 (take n entries) ∙ ap (λ (some : List AnyCall). it.0 ∷ some)
-      (take_heard (before ++ entry ∷ []) entries n goes.1)
+      (take_heard (before ++ entry ∷ []) entries n marks.1 goes.1)
       ∙ sym (ap (take (suc n)) (it.1 entries))
 
-  rise_heard : (before entries : List (Entry C R)) (low : ℕ) → low ≡ length before
-      → Continues meaning form before entries
-      → Rising low (heard_of entries)
-  rise_heard before [] low at goes = tt
-  rise_heard before (entry ∷ entries) low at goes =
-      let it : IsHeard before entry = is_heard before entry goes.0 in
-      let longer : length (before ++ entry ∷ []) ≡ length before + 1 = length-append before (entry ∷ []) in
-      subst (Rising low) (sym (it.1 entries)) (
-        omega (arith, it.2.no, at),
-        rise_heard (before ++ entry ∷ []) entries it.0.no (it.2.no ∙ sym longer) goes.1,
-      )
+  rise_heard : (low : ℕ) (some : List (Call C R)) (high : ℕ) → RisesTo meaning form low some high
+      → Rising low (map (any_call of) some)
+  rise_heard low [] high rises = tt
+  rise_heard low (call ∷ some) high rises = (rises.0, rise_heard call.no some high rises.1)
+
+  few_heard : (entries : List (Entry C R)) → IsLegal meaning form entries
+      → length entries ≤ 3 * length (heard_of entries)
+  few_heard entries legal =
+      let same : length (heard_of entries) ≡ length (calls entries) = lists.length-map (calls entries) (any_call of) in
+      let few : length entries ≤ 3 * length (calls entries) = three_each meaning form entries legal in
+      omega (arith, same, few)
 
   -- the call behind so many others
-  call_at : (before entries : List (Entry C R)) → Continues meaning form before entries
+  call_at : (before entries : List (Entry C R)) → IsUnmarked entries → Continues meaning form before entries
       → (front : List AnyCall) (call : AnyCall) (more : List AnyCall) → heard_of entries ≡ front ++ call ∷ more
       → IsCalled (before ++ take (length front) entries) (before ++ take (suc (length front)) entries) call
-  call_at before [] goes [] call more e = absurd cc
-  call_at before [] goes (first ∷ front) call more e = absurd cc
-  call_at before (entry ∷ entries) goes [] call more e =
-      let it : IsHeard before entry = is_heard before entry goes.0 in
+  call_at before [] marks goes [] call more e = absurd cc
+  call_at before [] marks goes (first ∷ front) call more e = absurd cc
+  call_at before (entry ∷ entries) marks goes [] call more e =
+      let it : IsHeard before entry = is_heard before entry marks.0 goes.0 in
       let both : it.0 ∷ heard_of entries ≡ call ∷ more = sym (it.1 entries) ∙ e in
       let same : it.0 ≡ call = cc in
       subst (λ (h : List (Entry C R)). IsCalled h (before ++ entry ∷ []) call) (sym (append-nil before))
       (subst (IsCalled before (before ++ entry ∷ [])) same it.2)
-  call_at before (entry ∷ entries) goes (first ∷ front) call more e =
-      let it : IsHeard before entry = is_heard before entry goes.0 in
+  call_at before (entry ∷ entries) marks goes (first ∷ front) call more e =
+      let it : IsHeard before entry = is_heard before entry marks.0 goes.0 in
       let both : it.0 ∷ heard_of entries ≡ first ∷ (front ++ call ∷ more) = sym (it.1 entries) ∙ e in
       let rest : heard_of entries ≡ front ++ call ∷ more = cc in
       let later : IsCalled ((before ++ entry ∷ []) ++ take (length front) entries)
       ((before ++ entry ∷ []) ++ take (suc (length front)) entries) call =
-      call_at (before ++ entry ∷ []) entries goes.1 front call more rest in
+      call_at (before ++ entry ∷ []) entries marks.1 goes.1 front call more rest in
       subst (λ (h : List (Entry C R)). IsCalled h (before ++ entry ∷ take (suc (length front)) entries) call)
       (append_assoc before (entry ∷ []) (take (length front) entries))
       (subst (λ (h : List (Entry C R)). IsCalled ((before ++ entry ∷ []) ++ take (length front) entries) h call)
       (append_assoc before (entry ∷ []) (take (suc (length front)) entries)) later)
 
-  call_in : (entries : List (Entry C R)) → IsLegal meaning form entries
+  call_in : (entries : List (Entry C R)) → IsLegal meaning form entries × IsUnmarked entries
       → (front : List AnyCall) (call : AnyCall) (more : List AnyCall) → heard_of entries ≡ front ++ call ∷ more
       → IsCalled (take (length front) entries) (take (length front + 1) entries) call
   call_in entries legal front call more e =
       let one : suc (length front) ≡ length front + 1 = omega arith in
       subst (λ (n : ℕ). IsCalled (take (length front) entries) (take n entries) call) one
-      (call_at [] entries (continues_legal meaning form entries legal) front call more e)
+      (call_at [] entries legal.1 (continues_legal meaning form entries legal.0) front call more e)
 
-  number_in : (entries : List (Entry C R)) → IsLegal meaning form entries
+  number_in : (entries : List (Entry C R)) → IsLegal meaning form entries × IsUnmarked entries
       → (front : List AnyCall) (call : AnyCall) (more : List AnyCall) → heard_of entries ≡ front ++ call ∷ more
       → (call.no ≡ length front + 1) × (call.told.no ≡ call.no)
   number_in entries legal front call more e =
       let it : IsCalled (take (length front) entries) (take (length front + 1) entries) call =
       call_in entries legal front call more e in
       let heard : length (heard_of entries) ≡ length entries =
-      length_heard [] entries (continues_legal meaning form entries legal) in
+      length_heard [] entries legal.1 (continues_legal meaning form entries legal.0) in
       let parts : length (heard_of entries) ≡ length front + length (call ∷ more) =
       ap length e ∙ length-append front (call ∷ more) in
       let within : length front ≤ length entries = omega (arith, heard, parts) in
@@ -163,14 +164,20 @@ module _ {C R I S : Type 0} (meaning : Meaning C R I S) (of : Ask C → AnyAsk) 
 
 -- ---- the calls of a legal history
 
--- facilities are not lost yet, so each entry is a call
+-- a call and the marks before it are three entries at most
+pub length_calls : (form : StrForm) (h : AnyHistory) → IsAnyLegal form h → any_length h ≤ 3 * length (any_calls h)
+length_calls form (history.Cache entries) legal = few_heard cache_meaning ask.Cache form entries legal.0
+length_calls form (history.List entries) legal = few_heard list_meaning ask.List form entries legal.0
+length_calls form (history.Lock entries) legal = few_heard lock_meaning ask.Lock form entries legal.0
+
+-- no link is asked yet, so each entry is a call
 pub calls_length : (form : StrForm) (h : AnyHistory) → IsAnyLegal form h → length (any_calls h) ≡ any_length h
 calls_length form (history.Cache entries) legal =
-    length_heard cache_meaning ask.Cache form [] entries (continues_legal cache_meaning form entries legal)
+    length_heard cache_meaning ask.Cache form [] entries legal.1 (continues_legal cache_meaning form entries legal.0)
 calls_length form (history.List entries) legal =
-    length_heard list_meaning ask.List form [] entries (continues_legal list_meaning form entries legal)
+    length_heard list_meaning ask.List form [] entries legal.1 (continues_legal list_meaning form entries legal.0)
 calls_length form (history.Lock entries) legal =
-    length_heard lock_meaning ask.Lock form [] entries (continues_legal lock_meaning form entries legal)
+    length_heard lock_meaning ask.Lock form [] entries legal.1 (continues_legal lock_meaning form entries legal.0)
 
 -- the calls are numbered from 1 without a gap
 pub call_number : (form : StrForm) (h : AnyHistory) → IsAnyLegal form h
@@ -182,11 +189,11 @@ call_number form (history.Lock entries) legal = number_in lock_meaning ask.Lock 
 
 pub calls_rise : (form : StrForm) (h : AnyHistory) → IsAnyLegal form h → Rising 0 (any_calls h)
 calls_rise form (history.Cache entries) legal =
-    rise_heard cache_meaning ask.Cache form [] entries 0 refl (continues_legal cache_meaning form entries legal)
+    rise_heard cache_meaning ask.Cache form 0 (calls entries) (length entries) (numbers_rise cache_meaning form entries legal.0)
 calls_rise form (history.List entries) legal =
-    rise_heard list_meaning ask.List form [] entries 0 refl (continues_legal list_meaning form entries legal)
+    rise_heard list_meaning ask.List form 0 (calls entries) (length entries) (numbers_rise list_meaning form entries legal.0)
 calls_rise form (history.Lock entries) legal =
-    rise_heard lock_meaning ask.Lock form [] entries 0 refl (continues_legal lock_meaning form entries legal)
+    rise_heard lock_meaning ask.Lock form 0 (calls entries) (length entries) (numbers_rise lock_meaning form entries legal.0)
 
 -- ---- the front of a history
 
@@ -203,11 +210,11 @@ take_all (history.Lock entries) = ap history.Lock (lists.take_all (length entrie
 pub take_calls : (form : StrForm) (h : AnyHistory) (n : ℕ) → IsAnyLegal form h
     → any_calls (any_take n h) ≡ take n (any_calls h)
 take_calls form (history.Cache entries) n legal =
-    take_heard cache_meaning ask.Cache form [] entries n (continues_legal cache_meaning form entries legal)
+    take_heard cache_meaning ask.Cache form [] entries n legal.1 (continues_legal cache_meaning form entries legal.0)
 take_calls form (history.List entries) n legal =
-    take_heard list_meaning ask.List form [] entries n (continues_legal list_meaning form entries legal)
+    take_heard list_meaning ask.List form [] entries n legal.1 (continues_legal list_meaning form entries legal.0)
 take_calls form (history.Lock entries) n legal =
-    take_heard lock_meaning ask.Lock form [] entries n (continues_legal lock_meaning form entries legal)
+    take_heard lock_meaning ask.Lock form [] entries n legal.1 (continues_legal lock_meaning form entries legal.0)
 
 -- a call of a legal history is the next one of the entries before it, and what was told of it is what is told there
 pub next_call : (form : StrForm) (h : AnyHistory) → IsAnyLegal form h

@@ -1,5 +1,4 @@
 pub mod TypeLaws
-pub mod KindLaws
-pub mod Histories
 pub mod WordLaws
 pub mod HistoryLaws
+pub mod ToldLaws

@@ -1,5 +1,5 @@
 -- Words made of bits, which are added one after another; and a number is the sum of its bits' worths.
-use Rattle.std.proofs.Common.{◌≡◌, ℕ, zero, suc, ◌+◌, ◌*◌, ◌^◌, ◌%◌, ◌<◌, ◌≤◌, ◌==◌, Bool, true, false, if◌then◌else◌, [], ◌∷◌, ◌++◌, refl, sym, ap, ◌∙◌, arith, mod-eq_of_lt}
+use Rattle.std.proofs.Common.{◌≡◌, ℕ, zero, suc, ◌+◌, ◌*◌, ◌^◌, ◌%◌, ◌<◌, ◌≤◌, ◌==◌, Bool, true, false, if◌then◌else◌, List, [], ◌∷◌, ◌++◌, refl, sym, ap, ◌∙◌, arith, add-zero, mod-eq_of_lt}
 use Rattle.std.specs.Int.{bit_at}
 use Rattle.std.specs.List.{sum_by}
 use Rattle.std.proofs.lemmas.List.Sums.{sum_by_push}
@@ -8,7 +8,13 @@ use Rattle.std.proofs.lemmas.Nat.Bits.{bit_at-lt}
 use Rattle.std.proofs.Math.Nat.{pow-suc}
 use Rattle.std.proofs.Math.Pow.{pow_mono}
 use Rattle.any_model.specs.Kinds.{numbers_from}
-use Rattle.any_model.proofs.KindLaws.{numbers_from-suc}
+
+pub numbers_from-suc : (first n : ℕ) → numbers_from first (suc n) ≡ numbers_from first n ++ (first + n) ∷ []
+numbers_from-suc first zero = ap (λ (m : ℕ). m ∷ []) (sym (add-zero first))
+numbers_from-suc first (suc n) =
+    let same : (first + 1) + n ≡ first + suc n = omega arith in
+    ap (λ (rest : List ℕ). first ∷ rest)
+    (numbers_from-suc (first + 1) n ∙ ap (λ (m : ℕ). numbers_from (first + 1) n ++ m ∷ []) same)
 
 -- the value of a bit at its place
 abbrev pub worth : (ℕ → Bool) → ℕ → ℕ

@@ -6,7 +6,7 @@ use Rattle.cf_types.specs.declared.forms.Kind.TheVariants as kind
 use Rattle.cf_types.specs.declared.numbers.ConnId.{ConnId}
 use Rattle.engine_api.specs.declared.told.Told.{Told}
 use Rattle.engine_api.specs.Asking.{MayAsk, IsBuilt}
-use Rattle.engine_api.specs.History.{next, next_reply, stands_after, IsLegal, Tells}
+use Rattle.engine_api.specs.History.{with_call, next_reply, stands_after, IsLegal, IsUnmarked, Tells}
 use Rattle.engine_api.specs.Told.{told_of, told_plainly}
 use Rattle.cache_model.specs.Meaning.{cache_meaning}
 use Rattle.list_model.specs.Meaning.{list_meaning}
@@ -66,15 +66,15 @@ MayAskAny by (ask.Lock asked) = MayAsk by asked × IsBuilt asked
 
 -- a caller's next call, and what is told of it. An ask of another kind is none
 abbrev pub any_next : StrForm → AnyHistory → ConnId → AnyAsk → AnyHistory
-any_next form (history.Cache entries) by (ask.Cache asked) = history.Cache (next cache_meaning form entries by asked)
+any_next form (history.Cache entries) by (ask.Cache asked) = history.Cache (with_call cache_meaning form entries by asked)
 any_next form (history.Cache entries) by (ask.List asked) = history.Cache entries
 any_next form (history.Cache entries) by (ask.Lock asked) = history.Cache entries
 any_next form (history.List entries) by (ask.Cache asked) = history.List entries
-any_next form (history.List entries) by (ask.List asked) = history.List (next list_meaning form entries by asked)
+any_next form (history.List entries) by (ask.List asked) = history.List (with_call list_meaning form entries by asked)
 any_next form (history.List entries) by (ask.Lock asked) = history.List entries
 any_next form (history.Lock entries) by (ask.Cache asked) = history.Lock entries
 any_next form (history.Lock entries) by (ask.List asked) = history.Lock entries
-any_next form (history.Lock entries) by (ask.Lock asked) = history.Lock (next lock_meaning form entries by asked)
+any_next form (history.Lock entries) by (ask.Lock asked) = history.Lock (with_call lock_meaning form entries by asked)
 
 abbrev pub any_told : StrForm → AnyHistory → ConnId → AnyAsk → Told
 any_told form (history.Cache entries) by (ask.Cache asked) =
@@ -108,10 +108,11 @@ any_word form entries conn word =
     else 0)
     (numbers_from 0 32)
 
+-- the history is legal. No link is asked yet, so that each entry tells a call
 abbrev pub IsAnyLegal : StrForm → AnyHistory → Type 0
-IsAnyLegal form (history.Cache entries) = IsLegal cache_meaning form entries
-IsAnyLegal form (history.List entries) = IsLegal list_meaning form entries
-IsAnyLegal form (history.Lock entries) = IsLegal lock_meaning form entries
+IsAnyLegal form (history.Cache entries) = IsLegal cache_meaning form entries × IsUnmarked entries
+IsAnyLegal form (history.List entries) = IsLegal list_meaning form entries × IsUnmarked entries
+IsAnyLegal form (history.Lock entries) = IsLegal lock_meaning form entries × IsUnmarked entries
 
 -- a test that shows a bit with a number tells what stood at a numbered point, not before what the connector had seen
 -- complete

@@ -5,7 +5,7 @@ use Rattle.cf_types.specs.Forms.{IsConnector}
 use Rattle.any_model.specs.Types.{OfCache}
 use Rattle.desk_model.specs.Desks.{DeskShown}
 use Rattle.desk_model.specs.Boards.{BoardShown, IsDeskOf, cell_on}
-use Rattle.board_trials.specs.declared.trials.Trial.{Trial}
+use Rattle.board_trials.specs.declared.trial.Trial.{Trial}
 
 abbrev pub first_structure : StrNo
 first_structure = record { 0 = 0 }

@@ -2,17 +2,18 @@
 //! such a board says of them.
 #![tactic(auto)]
 
+#[cfg(test)]
 mod halts;
+#[cfg(test)]
 mod past;
+#[cfg(test)]
 mod seats;
-mod trials;
-mod waits;
-
-pub use halts::Halt;
-pub use past::{Answer, bits_after, counted, is_of, never_falls, tells};
-pub use seats::{connect, post, read, take, test, write};
-pub use trials::{Trial, close, start, start_connected};
-pub use waits::{PATIENCE, raise, wait_for};
-
 #[cfg(test)]
 mod tests;
+mod trial;
+#[cfg(test)]
+mod trials;
+#[cfg(test)]
+mod waits;
+
+pub use trial::Trial;

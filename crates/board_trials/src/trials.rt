@@ -5,6 +5,7 @@ ghost use Rattle.board_trials.specs.Seats.{HasCache, IsTrial};
 
 use crate::halts::Halt;
 use crate::seats::{CACHE, connect};
+use crate::trial::Trial;
 use cf_link::Steady;
 use cf_types::{CacheCmd, CacheReply, ConnId, Kind};
 use engine_api::History;
@@ -19,15 +20,6 @@ const POLICY: &str = "FACILITY CF1 100\n\
     PREF GBP CF1 40\n\
     CONNECTOR A\n\
     CONNECTOR B\n";
-
-/// A board with one cache, and the desks of its callers.
-#[derive(Drop)]
-pub struct Trial {
-    pub board: Board<Steady>,
-    pub operator: Desk,
-    pub first: Desk,
-    pub second: Desk,
-}
 
 // The policy as a script.
 fn policy(alloc: Global) -> Result<Script, Halt>

@@ -10,7 +10,7 @@ use std::marker::Model;
 
 /// The castout classes of changed names, one class for a name. Contracts see the names with their
 /// classes, in the order of names, and for how many more there is room.
-#[derive(Debug, Drop)]
+#[derive(Drop)]
 pub struct Classes {
     names: Vec<Changed>,
 }

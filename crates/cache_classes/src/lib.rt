@@ -6,6 +6,3 @@ mod classes;
 
 pub use changed::Changed;
 pub use classes::Classes;
-
-#[cfg(test)]
-mod tests;

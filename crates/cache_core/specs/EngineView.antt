@@ -23,7 +23,7 @@ content_of e = record { rows = e.rows.rows; regs = e.regs.regs }
 abbrev pub view_of : Inside → EngineView
 view_of e =
     record {
-      held = record { shape = e.shape; caps = e.caps; state = content_of e };
+      held = record { shape = e.shape; base = e.caps; caps = e.caps; state = content_of e };
       plan = e.plan;
       row_room = e.rows.room;
       reg_room = e.regs.room;

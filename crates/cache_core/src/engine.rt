@@ -46,7 +46,8 @@ impl Engine for CacheEngine {
     ghost use Rattle.cache_core.specs.EngineView.{IsReady};
     ghost use Rattle.cache_model.specs.Contents.{IsContent};
     ghost use Rattle.cache_model.specs.Meaning.{cache_meaning};
-    ghost use Rattle.cache_model.proofs.EngineLaws.{content-nothing, step-content, leave-content, content-moved, content-forgotten, made-items, content-next, unplace-place, need-front, need-leave, need-same};
+    ghost use Rattle.cache_model.proofs.ContentLaws.{content-done};
+    ghost use Rattle.cache_model.proofs.EngineLaws.{content-nothing, leave-content, cache-fronts, need-front, need-leave};
     ghost use Rattle.engine_api.proofs.ReadyLaws.{le-trans, room-cases};
 
     type Cmd = CacheCmd;
@@ -54,6 +55,8 @@ impl Engine for CacheEngine {
     type Reply = CacheReply;
 
     type Item = CacheItem;
+
+    type Order = ();
 
     type State = CacheContent;
 
@@ -64,6 +67,8 @@ impl Engine for CacheEngine {
     ghost is_content = { λ shape caps content. IsContent caps content };
 
     ghost held = { λ e. e.held };
+
+    ghost is_order = { λ order held. Unit {0} };
 
     ghost is_ready = { IsReady };
 
@@ -167,6 +172,14 @@ impl Engine for CacheEngine {
         copy_row(alloc, &self.rows.items()[k as usize])
     }
 
+    fn order(&self, _alloc: Global) -> Result<(), NoMemory> {
+        Ok(())
+    }
+
+    fn item_in(&self, alloc: Global, _order: &(), k: u32) -> Result<CacheItem, NoMemory> {
+        self.item(alloc, k)
+    }
+
     fn place(&mut self, item: CacheItem) -> Result<(), CacheItem> {
         self.rows.push(item)
     }
@@ -210,29 +223,22 @@ impl Engine for CacheEngine {
 
     ghost items_empty = { λ shape. refl };
 
-    ghost content_step = { λ shape caps content by cmd. step-content shape caps content by cmd };
+    ghost content_done = { λ shape caps content by cmd kind is none. content-done shape.vector caps
+        content by cmd is none };
 
     ghost content_leave = { λ shape caps content conn keep. leave-content caps content conn };
 
     ghost content_back = { λ shape caps content conn is. is };
 
-    ghost content_forget = { λ shape caps content. content-forgotten caps content };
+    ghost made_again = { cache-fronts.made_again };
 
-    ghost made_again = { λ shape caps content is. made-items content.rows };
+    ghost items_front = { cache-fronts.items_front };
 
-    ghost content_moved = { content-moved };
+    ghost content_front = { cache-fronts.content_front };
 
-    ghost content_place = { λ shape caps content item is next. content-next caps content next.whole
-        item next.others is next.content next.first };
-
-    ghost items_place = { λ shape caps content item is next. refl };
-
-    ghost unplace_place = { λ _ caps content item is next. unplace-place caps content next.whole
-        item next.others is next.content next.first };
+    ghost unplace_front = { cache-fronts.unplace_front };
 
     ghost need_first = { need-front };
 
     ghost need_leave = { λ shape caps content conn keep is. need-leave shape.kind content conn };
-
-    ghost need_forget = { λ shape caps content is. need-same shape.kind content.rows };
 }

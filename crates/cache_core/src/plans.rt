@@ -21,7 +21,7 @@ use std::alloc::Global;
 
 /// What is got ready for a command: its reply, the names of the rows that are reclaimed for it, and
 /// a copy of its data.
-#[derive(Debug, Drop)]
+#[derive(Drop)]
 pub(crate) struct Plan {
     pub reply: Result<CacheReply, Refusal>,
     pub gone: Listing<Name16>,

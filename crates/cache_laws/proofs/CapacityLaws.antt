@@ -6,7 +6,8 @@ use Rattle.cf_types.specs.Forms.{is_cache}
 use Rattle.engine_api.specs.declared.shapes.Shape.{Shape}
 use Rattle.cache_model.specs.Contents.{Content, IsContent}
 use Rattle.cache_model.specs.Meaning.{cache_meaning}
-use Rattle.cache_model.proofs.EngineLaws.{content-nothing, step-content, leave-content, content-moved, need-front, need-leave}
+use Rattle.cache_model.proofs.ContentLaws.{content-done}
+use Rattle.cache_model.proofs.EngineLaws.{content-nothing, leave-content, content-moved, need-front, need-leave}
 use Rattle.rebuild_shell.proofs.CapacityLaws.{ContentLaws, held-replay}
 use Rattle.cache_laws.specs.Histories.{CacheHistory, IsWithin}
 
@@ -19,7 +20,7 @@ promised =
     record {
       content_empty = λ shape caps. content-nothing caps;
       items_empty = λ shape. refl;
-      content_step = step-content;
+      content_done = λ shape caps content by cmd kind is none. content-done shape.vector caps content by cmd is none;
       content_leave = λ shape caps content conn keep is. leave-content caps content conn is;
       content_back = λ shape caps content conn is. is;
       content_moved = content-moved;

@@ -1,5 +1,5 @@
 -- A bit that stands tells a fresh copy.
-use Rattle.std.proofs.Common.{◌≡◌, ℕ, true, [], ◌∷◌, ◌++◌, Option, None, Some, is_some, option_map, take, drop, inl, inr, append_assoc, append-nil, refl, sym, ap, ◌∙◌, subst}
+use Rattle.std.proofs.Common.{◌≡◌, ℕ, true, [], ◌∷◌, ◌++◌, Option, None, Some, is_some, option_map, take, drop, inl, inr, append-nil, refl, sym, ap, ◌∙◌, subst}
 use Rattle.std.specs.Prelude.{IsTrue, option_and_then, find}
 use Rattle.std.proofs.lemmas.Bool.{false≢true}
 use Rattle.std.proofs.lemmas.List.{take-append-drop}
@@ -21,17 +21,10 @@ use Rattle.cache_model.proofs.CopyLaws.{fresh-at}
 use Rattle.cache_laws.specs.Copies.{copy_held, IsAsRead, IsFresh, TellsFresh}
 use Rattle.cache_laws.specs.Histories.{CacheHistory, IsLegalCache, content_after}
 use Rattle.cache_laws.proofs.Replies.{answer-content, copy-read}
-use Rattle.cache_laws.proofs.Traces.{HasTrace, trace-none, trace-next}
+use Rattle.cache_laws.proofs.Traces.{HasTrace, trace-continues}
 use Rattle.cache_laws.proofs.UniqueLaws.{orderly-replay}
 
 -- ---- what is held is what the name's row has
-
-pub trace-continues : (form : StrForm) (history others : CacheHistory) → Continues cache_meaning form history others
-    → HasTrace form history → HasTrace form (history ++ others)
-trace-continues form history [] goes trace = subst (HasTrace form) (sym (append-nil history)) trace
-trace-continues form history (entry ∷ others) goes trace =
-    subst (HasTrace form) (append_assoc history (entry ∷ []) others)
-    (trace-continues form (history ++ entry ∷ []) others goes.1 (trace-next form history entry goes.0 trace))
 
 held-registered : (form : StrForm) (history : CacheHistory) (conn : ConnId) (index : ℕ) (name : Name16)
     → HasTrace form history
@@ -94,9 +87,8 @@ continues_front form history (entry ∷ front) others goes = (
 pub trace-legal : (form : StrForm) (front others : CacheHistory) → IsLegalCache form (front ++ others)
     → HasTrace form front
 trace-legal form front others legal =
-    trace-continues form [] front
+    trace-continues form front
     (continues_front form [] front others (continues_legal cache_meaning form (front ++ others) legal))
-    (trace-none form)
 
 trace-take : (form : StrForm) (history : CacheHistory) (n : ℕ) → IsLegalCache form history
     → HasTrace form (take n history)

@@ -1,4 +1,3 @@
-pub mod Steps
 pub mod UniqueLaws
 pub mod CapacityLaws
 pub mod Traces

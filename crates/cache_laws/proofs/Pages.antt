@@ -16,7 +16,7 @@ use Rattle.engine_api.specs.declared.asks.Ask.{Ask}
 use Rattle.engine_api.specs.declared.asks.Ask.TheVariants as ask
 use Rattle.engine_api.specs.declared.asks.What.{What}
 use Rattle.engine_api.specs.declared.asks.What.TheVariants as what
-use Rattle.engine_api.specs.History.{replay, next_entry, IsNextAs, Continues}
+use Rattle.engine_api.specs.History.{replay, next_entry, next_mark, IsNextAs, Continues}
 use Rattle.engine_api.specs.Machine.{Machine, step, unless, content_done, content_reply}
 use Rattle.engine_api.specs.Meaning.{unless_refused}
 use Rattle.engine_api.specs.Shell.{content_cause}
@@ -31,12 +31,14 @@ use Rattle.cache_model.specs.Runs.Deed.{Calls, Leaves, Forgets}
 use Rattle.cache_model.specs.Step.{cause, done}
 use Rattle.cache_model.specs.Uncast.{Uncast, Uncasts, uncast_cast, uncast_unlocked, uncast_unless, uncast_after, Kept}
 use Rattle.cache_model.proofs.UncastLaws.{AllKept, deed-kept}
-use Rattle.cache_laws.specs.Histories.{CacheEntry, CacheHistory, Accepted, acceptance_of, accepted_as, is_accepted, is_allocated, IsLegalCache, StaysAllocated, content_after}
+use Rattle.replay_laws.specs.Accepted.{accepted_as}
+use Rattle.replay_laws.proofs.Moves.{Move, stands_in}
+use Rattle.replay_laws.proofs.Moves.Move.{Same, Left, Returned, Forgotten, Cleared}
+use Rattle.replay_laws.proofs.Changes.{shell_change, loss_change}
+use Rattle.cache_laws.specs.Histories.{CacheEntry, CacheHistory, Accepted, acceptance_of, is_accepted, is_allocated, IsLegalCache, StaysAllocated, content_after}
 use Rattle.cache_laws.specs.Uncast.{Page, page_in, page_written, is_changed_write, deletes, casts_out, unlocks, HasNone, is_cast_out, IsUncast, HasPage, IsAnswered}
 use Rattle.cache_laws.proofs.Allocated.{stands-content}
 use Rattle.cache_laws.proofs.Replies.{answer-content, read-changed, castout-changed}
-use Rattle.cache_laws.proofs.Steps.{Change, stands_in, shell_change}
-use Rattle.cache_laws.proofs.Steps.Change.{Same, Without, Forgotten, Cleared}
 use Rattle.cache_laws.proofs.UniqueLaws.{orderly-replay}
 
 -- ---- deeds that keep a page
@@ -202,19 +204,22 @@ both_stand true true e f gone = false≢true (sym gone)
 both_stand true false e f gone = false≢true f
 both_stand false c e f gone = false≢true e
 
-keeps_change : (form : StrForm) (before after : Machine Content) (name : Name16) (page : Page) (cast : Bool)
-    → Change before after → IsOrderly before.content
+keeps_move : (form : StrForm) (before after : Machine Content) (by : ConnId) (told : What CacheCmd)
+    (name : Name16) (page : Page) (cast : Bool)
+    → Move cache_meaning form before after by told → IsOrderly before.content
     → stands_in before ≡ true → stands_in after ≡ true → Keeps before.content name page cast
     → Keeps after.content name page cast
-keeps_change form before after name page cast (Same e) is stood stands keeps =
+keeps_move form before after by told name page cast (Same e) is stood stands keeps =
     subst (λ (c : Content). Keeps c name page cast) (sym e) keeps
-keeps_change form before after name page cast (Without conn e) is stood stands keeps =
-    keeps_deed form.vector form.caps before.content after.content name page cast keeps.uncast (Leaves conn) is keeps.all
-    e keeps.own
-keeps_change form before after name page cast (Forgotten e) is stood stands keeps =
+keeps_move form before after by told name page cast (Left who command asked leaves e) is stood stands keeps =
+    keeps_deed form.vector form.caps before.content after.content name page cast keeps.uncast (Leaves who.conn) is
+    keeps.all e keeps.own
+keeps_move form before after by told name page cast (Returned keep asked e) is stood stands keeps =
+    subst (λ (c : Content). Keeps c name page cast) (sym e) keeps
+keeps_move form before after by told name page cast (Forgotten e) is stood stands keeps =
     keeps_deed form.vector form.caps before.content after.content name page cast keeps.uncast Forgets is keeps.all e
     keeps.own
-keeps_change form before after name page cast (Cleared e gone) is stood stands keeps =
+keeps_move form before after by told name page cast (Cleared e gone) is stood stands keeps =
     absurd (both_stand (stands_in before) (stands_in after) stood stands gone)
 
 keeps_step : (form : StrForm) (machine : Machine Content) (by : ConnId) (asked : Ask CacheCmd) (name : Name16)
@@ -225,7 +230,8 @@ keeps_step : (form : StrForm) (machine : Machine Content) (by : ConnId) (asked :
     → Keeps (step cache_meaning form machine by asked).machine.content name page
     (cast_then name (told_by asked machine form by) cast)
 keeps_step form machine by (ask.Shell command) name page cast spares is stood stands keeps =
-    keeps_change form machine _ name page cast (shell_change form machine by command) is stood stands keeps
+    keeps_move form machine _ by _ name page cast (shell_change cache_meaning form refl machine by command) is stood
+    stands keeps
 keeps_step form machine by (ask.Content cmd) name page cast spares is stood stands keeps =
     go (content_cause machine.shell by) spares
   where
@@ -252,7 +258,9 @@ wrote_next : (form : StrForm) (history : CacheHistory) (entry : CacheEntry) (tol
     (page : Page)
     → IsNextAs cache_meaning form history entry told → page_written name entry ≡ Some page
     → HasKept form (history ++ entry ∷ []) name page false
-wrote_next form history entry (what.Lost cf) name page is = absurd is
+wrote_next form history entry (what.Lost cf) name page is =
+    subst (λ (e : CacheEntry). page_written name e ≡ Some page → HasKept form (history ++ e ∷ []) name page false)
+    (sym is) (λ wrote. absurd cc)
 wrote_next form history entry (what.Call asked) name page is =
     let machine : Machine Content = replay cache_meaning form history in
     let added : CacheEntry = next_entry cache_meaning form history entry.by asked in
@@ -268,7 +276,16 @@ kept_next : (form : StrForm) (history : CacheHistory) (entry : CacheEntry) (told
     → HasKept form history name page cast
     → Spares name (acceptance_of entry) cast → is_allocated form (history ++ entry ∷ []) ≡ true
     → HasKept form (history ++ entry ∷ []) name page (cast_then name (acceptance_of entry) cast)
-kept_next form history entry (what.Lost cf) name page cast is stood keeps = absurd is
+kept_next form history entry (what.Lost cf) name page cast is stood keeps =
+    let machine : Machine Content = replay cache_meaning form history in
+    let added : CacheEntry = next_mark cache_meaning form history cf in
+    let pushed = replay-push cache_meaning form history added in
+    subst (λ (e : CacheEntry). Spares name (acceptance_of e) cast → is_allocated form (history ++ e ∷ []) ≡ true
+    → HasKept form (history ++ e ∷ []) name page (cast_then name (acceptance_of e) cast)) (sym is)
+    (λ spares stands. subst (λ (m : Machine Content). Keeps m.content name page cast) (sym pushed)
+    (keeps_move form machine _ added.by (what.Lost cf) name page cast
+    (loss_change cache_meaning form refl machine added.by cf) (orderly-replay form history) stood
+    (subst (λ (m : Machine Content). stands_in m ≡ true) pushed stands) keeps))
 kept_next form history entry (what.Call asked) name page cast is stood keeps =
     let machine : Machine Content = replay cache_meaning form history in
     let added : CacheEntry = next_entry cache_meaning form history entry.by asked in
@@ -361,7 +378,9 @@ allocated_step form history by (ask.Content cmd) told =
 allocated_next : (form : StrForm) (history : CacheHistory) (entry : CacheEntry) (told : What CacheCmd)
     → IsNextAs cache_meaning form history entry told → is_some (acceptance_of entry) ≡ true
     → is_allocated form (history ++ entry ∷ []) ≡ true
-allocated_next form history entry (what.Lost cf) is = absurd is
+allocated_next form history entry (what.Lost cf) is =
+    subst (λ (e : CacheEntry). is_some (acceptance_of e) ≡ true → is_allocated form (history ++ e ∷ []) ≡ true) (sym is)
+    (λ told. absurd (false≢true told))
 allocated_next form history entry (what.Call asked) is =
     let added : CacheEntry = next_entry cache_meaning form history entry.by asked in
     subst (λ (e : CacheEntry). is_some (acceptance_of e) ≡ true → is_allocated form (history ++ e ∷ []) ≡ true) (sym is)

@@ -1,42 +1,27 @@
 -- What connectors hold after a history of a cache: where they are registered, what the rows have.
-use Rattle.std.proofs.Common.{◌≡◌, ℕ, Bool, true, false, ◌&&◌, ◌==◌, cond, [], ◌∷◌, ◌++◌, Option, None, Some, unwrap_or, refl, sym, ◌∙◌, subst}
+use Rattle.std.proofs.Common.{◌≡◌, ℕ, Bool, true, false, ◌&&◌, ◌==◌, cond, [], ◌∷◌, ◌++◌, Option, None, Some, unwrap_or, refl, sym, ap, ◌∙◌, subst}
 use Rattle.std.proofs.lemmas.List.Sums.{fold_push}
 use Rattle.cf_types.specs.declared.cache_commands.CacheCmd.{CacheCmd}
 use Rattle.cf_types.specs.declared.cache_commands.CacheCmd.TheVariants.{Read, Write}
-use Rattle.cf_types.specs.declared.cache_commands.CacheReply.{CacheReply}
 use Rattle.cf_types.specs.declared.forms.Caps.{Caps}
 use Rattle.cf_types.specs.declared.forms.StrForm.{StrForm}
 use Rattle.cf_types.specs.declared.numbers.ConnId.{ConnId}
 use Rattle.cf_types.specs.declared.refusals.Refusal.{Refusal}
-use Rattle.engine_api.specs.declared.asks.Ask.{Ask}
-use Rattle.engine_api.specs.declared.asks.Ask.TheVariants as ask
-use Rattle.engine_api.specs.declared.asks.Reply.{Reply}
-use Rattle.engine_api.specs.declared.asks.What.{What}
-use Rattle.engine_api.specs.declared.asks.What.TheVariants as what
-use Rattle.engine_api.specs.History.{replay, next_entry, IsNext, IsNextAs}
-use Rattle.engine_api.specs.Machine.{Machine, step, unless, content_done, content_reply}
+use Rattle.engine_api.specs.History.{Continues, replay}
 use Rattle.engine_api.specs.Meaning.{unless_refused}
-use Rattle.engine_api.specs.Shell.{content_cause}
-use Rattle.engine_api.proofs.HistoryLaws.{replay-push}
 use Rattle.cache_model.specs.Contents.{Content, IsOrderly}
 use Rattle.cache_model.specs.Meaning.{cache_meaning}
 use Rattle.cache_model.specs.Runs.{Copy, Copies, Deed, after_deed, copies_done, copies_unless, copies_after, reply_copy}
 use Rattle.cache_model.specs.Runs.Deed.{Calls, Leaves, Forgets}
-use Rattle.cache_model.specs.Step.{cause, done, reply as answer}
+use Rattle.cache_model.specs.Step.{cause, done, reply as answer_to}
 use Rattle.cache_model.proofs.CopyLaws.{Fresh, AllFresh, each_weaker, deed-fresh}
+use Rattle.replay_laws.proofs.Keeping.{IsQuiet, IsTraced}
+use Rattle.replay_laws.proofs.ReplayLaws.{traced-replay, legal-answered}
 use Rattle.cache_laws.specs.Copies.{copy_at, copy_of, copy_brought, copy_held}
-use Rattle.cache_laws.specs.Histories.{CacheEntry, CacheHistory, accepted_as, content_after}
-use Rattle.cache_laws.proofs.Steps.{Change, shell_change}
-use Rattle.cache_laws.proofs.Steps.Change.{Same, Without, Forgotten, Cleared}
-use Rattle.cache_laws.proofs.UniqueLaws.{orderly-replay}
+use Rattle.cache_laws.specs.Histories.{CacheEntry, CacheHistory, Accepted, acceptance_of, content_after}
+use Rattle.cache_laws.proofs.UniqueLaws.{orderly-kept}
 
 -- ---- what an entry brings
-
--- what a connector holds at an index once a call was answered
-abbrev pub then_held : ConnId → Ask CacheCmd → Reply CacheReply → (ConnId → ℕ → Copy) → ConnId → ℕ → Copy
-then_held by asked answered copies conn index =
-    unwrap_or (cond (by.0 == conn.0) (copy_of index (accepted_as (what.Call asked) answered)) None)
-    (copies conn index)
 
 nothing_brought : (b : Bool) (copy : Copy) → unwrap_or (cond b None None) copy ≡ copy
 nothing_brought true copy = refl
@@ -49,25 +34,40 @@ one_brought true false new copy = refl
 one_brought false at new copy = refl
 
 done_brought : (content : Content) (by : ConnId) (cmd : CacheCmd) (copies : Copies) (conn : ConnId) (index : ℕ)
-    → unwrap_or (cond (by.0 == conn.0) (copy_at index cmd (answer content by cmd)) None) (copies conn index)
+    → unwrap_or (cond (by.0 == conn.0) (copy_at index cmd (answer_to content by cmd)) None) (copies conn index)
     ≡ copies_done content by cmd copies conn index
 done_brought content by (Read name at old stg) copies conn index =
-    one_brought (by.0 == conn.0) (at == index) (reply_copy (answer content by (Read name at old stg)))
+    one_brought (by.0 == conn.0) (at == index) (reply_copy (answer_to content by (Read name at old stg)))
     (copies conn index)
 done_brought content by (Write name at body class adj old stg when_reg) copies conn index =
     one_brought (by.0 == conn.0) (at == index) (Some (body, adj)) (copies conn index)
 done_brought content by _ copies conn index = nothing_brought (by.0 == conn.0) (copies conn index)
 
-command_brought : (caps : Caps) (content : Content) (by : ConnId) (cmd : CacheCmd) (copies : Copies) (conn : ConnId)
-    (index : ℕ) (refusal : Option Refusal)
-    → then_held by (ask.Content cmd) (content_reply (unless_refused refusal content (done caps content by cmd)).reply)
-    copies conn index
-    ≡ copies_unless refusal content by cmd copies conn index
-command_brought caps content by cmd copies conn index (Some refusal) =
-    nothing_brought (by.0 == conn.0) (copies conn index)
-command_brought caps content by cmd copies conn index None = done_brought content by cmd copies conn index
+held-push : (history : CacheHistory) (entry : CacheEntry) (conn : ConnId) (index : ℕ)
+    → copy_held (history ++ entry ∷ []) conn index ≡ unwrap_or (copy_brought conn index entry)
+    (copy_held history conn index)
+held-push history entry conn index =
+    fold_push (λ (copy : Copy) (entry : CacheEntry). unwrap_or (copy_brought conn index entry) copy) None history
+    entry
 
--- ---- calls
+-- by what the entry tells as accepted
+held_told : (history : CacheHistory) (entry : CacheEntry) (told : Option Accepted) → acceptance_of entry ≡ told
+    → (conn : ConnId) (index : ℕ)
+    → copy_held (history ++ entry ∷ []) conn index
+    ≡ unwrap_or (cond (entry.by.0 == conn.0) (copy_of index told) None) (copy_held history conn index)
+held_told history entry told is conn index =
+    held-push history entry conn index
+    ∙ ap (λ (o : Option Accepted). unwrap_or (cond (entry.by.0 == conn.0) (copy_of index o) None)
+    (copy_held history conn index)) is
+
+-- an entry that tells none brings none
+quiet_held : (form : StrForm) (history : CacheHistory) (entry : CacheEntry) → IsQuiet cache_meaning form entry
+    → (conn : ConnId) (index : ℕ) → copy_held (history ++ entry ∷ []) conn index ≡ copy_held history conn index
+quiet_held form history entry quiet conn index =
+    held_told history entry None quiet conn index
+    ∙ nothing_brought (entry.by.0 == conn.0) (copy_held history conn index)
+
+-- ---- deeds
 
 -- what is held elsewhere doesn't matter
 same_copies : (content : Content) (copies others : Copies)
@@ -87,67 +87,75 @@ fresh_deed vector caps before after copies others deed then same is all =
     (same_copies (after_deed vector caps before deed) (copies_after vector caps before copies deed) others same
     (deed-fresh vector caps before copies deed is.directory all))
 
--- nobody's copy changes with a common command
-fresh_change : (form : StrForm) (before after : Machine Content) (copies others : Copies) → Change before after
-    → ((conn : ConnId) (index : ℕ) → others conn index ≡ copies conn index) → IsOrderly before.content
-    → AllFresh before.content copies → AllFresh after.content others
-fresh_change form before after copies others (Same e) same is all =
-    subst (λ (c : Content). AllFresh c others) (sym e) (same_copies before.content copies others same all)
-fresh_change form before after copies others (Without conn e) same is all =
-    fresh_deed form.vector form.caps before.content after.content copies others (Leaves conn) e same is all
-fresh_change form before after copies others (Forgotten e) same is all =
-    fresh_deed form.vector form.caps before.content after.content copies others Forgets e same is all
-fresh_change form before after copies others (Cleared e gone) same is all =
-    subst (λ (c : Content). AllFresh c others) (sym e) tt
+-- a command that isn't refused
+after_done : (vector : ℕ) (caps : Caps) (content : Content) (by : ConnId) (cmd : CacheCmd)
+    → cause vector caps content by cmd ≡ None
+    → (done caps content by cmd).state ≡ after_deed vector caps content (Calls by cmd)
+after_done vector caps content by cmd none =
+    ap (λ (refused : Option Refusal). (unless_refused refused content (done caps content by cmd)).state) (sym none)
 
-fresh_step : (form : StrForm) (machine : Machine Content) (copies : Copies) (by : ConnId) (asked : Ask CacheCmd)
-    → IsOrderly machine.content → AllFresh machine.content copies
-    → let done = step cache_meaning form machine by asked in
-    AllFresh done.machine.content (then_held by asked done.reply copies)
-fresh_step form machine copies by (ask.Shell command) is all =
-    fresh_change form machine _ copies _ (shell_change form machine by command)
-    (λ conn index. nothing_brought (by.0 == conn.0) (copies conn index)) is all
-fresh_step form machine copies by (ask.Content cmd) is all = go (content_cause machine.shell by)
-  where
-    go : (cause : Option Refusal) → let done = unless cache_meaning form cause machine
-        (content_done cache_meaning form machine by cmd) in
-        AllFresh done.machine.content (then_held by (ask.Content cmd) done.reply copies)
-    go (Some refusal) =
-        same_copies machine.content copies _ (λ conn index. nothing_brought (by.0 == conn.0) (copies conn index)) all
-    go None =
-        fresh_deed form.vector machine.shell.caps machine.content _ copies _ (Calls by cmd) refl
-        (λ conn index. command_brought machine.shell.caps machine.content by cmd copies conn index
-        (cause form.vector machine.shell.caps machine.content by cmd)) is all
+copies_so : (vector : ℕ) (caps : Caps) (content : Content) (by : ConnId) (cmd : CacheCmd) (copies : Copies)
+    (conn : ConnId) (index : ℕ) → cause vector caps content by cmd ≡ None
+    → copies_done content by cmd copies conn index
+    ≡ copies_after vector caps content copies (Calls by cmd) conn index
+copies_so vector caps content by cmd copies conn index none =
+    ap (λ (refused : Option Refusal). copies_unless refused content by cmd copies conn index) (sym none)
 
 -- ---- along a history
+
+-- rows and registrations are in order, and where connectors are registered, they hold what the rows have
+record IsTrace (history : CacheHistory) (content : Content) : Type 0 where
+  orderly : IsOrderly content
+  fresh : AllFresh content (copy_held history)
+
+same_trace : (form : StrForm) (history : CacheHistory) (entry : CacheEntry) (content : Content)
+    → IsQuiet cache_meaning form entry → IsTrace history content → IsTrace (history ++ entry ∷ []) content
+same_trace form history entry content quiet is =
+    record {
+      orderly = is.orderly;
+      fresh = same_copies content (copy_held history) (copy_held (history ++ entry ∷ []))
+          (quiet_held form history entry quiet) is.fresh;
+    }
+
+traced : (form : StrForm) → IsTraced cache_meaning form IsTrace
+traced form =
+    record {
+      none = record { orderly = (orderly-kept form).empty; fresh = tt };
+      done = λ history entry command told none is.
+          let before = replay cache_meaning form history in
+          record {
+            orderly = (orderly-kept form).done before.shell.caps before.content entry.by command none is.orderly;
+            fresh = fresh_deed form.vector before.shell.caps before.content _ (copy_held history)
+                (copy_held (history ++ entry ∷ [])) (Calls entry.by command)
+                (after_done form.vector before.shell.caps before.content entry.by command none)
+                (λ conn index. held_told history entry _ told conn index
+                ∙ done_brought before.content entry.by command (copy_held history) conn index
+                ∙ copies_so form.vector before.shell.caps before.content entry.by command (copy_held history) conn
+                index none) is.orderly is.fresh;
+          };
+      same = λ history entry content quiet is. same_trace form history entry content quiet is;
+      leave = λ history entry who content quiet departs is.
+          record {
+            orderly = (orderly-kept form).leave content who.conn who.keep is.orderly;
+            fresh = fresh_deed form.vector form.caps content _ (copy_held history) (copy_held (history ++ entry ∷ []))
+                (Leaves who.conn) refl (quiet_held form history entry quiet) is.orderly is.fresh;
+          };
+      back = λ history entry content quiet returns is. same_trace form history entry content quiet is;
+      forget = λ history entry content quiet is.
+          record {
+            orderly = (orderly-kept form).forget content is.orderly;
+            fresh = fresh_deed form.vector form.caps content _ (copy_held history) (copy_held (history ++ entry ∷ []))
+                Forgets refl (quiet_held form history entry quiet) is.orderly is.fresh;
+          };
+      clear = λ history entry content quiet gone is. record { orderly = (orderly-kept form).empty; fresh = tt };
+    }
 
 -- where connectors are registered, they hold what the rows have
 abbrev pub HasTrace : StrForm → CacheHistory → Type 0
 HasTrace form history = AllFresh (content_after form history) (copy_held history)
 
-held-push : (history : CacheHistory) (entry : CacheEntry) (conn : ConnId) (index : ℕ)
-    → copy_held (history ++ entry ∷ []) conn index ≡ unwrap_or (copy_brought conn index entry)
-    (copy_held history conn index)
-held-push history entry conn index =
-    fold_push (λ (copy : Copy) (entry : CacheEntry). unwrap_or (copy_brought conn index entry) copy) None history
-    entry
-
-trace_next : (form : StrForm) (history : CacheHistory) (entry : CacheEntry) (told : What CacheCmd)
-    → IsNextAs cache_meaning form history entry told → HasTrace form history → HasTrace form (history ++ entry ∷ [])
-trace_next form history entry (what.Lost cf) is trace = absurd is
-trace_next form history entry (what.Call asked) is trace =
-    let added : CacheEntry = next_entry cache_meaning form history entry.by asked in
-    let next = fresh_step form (replay cache_meaning form history) (copy_held history) entry.by asked
-    (orderly-replay form history) trace in
-    subst (λ (e : CacheEntry). HasTrace form (history ++ e ∷ [])) (sym is)
-    (subst (λ (m : Machine Content). AllFresh m.content (copy_held (history ++ added ∷ [])))
-    (sym (replay-push cache_meaning form history added))
-    (same_copies _ _ (copy_held (history ++ added ∷ [])) (held-push history added) next))
-
-pub trace-next : (form : StrForm) (history : CacheHistory) (entry : CacheEntry)
-    → IsNext cache_meaning form history entry
-    → HasTrace form history → HasTrace form (history ++ entry ∷ [])
-trace-next form history entry is trace = trace_next form history entry entry.what is trace
-
-pub trace-none : (form : StrForm) → HasTrace form []
-trace-none form = tt
+pub trace-continues : (form : StrForm) (history : CacheHistory) → Continues cache_meaning form [] history
+    → HasTrace form history
+trace-continues form history goes =
+    (traced-replay cache_meaning form refl IsTrace (traced form) history
+    (legal-answered cache_meaning form refl history goes)).fresh

@@ -1,22 +1,15 @@
 -- After every history rows and registrations are in order, and where they are, names, indexes and registrations are
 -- unique.
-use Rattle.std.proofs.Common.{◌≡◌, ℕ, ◌≤◌, Bool, true, false, not, ◌&&◌, ◌||◌, ◌==◌, nat_lt, cond, List, [], ◌∷◌, Option, None, Some, length, filter, fold, refl, sym, ap, ◌∙◌, subst, arith}
+use Rattle.std.proofs.Common.{◌≡◌, ℕ, ◌≤◌, Bool, true, false, not, ◌&&◌, ◌||◌, ◌==◌, nat_lt, cond, List, [], ◌∷◌, Option, length, filter, refl, sym, ap, ◌∙◌, subst, arith}
 use Rattle.std.specs.List.{list_all}
 use Rattle.std.proofs.lemmas.Bool.{and_parts, false≢true}
 use Rattle.std.proofs.lemmas.Bool.Decides.{nat_tests}
-use Rattle.cf_types.specs.declared.cache_commands.CacheCmd.{CacheCmd}
 use Rattle.cf_types.specs.declared.forms.StrForm.{StrForm}
 use Rattle.cf_types.specs.declared.names.Name16.{Name16}
 use Rattle.cf_types.specs.declared.numbers.ConnId.{ConnId}
 use Rattle.cf_types.specs.declared.refusals.Refusal.{Refusal}
 use Rattle.cf_types.specs.Name.{same_name}
-use Rattle.engine_api.specs.declared.asks.Ask.{Ask}
-use Rattle.engine_api.specs.declared.asks.Ask.TheVariants as ask
-use Rattle.engine_api.specs.declared.asks.What.{What}
-use Rattle.engine_api.specs.declared.asks.What.TheVariants as what
-use Rattle.engine_api.specs.Machine.{Machine, opening, step, unless, content_done}
-use Rattle.engine_api.specs.Shell.{content_cause}
-use Rattle.engine_api.specs.History.{machine_after, after_what}
+use Rattle.engine_api.specs.Meaning.{unless_refused}
 use Rattle.list_laws.specs.Pairwise.{pairwise}
 use Rattle.list_laws.proofs.FilterLaws.{list_all_weaker, none_from_all, filter_none}
 use Rattle.cache_regs.specs.declared.registrations.Registration.{Registration}
@@ -27,13 +20,14 @@ use Rattle.cache_model.specs.Rows.{is_row_of, names_apart}
 use Rattle.cache_model.specs.Contents.{Content, IsOrderly, no_content}
 use Rattle.cache_model.specs.Meaning.{cache_meaning}
 use Rattle.cache_model.specs.Runs.Deed.{Calls, Leaves, Forgets}
+use Rattle.cache_model.specs.Step.{done}
 use Rattle.cache_model.proofs.ContentLaws.{orderly-content}
 use Rattle.cache_model.proofs.EngineLaws.{content-nothing}
 use Rattle.cache_model.proofs.OrderLaws.{orderly-deed}
+use Rattle.replay_laws.proofs.Keeping.{IsKept}
+use Rattle.replay_laws.proofs.ReplayLaws.{kept-replay}
 use Rattle.cache_laws.specs.Histories.{CacheHistory, content_after}
 use Rattle.cache_laws.specs.Unique.{IsUnique}
-use Rattle.cache_laws.proofs.Steps.{Change, shell_change, loss_change}
-use Rattle.cache_laws.proofs.Steps.Change.{Same, Without, Forgotten, Cleared}
 
 -- ---- one at most
 
@@ -100,44 +94,20 @@ registered_once conn name reg other here apart =
 
 -- ---- every history leaves rows and registrations in order
 
-orderly_change : (form : StrForm) (before later : Machine Content) → Change before later → IsOrderly before.content
-    → IsOrderly later.content
-orderly_change form before later (Same e) is = subst IsOrderly (sym e) is
-orderly_change form before later (Without conn e) is =
-    subst IsOrderly (sym e) (orderly-deed form.vector form.caps before.content (Leaves conn) is)
-orderly_change form before later (Forgotten e) is =
-    subst IsOrderly (sym e) (orderly-deed form.vector form.caps before.content Forgets is)
-orderly_change form before later (Cleared e gone) is =
-    subst IsOrderly (sym e) (orderly-content form.caps no_content (content-nothing form.caps))
-
-orderly-step : (form : StrForm) (machine : Machine Content) (by : ConnId) (asked : Ask CacheCmd)
-    → IsOrderly machine.content → IsOrderly (step cache_meaning form machine by asked).machine.content
-orderly-step form machine by (ask.Shell command) is =
-    orderly_change form machine _ (shell_change form machine by command) is
-orderly-step form machine by (ask.Content command) is = go (content_cause machine.shell by)
-  where
-    go : (cause : Option Refusal)
-        → IsOrderly (unless cache_meaning form cause machine
-        (content_done cache_meaning form machine by command)).machine.content
-    go (Some refusal) = is
-    go None = orderly-deed form.vector machine.shell.caps machine.content (Calls by command) is
-
-orderly-after : (form : StrForm) (machine : Machine Content) (by : ConnId) (told : What CacheCmd)
-    → IsOrderly machine.content → IsOrderly (after_what cache_meaning form machine by told).content
-orderly-after form machine by (what.Call asked) is = orderly-step form machine by asked is
-orderly-after form machine by (what.Lost cf) is = orderly_change form machine _ (loss_change form machine cf) is
-
-orderly-fold : (form : StrForm) (machine : Machine Content) (history : CacheHistory) → IsOrderly machine.content
-    → IsOrderly (fold (machine_after cache_meaning form) machine history).content
-orderly-fold form machine [] is = is
-orderly-fold form machine (entry ∷ entries) is =
-    orderly-fold form (machine_after cache_meaning form machine entry) entries
-    (orderly-after form machine entry.by entry.what is)
+pub orderly-kept : (form : StrForm) → IsKept cache_meaning form IsOrderly
+orderly-kept form =
+    record {
+      empty = orderly-content form.caps no_content (content-nothing form.caps);
+      done = λ caps content by command none is.
+          subst (λ (refused : Option Refusal). IsOrderly (unless_refused refused content
+          (done caps content by command)).state) none (orderly-deed form.vector caps content (Calls by command) is);
+      leave = λ content conn keep is. orderly-deed form.vector form.caps content (Leaves conn) is;
+      back = λ content conn is. is;
+      forget = λ content is. orderly-deed form.vector form.caps content Forgets is;
+    }
 
 pub orderly-replay : (form : StrForm) (history : CacheHistory) → IsOrderly (content_after form history)
-orderly-replay form history =
-    orderly-fold form (opening cache_meaning form) history
-    (orderly-content form.caps no_content (content-nothing form.caps))
+orderly-replay form history = kept-replay cache_meaning form refl IsOrderly (orderly-kept form) history
 
 pub unique-content : (content : Content) → IsOrderly content → IsUnique content
 unique-content content is =

@@ -1,19 +1,15 @@
 -- The history of a cache structure: what it leads to, and which of its entries are accepted commands on the content.
-use Rattle.std.specs.Prelude.{Bool, IsTrue, false, List, [], ◌∷◌, ◌++◌, Option, None, Some, is_some, option_map, unwrap_or}
+use Rattle.std.specs.Prelude.{Bool, IsTrue, false, List, [], ◌∷◌, ◌++◌, Option, is_some, option_map, unwrap_or}
 use Rattle.cf_types.specs.declared.cache_commands.CacheCmd.{CacheCmd}
 use Rattle.cf_types.specs.declared.cache_commands.CacheReply.{CacheReply}
 use Rattle.cf_types.specs.declared.forms.Caps.{Caps}
 use Rattle.cf_types.specs.declared.forms.StrForm.{StrForm}
 use Rattle.cf_types.specs.Forms.{is_cache}
-use Rattle.engine_api.specs.declared.asks.Ask.TheVariants as ask
-use Rattle.engine_api.specs.declared.asks.Reply.{Reply}
-use Rattle.engine_api.specs.declared.asks.Reply.TheVariants as reply
-use Rattle.engine_api.specs.declared.asks.What.{What}
-use Rattle.engine_api.specs.declared.asks.What.TheVariants as what
 use Rattle.engine_api.specs.declared.histories.Entry.{Entry}
 use Rattle.engine_api.specs.History.{IsLegal, replay}
 use Rattle.cache_model.specs.Contents.{Content, IsContent}
 use Rattle.cache_model.specs.Meaning.{cache_meaning}
+use Rattle.replay_laws.specs.Accepted.{Accepted as AcceptedOf, accepted_as}
 
 abbrev pub CacheEntry : Type 0
 CacheEntry = Entry CacheCmd CacheReply
@@ -51,15 +47,8 @@ StaysAllocated form history (entry ∷ entries) =
 
 -- ---- accepted commands
 
--- a command on the content that was accepted, and its answer
-pub record Accepted : Type 0 where
-  pub command : CacheCmd
-  pub answer : CacheReply
-
-abbrev pub accepted_as : What CacheCmd → Reply CacheReply → Option Accepted
-accepted_as (what.Call (ask.Content command)) (reply.Content answer) = Some
-    (record { command = command; answer = answer })
-accepted_as _ _ = None
+abbrev pub Accepted : Type 0
+Accepted = AcceptedOf CacheCmd CacheReply
 
 -- the accepted command that an entry tells, if it tells one
 abbrev pub acceptance_of : CacheEntry → Option Accepted

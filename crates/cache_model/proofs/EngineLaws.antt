@@ -15,10 +15,9 @@ use Rattle.cf_types.specs.declared.forms.Caps.{Caps}
 use Rattle.cf_types.specs.declared.forms.Kind.{Kind}
 use Rattle.cf_types.specs.declared.forms.Kind.TheVariants as kind
 use Rattle.cf_types.specs.declared.numbers.ConnId.{ConnId}
-use Rattle.cf_types.specs.declared.cache_commands.CacheCmd.{CacheCmd}
 use Rattle.engine_api.specs.declared.shapes.Shape.{Shape}
-use Rattle.engine_api.specs.Meaning.{step_result}
 use Rattle.engine_api.specs.Items.{Fits, IsNoMore, IsNoMoreOf}
+use Rattle.engine_api.proofs.FrontLaws.{FrontLaws, fronts}
 use Rattle.list_laws.specs.Pairwise.{pairwise}
 use Rattle.list_laws.proofs.PairwiseLaws.{pairwise_front}
 use Rattle.cache_regs.specs.declared.registrations.Registration.{Registration}
@@ -42,18 +41,9 @@ content-nothing caps =
       row_each = refl;
     }
 
-pub step-content : (shape : Shape) (caps : Caps) (content : Content) (by : ConnId) (cmd : CacheCmd)
-    → IsContent caps content
-    → IsContent caps (step_result cache_meaning (record { shape = shape; caps = caps; state = content }) by cmd).state
-step-content shape caps content by cmd is = laws.content-step shape.vector caps content by cmd is
-
 pub leave-content : (caps : Caps) (content : Content) (conn : ConnId) → IsContent caps content
     → IsContent caps (content_without conn content)
 leave-content caps content conn is = laws.content-without caps content conn is
-
-pub content-forgotten : (caps : Caps) (content : Content) → IsContent caps content
-    → IsContent caps (content_forgotten content)
-content-forgotten caps content is = laws.content-forgotten caps content is
 
 -- ---- items
 
@@ -83,9 +73,6 @@ need-leave kind content conn =
       omega
           (arith, elements-without_hold conn content.rows),
     )
-
-pub need-same : (kind : Kind) (rows : List CacheItem) → IsNoMoreOf kind (need_of rows) (need_of rows)
-need-same kind rows = no_more_of kind (need_of rows) (need_of rows) (omega arith, omega arith)
 
 -- a content whose rows fit another capacity is one there, without its registrations
 fits_both : (kind : Kind) (need caps : Caps) → IsTrue (is_cache kind) → Fits kind need caps
@@ -279,4 +266,21 @@ unplace-place caps content whole item others is all split =
     ∙ (λ i. record {
       rows = take_at rows (item ∷ []) (length rows) refl i;
       regs = no_regs_for item.name content (alone-next rows others item apart) is.row_each i;
+    })
+
+-- ---- what the first rows make
+
+pub cache-fronts : FrontLaws cache_meaning is_cache (λ shape caps content. IsContent caps content)
+cache-fronts =
+    fronts cache_meaning is_cache (λ shape caps content. IsContent caps content)
+    (record {
+      content_empty = λ shape caps. content-nothing caps;
+      items_empty = λ shape. refl;
+      made_again = λ shape caps content is. made-items content.rows;
+      content_moved = content-moved;
+      content_place = λ shape caps content item is next.
+          content-next caps content next.whole item next.others is next.content next.first;
+      items_place = λ shape caps content item is next. refl;
+      unplace_place = λ shape caps content item is next.
+          unplace-place caps content next.whole item next.others is next.content next.first;
     })

@@ -1,7 +1,7 @@
 use cf_types::{Adjunct, Body, ConnId, Name16};
 
 /// Who holds the castout lock of an entry, and whether the entry was written since.
-#[derive(Clone, Copy, Debug, PartialEq, Eq)]
+#[derive(Clone, Copy, PartialEq, Eq)]
 pub struct Holder {
     pub conn: ConnId,
     pub rewritten: bool,
@@ -9,7 +9,7 @@ pub struct Holder {
 
 /// An entry of the directory. It is changed where it has a castout class (1 to 16); `stg` is its
 /// storage class (1 to 8).
-#[derive(Debug, Drop)]
+#[derive(Drop)]
 pub struct CacheItem {
     pub name: Name16,
     pub body: Option<Body>,

@@ -6,6 +6,3 @@ mod used;
 
 pub use order::Order;
 pub use used::Used;
-
-#[cfg(test)]
-mod tests;

@@ -9,7 +9,7 @@ use std::marker::Model;
 
 /// The names of unchanged rows with their storage classes, each name once. Contracts see them from
 /// least to most recently used, how many there may be, and for how many more there is room.
-#[derive(Debug, Drop)]
+#[derive(Drop)]
 pub struct Order {
     order: Vec<Used>,
     entries: u32,

@@ -8,6 +8,3 @@ mod regs;
 
 pub use registrations::Registration;
 pub use regs::Regs;
-
-#[cfg(test)]
-mod tests;

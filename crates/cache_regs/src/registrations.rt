@@ -2,7 +2,7 @@ use cf_types::{ConnId, Name16};
 
 /// A connector's registration for a name: the bit at this index of its vector (from 0) tells
 /// whether its copy of the entry is valid.
-#[derive(Clone, Copy, Debug, PartialEq, Eq)]
+#[derive(Clone, Copy, PartialEq, Eq)]
 pub struct Registration {
     pub conn: ConnId,
     pub index: u32,

@@ -15,7 +15,7 @@ use std::marker::Model;
 
 /// The registrations of a cache structure. Contracts see them in the order of connectors and, of
 /// one connector, of indexes, with how many more there is room for.
-#[derive(Debug, Drop)]
+#[derive(Drop)]
 pub struct Regs {
     regs: Vec<Registration>,
 }

@@ -1,4 +1,4 @@
--- Rows with their indexes, and with room for more.
+-- Rows with their indexes, and with room for more, up to a number that there may be.
 use Rattle.std.specs.Prelude.{◌≡◌, ℕ, List, IsTrue, min, ◌-◌}
 use Rattle.std.specs.Vec.{vec_len, vec_capacity}
 use Rattle.list_laws.specs.Pairwise.{pairwise}
@@ -10,6 +10,7 @@ use Rattle.cache_rows.specs.Indexes.{classes_of, order_of, changed_first}
 pub record RowBatch : Type 0 where
   pub rows : List CacheItem
   pub room : ℕ
+  pub entries : ℕ
 
 -- for how many more there is room: in the list, in both indexes, and below the number that there may be
 abbrev pub room_of : Inside → ℕ
@@ -17,7 +18,7 @@ room_of r =
     min (min (vec_capacity r.rows - vec_len r.rows) (r.entries - vec_len r.rows)) (min r.classes.room r.order.room)
 
 abbrev pub batch_of : Inside → RowBatch
-batch_of r = record { rows = r.rows.items; room = room_of r }
+batch_of r = record { rows = r.rows.items; room = room_of r; entries = r.entries }
 
 -- the indexes are those of the rows
 pub record IsKept (r : Inside) : Type 0 where

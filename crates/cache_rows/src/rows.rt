@@ -217,11 +217,11 @@ fn unindex(classes: &mut Classes, order: &mut Order, name: &Name16)
 }
 
 /// The rows of a directory, one at most for a name, the changed ones first, with room for more.
-/// Contracts see the list of them, and for how many more there is room.
+/// Contracts see the list of them, for how many more there is room, and how many there may be.
 ///
 /// Beside the list stand two indexes: the castout classes of the changed rows, and the order in
 /// which the unchanged ones were last used.
-#[derive(Debug, Drop)]
+#[derive(Drop)]
 pub struct Rows {
     rows: Vec<CacheItem>,
     classes: Classes,
@@ -242,7 +242,8 @@ impl Model for Rows {
 impl Rows {
     /// No rows; later there may be `entries` of them at most. Only want of memory is refused.
     pub fn new(alloc: Global, entries: u32) -> Result<Rows, NoMemory>
-        ensures { IfOk result (λ rows. rows.rows ≡ []) }
+        ensures rows { IfOk result (λ rows. rows.rows ≡ []) }
+        ensures entries { IfOk result (λ rows. rows.entries ≡ entries) }
     {
         let classes = Classes::new(alloc)?;
         let order = Order::new(alloc, entries)?;
@@ -256,7 +257,8 @@ impl Rows {
 
     /// The same rows once more, with their data and both indexes. Only want of memory is refused.
     pub fn copy(&self, alloc: Global) -> Result<Rows, NoMemory>
-        ensures { IfOk result (λ copy. copy.rows ≡ self.now.rows) }
+        ensures rows { IfOk result (λ copy. copy.rows ≡ self.now.rows) }
+        ensures entries { IfOk result (λ copy. copy.entries ≡ self.now.entries) }
     {
         let rows = copy_rows(alloc, self.rows.as_slice())?;
         let classes = self.classes.copy(alloc)?;
@@ -309,7 +311,9 @@ impl Rows {
     /// as many rows as there may be, and for want of memory; a refusal leaves the rows the same.
     pub fn reserve(&mut self) -> Result<(), NoMemory>
         ensures room { OnOk result (1 ≤ self.new.room) }
+        ensures few { OnOk result (length self.old.rows < self.old.entries) }
         ensures rows { self.new.rows ≡ self.old.rows }
+        ensures entries { self.new.entries ≡ self.old.entries }
     {
         if self.rows.len() >= self.entries as usize {
             return Err(NoMemory);
@@ -324,6 +328,7 @@ impl Rows {
         ensures row { result ≡ row_of name.now self.old.rows }
         ensures rest { self.new.rows ≡ rows_without name.now self.old.rows }
         ensures room { self.old.room ≤ self.new.room }
+        ensures entries { self.new.entries ≡ self.old.entries }
     {
         unindex(&mut self.classes, &mut self.order, name);
         take_row(&mut self.rows, name)
@@ -335,6 +340,7 @@ impl Rows {
         requires room { 1 ≤ self.old.room }
         requires alone { has_row row.name self.old.rows ≡ false }
         ensures rows { self.new.rows ≡ rows_with row self.old.rows }
+        ensures entries { self.new.entries ≡ self.old.entries }
     {
         index_row(&mut self.classes, &mut self.order, &row);
         put_row(&mut self.rows, row);
@@ -345,6 +351,7 @@ impl Rows {
     pub fn end_named(&mut self, names: &[Name16])
         ensures rows { self.new.rows ≡ rows_spared names.now self.old.rows }
         ensures room { self.old.room ≤ self.new.room }
+        ensures entries { self.new.entries ≡ self.old.entries }
     {
         for name in names {
             let _ = self.take(name);
@@ -353,7 +360,8 @@ impl Rows {
 
     /// Releases all castout locks of a connector; the rows stay otherwise the same.
     pub fn release(&mut self, conn: ConnId)
-        ensures { self.new.rows ≡ map (without_hold conn) self.old.rows }
+        ensures rows { self.new.rows ≡ map (without_hold conn) self.old.rows }
+        ensures entries { self.new.entries ≡ self.old.entries }
     {
         release_all(&mut self.rows, conn);
     }
@@ -366,6 +374,8 @@ impl Rows {
         requires last { IsTrue (list_all (λ other. may_precede other row) self.old.rows) }
         ensures ok { OnOk result (self.new.rows ≡ self.old.rows ++ row ∷ []) }
         ensures err { OnErr result (self.new.rows ≡ self.old.rows) }
+        ensures few { OnOk result (length self.old.rows < self.old.entries) }
+        ensures entries { self.new.entries ≡ self.old.entries }
         ensures handed_back { IfErr result (λ back. back ≡ row) }
     {
         match self.reserve() {
@@ -381,7 +391,8 @@ impl Rows {
     /// Takes the last row away; there is one at least.
     pub fn pop(&mut self)
         requires { 0 < length self.old.rows }
-        ensures { self.new.rows ≡ take (length self.old.rows - 1) self.old.rows }
+        ensures rows { self.new.rows ≡ take (length self.old.rows - 1) self.old.rows }
+        ensures entries { self.new.entries ≡ self.old.entries }
     {
         if let Some(row) = self.rows.pop() {
             unindex(&mut self.classes, &mut self.order, &row.name);

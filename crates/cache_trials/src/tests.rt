@@ -130,7 +130,7 @@ fn what_is_written_is_read(rt: HostRuntime) -> Result<(), Fail> {
     assert!(rt; read);
     let copy = copy_left(&engine, alloc, &mut out)?;
     assert!(rt; engine.stands(ConnId(2), 3) && !copy.stands(ConnId(2), 3));
-    assert_eq!(rt; out.bits.items().len(), 3);
+    assert!(rt; out.bits.items().len() == 3);
     Ok(())
 }
 
@@ -196,6 +196,6 @@ fn the_least_recently_used_row_goes(rt: HostRuntime) -> Result<(), Fail> {
     let gone = has_no_entry(&mut engine, 65, &mut out)?;
     let unchanged = nothing_is_changed(&mut engine, &mut out)?;
     assert!(rt; gone && unchanged);
-    assert_eq!(rt; engine.count(), 2);
+    assert!(rt; engine.count() == 2);
     Ok(())
 }

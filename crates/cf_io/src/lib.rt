@@ -33,6 +33,3 @@ pub use std_sink::StdSink;
 pub use std_source::StdSource;
 pub use write_fault::WriteFault;
 pub use writing::write_all;
-
-#[cfg(test)]
-mod tests;

@@ -11,6 +11,3 @@ pub use link::{Down, Link};
 pub use links::Links;
 pub use list_link::ListLink;
 pub use steady::Steady;
-
-#[cfg(test)]
-mod tests;

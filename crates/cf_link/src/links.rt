@@ -1,5 +1,5 @@
 /// The links of one structure to the four facilities.
-#[derive(Drop, Debug)]
+#[derive(Drop)]
 pub struct Links<L> {
     pub one: L,
     pub two: L,

@@ -4,7 +4,7 @@ ghost use Rattle.cf_io.specs.Count.{IsListed, one_more};
 use crate::link::{Down, Link};
 
 /// A link that is down at exactly the calls whose numbers, from 1, stand in `fails`.
-#[derive(Debug, Drop)]
+#[derive(Drop)]
 pub struct ListLink {
     /// How many calls of `ask` there have been. The count stands still at `u64::MAX`.
     pub calls: u64,

@@ -213,12 +213,6 @@ impl<F: Keeps> KeyLock<F> {
         self.table.shared.park(rt, 0, TAKEN as u32);
         self.sleepers.fetch_sub(1, SeqCst);
     }
-
-    // How many threads sleep, or are about to.
-    #[cfg(test)]
-    pub(crate) fn sleepers(&self) -> u64 {
-        self.sleepers.load(SeqCst)
-    }
 }
 
 // A seat leaves the lock, which it may not do with the turn.

@@ -6,6 +6,3 @@ mod turns;
 
 pub use keeps::{Boxed, Keeps};
 pub use key_lock::{KeyLock, Ticket};
-
-#[cfg(test)]
-mod tests;

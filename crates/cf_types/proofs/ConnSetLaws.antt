@@ -1,13 +1,14 @@
 -- Sets of connectors: what a member more or less changes, and how the bits that a set is kept as follow.
-use Rattle.std.proofs.Common.{◌≡◌, ◌≢◌, ℕ, zero, suc, ◌+◌, ◌*◌, ◌/◌, ◌%◌, ◌^◌, ◌<◌, ◌≤◌, Bool, true, false, cond, not, ◌||◌, ◌&&◌, ◌⊎◌, ◌==◌, eqb, ltb, filter, List, [], ◌∷◌, ◌++◌, length, bit_and, bit_or, count_ones, refl, sym, ap, subst, ◌∙◌, ⊎_elim, arith, add-one, add-zero, zero-add}
-use Rattle.std.proofs.lemmas.Bool.{true≢false, eqb-true, eq-eqb, ne_eqb, lt-ltb, le-ltb, and_right, cases_eq, cases_order}
+use Rattle.std.proofs.Common.{◌≡◌, ◌≢◌, ℕ, zero, suc, ◌+◌, ◌*◌, ◌/◌, ◌%◌, ◌^◌, ◌<◌, ◌≤◌, Bool, true, false, cond, not, ◌&&◌, ◌⊎◌, ◌==◌, eqb, ltb, filter, List, [], ◌∷◌, ◌++◌, length, bit_and, bit_or, count_ones, refl, sym, ap, subst, ◌∙◌, ⊎_elim, arith, add-one, add-zero, zero-add}
+use Rattle.std.proofs.lemmas.Bool.{eq-eqb, ne_eqb, lt-ltb, le-ltb, and_right, cases_eq, cases_order}
 use Rattle.std.proofs.lemmas.List.{append-nil}
 use Rattle.std.proofs.lemmas.List.Elements.{filter-append}
 use Rattle.std.proofs.lemmas.Nat.{shr-shr, mod-pow-add, ones-le, one_shl, pow_pos, or_lt}
 use Rattle.std.proofs.lemmas.Nat.Bits.{and_pow, bit_at-lt, bit_at-zero, bit_at_set_same, bit_at_set_other, bit_at_clear_same, bit_at_clear_other}
 use Rattle.std.proofs.Math.Nat.{mod-one, zero-mul}
-use Rattle.std.specs.Int.{bit_at, bit_not, w64}
+use Rattle.std.specs.Int.{bit_at, bit_not, w128}
 use Rattle.std.specs.Int.Count.{ones_step}
+use Rattle.cf_types.specs.declared.limits.TheConstants.{SET_NUMBERS}
 use Rattle.cf_types.specs.ConnSets.{conns_from, is_member, with_member, without_member, members}
 use Rattle.cf_types.specs.declared.numbers.ConnId.{ConnId}
 
@@ -217,29 +218,29 @@ filter-from_zero_more p n =
 
 pub members-zero : members 0 ≡ []
 unfolding members
-members-zero = filter_none_from (λ conn. bit_at 0 conn.0 == 1) 0 64 (λ c low high. rw (bit_at-zero c.0) refl)
+members-zero = filter_none_from (λ conn. bit_at 0 conn.0 == 1) 0 SET_NUMBERS (λ c low high. rw (bit_at-zero c.0) refl)
 
-pub is_member-members : (bits : ℕ) (conn : ConnId) → conn.0 < 64
+pub is_member-members : (bits : ℕ) (conn : ConnId) → conn.0 < SET_NUMBERS
     → is_member conn (members bits) ≡ (bit_at bits conn.0 == 1)
 unfolding members
-is_member-members bits conn within = is_member-from (λ c. bit_at bits c.0 == 1) conn 0 64 (omega arith) within
+is_member-members bits conn within = is_member-from (λ c. bit_at bits c.0 == 1) conn 0 SET_NUMBERS (omega arith) within
 
-pub members-set : (bits : ℕ) (conn : ConnId) → conn.0 < 64
-    → members (bit_or bits (1 * 2 ^ conn.0 % 2 ^ 64)) ≡ with_member conn (members bits)
+pub members-set : (bits : ℕ) (conn : ConnId) → conn.0 < SET_NUMBERS
+    → members (bit_or bits (1 * 2 ^ conn.0 % 2 ^ SET_NUMBERS)) ≡ with_member conn (members bits)
 unfolding members
 members-set bits conn within =
-    with_member-from (λ c. bit_at bits c.0 == 1) (λ c. bit_at (bit_or bits (1 * 2 ^ conn.0 % 2 ^ 64)) c.0 == 1) conn 0
-    64 (omega arith) within (rw (bit_at_set_same w64 bits conn.0 within) refl)
-    (λ c apart. rw (bit_at_set_other w64 bits conn.0 within c.0 apart) refl)
+    with_member-from (λ c. bit_at bits c.0 == 1) (λ c. bit_at (bit_or bits (1 * 2 ^ conn.0 % 2 ^ SET_NUMBERS)) c.0 == 1) conn 0
+    SET_NUMBERS (omega arith) within (rw (bit_at_set_same w128 bits conn.0 within) refl)
+    (λ c apart. rw (bit_at_set_other w128 bits conn.0 within c.0 apart) refl)
 
-pub members-clear : (bits : ℕ) (conn : ConnId) → conn.0 < 64
-    → members (bit_and bits (bit_not w64 (1 * 2 ^ conn.0 % 2 ^ 64))) ≡ without_member conn (members bits)
+pub members-clear : (bits : ℕ) (conn : ConnId) → conn.0 < SET_NUMBERS
+    → members (bit_and bits (bit_not w128 (1 * 2 ^ conn.0 % 2 ^ SET_NUMBERS))) ≡ without_member conn (members bits)
 unfolding members
 members-clear bits conn within =
     without_member-from (λ c. bit_at bits c.0 == 1)
-    (λ c. bit_at (bit_and bits (bit_not w64 (1 * 2 ^ conn.0 % 2 ^ 64))) c.0 == 1) conn 0 64
-    (rw (bit_at_clear_same w64 bits conn.0 within) refl)
-    (λ c apart high. rw (bit_at_clear_other w64 bits conn.0 within c.0 high apart) refl)
+    (λ c. bit_at (bit_and bits (bit_not w128 (1 * 2 ^ conn.0 % 2 ^ SET_NUMBERS))) c.0 == 1) conn 0 SET_NUMBERS
+    (rw (bit_at_clear_same w128 bits conn.0 within) refl)
+    (λ c apart high. rw (bit_at_clear_other w128 bits conn.0 within c.0 high apart) refl)
 
 length-first : (c : ConnId) (others : List ConnId) (bit : ℕ) → bit < 2
     → length (cond (bit == 1) (c ∷ others) others) ≡ bit + length others
@@ -267,97 +268,25 @@ count_ones-from bits first (suc n) =
     (bits / 2 ^ first % 2 ^ (n + 1)) whole (bit_at-lt bits first) ∙ ap (λ (k : ℕ). bit_at bits first + k) others
     ∙ sym (length-first (record { 0 = first }) _ (bit_at bits first) (bit_at-lt bits first)))
 
-pub length-members : (bits : ℕ) → bits < 2 ^ 64 → count_ones bits ≡ length (members bits)
+pub length-members : (bits : ℕ) → bits < 2 ^ SET_NUMBERS → count_ones bits ≡ length (members bits)
 unfolding members
 length-members bits small =
-    let whole : bits / 2 ^ 0 % 2 ^ 64 ≡ bits = omega arith in
-    rw whole at (count_ones-from bits 0 64)
+    let whole : bits / 2 ^ 0 % 2 ^ SET_NUMBERS ≡ bits = omega arith in
+    rw whole at (count_ones-from bits 0 SET_NUMBERS)
 
 -- the test of one bit by a mask
 bit_tested : (bit p : ℕ) → bit < 2 → 0 < p → not (bit * p == 0) ≡ (bit == 1)
 bit_tested bit p small some = ⊎_elim (λ (one : bit ≡ 1). rw (one, ne_eqb (1 * p) 0 (λ e. omega arith)) refl)
     (λ (apart : bit ≢ 1). let none : bit ≡ 0 = omega arith in rw (none, zero-mul p) refl) (cases_eq bit 1)
 
-pub has_bit : (bits : ℕ) (conn : ConnId) → conn.0 < 64
-    → not (bit_and bits (1 * 2 ^ conn.0 % 2 ^ 64) == 0) ≡ is_member conn (members bits)
+pub has_bit : (bits : ℕ) (conn : ConnId) → conn.0 < SET_NUMBERS
+    → not (bit_and bits (1 * 2 ^ conn.0 % 2 ^ SET_NUMBERS) == 0) ≡ is_member conn (members bits)
 has_bit bits conn within =
-    rw (one_shl conn.0 64 within, and_pow bits conn.0)
+    rw (one_shl conn.0 SET_NUMBERS within, and_pow bits conn.0)
     (bit_tested (bit_at bits conn.0) (2 ^ conn.0) (bit_at-lt bits conn.0) (pow_pos conn.0)
     ∙ sym (is_member-members bits conn within))
 
-pub bits_set-lt : (bits : ℕ) (conn : ConnId) → bits < 2 ^ 64 → bit_or bits (1 * 2 ^ conn.0 % 2 ^ 64) < 2 ^ 64
-bits_set-lt bits conn small = or_lt 64 _ _ small (omega arith)
+pub bits_set-lt : (bits : ℕ) (conn : ConnId) → bits < 2 ^ SET_NUMBERS → bit_or bits (1 * 2 ^ conn.0 % 2 ^ SET_NUMBERS) < 2 ^ SET_NUMBERS
+bits_set-lt bits conn small = or_lt SET_NUMBERS _ _ small (omega arith)
 
 -- ---- members of a set with one more, or one less
-
-pub is_member-with_member_same : (conn : ConnId) (set : List ConnId) → is_member conn (with_member conn set) ≡ true
-is_member-with_member_same conn [] = rw (eq-eqb conn.0 conn.0 refl) refl
-is_member-with_member_same conn (first ∷ others) =
-    go (ltb first.0 conn.0) (eqb first.0 conn.0) refl (is_member-with_member_same conn others)
-  where
-    go : (below same : Bool) → eqb first.0 conn.0 ≡ same → is_member conn (with_member conn others) ≡ true
-        → is_member conn (cond below (first ∷ with_member conn others)
-        (cond same (first ∷ others) (conn ∷ first ∷ others))) ≡ true
-    go true true is rest = rw is refl
-    go true false is rest = rw (is, rest) refl
-    go false true is rest = rw is refl
-    go false false is rest = rw (eq-eqb conn.0 conn.0 refl) refl
-
-pub is_member-with_member_other : (conn other : ConnId) (set : List ConnId) → other.0 ≢ conn.0
-    → is_member other (with_member conn set) ≡ is_member other set
-is_member-with_member_other conn other [] apart = rw (ne_eqb conn.0 other.0 (λ e. apart (sym e))) refl
-is_member-with_member_other conn other (first ∷ others) apart =
-    go (ltb first.0 conn.0) (eqb first.0 conn.0) (ne_eqb conn.0 other.0 (λ e. apart (sym e)))
-    (is_member-with_member_other conn other others apart)
-  where
-    go : (below same : Bool) → eqb conn.0 other.0 ≡ false
-        → is_member other (with_member conn others) ≡ is_member other others
-        → is_member other (cond below (first ∷ with_member conn others)
-        (cond same (first ∷ others) (conn ∷ first ∷ others))) ≡ is_member other (first ∷ others)
-    go true same is rest = ap (λ (b : Bool). eqb first.0 other.0 || b) rest
-    go false true is rest = refl
-    go false false is rest = rw is refl
-
-pub is_member-without_member_same : (conn : ConnId) (set : List ConnId)
-    → is_member conn (without_member conn set) ≡ false
-is_member-without_member_same conn [] = refl
-is_member-without_member_same conn (first ∷ others) =
-    go (eqb first.0 conn.0) refl (is_member-without_member_same conn others)
-  where
-    go : (same : Bool) → eqb first.0 conn.0 ≡ same → is_member conn (without_member conn others) ≡ false
-        → is_member conn (cond (not same) (first ∷ without_member conn others) (without_member conn others)) ≡ false
-    go true is rest = rest
-    go false is rest = rw (is, rest) refl
-
-pub is_member-without_member_other : (conn other : ConnId) (set : List ConnId) → other.0 ≢ conn.0
-    → is_member other (without_member conn set) ≡ is_member other set
-is_member-without_member_other conn other [] apart = refl
-is_member-without_member_other conn other (first ∷ others) apart =
-    go (eqb first.0 conn.0) refl (is_member-without_member_other conn other others apart)
-  where
-    go : (same : Bool) → eqb first.0 conn.0 ≡ same
-        → is_member other (without_member conn others) ≡ is_member other others
-        → is_member other (cond (not same) (first ∷ without_member conn others) (without_member conn others))
-        ≡ is_member other (first ∷ others)
-    go true is rest = rw (ne_eqb first.0 other.0 (λ e. apart (sym e ∙ eqb-true first.0 conn.0 is))) rest
-    go false is rest = ap (λ (b : Bool). eqb first.0 other.0 || b) rest
-
--- nothing changes where it wasn't a member
-pub without_member-absent : (conn : ConnId) (set : List ConnId) → is_member conn set ≡ false
-    → without_member conn set ≡ set
-without_member-absent conn [] absent = refl
-without_member-absent conn (first ∷ others) absent =
-    go (eqb first.0 conn.0) absent (without_member-absent conn others)
-  where
-    go : (same : Bool) → (same || is_member conn others) ≡ false
-        → (is_member conn others ≡ false → without_member conn others ≡ others)
-        → cond (not same) (first ∷ without_member conn others) (without_member conn others) ≡ first ∷ others
-    go true absent rest = cc
-    go false absent rest = ap (λ (t : List ConnId). first ∷ t) (rest absent)
-
--- a set without members is empty
-pub none_from_no_members : (set : List ConnId) → ((conn : ConnId) → is_member conn set ≡ false) → set ≡ []
-none_from_no_members [] none = refl
-none_from_no_members (first ∷ others) none =
-    let here : (eqb first.0 first.0 || is_member first others) ≡ false = none first in
-    absurd (true≢false (sym (rw (eq-eqb first.0 first.0 refl) refl) ∙ here))

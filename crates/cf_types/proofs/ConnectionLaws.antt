@@ -1,17 +1,18 @@
 -- Connections: what each change leaves at the same and at other connectors, who is active then, and how many are
 -- defined.
-use Rattle.std.proofs.Common.{◌≡◌, ◌≢◌, ℕ, zero, suc, ◌+◌, ◌<◌, ◌≤◌, Bool, true, false, cond, IsTrue, map, List, [], ◌∷◌, length, get_or, set, replicate, Option, Some, None, is_some, is_none, slice_get, slice_set, refl, sym, ap, subst, ◌∙◌, ⊎_elim, arith}
+use Rattle.std.proofs.Common.{◌≡◌, ◌≢◌, ℕ, zero, suc, ◌<◌, ◌≤◌, Bool, true, false, cond, IsTrue, map, List, [], ◌∷◌, length, get_or, set, Option, Some, None, is_some, slice_get, slice_set, refl, sym, ap, ◌∙◌, ⊎_elim, arith}
 use Rattle.std.proofs.lemmas.Bool.{false≢true, cases_eq, cases_lt}
-use Rattle.std.proofs.lemmas.List.{length-set, length-map, get_or-set_same, get_or-set_other, get_or_past, set-get_or, set_past}
-use Rattle.std.proofs.lemmas.List.Sums.{sum_by-cons, sum_by-set, get_or-le-sum_by}
+use Rattle.std.proofs.lemmas.List.{length-set, length-map, get_or-set_same, get_or-set_other, get_or_past, set-get_or}
+use Rattle.std.proofs.lemmas.List.Sums.{get_or-le-sum_by}
 use Rattle.std.proofs.lemmas.Option.{unwrap_or-slice_get}
 use Rattle.std.specs.Option.{unwrap_or}
+use Rattle.cf_types.specs.declared.limits.TheConstants.{CALLERS}
 use Rattle.cf_types.specs.declared.numbers.ConnId.{ConnId}
 use Rattle.cf_types.specs.declared.connections.ConnState.{ConnState}
 use Rattle.cf_types.specs.declared.connections.ConnState.TheVariants.{Active, Leaving, Failed}
-use Rattle.cf_types.specs.ConnSets.{is_member, with_member, without_member}
-use Rattle.cf_types.specs.Connections.{Connections, no_connections, state_of, is_active_state, is_leaving_state, is_failed_state, is_active, is_leaving, is_failed, is_gone, actives, defined_count, awaited_by, departed_state, excused_state, with_connect, with_departure, with_answer, with_forced, AreConnections}
-use Rattle.cf_types.proofs.ConnSetLaws.{filter_agree_from, filter_none_from, is_member-without_member_same, is_member-from, with_member-from, without_member-from}
+use Rattle.cf_types.specs.ConnSets.{is_member, without_member}
+use Rattle.cf_types.specs.Connections.{Connections, no_connections, state_of, is_active_state, is_leaving_state, is_active, is_leaving, actives, defined_count, departed_state, excused_state, with_departure, with_answer, with_forced}
+use Rattle.cf_types.proofs.ConnSetLaws.{filter_agree_from, is_member-from, without_member-from}
 
 -- ---- one connector's state
 
@@ -51,15 +52,6 @@ state_of-map f none conns conn = go conns conn.0
     go (x ∷ xs) zero = refl
     go (x ∷ xs) (suc n) = go xs n
 
-pub state_of-within : (conns : Connections) (conn : ConnId) (state : ConnState) → state_of conns conn ≡ Some state
-    → conn.0 < length conns
-state_of-within conns conn state is = go conns conn.0 is
-  where
-    go : (conns : Connections) (n : ℕ) → unwrap_or (slice_get conns n) None ≡ Some state → n < length conns
-    go [] n is = absurd (cc)
-    go (x ∷ xs) zero is = omega arith
-    go (x ∷ xs) (suc n) is = omega (arith, go xs n is)
-
 pub is_active-within : (conns : Connections) (conn : ConnId) → IsTrue (is_active conns conn) → conn.0 < length conns
 is_active-within conns conn is = go conns conn.0 is
   where
@@ -69,44 +61,7 @@ is_active-within conns conn is = go conns conn.0 is
     go (x ∷ xs) zero is = omega arith
     go (x ∷ xs) (suc n) is = omega (arith, go xs n is)
 
-pub is_failed-within : (conns : Connections) (conn : ConnId) → IsTrue (is_failed conns conn) → conn.0 < length conns
-is_failed-within conns conn is = go conns conn.0 is
-  where
-    go : (conns : Connections) (n : ℕ) → IsTrue (is_failed_state (unwrap_or (slice_get conns n) None))
-        → n < length conns
-    go [] n is = absurd (false≢true is)
-    go (x ∷ xs) zero is = omega arith
-    go (x ∷ xs) (suc n) is = omega (arith, go xs n is)
-
-gone_is : (state : Option ConnState) → IsTrue (is_none state) → state ≡ None
-gone_is (Some state) gone = absurd (false≢true gone)
-gone_is None gone = refl
-
-failed_is : (state : Option ConnState) → IsTrue (is_failed_state state) → state ≡ Some Failed
-failed_is (Some (Active keep)) failed = absurd (false≢true failed)
-failed_is (Some (Leaving keep awaits)) failed = absurd (false≢true failed)
-failed_is (Some Failed) failed = refl
-failed_is None failed = absurd (false≢true failed)
-
 -- ---- each change, at the connector itself and at another
-
-nobody : (n at : ℕ) → let gone : Option ConnState = None in unwrap_or (slice_get (replicate n gone) at) gone ≡ gone
-nobody zero at = refl
-nobody (suc n) zero = refl
-nobody (suc n) (suc at) = nobody n at
-
-pub state_of-unconnected : (conn : ConnId) → state_of no_connections conn ≡ None
-unfolding no_connections
-state_of-unconnected conn = nobody 33 conn.0
-
-pub state_of-with_connect_same : (conn : ConnId) (keep : Bool) (conns : Connections) → conn.0 < length conns
-    → state_of (with_connect conn keep conns) conn ≡ Some (Active keep)
-state_of-with_connect_same conn keep conns within = state_of-set_same conns conn (Some (Active keep)) within
-
-pub state_of-with_connect_other : (conn : ConnId) (keep : Bool) (conns : Connections) (other : ConnId)
-    → other.0 ≢ conn.0 → state_of (with_connect conn keep conns) other ≡ state_of conns other
-state_of-with_connect_other conn keep conns other apart = state_of-set_other conns conn other (Some (Active keep))
-    apart
 
 pub state_of-with_departure_same : (conn : ConnId) (keep : Bool) (conns : Connections) → conn.0 < length conns
     → state_of (with_departure conn keep conns) conn ≡ departed_state keep (without_member conn (actives conns))
@@ -149,15 +104,10 @@ is_active-excused_state conn (Some (Leaving keep awaits)) = is_active-departed_s
 is_active-excused_state conn (Some Failed) = refl
 is_active-excused_state conn None = refl
 
-pub is_member-actives : (conns : Connections) (conn : ConnId) → conn.0 < 33
+pub is_member-actives : (conns : Connections) (conn : ConnId) → conn.0 < CALLERS
     → is_member conn (actives conns) ≡ is_active conns conn
 unfolding actives
-is_member-actives conns conn within = is_member-from (is_active conns) conn 0 33 (omega arith) within
-
-pub actives-unconnected : actives no_connections ≡ []
-unfolding actives
-actives-unconnected = filter_none_from (is_active no_connections) 0 33
-    (λ c low high. ap is_active_state (state_of-unconnected c))
+is_member-actives conns conn within = is_member-from (is_active conns) conn 0 CALLERS (omega arith) within
 
 -- a departing connector is active no more
 pub is_active-with_departure_same : (conn : ConnId) (keep : Bool) (conns : Connections) → conn.0 < length conns
@@ -182,26 +132,18 @@ is_active-with_answer by about conns conn =
     (λ (apart : conn.0 ≢ about.0). ap is_active_state (state_of-with_answer_other by about conns conn apart))
     (cases_eq conn.0 about.0)
 
-pub actives-with_connect : (conn : ConnId) (keep : Bool) (conns : Connections) → conn.0 < 33 → conn.0 < length conns
-    → actives (with_connect conn keep conns) ≡ with_member conn (actives conns)
-unfolding actives
-actives-with_connect conn keep conns small within =
-    with_member-from (is_active conns) (is_active (with_connect conn keep conns)) conn 0 33 (omega arith) small
-    (ap is_active_state (state_of-with_connect_same conn keep conns within))
-    (λ c apart. ap is_active_state (state_of-with_connect_other conn keep conns c apart))
-
 pub actives-with_departure : (conn : ConnId) (keep : Bool) (conns : Connections) → conn.0 < length conns
     → actives (with_departure conn keep conns) ≡ without_member conn (actives conns)
 unfolding actives
 actives-with_departure conn keep conns within =
-    without_member-from (is_active conns) (is_active (with_departure conn keep conns)) conn 0 33
+    without_member-from (is_active conns) (is_active (with_departure conn keep conns)) conn 0 CALLERS
     (is_active-with_departure_same conn keep conns within)
     (λ c apart high. is_active-with_departure_other conn keep conns c apart)
 
 pub actives-with_answer : (by about : ConnId) (conns : Connections)
     → actives (with_answer by about conns) ≡ actives conns
 unfolding actives
-actives-with_answer by about conns = filter_agree_from (is_active (with_answer by about conns)) (is_active conns) 0 33
+actives-with_answer by about conns = filter_agree_from (is_active (with_answer by about conns)) (is_active conns) 0 CALLERS
     (λ c low high. is_active-with_answer by about conns c)
 
 -- whoever is forced away wasn't active
@@ -210,7 +152,7 @@ pub actives-with_forced : (conn : ConnId) (conns : Connections) → is_active co
 unfolding actives
 actives-with_forced conn conns idle =
     let at : ℕ → ConnId = λ n. record { 0 = n } in
-    filter_agree_from (is_active (with_forced conn conns)) (is_active conns) 0 33
+    filter_agree_from (is_active (with_forced conn conns)) (is_active conns) 0 CALLERS
     (λ c low high. ⊎_elim (λ (here : c.0 ≡ conn.0). ap (λ (n : ℕ). is_active (with_forced conn conns) (at n)) here
     ∙ ap is_active_state (state_of-with_forced_same conn conns) ∙ sym idle
     ∙ ap (λ (n : ℕ). is_active conns (at n)) (sym here))
@@ -218,38 +160,6 @@ actives-with_forced conn conns idle =
     (cases_eq c.0 conn.0))
 
 -- ---- who is awaited
-
-pub awaited_by-departed_state : (keep : Bool) (awaits : List ConnId) → awaited_by (departed_state keep awaits) ≡
-    awaits
-awaited_by-departed_state keep (other ∷ others) = refl
-awaited_by-departed_state true [] = refl
-awaited_by-departed_state false [] = refl
-
-pub awaited_by-excused_state : (conn : ConnId) (state : Option ConnState)
-    → awaited_by (excused_state conn state) ≡ without_member conn (awaited_by state)
-awaited_by-excused_state conn (Some (Active keep)) = refl
-awaited_by-excused_state conn (Some (Leaving keep awaits)) = awaited_by-departed_state keep
-    (without_member conn awaits)
-awaited_by-excused_state conn (Some Failed) = refl
-awaited_by-excused_state conn None = refl
-
--- a departing connector is awaited by nobody
-pub is_awaited-with_departure : (conn : ConnId) (keep : Bool) (conns : Connections) (other : ConnId)
-    → conn.0 < length conns → is_member conn (awaited_by (state_of (with_departure conn keep conns) other)) ≡ false
-is_awaited-with_departure conn keep conns other within =
-    let at : ℕ → ConnId = λ n. record { 0 = n } in
-    ⊎_elim (λ (here : other.0 ≡ conn.0). ap (λ (n : ℕ). is_member conn
-    (awaited_by (state_of (with_departure conn keep conns) (at n)))) here
-    ∙ rw (
-      state_of-with_departure_same conn keep conns within,
-      awaited_by-departed_state keep (without_member conn (actives conns)),
-    )
-    (is_member-without_member_same conn (actives conns)))
-    (λ (apart : other.0 ≢ conn.0). rw (
-      state_of-with_departure_other conn keep conns other apart,
-      awaited_by-excused_state conn (state_of conns other),
-    )
-    (is_member-without_member_same conn (awaited_by (state_of conns other)))) (cases_eq other.0 conn.0)
 
 excused_state-same : (conn : ConnId) (state : Option ConnState) → is_leaving_state state ≡ false
     → excused_state conn state ≡ state
@@ -272,89 +182,6 @@ pub defined_count-unconnected : defined_count no_connections ≡ 0
 unfolding no_connections
 defined_count-unconnected = refl
 
--- a state in place of another
-defined_count-set : (conns : Connections) (conn : ConnId) (state : Option ConnState) → conn.0 < length conns
-    → defined_count (slice_set conns conn.0 state) + cond (is_some (state_of conns conn)) 1 0
-    ≡ defined_count conns + cond (is_some state) 1 0
-defined_count-set conns conn state within = rw (state_of-get_or conns conn)
-    (sum_by-set (λ (s : Option ConnState). cond (is_some s) 1 0) conns conn.0 state None within)
-
-pub defined_count-with_connect_new : (conn : ConnId) (keep : Bool) (conns : Connections) → conn.0 < length conns
-    → IsTrue (is_gone conns conn) → defined_count (with_connect conn keep conns) ≡ defined_count conns + 1
-defined_count-with_connect_new conn keep conns within new =
-    let change = defined_count-set conns conn (Some (Active keep)) within in
-    omega (arith, rw (gone_is (state_of conns conn) new) at change)
-
-pub defined_count-with_connect_back : (conn : ConnId) (keep : Bool) (conns : Connections)
-    → IsTrue (is_failed conns conn) → defined_count (with_connect conn keep conns) ≡ defined_count conns
-defined_count-with_connect_back conn keep conns back =
-    let change = defined_count-set conns conn (Some (Active keep)) (is_failed-within conns conn back) in
-    omega (arith, rw (failed_is (state_of conns conn) back) at change)
-
-pub defined_count-with_forced : (conn : ConnId) (conns : Connections) → IsTrue (is_failed conns conn)
-    → defined_count (with_forced conn conns) + 1 ≡ defined_count conns
-defined_count-with_forced conn conns failed =
-    let change = defined_count-set conns conn None (is_failed-within conns conn failed) in
-    omega (arith, rw (failed_is (state_of conns conn) failed) at change)
-
-defined_once : (state : Option ConnState) → cond (is_some state) 1 0 ≤ 1
-defined_once (Some state) = omega arith
-defined_once None = omega arith
-
-defined-excused_state : (conn : ConnId) (state : Option ConnState)
-    → cond (is_some (excused_state conn state)) 1 0 ≤ cond (is_some state) 1 0
-defined-excused_state conn (Some (Active keep)) = omega arith
-defined-excused_state conn (Some (Leaving keep awaits)) =
-    defined_once (departed_state keep (without_member conn awaits))
-defined-excused_state conn (Some Failed) = omega arith
-defined-excused_state conn None = omega arith
-
-defined_count-excused : (conn : ConnId) (conns : Connections)
-    → defined_count (map (excused_state conn) conns) ≤ defined_count conns
-defined_count-excused conn [] = omega arith
-defined_count-excused conn (state ∷ conns) =
-    let counted : Option ConnState → ℕ = λ s. cond (is_some s) 1 0 in
-    omega (
-      arith,
-      sum_by-cons counted (excused_state conn state) (map (excused_state conn) conns),
-      sum_by-cons counted state conns,
-      defined-excused_state conn state,
-      defined_count-excused conn conns,
-    )
-
-active_defined : (conn : ConnId) (state : Option ConnState) → IsTrue (is_active_state state)
-    → let one : ℕ = 1 in cond (is_some (excused_state conn state)) one 0 ≡ one
-active_defined conn (Some (Active keep)) active = refl
-active_defined conn (Some (Leaving keep awaits)) active = absurd (false≢true active)
-active_defined conn (Some Failed) active = absurd (false≢true active)
-active_defined conn None active = absurd (false≢true active)
-
--- a departure finishes some connections, and defines none
-pub defined_count-with_departure : (conn : ConnId) (keep : Bool) (conns : Connections) → IsTrue (is_active conns conn)
-    → defined_count (with_departure conn keep conns) ≤ defined_count conns
-defined_count-with_departure conn keep conns active =
-    let excused = map (excused_state conn) conns in
-    let new = departed_state keep (without_member conn (actives conns)) in
-    let within : conn.0 < length excused = omega (
-      arith,
-      length-map conns (excused_state conn),
-      is_active-within conns conn active,
-    ) in
-    let change = rw (
-      state_of-map (excused_state conn) refl conns conn,
-      active_defined conn (state_of conns conn) active,
-    ) at (defined_count-set excused conn new within) in
-    omega (arith, change, defined_once new, defined_count-excused conn conns)
-
-pub defined_count-with_answer : (by about : ConnId) (conns : Connections)
-    → defined_count (with_answer by about conns) ≤ defined_count conns
-defined_count-with_answer by about conns =
-    let new = excused_state by (state_of conns about) in
-    ⊎_elim (λ (within : about.0 < length conns). omega
-    (arith, defined_count-set conns about new within, defined-excused_state by (state_of conns about)))
-    (λ (past : length conns ≤ about.0). rw (set_past conns about.0 new past) (omega arith))
-    (cases_lt about.0 (length conns))
-
 none_counted : (state : Option ConnState) → cond (is_some state) 1 0 ≤ 0 → state ≡ None
 none_counted (Some state) few = absurd (omega arith)
 none_counted None few = refl
@@ -369,59 +196,3 @@ gone-from_none_defined conns none conn =
     (λ (past : length conns ≤ conn.0). state_of_past conns conn past) (cases_lt conn.0 (length conns))
 
 -- ---- what stays true
-
-gone_idle : (state : Option ConnState) → IsTrue (is_none state) → IsTrue (is_active_state state) → ⊥
-gone_idle (Some state) gone active = false≢true gone
-gone_idle None gone active = false≢true active
-
-gone_excused : (conn : ConnId) (state : Option ConnState) → IsTrue (is_none state)
-    → IsTrue (is_none (excused_state conn state))
-gone_excused conn (Some state) gone = absurd (false≢true gone)
-gone_excused conn None gone = refl
-
-pub AreConnections-unconnected : AreConnections no_connections
-unfolding no_connections
-AreConnections-unconnected = record { places = refl; operator = refl }
-
-pub AreConnections-with_connect : (conn : ConnId) (keep : Bool) (conns : Connections) → 1 ≤ conn.0
-    → AreConnections conns → AreConnections (with_connect conn keep conns)
-AreConnections-with_connect conn keep conns from_one are = record {
-  places = length-set conns conn.0 (Some (Active keep)) ∙ are.places;
-  operator = rw (state_of-with_connect_other conn keep conns (record { 0 = 0 }) (λ (e : 0 ≡ conn.0). omega arith))
-      are.operator;
-}
-
-pub AreConnections-with_departure : (conn : ConnId) (keep : Bool) (conns : Connections)
-    → IsTrue (is_active conns conn)
-    → AreConnections conns → AreConnections (with_departure conn keep conns)
-AreConnections-with_departure conn keep conns active are = record {
-  places = length-set (map (excused_state conn) conns) conn.0 _ ∙ length-map conns (excused_state conn) ∙ are.places;
-  operator = ⊎_elim (λ (here : 0 ≡ conn.0). let at : ℕ
-      → ConnId = λ n. record { 0 = n } in absurd
-      (gone_idle (state_of conns conn) (subst (λ (n : ℕ). IsTrue (is_gone conns (at n))) here are.operator) active))
-      (λ (apart : 0 ≢ conn.0). rw (state_of-with_departure_other conn keep conns (record { 0 = 0 }) apart)
-      (gone_excused conn (state_of conns (record { 0 = 0 })) are.operator)) (cases_eq 0 conn.0);
-}
-
-pub AreConnections-with_answer : (by about : ConnId) (conns : Connections) → AreConnections conns
-    → AreConnections (with_answer by about conns)
-AreConnections-with_answer by about conns are = record {
-  places = length-set conns about.0 _ ∙ are.places;
-  operator = ⊎_elim (λ (here : 0 ≡ about.0). let at : ℕ → ConnId = λ n. record { 0 = n } in let P : ℕ
-      → Type 0 = λ n. IsTrue (is_gone (with_answer by about conns) (at n)) in
-      subst P (sym here) (rw (state_of-with_answer_same by about conns)
-      (gone_excused by (state_of conns about) (subst (λ (n : ℕ). IsTrue (is_gone conns (at n))) here are.operator))))
-      (λ (apart : 0 ≢ about.0). rw (state_of-with_answer_other by about conns (record { 0 = 0 }) apart) are.operator)
-      (cases_eq 0 about.0);
-}
-
-pub AreConnections-with_forced : (conn : ConnId) (conns : Connections) → AreConnections conns
-    → AreConnections (with_forced conn conns)
-AreConnections-with_forced conn conns are = record {
-  places = length-set conns conn.0 None ∙ are.places;
-  operator = ⊎_elim (λ (here : 0 ≡ conn.0). let at : ℕ → ConnId = λ n. record { 0 = n } in let P : ℕ
-      → Type 0 = λ n. IsTrue (is_gone (with_forced conn conns) (at n)) in
-      subst P (sym here) (rw (state_of-with_forced_same conn conns) refl))
-      (λ (apart : 0 ≢ conn.0). rw (state_of-with_forced_other conn conns (record { 0 = 0 }) apart) are.operator)
-      (cases_eq 0 conn.0);
-}

@@ -2,5 +2,4 @@ pub mod TermFaults
 pub mod GainsLaws
 pub mod ConnSetLaws
 pub mod ConnectionLaws
-pub mod MailLaws
 pub mod ResourceLaws

@@ -2,6 +2,7 @@
 use Rattle.std.specs.Prelude.{ℕ, zero, suc, ◌+◌, ◌^◌, Bool, not, ◌==◌, nat_lt, if◌then◌else◌, List, [], ◌∷◌, filter, sum_by}
 use Rattle.std.specs.List.{list_any}
 use Rattle.std.specs.Int.{bit_at}
+use Rattle.cf_types.specs.declared.limits.TheConstants.{SET_NUMBERS}
 use Rattle.cf_types.specs.declared.numbers.ConnId.{ConnId}
 
 -- so many connectors, from this number on
@@ -26,7 +27,7 @@ without_member conn set = filter (λ other. not (other.0 == conn.0)) set
 
 -- a set is kept as bits: connector c is a member where bit c is set
 unfoldable pub members : ℕ → List ConnId
-members bits = filter (λ conn. bit_at bits conn.0 == 1) (conns_from 0 64)
+members bits = filter (λ conn. bit_at bits conn.0 == 1) (conns_from 0 SET_NUMBERS)
 
 abbrev pub bits_of : List ConnId → ℕ
 bits_of set = sum_by (λ conn. 2 ^ conn.0) set

@@ -1,6 +1,6 @@
 -- The connections of a structure: for each connector's number, the state of its connection.
-use Rattle.std.specs.Prelude.{◌≡◌, ℕ, ◌+◌, Bool, true, false, IsTrue, List, [], ◌∷◌, filter, map, length, count_by, replicate, Option, Some, None, is_some, is_none, unwrap_or, slice_get, slice_set}
-use Rattle.cf_types.specs.declared.limits.TheConstants.{CONNECTORS}
+use Rattle.std.specs.Prelude.{◌≡◌, ℕ, Bool, true, false, IsTrue, List, [], ◌∷◌, filter, map, length, count_by, replicate, Option, Some, None, is_some, is_none, unwrap_or, slice_get, slice_set}
+use Rattle.cf_types.specs.declared.limits.TheConstants.{CALLERS}
 use Rattle.cf_types.specs.declared.numbers.ConnId.{ConnId}
 use Rattle.cf_types.specs.declared.connections.ConnState.{ConnState}
 use Rattle.cf_types.specs.declared.connections.ConnState.TheVariants.{Active, Leaving, Failed}
@@ -12,7 +12,7 @@ Connections = List (Option ConnState)
 
 -- nobody is connected
 unfoldable pub no_connections : Connections
-no_connections = replicate (CONNECTORS + 1) None
+no_connections = replicate CALLERS None
 
 abbrev pub state_of : Connections → ConnId → Option ConnState
 state_of conns conn = unwrap_or (slice_get conns conn.0) None
@@ -49,18 +49,11 @@ is_gone conns conn = is_none (state_of conns conn)
 
 -- the active connectors, in number order
 unfoldable pub actives : Connections → List ConnId
-actives conns = filter (is_active conns) (conns_from 0 (CONNECTORS + 1))
+actives conns = filter (is_active conns) (conns_from 0 CALLERS)
 
 -- how many connections are defined: active, leaving or failed
 abbrev pub defined_count : Connections → ℕ
 defined_count conns = count_by is_some conns
-
--- the connectors whose answer or departure a departure still awaits
-abbrev pub awaited_by : Option ConnState → List ConnId
-awaited_by (Some (Active keep)) = []
-awaited_by (Some (Leaving keep awaits)) = awaits
-awaited_by (Some Failed) = []
-awaited_by None = []
 
 -- a departure that awaits nobody is finished: the connection is failed where it is kept, and else gone
 abbrev pub departed_state : Bool → List ConnId → Option ConnState
@@ -96,5 +89,5 @@ with_forced conn conns = slice_set conns conn.0 None
 -- what is true of the connections of a structure: there is a place for the operator, which stays empty, and one for
 -- each connector that there can be
 pub record AreConnections (conns : Connections) : Type 0 where
-  pub places : length conns ≡ CONNECTORS + 1
+  pub places : length conns ≡ CALLERS
   pub operator : IsTrue (is_gone conns (record { 0 = 0 }))

@@ -1,6 +1,6 @@
 -- The events of a structure's connectors: those that wait, and those taken that are to be answered.
-use Rattle.std.specs.Prelude.{◌+◌, Bool, true, false, ◌==◌, if◌then◌else◌, List, [], ◌∷◌, ◌++◌, fold, filter, map, drop, replicate, Option, None, unwrap_or, slice_get, slice_set}
-use Rattle.cf_types.specs.declared.limits.TheConstants.{CONNECTORS}
+use Rattle.std.specs.Prelude.{Bool, true, false, if◌then◌else◌, List, [], ◌∷◌, ◌++◌, fold, map, drop, replicate, Option, None, unwrap_or, slice_get, slice_set}
+use Rattle.cf_types.specs.declared.limits.TheConstants.{CALLERS}
 use Rattle.cf_types.specs.declared.numbers.ConnId.{ConnId}
 use Rattle.cf_types.specs.declared.events.Event.{Event}
 use Rattle.cf_types.specs.declared.events.Event.TheVariants.{NewConn, DiscFail, Quiesce, RebuildConnect, ConnectsDone, Cleanup, Complete, Stop, StopDone, LostConn, StrFail, Contention, Notify, Granted, Denied}
@@ -20,7 +20,7 @@ abbrev pub no_events : Mailbox
 no_events = record { waiting = []; owed = [] }
 
 unfoldable pub empty_mail : Mailboxes
-empty_mail = replicate (CONNECTORS + 1) no_events
+empty_mail = replicate CALLERS no_events
 
 abbrev pub mailbox_of : Mailboxes → ConnId → Mailbox
 mailbox_of mail conn = unwrap_or (slice_get mail conn.0) no_events
@@ -52,10 +52,6 @@ with_letter mail letter =
 -- letters are posted in their order
 abbrev pub with_letters : Mailboxes → List Letter → Mailboxes
 with_letters mail letters = fold with_letter mail letters
-
--- the events of the letters to a connector
-abbrev pub events_to : ConnId → List Letter → List Event
-events_to conn letters = map (λ letter. letter.event) (filter (λ letter. letter.to.0 == conn.0) letters)
 
 -- the same event to each of these
 abbrev pub letters_to : List ConnId → Event → List Letter

@@ -6,6 +6,7 @@ use Rattle.std.proofs.lemmas.Nat.Bits.{bit_at-lt}
 use Rattle.std.proofs.lemmas.List.Sums.{sum_by-cons}
 use Rattle.std.proofs.Math.Nat.{mod-one}
 use Rattle.std.specs.Int.{bit_at}
+use Rattle.cf_types.specs.declared.limits.TheConstants.{SET_NUMBERS}
 use Rattle.cf_types.specs.ConnSets.{conns_from, members, bits_of}
 use Rattle.cf_types.specs.declared.numbers.ConnId.{ConnId}
 use Rattle.cf_types.specs.declared.conn_sets.ConnSet.TheInside.{Inside}
@@ -51,11 +52,11 @@ bits_of-from bits (suc n) first =
     ≡ (bits / 2 ^ first % 2 ^ m) * 2 ^ first) (add-one n)
     (member_first bits n first kept (bits_of-from bits n (first + 1)) (bit_at bits first == 1) refl)
 
-all_bits : (bits : ℕ) → bits < 2 ^ 64 → (bits / 2 ^ 0 % 2 ^ 64) * 2 ^ 0 ≡ bits
+all_bits : (bits : ℕ) → bits < 2 ^ SET_NUMBERS → (bits / 2 ^ 0 % 2 ^ SET_NUMBERS) * 2 ^ 0 ≡ bits
 all_bits bits small = omega arith
 
-pub bits_of-members : (set : Inside) → set.0 < 2 ^ 64 → record { 0 = bits_of (members set.0) } ≡ set
+pub bits_of-members : (set : Inside) → set.0 < 2 ^ SET_NUMBERS → record { 0 = bits_of (members set.0) } ≡ set
 unfolding members
 bits_of-members set small =
     let of : ℕ → Inside = λ bits. record { 0 = bits } in
-    ap of (bits_of-from set.0 64 0 ∙ all_bits set.0 small)
+    ap of (bits_of-from set.0 SET_NUMBERS 0 ∙ all_bits set.0 small)

@@ -9,7 +9,7 @@ use std::marker::Model;
 
 /// An adjunct of an entry, or the record data of a lock: 1 to 64 bytes. It is copied, and takes no
 /// memory.
-#[derive(Clone, Copy, Debug)]
+#[derive(Clone, Copy)]
 pub struct Adjunct {
     bytes: [u8; ADJUNCT_BYTES],
     len: u8,

@@ -5,7 +5,7 @@ use std::alloc::Global;
 use std::marker::Model;
 
 /// Items in their order, with room taken for more. Contracts see the items and the room.
-#[derive(Debug, Drop)]
+#[derive(Drop)]
 pub struct Batch<T> {
     items: Vec<T>,
 }

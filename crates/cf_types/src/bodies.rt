@@ -10,7 +10,7 @@ use std::alloc::Global;
 use std::marker::Model;
 
 /// The data of a cache entry or a list record: 1 to 4,096 bytes.
-#[derive(Debug, Drop)]
+#[derive(Drop)]
 pub struct Body {
     bytes: Vec<u8>,
 }
@@ -70,19 +70,4 @@ pub fn copy_body(alloc: Global, body: &Body) -> Result<Body, NoMemory>
 {
     let bytes = Vec::from_slice(alloc, body.bytes.as_slice())?;
     Ok(Body { bytes })
-}
-
-#[cfg(test)]
-mod tests {
-    use super::*;
-    use std::test::Fail;
-
-    #[test]
-    fn data_is_read_and_copied(rt: HostRuntime) -> Result<(), Fail> {
-        let body = parse_body(rt.alloc(), b"abc-1").ok().ok_or("no data")?;
-        let copy = copy_body(rt.alloc(), &body)?;
-        assert_eq!(rt; body.bytes(), b"abc-1".as_slice());
-        assert_eq!(rt; copy.bytes(), b"abc-1".as_slice());
-        Ok(())
-    }
 }

@@ -5,7 +5,7 @@ use crate::names::Name16;
 use crate::numbers::ConnId;
 
 /// A command of a cache structure (IXLCACHE).
-#[derive(Debug, Drop)]
+#[derive(Drop)]
 pub enum CacheCmd {
     /// READ_DATA: registers the caller for the name at the index of its vector (bits from 0), and
     /// answers the data of the entry. `old` is the name that the caller gives up at that index.
@@ -65,7 +65,7 @@ pub enum CacheCmd {
 }
 
 /// The answer to a command of a cache structure that was not refused.
-#[derive(Debug, Drop)]
+#[derive(Drop)]
 pub enum CacheReply {
     /// READ_DATA of an entry with data.
     Data {

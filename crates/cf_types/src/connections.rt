@@ -1,7 +1,7 @@
 use crate::conn_sets::ConnSet;
 
 /// The state of a defined connection (IXLCONN). A connection that is gone has none.
-#[derive(Clone, Copy, Debug)]
+#[derive(Clone, Copy)]
 pub enum ConnState {
     /// The connector uses the structure; with `keep` its connection stays when it fails.
     Active { keep: bool },

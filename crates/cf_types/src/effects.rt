@@ -7,7 +7,7 @@ use crate::numbers::ConnId;
 use std::alloc::Global;
 
 /// A bit of a connector's vector, counted from 0, and its new value.
-#[derive(Clone, Copy, Debug, PartialEq, Eq)]
+#[derive(Clone, Copy, PartialEq, Eq)]
 pub struct BitChange {
     pub conn: ConnId,
     pub index: u32,
@@ -15,7 +15,7 @@ pub struct BitChange {
 }
 
 /// What a command brings beside its reply: the vector bits that changed, and letters to connectors.
-#[derive(Debug, Drop)]
+#[derive(Drop)]
 pub struct Effects {
     pub bits: Batch<BitChange>,
     pub mail: Batch<Letter>,

@@ -3,7 +3,7 @@ use crate::resources::Resource;
 
 /// What a connector is told by the event exit of its connection (IXLCONN), or by a lock structure.
 /// Those marked "answered" are to be answered by RESPOND (IXLEERSP).
-#[derive(Clone, Copy, Debug, PartialEq, Eq)]
+#[derive(Clone, Copy, PartialEq, Eq)]
 pub enum Event {
     /// A connector became active.
     NewConn { conn: ConnId },
@@ -38,7 +38,7 @@ pub enum Event {
 }
 
 /// An event on its way to a connector.
-#[derive(Clone, Copy, Debug, PartialEq, Eq)]
+#[derive(Clone, Copy, PartialEq, Eq)]
 pub struct Letter {
     pub to: ConnId,
     pub event: Event,

@@ -26,7 +26,7 @@ pub enum Refs {
 }
 
 /// The kind of a structure.
-#[derive(Clone, Copy, Debug, PartialEq, Eq)]
+#[derive(Clone, Copy, PartialEq, Eq)]
 pub enum Kind {
     Cache,
     List {
@@ -40,7 +40,7 @@ pub enum Kind {
 /// The form of a structure as a policy states it: its name, kind and capacity, how many connections
 /// it admits (1 to 32), how many bits each connector's vector has (0 for a lock structure), whether
 /// it stays when nobody is connected, and where its instances may stand.
-#[derive(Debug, Drop)]
+#[derive(Drop)]
 pub struct StrForm {
     pub name: Name16,
     pub kind: Kind,

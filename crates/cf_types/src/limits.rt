@@ -3,11 +3,15 @@
 /// Facilities, `CF1` to `CF4`.
 pub const FACILITIES: u8 = 4;
 /// Connectors of a script, and connections of a structure.
-pub const CONNECTORS: u8 = 32;
+pub const CONNECTORS: u8 = 64;
+/// Callers of a structure: the operator, and each connector.
+pub const CALLERS: u8 = CONNECTORS + 1;
+/// Numbers that a set of connectors has room for, from 0.
+pub const SET_NUMBERS: u8 = 128;
 /// Structures of a script.
 pub const STRUCTURES: u8 = 16;
 /// Bits of a connector's vector.
-pub const VECTOR_BITS: u32 = 1024;
+pub const VECTOR_BITS: u32 = 4096;
 /// Entries, and elements or records, of a structure.
 pub const CAPACITY: u32 = 4096;
 /// Units of a facility, or set aside for a structure.

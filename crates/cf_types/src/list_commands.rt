@@ -6,7 +6,7 @@ use crate::numbers::{ConnId, EntryId};
 
 /// How a command names a record of a list structure: by its id, its name, as the first or the last
 /// of a header (from 0), or as the first of a header with a key.
-#[derive(Clone, Copy, Debug, PartialEq, Eq)]
+#[derive(Clone, Copy, PartialEq, Eq)]
 pub enum At {
     Id(EntryId),
     Name(Name16),
@@ -16,14 +16,14 @@ pub enum At {
 }
 
 /// A condition on a list lock (from 0): nobody holds it, or the caller does.
-#[derive(Clone, Copy, Debug, PartialEq, Eq)]
+#[derive(Clone, Copy, PartialEq, Eq)]
 pub enum Cond {
     NotHeld(u32),
     HeldBy(u32),
 }
 
 /// A command of a list structure (IXLLIST).
-#[derive(Debug, Drop)]
+#[derive(Drop)]
 pub enum ListCmd {
     /// WRITE, creating: a new record at the head or the tail of a header.
     Write {
@@ -98,7 +98,7 @@ pub enum ListCmd {
 }
 
 /// The answer to a command of a list structure that was not refused.
-#[derive(Debug, Drop)]
+#[derive(Drop)]
 pub enum ListReply {
     /// WRITE, DELETE: the record's id.
     Id {

@@ -6,7 +6,7 @@ use std::marker::Model;
 
 /// Items in their order. Contracts see it as the list of them. It is made from a `Vec`, and gives
 /// the `Vec` back, without taking memory.
-#[derive(Debug, Drop)]
+#[derive(Drop)]
 pub struct Listing<T> {
     items: Vec<T>,
 }

@@ -15,7 +15,7 @@ pub enum Decision {
 }
 
 /// A command of a lock structure (IXLLOCK, IXLRT).
-#[derive(Clone, Copy, Debug)]
+#[derive(Clone, Copy)]
 pub enum LockCmd {
     /// OBTAIN: the caller asks for the resource, exclusively or shared, with record data if given.
     Obtain {
@@ -51,7 +51,7 @@ pub enum LockCmd {
 }
 
 /// The answer to a command of a lock structure that was not refused.
-#[derive(Debug, Drop)]
+#[derive(Drop)]
 pub enum LockReply {
     /// OBTAIN, ALTER: the caller owns the resource in the state asked for.
     Granted,

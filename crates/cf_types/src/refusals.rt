@@ -4,7 +4,7 @@ use crate::names::Name16;
 use crate::numbers::{CfId, ConnId, EntryId};
 
 /// Why a command was refused. A refused command stands in the journal and changes nothing else.
-#[derive(Clone, Copy, Debug, PartialEq, Eq)]
+#[derive(Clone, Copy, PartialEq, Eq)]
 pub enum Refusal {
     /// 1: WHENREG was asked, and the caller isn't registered for the name.
     NotRegistered,

@@ -4,7 +4,7 @@ use crate::numbers::{CfId, ConnId};
 
 /// A command that structures of every kind share. Connectors give those up to `RebuildComplete`,
 /// the operator the others; REBUILD START and STOP come from both.
-#[derive(Clone, Copy, Debug, PartialEq, Eq)]
+#[derive(Clone, Copy, PartialEq, Eq)]
 pub enum ShellCmd {
     /// CONNECT (IXLCONN): the caller becomes active, with disposition KEEP or DELETE.
     Connect { keep: bool },
@@ -44,7 +44,7 @@ pub enum ShellCmd {
 }
 
 /// The answer to a common command that was not refused, and of the loss of a facility.
-#[derive(Clone, Copy, Debug, PartialEq, Eq)]
+#[derive(Clone, Copy, PartialEq, Eq)]
 pub enum ShellReply {
     Ok,
     /// CONNECT of a connector that had no connection: the facility of the primary instance.

@@ -4,16 +4,16 @@ ghost use Rattle.cf_types.specs.Forms.{IsConnector};
 ghost use Rattle.cf_types.specs.Connections.{no_connections, state_of, is_active, is_failed, is_gone, actives, defined_count, with_connect, with_departure, with_answer, with_forced, AreConnections};
 
 use crate::departures::{departed_state, excuse, excused_state};
-use cf_types::limits::CONNECTORS;
+use cf_types::limits::CALLERS;
 use cf_types::{ConnId, ConnSet, ConnState};
 use std::marker::Model;
 
 /// How many connectors a structure may have, the operator counted among them.
-const PLACES: usize = CONNECTORS as usize + 1;
+const PLACES: usize = CALLERS as usize;
 
 /// The connections of a structure. Contracts see the list of their states by the connectors'
 /// numbers, from 0, which is the operator's and stays empty.
-#[derive(Debug, Drop)]
+#[derive(Drop)]
 pub struct Conns {
     states: [Option<ConnState>; PLACES],
 }

@@ -3,8 +3,6 @@
 
 mod conns;
 mod departures;
-#[cfg(test)]
-mod tests;
 
 pub use cf_types::{ConnSet, ConnState};
 pub use conns::Conns;

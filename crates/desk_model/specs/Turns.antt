@@ -74,12 +74,14 @@ pub record Halts (kind : Kind) (line : Option AnyAsk) (on : StrNo) (last : Step)
   pub later : IsLaterOn on before after
   pub ordered : (pass_at after on).sure ≤ (pass_at after on).known
 
--- how steps end: nothing is left to ask; or the next call came to a full journal, or found no memory
+-- how steps end: nothing is left to ask; or the next call came to a full journal, or found no memory, which leaves the
+-- desk as it was
 abbrev pub EndsAt : ℕ → Kind → Option AnyAsk → StrNo → Step → DeskShown → DeskShown → AgentEnd → Type 0
 EndsAt limit kind line on last before after ended.Done = (last ≡ step.Rest) × (after ≡ before)
 EndsAt limit kind line on last before after (ended.JournalFull place) =
     (place ≡ on) × Halts kind line on last before after × (limit ≤ (pass_at after on).known)
-EndsAt limit kind line on last before after ended.NoMemory = Halts kind line on last before after
+EndsAt limit kind line on last before after ended.NoMemory =
+    Halts kind line on last before after × (after ≡ before)
 
 -- the calls of a line, from its first step on
 pub record Asks (limit : ℕ) (kind : Kind) (line : Option AnyAsk) (on : StrNo) (first : Step) (before after : AtWork)

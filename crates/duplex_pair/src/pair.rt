@@ -8,7 +8,7 @@ ghost use Rattle.cf_types.specs.declared.effects.Effects.{Effects};
 ghost use Rattle.engine_api.specs.Meaning.{Wish, answer, with_departure, with_back, with_forgotten, items_of};
 ghost use Rattle.engine_api.specs.Meaning.Wish.{ForCmd, ForLeave, ForForget};
 ghost use Rattle.duplex_pair.specs.Pairs.{instances_of, facility_of, stands_at, is_lost_at, without_lost, without_at, engine_at, content_of, bits_of, letters_by, letters_on_leave, AreReady};
-ghost use Rattle.duplex_pair.specs.Reached.{link_at};
+ghost use Rattle.cf_link.specs.Links.{link_at};
 
 use crate::ended::Ended;
 use crate::instances::{drop_lost, engine_in, place_of, take_at};

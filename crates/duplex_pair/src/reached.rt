@@ -5,7 +5,7 @@ ghost use Rattle.cf_types.specs.Forms.{IsFacility};
 ghost use Rattle.cf_link.specs.Asks.{IsAsked, IsAskedWhere};
 ghost use Rattle.engine_api.specs.Instances.{is_at};
 ghost use Rattle.duplex_pair.specs.Pairs.{facility_of};
-ghost use Rattle.duplex_pair.specs.Reached.{link_at};
+ghost use Rattle.cf_link.specs.Links.{link_at};
 
 use crate::placed::Placed;
 use cf_link::{Down, Link, Links};

@@ -1,19 +1,22 @@
--- What one more entry does to a history, and what a front of a history has of the whole.
-use Rattle.std.proofs.Common.{◌≡◌, ℕ, zero, suc, ◌+◌, ◌<◌, ◌==◌, inl, inr, true, false, List, [], ◌∷◌, ◌++◌, length, take, filter, slice_get, Some, refl, sym, ap, subst, ◌∙◌, le_of_lt, take_at, append_assoc, append-nil, arith, map, lit<, fold}
+-- Legal histories: what one more turn does to one, and what is known of each of its entries.
+use Rattle.std.proofs.Common.{◌≡◌, ℕ, zero, suc, ◌+◌, ◌<◌, ◌≤◌, ◌==◌, inl, inr, Bool, true, false, List, [], ◌∷◌, ◌++◌, length, take, filter, map, slice_get, Some, refl, sym, ap, subst, ◌∙◌, arith, append_assoc, append-nil, length-append, fold}
+use Rattle.std.proofs.lemmas.List as lists
 use Rattle.std.proofs.lemmas.List.{take-append-le, length-take, map-append}
 use Rattle.std.proofs.lemmas.List.Sums.{fold_push}
-use Rattle.std.proofs.lemmas.List.Elements.{filter-append, filter_map-append, Contains-append_left, Contains-append_right}
-use Rattle.cf_types.specs.declared.forms.StrForm.{StrForm}
+use Rattle.std.proofs.lemmas.List.Elements.{filter-append, filter_map-append, Contains-append_left}
 use Rattle.cf_types.specs.declared.numbers.CfId.{CfId}
 use Rattle.cf_types.specs.declared.numbers.ConnId.{ConnId}
 use Rattle.engine_api.specs.declared.asks.Ask.{Ask}
 use Rattle.engine_api.specs.declared.asks.What.{What}
 use Rattle.engine_api.specs.declared.asks.What.TheVariants as what
 use Rattle.engine_api.specs.declared.histories.Entry.{Entry}
+use Rattle.cf_types.specs.declared.forms.StrForm.{StrForm}
 use Rattle.engine_api.specs.Meaning.{Meaning}
-use Rattle.engine_api.specs.Machine.{Machine, opening}
-use Rattle.engine_api.specs.History.{Call, call_of, calls, numbers, own, marks_behind, AreGroups, began_behind, machine_after, replay, next_entry, next, next_reply, IsNext, IsNextAs, IsLegal, Continues, IsPoint}
-use Rattle.engine_api.proofs.Pushed.{pushed_cases, get_front}
+use Rattle.engine_api.specs.Machine.{opening, step}
+use Rattle.engine_api.specs.History.{Call, Turn, call_of, calls, numbers, IsCall, IsUnmarked, IsPoint, machine_after, replay, next_reply, next_mark, next_entry, with_mark, with_marks, with_call, marks_by, after_turn, IsLegal, IsNext, IsNextAs, IsEachNext, Continues}
+use Rattle.engine_api.specs.LinkAsks.{links_asked}
+use Rattle.engine_api.proofs.AskLaws.{no_marks}
+use Rattle.engine_api.proofs.Pushed.{pushed_cases, Each, each_none, each_push, cut_push}
 
 -- ---- calls
 
@@ -21,125 +24,283 @@ module _ {C R : Type 0} where
   pub calls-append : (xs ys : List (Entry C R)) → calls (xs ++ ys) ≡ calls xs ++ calls ys
   calls-append xs ys = filter_map-append call_of xs ys
 
-  pub own-append : (xs ys : List (Entry C R)) (conn : ConnId) → own (xs ++ ys) conn ≡ own xs conn ++ own ys conn
-  own-append xs ys conn =
-      ap (filter (λ (call : Call C R). call.by.0 == conn.0)) (calls-append xs ys)
-      ∙ filter-append (λ (call : Call C R). call.by.0 == conn.0) (calls xs) (calls ys)
+  pub unmarked_push : (history : List (Entry C R)) (entry : Entry C R) → IsUnmarked history → IsCall entry
+      → IsUnmarked (history ++ entry ∷ [])
+  unmarked_push [] entry all one = (one, tt)
+  unmarked_push (first ∷ others) entry all one = (all.0, unmarked_push others entry all.1 one)
 
 module _ {C R I S : Type 0} (meaning : Meaning C R I S) (form : StrForm) where
-  -- ---- replay
-
   pub replay-push : (history : List (Entry C R)) (entry : Entry C R)
       → replay meaning form (history ++ entry ∷ []) ≡ machine_after meaning form (replay meaning form history) entry
   replay-push history entry = fold_push (machine_after meaning form) (opening meaning form) history entry
 
-  -- ---- groups
-
-  -- a group without marks begins where the history stands
-  abbrev IsBegun : Machine S → List CfId → Machine S → Type 0
-  IsBegun began marks now = marks ≡ [] → began ≡ now
-
-  begun_behind : (began : Machine S) (marks : List CfId) (now : Machine S) (told : What C)
-      → IsBegun (began_behind meaning form began now told) (marks_behind marks told) now
-  begun_behind began marks now (what.Call ask) none = refl
-  begun_behind began [] now (what.Lost cf) none = absurd cc
-  begun_behind began (mark ∷ marks) now (what.Lost cf) none = absurd cc
-
-  -- groups, and groups behind them
-  pub groups-append : (began : Machine S) (marks : List CfId) (now : Machine S) (xs ys : List (Entry C R))
-      → IsBegun began marks now → AreGroups meaning form began marks now xs
-      → (let behind = fold (machine_after meaning form) now xs in AreGroups meaning form behind [] behind ys)
-      → AreGroups meaning form began marks now (xs ++ ys)
-  groups-append began marks now [] ys begun none groups = rw (none, begun none) groups
-  groups-append began marks now (x ∷ xs) ys begun first groups =
-      let then = machine_after meaning form now x in (
-        first.0,
-        groups-append (began_behind meaning form began then x.what) (marks_behind marks x.what) then xs ys
-            (begun_behind began marks then x.what) first.1 groups,
-      )
-
-  -- ---- legality
+  -- ---- turns
 
   pub legal_none : IsLegal meaning form []
-  legal_none = record { groups = refl; entries = λ i entry e. absurd (nothing i entry e) }
+  legal_none = record { turns = []; made = refl }
+
+  -- one more turn leaves a legal history legal
+  pub legal_turn : (history : List (Entry C R)) (turn : Turn C) → IsLegal meaning form history
+      → IsLegal meaning form (after_turn meaning form history turn)
+  legal_turn history turn legal =
+      record {
+        turns = legal.turns ++ turn ∷ [];
+        made =
+            ap (λ (h : List (Entry C R)). after_turn meaning form h turn) legal.made
+            ∙ sym (fold_push (after_turn meaning form) [] legal.turns turn);
+      }
+
+  -- what holds of no entries, and of one turn more, holds of a legal history
+  pub by_turns : (P : List (Entry C R) → Type 0) → P []
+      → ((history : List (Entry C R)) (turn : Turn C) → IsLegal meaning form history → P history
+      → P (after_turn meaning form history turn))
+      → (history : List (Entry C R)) → IsLegal meaning form history → P history
+  by_turns P none more history legal = subst P (sym legal.made) (go legal.turns [] legal_none none)
     where
-      nothing : (i : ℕ) (entry : Entry C R) → slice_get [] i ≡ Some entry → ⊥
-      nothing zero entry e = cc
-      nothing (suc i) entry e = cc
+      go : (turns : List (Turn C)) (h : List (Entry C R)) → IsLegal meaning form h → P h → P (fold (after_turn meaning form) h turns)
+      go [] h fine p = p
+      go (turn ∷ turns) h fine p =
+          go turns (after_turn meaning form h turn) (legal_turn h turn fine) (more h turn fine p)
 
-  is_next-next : (history : List (Entry C R)) (by : ConnId) (ask : Ask C) (entry : Entry C R)
-      → entry ≡ next_entry meaning form history by ask → IsNext meaning form history entry
-  is_next-next history by ask entry e =
-      subst (IsNext meaning form history) (sym e) refl
+  -- and what holds of one mark more, and of one call more
+  pub by_marks : (P : List (Entry C R) → Type 0)
+      → ((history : List (Entry C R)) (cf : CfId) → P history → P (with_mark meaning form history cf))
+      → (marks : List CfId) (history : List (Entry C R)) → P history → P (with_marks meaning form history marks)
+  by_marks P more [] history p = p
+  by_marks P more (cf ∷ marks) history p = by_marks P more marks (with_mark meaning form history cf) (more history cf p)
 
-  -- a caller's next call leaves a legal history legal
-  pub legal_next : (history : List (Entry C R)) (by : ConnId) (ask : Ask C)
-      → IsLegal meaning form history → IsLegal meaning form (next meaning form history by ask)
-  legal_next history by ask legal =
-      let added : Entry C R = next_entry meaning form history by ask in
-      record {
-        groups =
-            groups-append (opening meaning form) [] (opening meaning form) history (added ∷ []) (λ none. refl)
-            legal.groups (inl refl, refl);
-        entries = λ i entry e. elim (pushed_cases history added i entry e) [
-          | inl h ↦
-              let before : take i (history ++ added ∷ []) ≡ take i history = take-append-le i history _ (le_of_lt h.0)
-              in
-              rw before (legal.entries i entry h.1)
-          | inr h ↦
-              let before : take i (history ++ added ∷ []) ≡ history = take_at history _ i (sym h.0) in
-              rw before (is_next-next history by ask entry h.1)
-        ];
-      }
+  pub by_entries : (P : List (Entry C R) → Type 0) → P []
+      → ((history : List (Entry C R)) (entry : Entry C R) → P history → IsNext meaning form history entry
+      → P (history ++ entry ∷ []))
+      → (history : List (Entry C R)) → IsLegal meaning form history → P history
+  by_entries P none more history legal =
+      by_turns P none (λ h turn fine p.
+      let marked : List (Entry C R) = with_marks meaning form h (marks_by meaning form turn.down h turn.by turn.ask) in
+      more marked (next_entry meaning form marked turn.by turn.ask)
+      (by_marks P (λ some cf q. more some (next_mark meaning form some cf) q refl)
+      (marks_by meaning form turn.down h turn.by turn.ask) h p) refl) history legal
 
-  -- groups at the front of a legal history are legal
-  pub legal_front : (front others : List (Entry C R)) → IsLegal meaning form (front ++ others)
-      → AreGroups meaning form (opening meaning form) [] (opening meaning form) front
-      → IsLegal meaning form front
-  legal_front front others legal groups =
-      record {
-        groups = groups;
-        entries = λ i entry e.
-            let found : (i < length front) × (slice_get (front ++ others) i ≡ Some entry) = get_front front others i
-            entry e in
-            let before : take i (front ++ others) ≡ take i front = take-append-le i front others (le_of_lt found.0) in
-            subst (λ (h : List (Entry C R)). IsNext meaning form h entry) before (legal.entries i entry found.1);
-      }
+  -- ---- each entry
 
-  number-next : (history : List (Entry C R)) (entry : Entry C R) (told : What C) → IsNextAs meaning form history entry
-      told
+  -- each entry is the next one of those before it
+  pub each_next : (history : List (Entry C R)) → IsLegal meaning form history → IsEachNext meaning form history
+  each_next history legal =
+      by_entries (Each (IsNext meaning form)) (each_none (IsNext meaning form)) (each_push (IsNext meaning form)) history legal
+
+  number-next : (history : List (Entry C R)) (entry : Entry C R) (told : What C) → IsNextAs meaning form history entry told
       → entry.no ≡ length history + 1
   number-next history entry (what.Call ask) e = ap (λ (it : Entry C R). it.no) e
-  number-next history entry (what.Lost cf) e = absurd e
+  number-next history entry (what.Lost cf) e = ap (λ (it : Entry C R). it.no) e
+
+  within : {X : Type 0} (xs : List X) (i : ℕ) (x : X) → slice_get xs i ≡ Some x → i < length xs
+  within [] zero x e = absurd cc
+  within [] (suc i) x e = absurd cc
+  within (y ∷ xs) zero x e = omega arith
+  within (y ∷ xs) (suc i) x e = let more : i < length xs = within xs i x e in omega arith
 
   -- the numbers count from 1
-  pub number-legal : (history : List (Entry C R)) → IsLegal meaning form history → (i : ℕ) (entry : Entry C R)
-      → slice_get history i ≡ Some entry → i < length history → entry.no ≡ i + 1
-  number-legal history legal i entry e within =
-      number-next (take i history) entry entry.what (legal.entries i entry e)
-      ∙ (let short : length (take i history) ≡ i = omega (arith, length-take i history) in ap (λ (n : ℕ). n + 1)
-      short)
+  pub number_legal : (history : List (Entry C R)) → IsLegal meaning form history → (i : ℕ) (entry : Entry C R)
+      → slice_get history i ≡ Some entry → entry.no ≡ i + 1
+  number_legal history legal i entry e =
+      let inside : i < length history = within history i entry e in
+      let front : length (take i history) ≡ i = omega (arith, length-take i history) in
+      number-next (take i history) entry entry.what (each_next history legal i entry e)
+      ∙ ap (λ (n : ℕ). n + 1) front
 
-  -- ---- a caller's own calls
+  -- ---- fronts
 
+  abbrev AreFrontsLegal : List (Entry C R) → Type 0
+  AreFrontsLegal history =
+      (i : ℕ) (entry : Entry C R) → slice_get history i ≡ Some entry → IsCall entry
+      → IsLegal meaning form (take (i + 1) history)
+
+  no_front : AreFrontsLegal []
+  no_front zero entry e is_call = absurd cc
+  no_front (suc i) entry e is_call = absurd cc
+
+  front_push : (history : List (Entry C R)) (added : Entry C R)
+      → (IsCall added → IsLegal meaning form (history ++ added ∷ []))
+      → AreFrontsLegal history → AreFrontsLegal (history ++ added ∷ [])
+  front_push history added whole fronts i entry e is_call =
+      elim (pushed_cases history added i entry e) [
+        | inl h ↦
+            let front : take (i + 1) (history ++ added ∷ []) ≡ take (i + 1) history =
+            take-append-le (i + 1) history (added ∷ []) (omega (arith, h.0)) in
+            rw front (fronts i entry h.1 is_call)
+        | inr h ↦
+            let all : take (i + 1) (history ++ added ∷ []) ≡ history ++ added ∷ [] =
+            lists.take_all (i + 1) (history ++ added ∷ []) (omega (arith, length-append history (added ∷ []), h.0))
+            in
+            rw all (whole (subst IsCall h.1 is_call))
+      ]
+
+  -- the entries up to a call, and with it, are legal
+  pub legal_front : (history : List (Entry C R)) → IsLegal meaning form history → (i : ℕ) (entry : Entry C R)
+      → slice_get history i ≡ Some entry → IsCall entry → IsLegal meaning form (take (i + 1) history)
+  legal_front history legal =
+      by_turns AreFrontsLegal no_front (λ h turn fine fronts.
+      let marks : List CfId = marks_by meaning form turn.down h turn.by turn.ask in
+      let marked : List (Entry C R) = with_marks meaning form h marks in
+      front_push marked (next_entry meaning form marked turn.by turn.ask) (λ _. legal_turn h turn fine)
+      (by_marks AreFrontsLegal (λ some cf. front_push some (next_mark meaning form some cf) (λ lost. absurd lost)) marks h
+      fronts)) history legal
+
+  -- ---- calls
+
+  pub calls-marks : (marks : List CfId) (history : List (Entry C R))
+      → calls (with_marks meaning form history marks) ≡ calls history
+  calls-marks [] history = refl
+  calls-marks (cf ∷ marks) history =
+      calls-marks marks (with_mark meaning form history cf) ∙ calls-append history (next_mark meaning form history cf ∷ [])
+      ∙ append-nil (calls history)
+
+  -- the call that a turn adds
+  abbrev pub call_added : List (Entry C R) → Turn C → Call C R
+  call_added history turn =
+      let marked = with_marks meaning form history (marks_by meaning form turn.down history turn.by turn.ask) in
+      record {
+        no = length marked + 1;
+        by = turn.by;
+        ask = turn.ask;
+        reply = (step meaning form (replay meaning form marked) turn.by turn.ask).reply;
+      }
+
+  pub calls-turn : (history : List (Entry C R)) (turn : Turn C)
+      → calls (after_turn meaning form history turn) ≡ calls history ++ call_added history turn ∷ []
+  calls-turn history turn =
+      let marks : List CfId = marks_by meaning form turn.down history turn.by turn.ask in
+      let marked : List (Entry C R) = with_marks meaning form history marks in
+      calls-append marked (next_entry meaning form marked turn.by turn.ask ∷ [])
+      ∙ ap (λ (some : List (Call C R)). some ++ call_added history turn ∷ []) (calls-marks marks history)
+
+  -- a call of a history: the entries up to it are the next ones of a legal history that has the calls before it
+  pub record IsMade (history : List (Entry C R)) (front : List (Call C R)) (call : Call C R) : Type 0 where
+    pub began : List (Entry C R)
+    pub turn : Turn C
+    pub legal : IsLegal meaning form began
+    pub before : calls began ≡ front
+    pub behind : List (Entry C R)
+    pub starts : history ≡ began ++ behind
+    pub is : call ≡ call_added began turn
+    pub up_to : take call.no history ≡ after_turn meaning form began turn
+    pub within : call.no ≤ length history
+
+  made_more : (history : List (Entry C R)) (entry : Entry C R) (front : List (Call C R)) (call : Call C R)
+      → IsMade history front call → IsMade (history ++ entry ∷ []) front call
+  made_more history entry front call made =
+      record {
+        began = made.began;
+        turn = made.turn;
+        legal = made.legal;
+        before = made.before;
+        behind = made.behind ++ entry ∷ [];
+        starts =
+            ap (λ (h : List (Entry C R)). h ++ entry ∷ []) made.starts
+            ∙ append_assoc made.began made.behind (entry ∷ []);
+        is = made.is;
+        up_to = take-append-le call.no history (entry ∷ []) made.within ∙ made.up_to;
+        within = omega (arith, made.within, length-append history (entry ∷ []));
+      }
+
+  abbrev AreMade : List (Entry C R) → Type 0
+  AreMade history =
+      (front : List (Call C R)) (call : Call C R) (more : List (Call C R)) → calls history ≡ front ++ call ∷ more
+      → IsMade history front call
+
+  none_made : AreMade []
+  none_made [] call more e = absurd cc
+  none_made (first ∷ front) call more e = absurd cc
+
+  -- marks are added behind a history
+  added_marks : (marks : List CfId) (history : List (Entry C R))
+      → (added : List (Entry C R)) × (with_marks meaning form history marks ≡ history ++ added)
+  added_marks [] history = ([], sym (append-nil history))
+  added_marks (cf ∷ marks) history =
+      let mark : Entry C R = next_mark meaning form history cf in
+      let rest : (added : List (Entry C R))
+      × (with_marks meaning form (with_mark meaning form history cf) marks ≡ with_mark meaning form history cf ++ added) =
+      added_marks marks (with_mark meaning form history cf) in
+      (mark ∷ rest.0, rest.1 ∙ append_assoc history (mark ∷ []) rest.0)
+
+  -- and so is a turn
+  pub added_turn : (history : List (Entry C R)) (turn : Turn C)
+      → (added : List (Entry C R)) × (after_turn meaning form history turn ≡ history ++ added)
+  added_turn history turn =
+      let marks : List CfId = marks_by meaning form turn.down history turn.by turn.ask in
+      let marked : List (Entry C R) = with_marks meaning form history marks in
+      let call : Entry C R = next_entry meaning form marked turn.by turn.ask in
+      let some = added_marks marks history in (
+        some.0 ++ call ∷ [],
+        ap (λ (h : List (Entry C R)). h ++ call ∷ []) some.1 ∙ append_assoc history some.0 (call ∷ []),
+      )
+
+  made_here : (history : List (Entry C R)) (turn : Turn C) → IsLegal meaning form history
+      → IsMade (after_turn meaning form history turn) (calls history) (call_added history turn)
+  made_here history turn fine =
+      let marks : List CfId = marks_by meaning form turn.down history turn.by turn.ask in
+      let marked : List (Entry C R) = with_marks meaning form history marks in
+      let added : Entry C R = next_entry meaning form marked turn.by turn.ask in
+      record {
+        began = history;
+        turn = turn;
+        legal = fine;
+        before = refl;
+        behind = (let added' = added_marks marks history in added'.0 ++ added ∷ []);
+        starts =
+            ap (λ (h : List (Entry C R)). h ++ added ∷ []) (let added' = added_marks marks history in added'.1)
+            ∙ append_assoc history (let added' = added_marks marks history in added'.0) (added ∷ []);
+        is = refl;
+        up_to =
+            lists.take_all (length marked + 1) (marked ++ added ∷ [])
+            (omega (arith, length-append marked (added ∷ [])));
+        within = omega (arith, length-append marked (added ∷ []));
+      }
+
+  made_later : (history : List (Entry C R)) (turn : Turn C) (front : List (Call C R)) (call : Call C R)
+      → IsMade history front call → IsMade (after_turn meaning form history turn) front call
+  made_later history turn front call made =
+      let marks : List CfId = marks_by meaning form turn.down history turn.by turn.ask in
+      let marked : List (Entry C R) = with_marks meaning form history marks in
+      made_more marked (next_entry meaning form marked turn.by turn.ask) front call
+      (by_marks (λ some. IsMade some front call) (λ some cf. made_more some (next_mark meaning form some cf) front call) marks
+      history made)
+
+  pub call_made : (history : List (Entry C R)) → IsLegal meaning form history
+      → (front : List (Call C R)) (call : Call C R) (more : List (Call C R)) → calls history ≡ front ++ call ∷ more
+      → IsMade history front call
+  call_made history legal =
+      by_turns AreMade none_made (λ h turn fine made front call more e.
+      elim (cut_push (calls h) (call_added h turn) front call more (sym (calls-turn h turn) ∙ e)) [
+        | inl old ↦ made_later h turn front call (made front call old.0 old.1)
+        | inr here ↦ rw (here.0, here.1) (made_here h turn fine)
+      ]) history legal
+
+  -- ---- a call before which no mark stands
+
+  -- the call that it adds
   abbrev pub next_call : List (Entry C R) → ConnId → Ask C → Call C R
   next_call history by ask =
       record { no = length history + 1; by = by; ask = ask; reply = next_reply meaning form history by ask }
 
-  pub calls-next : (history : List (Entry C R)) (by : ConnId) (ask : Ask C)
-      → calls (next meaning form history by ask) ≡ calls history ++ next_call history by ask ∷ []
-  calls-next history by ask = calls-append history (next_entry meaning form history by ask ∷ [])
+  pub calls-call : (history : List (Entry C R)) (by : ConnId) (ask : Ask C)
+      → calls (with_call meaning form history by ask) ≡ calls history ++ next_call history by ask ∷ []
+  calls-call history by ask = calls-append history (next_entry meaning form history by ask ∷ [])
 
-  -- a call is the caller's own, and nobody else's
-  pub own-next_same : (history : List (Entry C R)) (by conn : ConnId) (ask : Ask C) → by.0 == conn.0 ≡ true
-      → own (next meaning form history by ask) conn ≡ own history conn ++ next_call history by ask ∷ []
-  own-next_same history by conn ask same =
-      own-append history (next_entry meaning form history by ask ∷ []) conn ∙ rw same refl
+  -- it is a turn where no link is down
+  abbrev pub quiet_turn : ConnId → Ask C → Turn C
+  quiet_turn by ask = record { by = by; ask = ask; down = λ cf. false }
 
-  pub own-next_other : (history : List (Entry C R)) (by conn : ConnId) (ask : Ask C) → by.0 == conn.0 ≡ false
-      → own (next meaning form history by ask) conn ≡ own history conn
-  own-next_other history by conn ask other =
-      own-append history (next_entry meaning form history by ask ∷ []) conn ∙ rw other (append-nil (own history conn))
+  pub turn-quiet : (history : List (Entry C R)) (by : ConnId) (ask : Ask C)
+      → after_turn meaning form history (quiet_turn by ask) ≡ with_call meaning form history by ask
+  turn-quiet history by ask =
+      ap (λ (marks : List CfId). with_call meaning form (with_marks meaning form history marks) by ask)
+      (no_marks (links_asked meaning form (replay meaning form history) by ask))
+
+  -- it leaves a legal history legal
+  pub legal_call : (history : List (Entry C R)) (by : ConnId) (ask : Ask C) → IsLegal meaning form history
+      → IsLegal meaning form (with_call meaning form history by ask)
+  legal_call history by ask legal =
+      subst (IsLegal meaning form) (turn-quiet history by ask) (legal_turn history (quiet_turn by ask) legal)
 
   -- ---- points
 
@@ -154,15 +315,7 @@ module _ {C R I S : Type 0} (meaning : Meaning C R I S) (form : StrForm) where
   point-append history others n (inr there) =
       inr (rw (numbers-append history others) (Contains-append_left (numbers history) (numbers others) n there))
 
-  -- a call's number is a point
-  pub point-next : (history : List (Entry C R)) (by : ConnId) (ask : Ask C)
-      → IsPoint (next meaning form history by ask) (length history + 1)
-  point-next history by ask =
-      let added : List (Entry C R) = next_entry meaning form history by ask ∷ [] in
-      inr (rw (numbers-append history added)
-      (Contains-append_right (numbers history) (numbers added) (length history + 1) (0, lit< tt, refl)))
-
-  -- ---- entry by entry
+  -- ---- what continues a history
 
   abbrev FollowsEach : List (Entry C R) → List (Entry C R) → Type 0
   FollowsEach history others =
@@ -192,13 +345,7 @@ module _ {C R I S : Type 0} (meaning : Meaning C R I S) (form : StrForm) where
       (take i others))
       (each_continues (history ++ first ∷ []) others goes.1 i entry e)
 
-  -- a history is legal exactly where its entries stand in groups and each continues those before it
+  -- each entry of a legal history continues those before it
   pub continues_legal : (history : List (Entry C R)) → IsLegal meaning form history → Continues meaning form
       [] history
-  continues_legal history legal = continues_each [] history legal.entries
-
-  pub legal_continues : (history : List (Entry C R))
-      → AreGroups meaning form (opening meaning form) [] (opening meaning form) history
-      → Continues meaning form [] history
-      → IsLegal meaning form history
-  legal_continues history groups goes = record { groups = groups; entries = each_continues [] history goes }
+  continues_legal history legal = continues_each [] history (each_next history legal)

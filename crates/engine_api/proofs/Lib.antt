@@ -1,4 +1,9 @@
 pub mod Pushed
 pub mod HistoryLaws
+pub mod AskLaws
+pub mod AnswerLaws
+pub mod NumberLaws
+pub mod PointLaws
 pub mod ShellLaws
 pub mod ReadyLaws
+pub mod FrontLaws

@@ -1,21 +1,17 @@
 -- The history of a structure: the entries of its journal, in order.
-use Rattle.std.specs.Prelude.{◌≡◌, ℕ, ◌+◌, ◌≤◌, ◌<◌, ◌⊎◌, ◌==◌, ◌&&◌, not, if◌then◌else◌, Bool, nat_lt, List, [], ◌∷◌, ◌++◌, length, take, fold, filter, slice_get, Option, None, Some, Contains, map}
+use Rattle.std.specs.Prelude.{◌≡◌, ℕ, ◌+◌, ◌≤◌, ◌<◌, ◌⊎◌, ◌==◌, Bool, nat_lt, List, [], ◌∷◌, ◌++◌, length, take, fold, filter, slice_get, Option, None, Some, Contains, map}
 use Rattle.std.specs.List.{filter_map}
 use Rattle.cf_types.specs.declared.forms.StrForm.{StrForm}
 use Rattle.cf_types.specs.declared.numbers.CfId.{CfId}
 use Rattle.cf_types.specs.declared.numbers.ConnId.{ConnId}
-use Rattle.cf_types.specs.declared.shell_commands.ShellCmd.{ShellCmd}
-use Rattle.cf_types.specs.declared.shell_commands.ShellCmd.TheVariants as cmd
 use Rattle.engine_api.specs.declared.asks.Ask.{Ask}
-use Rattle.engine_api.specs.declared.asks.Ask.TheVariants as ask
 use Rattle.engine_api.specs.declared.asks.Reply.{Reply}
 use Rattle.engine_api.specs.declared.asks.What.{What}
 use Rattle.engine_api.specs.declared.asks.What.TheVariants as what
 use Rattle.engine_api.specs.declared.histories.Entry.{Entry}
 use Rattle.engine_api.specs.Meaning.{Meaning}
-use Rattle.engine_api.specs.Machine.{Machine, opening, room_of, step, loss_step}
-use Rattle.engine_api.specs.Rebuilds.{fresh_of}
-use Rattle.engine_api.specs.Shell.{Shell, call_cause}
+use Rattle.engine_api.specs.LinkAsks.{operator, links_asked, marks_of}
+use Rattle.engine_api.specs.Machine.{Machine, opening, step, loss_step}
 
 -- ---- calls
 
@@ -26,27 +22,16 @@ pub record Call (C R : Type 0) : Type 0 where
   pub ask : Ask C
   pub reply : Reply R
 
--- the facilities whose loss has been told in a group, behind one more entry
-abbrev pub marks_behind : {C : Type 0} → List CfId → What C → List CfId
-marks_behind marks (what.Call ask) = []
-marks_behind marks (what.Lost cf) = marks ++ cf ∷ []
+-- a caller's call, and which links answer that they are down, should the call ask them
+pub record Turn (C : Type 0) : Type 0 where
+  pub by : ConnId
+  pub ask : Ask C
+  pub down : CfId → Bool
 
--- the facility of an instance whose link was down
-abbrev pub mark_told : Bool → Option CfId → List CfId
-mark_told down None = []
-mark_told down (Some cf) = if down then cf ∷ [] else []
-
--- the marks that a call brings whose first link is down or isn't, and its second. A command on the content asks the
--- primary's, and then the secondary's; COPY asks the old instance's, and the new one's where that wasn't down
-abbrev pub marks_of_command : (first second : Bool) → Shell → ShellCmd → List CfId
-marks_of_command first second shell (cmd.Copy n) =
-    mark_told first shell.instances.primary ++ mark_told (not first && second) (fresh_of shell.rebuild)
-marks_of_command first second shell _ = []
-
-abbrev pub marks_told : {C : Type 0} → (first second : Bool) → Shell → Ask C → List CfId
-marks_told first second shell (ask.Shell command) = marks_of_command first second shell command
-marks_told first second shell (ask.Content command) =
-    mark_told first shell.instances.primary ++ mark_told second shell.instances.secondary
+-- an entry may tell a call
+abbrev pub IsCallAs : {C : Type 0} → What C → Type 0
+IsCallAs (what.Call ask) = Unit {0}
+IsCallAs (what.Lost cf) = ⊥
 
 module _ {C R : Type 0} where
   -- the call that an entry tells, if it tells one
@@ -59,6 +44,14 @@ module _ {C R : Type 0} where
 
   abbrev pub calls : List (Entry C R) → List (Call C R)
   calls history = filter_map call_of history
+
+  abbrev pub IsCall : Entry C R → Type 0
+  IsCall entry = IsCallAs entry.what
+
+  -- each entry tells a call, so that none tells a loss
+  abbrev pub IsUnmarked : List (Entry C R) → Type 0
+  IsUnmarked [] = Unit {0}
+  IsUnmarked (entry ∷ entries) = IsCall entry × IsUnmarked entries
 
   -- the calls of one caller, in order
   abbrev pub own : List (Entry C R) → ConnId → List (Call C R)
@@ -79,6 +72,14 @@ module _ {C R : Type 0} where
   abbrev pub last_call_below : List (Entry C R) → ℕ → ℕ
   last_call_below history n = fold last_number 0 (filter (λ call. nat_lt call.no n) (calls history))
 
+  -- What the numbers of calls have to do with a history's length: none is past it, nor is the last call below any
+  -- number; the last call below a number past it is its end; and the last call up to a call's number is that call.
+  pub record IsNumbered (history : List (Entry C R)) : Type 0 where
+    pub within : (n : ℕ) → IsPoint history n → n ≤ length history
+    pub below : (n : ℕ) → last_call_below history n ≤ length history
+    pub ended : (n : ℕ) → length history < n → last_call_below history n ≡ length history
+    pub points : (n : ℕ) → IsPoint history n → last_call_below history (n + 1) ≡ n
+
 -- ---- what a history leads to
 
 module _ {C R I S : Type 0} (meaning : Meaning C R I S) (form : StrForm) where
@@ -98,55 +99,63 @@ module _ {C R I S : Type 0} (meaning : Meaning C R I S) (form : StrForm) where
   abbrev pub next_reply : List (Entry C R) → ConnId → Ask C → Reply R
   next_reply history by ask = (step meaning form (replay history) by ask).reply
 
-  -- the entry that a caller's next call adds
+  -- ---- one entry more
+
+  abbrev pub next_mark : List (Entry C R) → CfId → Entry C R
+  next_mark history cf =
+      record {
+        no = length history + 1;
+        by = operator;
+        what = what.Lost cf;
+        reply = (loss_step meaning form (replay history) cf).reply;
+      }
+
   abbrev pub next_entry : List (Entry C R) → ConnId → Ask C → Entry C R
   next_entry history by ask =
       record { no = length history + 1; by = by; what = what.Call ask; reply = next_reply history by ask }
 
-  abbrev pub next : List (Entry C R) → ConnId → Ask C → List (Entry C R)
-  next history by ask = history ++ next_entry history by ask ∷ []
+  abbrev pub with_mark : List (Entry C R) → CfId → List (Entry C R)
+  with_mark history cf = history ++ next_mark history cf ∷ []
 
-  -- an entry is the next one of a history. No link is asked yet, so that no mark is
+  -- a call before which no mark stands
+  abbrev pub with_call : List (Entry C R) → ConnId → Ask C → List (Entry C R)
+  with_call history by ask = history ++ next_entry history by ask ∷ []
+
+  -- ---- one call more, behind the marks of the links that are down
+
+  abbrev pub with_marks : List (Entry C R) → List CfId → List (Entry C R)
+  with_marks history marks = fold with_mark history marks
+
+  abbrev pub marks_by : (CfId → Bool) → List (Entry C R) → ConnId → Ask C → List CfId
+  marks_by down history by ask = marks_of down (links_asked meaning form (replay history) by ask)
+
+  abbrev pub next : (CfId → Bool) → List (Entry C R) → ConnId → Ask C → List (Entry C R)
+  next down history by ask = with_call (with_marks history (marks_by down history by ask)) by ask
+
+  abbrev pub after_turn : List (Entry C R) → Turn C → List (Entry C R)
+  after_turn history turn = next turn.down history turn.by turn.ask
+
+  -- a history is legal where some calls and some answers of the links make it
+  pub record IsLegal (history : List (Entry C R)) : Type 0 where
+    pub turns : List (Turn C)
+    pub made : history ≡ fold after_turn [] turns
+
+  -- ---- entry by entry
+
+  -- an entry is the next one of a history
   abbrev pub IsNextAs : List (Entry C R) → Entry C R → What C → Type 0
   IsNextAs history entry (what.Call ask) = entry ≡ next_entry history entry.by ask
-  IsNextAs history entry (what.Lost cf) = ⊥
+  IsNextAs history entry (what.Lost cf) = entry ≡ next_mark history cf
 
   abbrev pub IsNext : List (Entry C R) → Entry C R → Type 0
   IsNext history entry = IsNextAs history entry entry.what
 
-  -- ---- groups: marks, and then the call whose links told them
+  -- each entry is the next one of those before it
+  abbrev pub IsEachNext : List (Entry C R) → Type 0
+  IsEachNext history =
+      (i : ℕ) (entry : Entry C R) → slice_get history i ≡ Some entry → IsNext (take i history) entry
 
-  -- A call may have these marks before it: none; or, where it asks links and the shell doesn't refuse it as things
-  -- stood before them, those of the links that were down.
-  abbrev pub AreMarksOf : Machine S → ConnId → Ask C → List CfId → Type 0
-  AreMarksOf machine by asked marks =
-      (marks ≡ []) ⊎ ((call_cause form (room_of meaning form machine) machine.shell by asked ≡ None)
-      × ((first second : Bool) × (marks ≡ marks_told first second machine.shell asked)))
-
-  -- an entry ends the group that began at a machine, and has these marks so far, or goes on with it
-  abbrev pub IsOfGroup : Machine S → List CfId → ConnId → What C → Type 0
-  IsOfGroup began marks by (what.Call asked) = AreMarksOf began by asked marks
-  IsOfGroup began marks by (what.Lost cf) = Unit {0}
-
-  abbrev pub began_behind : (began now : Machine S) → What C → Machine S
-  began_behind began now (what.Call asked) = now
-  began_behind began now (what.Lost cf) = began
-
-  -- entries that go on behind these marks of a group, which began at a machine, and end with a call
-  abbrev pub AreGroups : (began : Machine S) → List CfId → (now : Machine S) → List (Entry C R) → Type 0
-  AreGroups began marks now [] = marks ≡ []
-  AreGroups began marks now (entry ∷ entries) =
-      IsOfGroup began marks entry.by entry.what
-      × AreGroups (began_behind began (machine_after now entry) entry.what) (marks_behind marks entry.what)
-      (machine_after now entry) entries
-
-  -- entries are numbered from 1 without a gap, stand in groups, and each reply is that of the machine at the entries
-  -- before it
-  pub record IsLegal (history : List (Entry C R)) : Type 0 where
-    pub groups : AreGroups (opening meaning form) [] (opening meaning form) history
-    pub entries : (i : ℕ) (entry : Entry C R) → slice_get history i ≡ Some entry → IsNext (take i history) entry
-
-  -- the same, entry by entry: what may follow a history
+  -- the same: what may follow a history
   abbrev pub Continues : List (Entry C R) → List (Entry C R) → Type 0
   Continues history [] = Unit {0}
   Continues history (entry ∷ entries) = IsNext history entry × Continues (history ++ entry ∷ []) entries

@@ -27,9 +27,15 @@ module _ {C R I S : Type 0} (meaning : Meaning C R I S) where
   abbrev pub content_of_items : Shape → List I → S
   content_of_items shape items = fold (meaning.place shape) (meaning.empty shape) items
 
-  -- the items so far, followed by this one, are the first of some content's
-  pub record IsNextItem (IsContent : S → Type 0) (shape : Shape) (state : S) (item : I) : Type 0 where
+  -- it has just its items
+  abbrev pub IsAlone : Shape → S → Type 0
+  IsAlone shape state = content_of_items shape (meaning.items shape state) ≡ state
+
+  -- it has just its items; and these, followed by this one, are the first of some content's, at whatever capacity
+  pub record IsNextItem (IsContent : Shape → Caps → S → Type 0) (shape : Shape) (state : S) (item : I) : Type 0 where
+    pub at : Caps
     pub whole : S
     pub others : List I
-    pub content : IsContent whole
+    pub content : IsContent shape at whole
     pub first : meaning.items shape whole ≡ meaning.items shape state ++ item ∷ others
+    pub alone : IsAlone shape state

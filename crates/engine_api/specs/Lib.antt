@@ -6,5 +6,8 @@ pub mod Rebuilds
 pub mod Shell
 pub mod Told
 pub mod Machine
+pub mod LinkAsks
 pub mod History
+pub mod Answers
+pub mod Points
 pub mod Asking

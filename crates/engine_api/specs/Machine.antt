@@ -72,7 +72,13 @@ module _ {C R I S : Type 0} (meaning : Meaning C R I S) (form : StrForm) where
 
   -- the primary: its content and its capacity
   abbrev pub capacity : Machine S → Held S
-  capacity machine = record { shape = shape_of form; caps = machine.shell.caps; state = machine.content }
+  capacity machine =
+      record {
+        shape = shape_of form;
+        base = machine.shell.caps;
+        caps = machine.shell.caps;
+        state = machine.content;
+      }
 
   -- a command on the content is done by the engine, and its letters are posted
   abbrev pub content_done : Machine S → ConnId → C → CallOutcome R S

@@ -54,9 +54,10 @@ unless_refused None state outcome = record {
 }
 unless_refused (Some refusal) state outcome = record { reply = Err refusal; state = state; letters = [] }
 
--- what an engine holds: its shape, its capacity and its content
+-- what an engine holds: its shape, the capacity that it was made with, its capacity now, and its content
 pub record Held (S : Type 0) : Type 0 where
   pub shape : Shape
+  pub base : Caps
   pub caps : Caps
   pub state : S
 
@@ -80,7 +81,7 @@ module _ {C R I S : Type 0} (meaning : Meaning C R I S) where
 
   -- an engine with nothing in it
   abbrev pub new_held : Shape → Caps → Held S
-  new_held shape caps = record { shape = shape; caps = caps; state = meaning.empty shape }
+  new_held shape caps = record { shape = shape; base = caps; caps = caps; state = meaning.empty shape }
 
   abbrev pub answer : Held S → ConnId → C → Answer R S
   answer held by cmd =

@@ -1,7 +1,7 @@
 use cf_types::{Caps, CfId, ConnId};
 
 /// What a common command does to the instances and their content, in the order of the fields.
-#[derive(Clone, Copy, Debug, PartialEq, Eq)]
+#[derive(Clone, Copy, PartialEq, Eq)]
 pub struct Deeds {
     /// A failed connection is taken up again.
     pub back: Option<ConnId>,
@@ -23,7 +23,7 @@ pub struct Deeds {
 
 /// What the engines know: what the primary's content needs, 0 in both numbers where no primary
 /// stands; and how many items a rebuild has left to copy, 0 where no new instance stands.
-#[derive(Clone, Copy, Debug, PartialEq, Eq)]
+#[derive(Clone, Copy, PartialEq, Eq)]
 pub struct Room {
     pub need: Caps,
     pub left: u32,

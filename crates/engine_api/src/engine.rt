@@ -1,4 +1,4 @@
-ghost use Rattle.std.specs.Prelude.{◌≡◌, ◌≤◌, ◌<◌, ◌++◌, ◌∷◌, [], List, Bool, IsTrue, IfOk, IfErr, OnOk, OnErr, ℕ, length, slice_get, Some, true, false};
+ghost use Rattle.std.specs.Prelude.{◌≡◌, ◌≤◌, ◌<◌, ◌++◌, ◌∷◌, [], List, Bool, IsTrue, IfOk, IfErr, OnOk, OnErr, ℕ, length, slice_get, None, Some, true, false};
 ghost use Rattle.cf_types.specs.Forms.{IsForm, IsCapacity, IsCaller};
 ghost use Rattle.cf_types.specs.Gains.{Gains};
 ghost use Rattle.cf_types.specs.declared.effects.Effects.{Effects};
@@ -7,9 +7,9 @@ ghost use Rattle.cf_types.specs.declared.forms.Kind.{Kind};
 ghost use Rattle.cf_types.specs.declared.numbers.ConnId.{ConnId};
 ghost use Rattle.engine_api.specs.declared.shapes.Shape.{Shape};
 ghost use Rattle.engine_api.specs.Shapes.{shape_of};
-ghost use Rattle.engine_api.specs.Meaning.{Meaning, Held, Wish, step_result, new_held, answer, letters_of, departure, with_departure, with_back, with_forgotten, stands_in, items_of, with_item, without_last_item};
+ghost use Rattle.engine_api.specs.Meaning.{Meaning, Held, Wish, new_held, answer, letters_of, departure, with_departure, with_back, with_forgotten, stands_in, items_of, with_item, without_last_item};
 ghost use Rattle.engine_api.specs.Meaning.Wish.{ForCmd, ForLeave, ForForget};
-ghost use Rattle.engine_api.specs.Items.{Fits, IsNoMore, IsNoMoreOf, IsNextItem, content_of_items};
+ghost use Rattle.engine_api.specs.Items.{Fits, IsNoMore, IsNoMoreOf, IsAlone, IsNextItem, content_of_items};
 
 use cf_types::{Caps, ConnId, Effects, NoMemory, Refusal, StrForm};
 use std::alloc::Global;
@@ -28,6 +28,9 @@ pub trait Engine: Sized + Send + Drop {
     /// What a copy of the content is made of, one after another.
     type Item: Send + Drop;
 
+    /// Where each item of a content is found. A copy takes it once, and asks by it for the items.
+    type Order: Send + Drop;
+
     /// The content as contracts see it. No value of it is made.
     type State;
 
@@ -42,6 +45,9 @@ pub trait Engine: Sized + Send + Drop {
 
     /// The shape, the capacity and the content.
     ghost held: { Self → Held Self.State };
+
+    /// The order is that of the items of what an engine holds.
+    ghost is_order: { Self.Order → Held Self.State → Type 0 };
 
     /// The engine is ready for this, and so are the effects.
     ghost is_ready: { Self → Wish Self.Cmd → Effects → Type 0 };
@@ -133,19 +139,31 @@ pub trait Engine: Sized + Send + Drop {
         ensures { IfOk result
             (λ item. slice_get (items_of meaning (held self.now)) k ≡ Some item) };
 
+    /// The order of the items, as long as the content stays the same.
+    fn order(&self, alloc: Global) -> Result<Self::Order, NoMemory>
+        ensures { IfOk result (λ order. is_order order (held self.now)) };
+
+    /// A copy of an item, counted from 0, found by the order of all.
+    fn item_in(&self, alloc: Global, order: &Self::Order, k: u32) -> Result<Self::Item, NoMemory>
+        requires order { is_order order.now (held self.now) }
+        requires within { k < length (items_of meaning (held self.now)) }
+        ensures { IfOk result
+            (λ item. slice_get (items_of meaning (held self.now)) k ≡ Some item) };
+
     /// Puts an item behind the others; want of memory hands it back.
     fn place(&mut self, item: Self::Item) -> Result<(), Self::Item>
-        requires next { IsNextItem meaning (is_content (held self.old).shape (held self.old).caps)
-            (held self.old).shape (held self.old).state item }
+        requires next { IsNextItem meaning is_content (held self.old).shape (held self.old).state
+            item }
         requires fits { Fits (held self.old).shape.kind
             (meaning.need (items_of meaning (held self.old) ++ item ∷ [])) (held self.old).caps }
         ensures ok { OnOk result (held self.new ≡ with_item meaning (held self.old) item) }
         ensures err { OnErr result (held self.new ≡ held self.old) }
         ensures handed_back { IfErr result (λ back. back ≡ item) };
 
-    /// Takes the last item away.
+    /// Takes the last item away, where there are items and nothing else.
     fn unplace(&mut self)
-        requires { 0 < length (items_of meaning (held self.old)) }
+        requires some { 0 < length (items_of meaning (held self.old)) }
+        requires alone { IsAlone meaning (held self.old).shape (held self.old).state }
         ensures { held self.new ≡ without_last_item meaning (held self.old) };
 
     /// The entries and elements that the content needs.
@@ -176,11 +194,11 @@ pub trait Engine: Sized + Send + Drop {
     ghost items_empty: { (shape : Shape) → meaning.items shape (meaning.empty shape) ≡ [] };
 
     /// Commands and departures lead from content to content.
-    ghost content_step: { (shape : Shape) (caps : Caps) (state : Self.State)
+    ghost content_done: { (shape : Shape) (caps : Caps) (state : Self.State)
         (by : ConnId) (cmd : Self.Cmd)
-        → is_content shape caps state
-        → is_content shape caps (step_result meaning
-        (record { shape = shape; caps = caps; state = state }) by cmd).state };
+        → IsTrue (is_kind shape.kind) → is_content shape caps state
+        → meaning.cause shape caps state by cmd ≡ None
+        → is_content shape caps (meaning.done shape caps state by cmd).state };
 
     ghost content_leave: { (shape : Shape) (caps : Caps) (state : Self.State)
         (conn : ConnId) (keep : Bool)
@@ -190,52 +208,40 @@ pub trait Engine: Sized + Send + Drop {
     ghost content_back: { (shape : Shape) (caps : Caps) (state : Self.State) (conn : ConnId)
         → is_content shape caps state → is_content shape caps (meaning.back state conn) };
 
-    ghost content_forget: { (shape : Shape) (caps : Caps) (state : Self.State)
-        → is_content shape caps state → is_content shape caps (meaning.forget state) };
-
     /// The items of a content make the content again, without its registrations.
     ghost made_again: { (shape : Shape) (caps : Caps) (state : Self.State)
         → is_content shape caps state → content_of_items meaning shape (meaning.items shape state) ≡
         meaning.forget state };
 
-    /// A content whose items fit another capacity is a content there too, without its
-    /// registrations.
-    ghost content_moved: { (shape : Shape) (caps other : Caps) (state : Self.State)
-        → IsTrue (is_kind shape.kind) → is_content shape caps state
-        → Fits shape.kind (meaning.need (meaning.items shape state)) other
-        → is_content shape other (meaning.forget state) };
+    /// The first items of a content make one that has just them; it is a content at each capacity
+    /// that they fit; and the last of them goes with `unplace`.
+    ghost items_front: { (shape : Shape) (caps : Caps) (state : Self.State)
+        (front others : List Self.Item)
+        → is_content shape caps state → meaning.items shape state ≡ front ++ others
+        → meaning.items shape (content_of_items meaning shape front) ≡ front };
 
-    /// With the next item a content is one again; the item is the last, and goes with `unplace`.
-    ghost content_place: { (shape : Shape) (caps : Caps) (state : Self.State) (item : Self.Item)
-        → is_content shape caps state
-        → IsNextItem meaning (is_content shape caps) shape state item
-        → is_content shape caps (meaning.place shape state item) };
+    ghost content_front: { (shape : Shape) (caps other : Caps) (state : Self.State)
+        (front others : List Self.Item)
+        → IsTrue (is_kind shape.kind)
+        → is_content shape caps state → meaning.items shape state ≡ front ++ others
+        → Fits shape.kind (meaning.need front) other
+        → is_content shape other (content_of_items meaning shape front) };
 
-    ghost items_place: { (shape : Shape) (caps : Caps) (state : Self.State) (item : Self.Item)
-        → is_content shape caps state
-        → IsNextItem meaning (is_content shape caps) shape state item
-        → meaning.items shape (meaning.place shape state item) ≡ meaning.items shape state
-        ++ item ∷ [] };
-
-    ghost unplace_place: { (shape : Shape) (caps : Caps) (state : Self.State) (item : Self.Item)
-        → is_content shape caps state
-        → IsNextItem meaning (is_content shape caps) shape state item
-        → meaning.unplace shape (meaning.place shape state item) ≡ state };
+    ghost unplace_front: { (shape : Shape) (caps : Caps) (state : Self.State)
+        (front : List Self.Item) (item : Self.Item) (others : List Self.Item)
+        → is_content shape caps state → meaning.items shape state ≡ front ++ item ∷ others
+        → meaning.unplace shape (content_of_items meaning shape (front ++ item ∷ [])) ≡
+        content_of_items meaning shape front };
 
     /// The first items need no more than all.
     ghost need_first: { (items others : List Self.Item) → IsNoMore (meaning.need items)
         (meaning.need (items ++ others)) };
 
-    /// A departure, and the end of registrations, never raise the need.
+    /// A departure never raises the need.
     ghost need_leave: { (shape : Shape) (caps : Caps) (state : Self.State)
         (conn : ConnId) (keep : Bool)
         → is_content shape caps state
         → IsNoMoreOf shape.kind (meaning.need
         (meaning.items shape (meaning.leave shape state conn keep).state))
-        (meaning.need (meaning.items shape state)) };
-
-    ghost need_forget: { (shape : Shape) (caps : Caps) (state : Self.State)
-        → is_content shape caps state
-        → IsNoMoreOf shape.kind (meaning.need (meaning.items shape (meaning.forget state)))
         (meaning.need (meaning.items shape state)) };
 }

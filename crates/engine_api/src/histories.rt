@@ -6,7 +6,7 @@ use std::marker::Model;
 
 /// An entry of a journal: its number, from 1; who called (0 for the operator, and where a facility
 /// was lost); what it tells; and the reply.
-#[derive(Debug, Drop)]
+#[derive(Drop)]
 pub struct Entry<C, R> {
     pub no: u32,
     pub by: ConnId,
@@ -15,7 +15,7 @@ pub struct Entry<C, R> {
 }
 
 /// The entries of a structure's journal, in order.
-#[derive(Debug, Drop)]
+#[derive(Drop)]
 pub struct History<C, R> {
     entries: Vec<Entry<C, R>>,
 }

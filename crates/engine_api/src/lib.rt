@@ -14,6 +14,6 @@ pub use asks::{Ask, Reply, What};
 pub use deeds::{Deeds, Room};
 pub use engine::Engine;
 pub use histories::{Entry, History};
-pub use laws::refused_changes_nothing;
+pub use laws::{legal_by_points, refused_changes_nothing};
 pub use shapes::Shape;
 pub use told::Told;

@@ -5,7 +5,7 @@ use cf_types::{Caps, Kind, StrForm};
 
 /// What of a structure's form its content goes by: its kind, the capacity that the policy states,
 /// how many connections it admits, and how many bits a connector's vector has.
-#[derive(Clone, Copy, Debug, PartialEq, Eq)]
+#[derive(Clone, Copy, PartialEq, Eq)]
 pub struct Shape {
     pub kind: Kind,
     pub caps: Caps,

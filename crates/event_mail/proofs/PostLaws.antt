@@ -1,6 +1,6 @@
 -- The mailboxes of a structure, one of which changes or is added.
 use Rattle.std.proofs.Common.{◌≡◌, ℕ, ◌+◌, ◌<◌, ◌≤◌, List, [], ◌∷◌, ◌++◌, length, get_or, set, map, replicate, slice_set, sym, ap, ◌∙◌, ⊎_elim, ◌≢◌, arith}
-use Rattle.std.proofs.lemmas.List.{map-set, set-get_or, get_or-set_other, map-append, length-map, length-replicate, get_or-map, replicate_more}
+use Rattle.std.proofs.lemmas.List.{map-set, set-get_or, get_or-set_other, get_or-map}
 use Rattle.std.proofs.lemmas.Bool.{cases_eq}
 use Rattle.std.proofs.lemmas.Grind.{get_or-set_at}
 use Rattle.std.proofs.lemmas.Option.{unwrap_or-slice_get}
@@ -20,17 +20,6 @@ mailboxes_of-set boxes mail conn at old new change is here within was now =
     rw (← is, ← here) (unwrap_or-slice_get (map of boxes) at no_events ∙ get_or-map of boxes at old no_events within
     ∙ ap of (sym was)) in
     rw (before, ← now, ← is, ← here) (map-set of boxes at new)
-
--- one mailbox more, without events
-pub mailboxes_of-push : (boxes : List Box) (n : ℕ) (new : Box) → mailboxes_of boxes ≡ replicate n no_events
-    → new.mailbox ≡ no_events → mailboxes_of (boxes ++ new ∷ []) ≡ replicate (n + 1) no_events
-mailboxes_of-push boxes n new is empty =
-    let of : Box → Mailbox = λ box. box.mailbox in
-    map-append of boxes (new ∷ []) ∙ rw (is, empty) (replicate_more n no_events)
-
-pub length-boxes : (boxes : List Box) (n : ℕ) → mailboxes_of boxes ≡ replicate n no_events → length boxes ≡ n
-length-boxes boxes n is = let of : Box → Mailbox = λ box. box.mailbox in sym (length-map boxes of)
-    ∙ ap (λ (m : Mailboxes). length m) is ∙ length-replicate n no_events
 
 -- the room of one mailbox changes, and not what is in it
 pub mailboxes_of-same : (boxes : List Box) (at : ℕ) (new d : Box) → at < length boxes

@@ -1,6 +1,6 @@
 -- Mailboxes with the room that is taken for more letters.
 use Rattle.std.specs.Prelude.{◌≡◌, ℕ, ◌+◌, ◌≤◌, List, length, map, All}
-use Rattle.cf_types.specs.declared.limits.TheConstants.{CONNECTORS}
+use Rattle.cf_types.specs.declared.limits.TheConstants.{CALLERS}
 use Rattle.cf_types.specs.Mailboxes.{Mailbox, Mailboxes}
 
 -- one connector's
@@ -18,5 +18,5 @@ mailboxes_of boxes = map (λ box. box.mailbox) boxes
 
 -- there is a mailbox for each connector's number, and each has this room
 pub record HaveRoom (boxes : List Box) (room : ℕ) : Type 0 where
-  pub places : length boxes ≡ CONNECTORS + 1
+  pub places : length boxes ≡ CALLERS
   pub each : All (λ box. room ≤ box.room) boxes

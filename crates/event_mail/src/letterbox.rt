@@ -8,7 +8,7 @@ use std::marker::Model;
 
 /// The events of one connector. Contracts see those that wait and those that are owed, each in
 /// order, and for how many more events room is taken.
-#[derive(Debug, Drop)]
+#[derive(Drop)]
 pub struct Letterbox {
     /// The events that are owed, then those that wait.
     events: VecDeque<Event>,

@@ -3,7 +3,5 @@
 
 mod letterbox;
 mod mail;
-#[cfg(test)]
-mod tests;
 
 pub use mail::Mail;

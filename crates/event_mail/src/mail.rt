@@ -4,20 +4,20 @@ ghost use Rattle.cf_types.specs.Mailboxes.{empty_mail, with_letter, next_event, 
 ghost use Rattle.event_mail.specs.Post.{Box, mailboxes_of};
 
 use crate::letterbox::Letterbox;
-use cf_types::limits::CONNECTORS;
+use cf_types::limits::{CALLERS, CONNECTORS};
 use cf_types::{ConnId, Event, Letter, NoMemory};
 use std::alloc::Global;
 use std::marker::Model;
 
 /// How many mailboxes there are: the operator's, which stays empty, and one for each connector.
-const PLACES: usize = CONNECTORS as usize + 1;
+const PLACES: usize = CALLERS as usize;
 
 /// For how many letters a connector's mailbox has room at the start.
 const FIRST_LETTERS: usize = 8;
 
 /// The mailboxes of a structure. Contracts see what each has, by the connectors' numbers from 0,
 /// and for how many letters to each connector room is taken.
-#[derive(Debug, Drop)]
+#[derive(Drop)]
 pub struct Mail {
     boxes: Vec<Letterbox>,
     room: usize,

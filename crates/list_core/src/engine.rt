@@ -46,7 +46,8 @@ impl Engine for ListEngine {
     ghost use Rattle.list_core.specs.EngineView.{IsReady};
     ghost use Rattle.list_model.specs.Contents.{IsContent};
     ghost use Rattle.list_model.specs.Meaning.{list_meaning};
-    ghost use Rattle.list_model.proofs.EngineLaws.{content-nothing, items-nothing, step-content, leave-content, content-moved, made-items, content-place, items-place, unplace-place, need-front, need-leave, need-same};
+    ghost use Rattle.list_model.proofs.ContentLaws.{content-done};
+    ghost use Rattle.list_model.proofs.EngineLaws.{content-nothing, items-nothing, leave-content, list-fronts, need-front, need-leave};
     ghost use Rattle.engine_api.proofs.ReadyLaws.{le-trans, room-cases};
 
     type Cmd = ListCmd;
@@ -54,6 +55,8 @@ impl Engine for ListEngine {
     type Reply = ListReply;
 
     type Item = ListItem;
+
+    type Order = ();
 
     type State = ListContent;
 
@@ -64,6 +67,8 @@ impl Engine for ListEngine {
     ghost is_content = { IsContent };
 
     ghost held = { λ e. e.held };
+
+    ghost is_order = { λ order held. Unit {0} };
 
     ghost is_ready = { IsReady };
 
@@ -142,6 +147,14 @@ impl Engine for ListEngine {
         copy_item(alloc, self.shape, &self.kept, k)
     }
 
+    fn order(&self, _alloc: Global) -> Result<(), NoMemory> {
+        Ok(())
+    }
+
+    fn item_in(&self, alloc: Global, _order: &(), k: u32) -> Result<ListItem, NoMemory> {
+        self.item(alloc, k)
+    }
+
     fn place(&mut self, item: ListItem) -> Result<(), ListItem> {
         place_item(self.alloc, &mut self.kept, item)
     }
@@ -184,27 +197,22 @@ impl Engine for ListEngine {
 
     ghost items_empty = { items-nothing };
 
-    ghost content_step = { step-content };
+    ghost content_done = { λ shape caps content by cmd kind is none. content-done shape caps content
+        by cmd is none };
 
     ghost content_leave = { leave-content };
 
     ghost content_back = { λ shape caps content conn is. is };
 
-    ghost content_forget = { λ shape caps content is. is };
+    ghost made_again = { list-fronts.made_again };
 
-    ghost made_again = { made-items };
+    ghost items_front = { list-fronts.items_front };
 
-    ghost content_moved = { content-moved };
+    ghost content_front = { list-fronts.content_front };
 
-    ghost content_place = { content-place };
-
-    ghost items_place = { items-place };
-
-    ghost unplace_place = { unplace-place };
+    ghost unplace_front = { list-fronts.unplace_front };
 
     ghost need_first = { need-front };
 
     ghost need_leave = { λ shape caps content conn keep is. need-leave shape content conn keep };
-
-    ghost need_forget = { λ shape caps content is. need-same shape content };
 }

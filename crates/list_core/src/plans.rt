@@ -21,7 +21,7 @@ use list_kept::Kept;
 use std::alloc::Global;
 
 /// What is got ready for a command: its reply, and a copy of the data that a record will have.
-#[derive(Debug, Drop)]
+#[derive(Drop)]
 pub(crate) struct Plan {
     pub reply: Result<ListReply, Refusal>,
     pub body: Option<Body>,

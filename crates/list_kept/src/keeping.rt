@@ -355,7 +355,8 @@ impl Kept {
 
     /// The monitors, in the order in which they were made, with the bits that connectors were told.
     pub fn watched(&self) -> &[Watched]
-        ensures { monitors_of result.now ≡ self.now.content.monitors }
+        ensures monitors { monitors_of result.now ≡ self.now.content.monitors }
+        ensures told { AreTold self.now.content.lists result.now }
     {
         self.watch.items()
     }

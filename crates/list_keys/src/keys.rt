@@ -11,7 +11,7 @@ use std::marker::Model;
 
 /// The names of a list structure's records, one record at most for a name. Contracts see the names
 /// with the records' ids, and for how many more there is room.
-#[derive(Debug, Drop)]
+#[derive(Drop)]
 pub struct Keys {
     names: Vec<Named>,
 }

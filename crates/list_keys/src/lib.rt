@@ -6,6 +6,3 @@ mod named;
 
 pub use keys::Keys;
 pub use named::Named;
-
-#[cfg(test)]
-mod tests;

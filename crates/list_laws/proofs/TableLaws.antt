@@ -1,5 +1,11 @@
 -- Lists as tables: an element is replaced at its place.
-use Rattle.std.proofs.Common.{◌≡◌, ◌≢◌, ℕ, zero, suc, ◌≤◌, List, [], ◌∷◌, Some, refl, ap, arith, slice_get, slice_index, set}
+use Rattle.std.proofs.Common.{◌≡◌, ◌≢◌, ℕ, zero, suc, ◌≤◌, ◌<◌, List, [], ◌∷◌, length, Some, refl, ap, arith, slice_get, slice_index, set}
+
+-- an element within a list
+pub get_within : {X : Type 0} (xs : List X) (i : ℕ) → i < length xs → (x : X) × (slice_get xs i ≡ Some x)
+get_within [] i within = absurd (omega arith)
+get_within (x ∷ xs) zero within = (x, refl)
+get_within (x ∷ xs) (suc i) within = get_within xs i (omega arith)
 
 pub get-set_same : {X : Type 0} (xs : List X) (i : ℕ) (x y : X) → slice_get xs i ≡ Some x
     → slice_get (set xs i y) i ≡ Some y

@@ -16,14 +16,13 @@ use Rattle.cf_types.specs.declared.list_commands.At.TheVariants as ref
 use Rattle.cf_types.specs.declared.list_commands.Cond.{Cond}
 use Rattle.cf_types.specs.declared.list_commands.ListCmd.{ListCmd}
 use Rattle.cf_types.specs.declared.list_commands.ListCmd.TheVariants.{Write, Update, Read, Move, Delete, ReadList, LockSet, LockReset, LockTest, LControls, SetLimit, Monitor, Unmonitor}
-use Rattle.cf_types.specs.declared.list_commands.ListReply.{ListReply}
 use Rattle.cf_types.specs.declared.names.Key16.{Key16}
 use Rattle.cf_types.specs.declared.names.Name16.{Name16}
 use Rattle.cf_types.specs.declared.numbers.ConnId.{ConnId}
 use Rattle.cf_types.specs.declared.numbers.EntryId.{EntryId}
 use Rattle.cf_types.specs.declared.refusals.Refusal.{Refusal}
 use Rattle.engine_api.specs.declared.shapes.Shape.{Shape}
-use Rattle.engine_api.specs.Meaning.{Outcome, first_refusal, unless_refused}
+use Rattle.engine_api.specs.Meaning.{first_refusal}
 use Rattle.list_laws.specs.Insertions.{insertion}
 use Rattle.list_laws.specs.Pairwise.{pairwise}
 use Rattle.list_laws.proofs.FilterLaws.{list_all-filter, list_all_weaker, list_all_always, list_all-filter_same, filter_all, length-filter-le, sum_by-filter-le, any_is_found, all_from_none}
@@ -583,17 +582,3 @@ content-done shape caps content by (SetLimit header n) is h = content-limits sha
 content-done shape caps content by (Monitor header index) is h =
     content-monitor shape caps content by header index is h
 content-done shape caps content by (Unmonitor header) is h = content-unmonitor shape caps content by header is
-
-unless_step : (shape : Shape) (caps : Caps) (refusal : Option Refusal) (content : Content)
-    (outcome : Outcome ListReply Content)
-    → IsContent shape caps content → (refusal ≡ None → IsContent shape caps outcome.state)
-    → IsContent shape caps (unless_refused refusal content outcome).state
-unless_step shape caps None content outcome is h = h refl
-unless_step shape caps (Some refusal) content outcome is h = is
-
-pub content-step : (shape : Shape) (caps : Caps) (content : Content) (by : ConnId) (cmd : ListCmd)
-    → IsContent shape caps content
-    → IsContent shape caps (unless_refused (cause shape caps content by cmd) content (done content by cmd)).state
-content-step shape caps content by cmd is =
-    unless_step shape caps (cause shape caps content by cmd) content (done content by cmd) is
-    (content-done shape caps content by cmd is)

@@ -11,13 +11,13 @@ use Rattle.cf_types.specs.declared.forms.Caps.{Caps}
 use Rattle.cf_types.specs.declared.forms.Kind.{Kind}
 use Rattle.cf_types.specs.declared.forms.Kind.TheVariants as kind
 use Rattle.cf_types.specs.declared.numbers.ConnId.{ConnId}
-use Rattle.cf_types.specs.declared.list_commands.ListCmd.{ListCmd}
 use Rattle.cf_types.specs.declared.names.Key16.{Key16}
 use Rattle.cf_types.specs.declared.names.Name16.{Name16}
 use Rattle.cf_types.specs.declared.numbers.EntryId.{EntryId}
 use Rattle.engine_api.specs.declared.shapes.Shape.{Shape}
-use Rattle.engine_api.specs.Meaning.{step_result}
 use Rattle.engine_api.specs.Items.{Fits, IsNoMore, IsNoMoreOf, IsNextItem, content_of_items}
+use Rattle.engine_api.proofs.FrontLaws as front
+use Rattle.engine_api.proofs.FrontLaws.{FrontLaws}
 use Rattle.list_laws.specs.Pairwise.{pairwise}
 use Rattle.list_laws.proofs.PairwiseLaws.{pairwise_front}
 use Rattle.list_laws.proofs.TakeLaws.{take_next}
@@ -25,11 +25,11 @@ use Rattle.list_laws.proofs.FilterLaws.{none_from_all, list_all_weaker}
 use Rattle.list_store.specs.declared.records.Rec.{Rec}
 use Rattle.list_store.specs.Lists.{Lists, all_records, count_of, ids_apart, records_of, with_records, is_id}
 use Rattle.list_model.specs.declared.items.ListItem.{ListItem}
-use Rattle.list_model.specs.declared.items.ListItem.TheVariants.{Controls, Row}
+use Rattle.list_model.specs.declared.items.ListItem.TheVariants.{Row}
 use Rattle.list_model.specs.Records.{elements_in, is_known, names_apart, may_precede}
-use Rattle.list_model.specs.Lists.{first_records, no_record}
-use Rattle.list_model.specs.Contents.{Content, IsContent, is_given, no_content, headers_of, locks_of, refs_of, content_without, stands}
-use Rattle.list_model.specs.Items.{has_controls, controls_of, row_of, rows_from, items_of, content_with, content_without_last, entries_for, elements_for, need_of, Triple}
+use Rattle.list_model.specs.Lists.{first_records}
+use Rattle.list_model.specs.Contents.{Content, IsContent, is_given, no_content, headers_of, locks_of, refs_of, content_without}
+use Rattle.list_model.specs.Items.{has_controls, controls_of, row_of, rows_from, items_of, content_with, content_without_last, entries_for, elements_for, need_of}
 use Rattle.list_model.specs.Meaning.{list_meaning}
 use Rattle.list_model.proofs.RecordLaws.{ids_apart-sym}
 use Rattle.list_model.proofs.ListLaws.{IsWith, with-push, with-records, with-pairwise}
@@ -69,9 +69,6 @@ content-nothing shape caps =
       within = refl;
     }
 
-pub clear-nothing : (shape : Shape) (conn : ConnId) (index : ℕ) → stands (no_content shape) conn index ≡ false
-clear-nothing shape conn index = refl
-
 same_test : (n : ℕ) → not (n == n) ≡ false
 same_test n = grind (arith, nat_tests)
 
@@ -103,13 +100,7 @@ items-nothing shape =
     (rows_from 0 (no_content shape).lists)) (no-controls shape)
     ∙ no_rows (headers_of shape.kind) 0
 
--- ---- commands and departures
-
-pub step-content : (shape : Shape) (caps : Caps) (content : Content) (by : ConnId) (cmd : ListCmd)
-    → IsContent shape caps content
-    → IsContent shape caps
-    (step_result list_meaning (record { shape = shape; caps = caps; state = content }) by cmd).state
-step-content shape caps content by cmd is = laws.content-step shape caps content by cmd is
+-- ---- departures
 
 pub leave-content : (shape : Shape) (caps : Caps) (content : Content) (conn : ConnId) (keep : Bool)
     → IsContent shape caps content
@@ -123,12 +114,12 @@ pub made-items : (shape : Shape) (caps : Caps) (content : Content) → IsContent
 made-items shape caps content is = made-again shape caps content is
 
 -- where the item comes
-pub next-comes : (shape : Shape) (caps : Caps) (state : Content) (item : ListItem) → IsContent shape caps state
-    → (next : IsNextItem list_meaning (IsContent shape caps) shape state item)
+pub next-comes : (shape : Shape) (state : Content) (item : ListItem)
+    → (next : IsNextItem list_meaning IsContent shape state item)
     → ComesFirst shape next.whole state item ⊎ ComesNext shape next.whole state item
-next-comes shape caps state item is next =
-    item-comes shape caps next.whole state item
-    (items_of shape state) next.others next.content next.first (made-items shape caps state is)
+next-comes shape state item next =
+    item-comes shape next.at next.whole state item
+    (items_of shape state) next.others next.content next.first next.alone
 
 comes_first : (shape : Shape) (caps : Caps) (whole state : Content) (item : ListItem) → IsContent shape caps whole
     → ComesFirst shape whole state item
@@ -159,11 +150,11 @@ place_items shape caps whole state item is (inr next) =
     ∙ ap (λ (l : List ListItem). l ++ item ∷ []) (sym (items-front shape whole next.count))
     ∙ ap (λ (c : Content). items_of shape c ++ item ∷ []) (sym next.front)
 
-pub items-place : (shape : Shape) (caps : Caps) (state : Content) (item : ListItem)
-    → IsContent shape caps state → IsNextItem list_meaning (IsContent shape caps) shape state item
+pub items-place : (shape : Shape) (state : Content) (item : ListItem)
+    → IsNextItem list_meaning IsContent shape state item
     → items_of shape (content_with state item) ≡ items_of shape state ++ item ∷ []
-items-place shape caps state item is next =
-    place_items shape caps next.whole state item next.content (next-comes shape caps state item is next)
+items-place shape state item next =
+    place_items shape next.at next.whole state item next.content (next-comes shape state item next)
 
 without_none : (shape : Shape) (content : Content) → count_of content.lists ≡ 0
     → content_without_last shape content ≡ record (no_content shape) { lists = content.lists }
@@ -197,11 +188,11 @@ place_back shape caps whole state item is (inr next) =
     (first-first next.count (next.count + 1) whole.lists (omega arith))
     ∙ sym next.front
 
-pub unplace-place : (shape : Shape) (caps : Caps) (state : Content) (item : ListItem)
-    → IsContent shape caps state → IsNextItem list_meaning (IsContent shape caps) shape state item
+pub unplace-place : (shape : Shape) (state : Content) (item : ListItem)
+    → IsNextItem list_meaning IsContent shape state item
     → content_without_last shape (content_with state item) ≡ state
-unplace-place shape caps state item is next =
-    place_back shape caps next.whole state item next.content (next-comes shape caps state item is next)
+unplace-place shape state item next =
+    place_back shape next.at next.whole state item next.content (next-comes shape state item next)
 
 -- ---- need
 
@@ -287,11 +278,6 @@ need-leave shape content conn keep =
     same_need shape.kind (need_of (items_of shape (content_without content conn keep)))
     (need_of (items_of shape content))
     (need-items shape (content_without content conn keep) ∙ sym (need-items shape content))
-
-pub need-same : (shape : Shape) (content : Content)
-    → IsNoMoreOf shape.kind (need_of (items_of shape content)) (need_of (items_of shape content))
-need-same shape content =
-    same_need shape.kind (need_of (items_of shape content)) (need_of (items_of shape content)) refl
 
 -- a content whose items fit another capacity is one there
 fits_both : (kind : Kind) (need caps : Caps) → IsTrue (is_list kind) → Fits kind need caps
@@ -399,11 +385,42 @@ place_content shape caps whole state item is (inr next) =
     (content-front shape caps whole (next.count + 1) is)
 
 -- with an item more
-pub content-place : (shape : Shape) (caps : Caps) (state : Content) (item : ListItem)
-    → IsContent shape caps state → IsNextItem list_meaning (IsContent shape caps) shape state item
-    → IsContent shape caps (content_with state item)
-content-place shape caps state item is next =
-    place_content shape caps next.whole state item next.content (next-comes shape caps state item is next)
+pub content-place : (shape : Shape) (state : Content) (item : ListItem)
+    → (next : IsNextItem list_meaning IsContent shape state item)
+    → IsContent shape next.at (content_with state item)
+content-place shape state item next =
+    place_content shape next.at next.whole state item next.content (next-comes shape state item next)
+
+-- ---- what the first items make
+
+abbrev next_at : (shape : Shape) (caps : Caps) (state : Content) (item : ListItem)
+    → front.ComesNext list_meaning is_list IsContent shape caps state item
+    → IsNextItem list_meaning IsContent shape state item
+next_at shape caps state item next =
+    record {
+      at = caps;
+      whole = next.whole;
+      others = next.others;
+      content = next.content;
+      first = next.first;
+      alone = next.alone;
+    }
+
+pub list-fronts : FrontLaws list_meaning is_list IsContent
+list-fronts =
+    front.fronts list_meaning is_list IsContent
+    (record {
+      content_empty = content-nothing;
+      items_empty = items-nothing;
+      made_again = made-items;
+      content_moved = content-moved;
+      content_place = λ shape caps state item is next. content-place shape state item
+          (next_at shape caps state item next);
+      items_place = λ shape caps state item is next. items-place shape state item
+          (next_at shape caps state item next);
+      unplace_place = λ shape caps state item is next. unplace-place shape state item
+          (next_at shape caps state item next);
+    })
 
 -- a record that comes next has a header that is there, and an id and a name of its own
 pub record FitsIn (content : Content) (item : ListItem) : Type 0 where
@@ -455,32 +472,14 @@ fits shape caps whole state header id name key body adj is (inr next) =
     fits_next shape caps whole state (Row header id name key body adj) is next
     (place_content shape caps whole state (Row header id name key body adj) is (inr next))
 
-pub next-fits : (shape : Shape) (caps : Caps) (state : Content) (header : ℕ) (id : EntryId) (name : Option Name16)
+pub next-fits : (shape : Shape) (state : Content) (header : ℕ) (id : EntryId) (name : Option Name16)
     (key : Option Key16)
     (body adj : Option (List ℕ))
-    → IsContent shape caps state
-    → IsNextItem list_meaning (IsContent shape caps) shape state (Row header id name key body adj)
+    → IsNextItem list_meaning IsContent shape state (Row header id name key body adj)
     → FitsIn state (Row header id name key body adj)
-next-fits shape caps state header id name key body adj is next =
-    fits shape caps next.whole state header id name key body adj next.content
-    (next-comes shape caps state (Row header id name key body adj) is next)
-
--- controls come to an empty content
-pub controls-first : (shape : Shape) (caps : Caps) (state : Content) (next : ℕ) (limits : List ℕ)
-    (locks : List (Option ConnId))
-    (watches : List Triple)
-    → IsContent shape caps state
-    → IsNextItem list_meaning (IsContent shape caps) shape state (Controls next limits locks watches)
-    → state ≡ no_content shape
-controls-first shape caps state next limits locks watches is comes =
-    go (next-comes shape caps state (Controls next limits locks watches) is comes)
-  where
-    go : ComesFirst shape comes.whole state (Controls next limits locks watches)
-        ⊎ ComesNext shape comes.whole state (Controls next limits locks watches) → state ≡ no_content shape
-    go (inl first) = first.start
-    go (inr behind) =
-        let row = next-row 0 behind.count comes.whole.lists (Controls next limits locks watches) behind.row in
-        let same : Controls next limits locks watches ≡ row_of (0 + row.place) no_record = row.is_row in absurd (cc)
+next-fits shape state header id name key body adj next =
+    fits shape next.at next.whole state header id name key body adj next.content
+    (next-comes shape state (Row header id name key body adj) next)
 
 without_step : (shape : Shape) (caps : Caps) (content : Content) → IsContent shape caps content → (n : ℕ)
     → count_of content.lists ≡ n

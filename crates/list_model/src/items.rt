@@ -2,7 +2,7 @@ use cf_types::{Adjunct, Body, ConnId, EntryId, Key16, Listing, Name16};
 
 /// What a copy of a list structure is made of: its controls, where they differ from those of an
 /// empty structure, and then its records.
-#[derive(Debug, Drop)]
+#[derive(Drop)]
 pub enum ListItem {
     /// The id that the next record gets (from 1), the limit of each header in records, who holds
     /// each list lock, and the monitors: the connector, the index of its vector and the header

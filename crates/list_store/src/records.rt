@@ -2,7 +2,7 @@ use cf_types::{Adjunct, Body, EntryId, Key16, Name16};
 
 /// A record of a list structure: its id, its name or key where the structure's records have one,
 /// and its data and adjunct where it has them.
-#[derive(Debug, Drop)]
+#[derive(Drop)]
 pub struct Rec {
     pub id: EntryId,
     pub name: Option<Name16>,
@@ -12,7 +12,7 @@ pub struct Rec {
 }
 
 /// Where a record is: its header and its place in the header, both from 0.
-#[derive(Clone, Copy, Debug, PartialEq, Eq)]
+#[derive(Clone, Copy, PartialEq, Eq)]
 pub struct Spot {
     pub header: u32,
     pub place: u32,

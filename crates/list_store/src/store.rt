@@ -14,7 +14,7 @@ use std::marker::Model;
 
 /// The records of a list structure. Contracts see a list of records for each header, and for how
 /// many more there is room.
-#[derive(Debug, Drop)]
+#[derive(Drop)]
 pub struct Store {
     lists: Vec<Vec<Rec>>,
 }

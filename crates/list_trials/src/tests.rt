@@ -94,10 +94,10 @@ fn what_is_written_is_read(rt: HostRuntime) -> Result<(), Fail> {
     let mut out = Effects::new(alloc);
     let watched = watches(&mut engine, &mut out)?;
     let written = writes(&mut engine, alloc, &mut out)?;
-    assert_eq!(rt; out.bits.items().len(), 1);
+    assert!(rt; out.bits.items().len() == 1);
     let found = reads(&mut engine, &mut out)?;
     assert!(rt; watched && written && found);
     let count = copied_count(&engine, alloc)?;
-    assert_eq!(rt; count, 2);
+    assert!(rt; count == 2);
     Ok(())
 }

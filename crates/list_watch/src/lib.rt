@@ -8,6 +8,3 @@ mod watch;
 
 pub use monitors::{Monitor, Watched};
 pub use watch::Watch;
-
-#[cfg(test)]
-mod tests;

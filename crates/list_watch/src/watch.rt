@@ -15,7 +15,7 @@ use std::marker::Model;
 /// The monitors of a list structure, one at most of a connector at an index, and one at most of a
 /// connector for a header. Contracts see them in the order in which they were made, with the bits
 /// that were told, and for how many more there is room.
-#[derive(Debug, Drop)]
+#[derive(Drop)]
 pub struct Watch {
     rows: Vec<Watched>,
 }

@@ -23,7 +23,7 @@ pub record EngineView : Type 0 where
 abbrev pub view_of : Inside → EngineView
 view_of e =
     record {
-      held = record { shape = e.shape; caps = e.caps; state = e.locks.content };
+      held = record { shape = e.shape; base = e.caps; caps = e.caps; state = e.locks.content };
       plan = e.plan;
       leaving = e.leaving;
       stock = e.locks;

@@ -49,8 +49,9 @@ impl Engine for LockEngine {
     ghost use Rattle.lock_core.specs.EngineView.{IsReady};
     ghost use Rattle.lock_model.specs.Contents.{IsContent};
     ghost use Rattle.lock_model.specs.Meaning.{lock_meaning};
-    ghost use Rattle.lock_model.proofs.ItemLaws.{content-next};
-    ghost use Rattle.lock_model.proofs.EngineLaws.{content-nothing, step-content, leave-content, content-moved, back-content, made-items, items-place, unplace-place, need-front, need-leave, need-same};
+    ghost use Rattle.lock_model.proofs.CommandLaws.{content-done};
+    ghost use Rattle.lock_model.proofs.ItemLaws.{lock-fronts};
+    ghost use Rattle.lock_model.proofs.EngineLaws.{content-nothing, leave-content, back-content, need-front, need-leave};
     ghost use Rattle.engine_api.proofs.ReadyLaws.{le-trans, room-cases};
 
     type Cmd = LockCmd;
@@ -58,6 +59,8 @@ impl Engine for LockEngine {
     type Reply = LockReply;
 
     type Item = LockItem;
+
+    type Order = ();
 
     type State = LockContent;
 
@@ -68,6 +71,8 @@ impl Engine for LockEngine {
     ghost is_content = { λ shape caps content. IsContent caps content };
 
     ghost held = { λ e. e.held };
+
+    ghost is_order = { λ order held. Unit {0} };
 
     ghost is_ready = { IsReady };
 
@@ -148,7 +153,7 @@ impl Engine for LockEngine {
     fn forget(&mut self, _out: &mut Effects) {}
 
     fn count(&self) -> u32 {
-        self.locks.need().entries
+        self.locks.count()
     }
 
     fn item(&self, _alloc: Global, k: u32) -> Result<LockItem, NoMemory> {
@@ -156,6 +161,14 @@ impl Engine for LockEngine {
             Some(item) => Ok(item),
             None => unreachable!(),
         }
+    }
+
+    fn order(&self, _alloc: Global) -> Result<(), NoMemory> {
+        Ok(())
+    }
+
+    fn item_in(&self, alloc: Global, _order: &(), k: u32) -> Result<LockItem, NoMemory> {
+        self.item(alloc, k)
     }
 
     fn place(&mut self, item: LockItem) -> Result<(), LockItem> {
@@ -206,33 +219,24 @@ impl Engine for LockEngine {
 
     ghost items_empty = { λ shape. refl };
 
-    ghost content_step = { λ shape caps content by cmd. step-content shape caps content by cmd };
+    ghost content_done = { λ shape caps content by cmd kind is none. content-done caps content by
+        cmd is none };
 
     ghost content_leave = { λ shape caps content conn keep. leave-content shape caps content conn
         keep };
 
     ghost content_back = { λ shape caps content conn. back-content caps content conn };
 
-    ghost content_forget = { λ shape caps content is. is };
+    ghost made_again = { lock-fronts.made_again };
 
-    ghost made_again = { λ shape caps content is. made-items content };
+    ghost items_front = { lock-fronts.items_front };
 
-    ghost content_moved = { λ shape caps other content kind is fits. content-moved shape caps other
-        content is fits };
+    ghost content_front = { lock-fronts.content_front };
 
-    ghost content_place = { λ shape caps content item is next. content-next caps content next.whole
-        item next.others next.content next.first };
-
-    ghost items_place = { λ shape caps content item is next. items-place shape caps content item
-        next };
-
-    ghost unplace_place = { λ shape caps content item is next. unplace-place shape caps content item
-        next };
+    ghost unplace_front = { lock-fronts.unplace_front };
 
     ghost need_first = { need-front };
 
     ghost need_leave = { λ shape caps content conn keep is. need-leave shape caps content conn keep
         is };
-
-    ghost need_forget = { λ shape caps content is. need-same shape.kind content };
 }

@@ -16,7 +16,7 @@ use std::marker::Model;
 
 /// The interests and the waiters of a lock structure. Contracts see the content that they make, and
 /// for how many more there is room.
-#[derive(Debug, Drop)]
+#[derive(Drop)]
 pub(crate) struct Locks {
     pub interests: Interests,
     pub queue: Queue,
@@ -270,6 +270,15 @@ impl Locks {
         }
     }
 
+    /// How many own and wait.
+    pub(crate) fn count(&self) -> u32
+        requires { length self.now.content.interests + length self.now.content.waiters <
+            4294967296 }
+        ensures { result ≡ length self.now.content.interests + length self.now.content.waiters }
+    {
+        self.interests.len() + self.queue.len()
+    }
+
     /// How many own and wait, and how many of them have record data.
     pub(crate) fn need(&self) -> Caps
         requires few { length self.now.content.interests + length self.now.content.waiters <
@@ -283,7 +292,7 @@ impl Locks {
     {
         let records = self.interests.count_records() + count_waiting(self.queue.items());
         Caps {
-            entries: self.interests.len() + self.queue.len(),
+            entries: self.count(),
             elements: records as u32,
         }
     }

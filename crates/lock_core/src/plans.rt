@@ -13,7 +13,7 @@ use lock_interests::Interests;
 use std::alloc::Global;
 
 /// What is got ready for a command: whether it is refused, and the record data that it reads.
-#[derive(Debug, Drop)]
+#[derive(Drop)]
 pub(crate) struct Plan {
     pub refusal: Option<Refusal>,
     pub records: Listing<(Resource, bool, Adjunct)>,

@@ -1,12 +1,12 @@
 -- Interests with their record data, from the list of owners and the list of record data.
-use Rattle.std.specs.Prelude.{ℕ, Bool, not, ◌&&◌, ◌==◌, List, Option, Some, None, option_map, filter, map}
-use Rattle.std.specs.List.{filter_map}
+use Rattle.std.specs.Prelude.{ℕ, Bool, IsTrue, not, ◌&&◌, ◌==◌, List, Option, Some, None, option_map, filter, map}
+use Rattle.std.specs.List.{filter_map, list_all}
 use Rattle.cf_types.specs.declared.events.Event.TheVariants as events
 use Rattle.cf_types.specs.declared.events.Letter.{Letter}
 use Rattle.cf_types.specs.declared.numbers.ConnId.{ConnId}
 use Rattle.cf_types.specs.declared.resources.Resource.{Resource}
 use Rattle.lock_table.specs.declared.holdings.Held.{Held}
-use Rattle.lock_table.specs.Holdings.{is_on}
+use Rattle.lock_table.specs.Holdings.{is_on, has_interest}
 use Rattle.lock_record.specs.declared.recorded.Record.{Record}
 use Rattle.lock_record.specs.Recorded.{record_of, records_with, records_without}
 use Rattle.lock_model.specs.Interests.{Interest}
@@ -25,6 +25,11 @@ with_record records held = record { held = held; rec = record_of held.r held.con
 
 abbrev pub interests_of : List Held → List Record → List Interest
 interests_of owners records = map (with_record records) owners
+
+-- each record datum is of an owner
+abbrev pub AreOwned : List Held → List Record → Type 0
+AreOwned owners records =
+    IsTrue (list_all (λ recorded. has_interest recorded.r recorded.conn owners) records)
 
 abbrev pub interests_view : Inside → InterestsView
 interests_view i =

@@ -7,7 +7,7 @@ ghost use Rattle.cf_types.specs.declared.resources.Resource.{Resource};
 ghost use Rattle.lock_record.specs.declared.recorded.Record.{Record};
 ghost use Rattle.lock_record.specs.Recorded.{record_of};
 ghost use Rattle.lock_table.specs.Holdings.{is_interest};
-ghost use Rattle.lock_model.specs.Interests.{Interest, are_compatible, may_own, manager_of, interest_of, interests_with, interests_without, interests_changed};
+ghost use Rattle.lock_model.specs.Interests.{Interest, are_compatible, may_own, manager_of, interest_of, has_interest, interests_with, interests_without, interests_changed};
 ghost use Rattle.lock_model.specs.Contents.{records_of, records_owned};
 ghost use Rattle.lock_model.specs.Commands.RtRead as rt_read;
 ghost use Rattle.lock_model.specs.Commands.RtDelete as rt_delete;
@@ -26,18 +26,20 @@ use std::marker::Model;
 /// data in a list of their own. Contracts see the list of interests, by resource and then in
 /// standing order; for how many more interests, and for how many more record data, there is room;
 /// and how many record data the structure may have.
-#[derive(Debug, Drop)]
+#[derive(Drop)]
 pub struct Interests {
     owners: Table,
     records: Records,
 }
 
 impl Model for Interests {
-    ghost use Rattle.lock_interests.specs.InterestsView.{InterestsView, interests_view};
+    ghost use Rattle.lock_interests.specs.InterestsView.{InterestsView, interests_view, AreOwned};
 
     ghost Value = { InterestsView };
 
     ghost view = { interests_view };
+
+    ghost invariant = { λ i. AreOwned i.owners.owners i.records.records };
 }
 
 // Puts a connector's record data for a resource, or takes them away where none are given.
@@ -189,7 +191,9 @@ impl Interests {
         ensures count { result ≡ records_owned self.now.interests }
         ensures few { result < 4294967296 }
     {
-        count_recorded(self.owners.items(), &self.records)
+        // Each record datum is of one owner, since no two owners are the same.
+        let _ = self.owners.items();
+        self.records.count() as usize
     }
 
     /// How many interests would have record data once a waiter is granted.
@@ -198,10 +202,49 @@ impl Interests {
         ensures few { result ≤ 4294967296 }
     {
         if w.alter {
-            count_recorded_altered(self.owners.items(), &self.records, w)
+            self.count_records_altered(w)
         } else {
-            count_recorded_others(self.owners.items(), &self.records, w) + records_of(&w.rec)
+            self.count_records_with(w)
         }
+    }
+
+    // How many interests would have record data once this waiter is an owner.
+    fn count_records_with(&self, w: &Waiter) -> usize
+        ensures count { result ≡ records_owned (interests_with
+            (record { held = held_by w.now; rec = w.now.rec }) self.now.interests) }
+        ensures few { result ≤ 4294967296 }
+    {
+        let _ = self.owners.items();
+        self.records.count_others(&w.r, w.conn) as usize + records_of(&w.rec)
+    }
+
+    // How many interests would have record data once this waiter's interest is altered.
+    fn count_records_altered(&self, w: &Waiter) -> usize
+        ensures count { result ≡ records_owned (interests_changed w.now.r w.now.conn
+            (with_alteration w.now) self.now.interests) }
+        ensures few { result ≤ 4294967296 }
+    {
+        let _ = self.owners.items();
+        if self.is_given(w) {
+            self.records.count_others(&w.r, w.conn) as usize + 1
+        } else {
+            self.records.count() as usize
+        }
+    }
+
+    // Whether a waiter's interest stands, and is given record data.
+    fn is_given(&self, w: &Waiter) -> bool
+        ensures { result ≡ is_some w.now.rec && has_interest w.now.r w.now.conn
+            self.now.interests }
+    {
+        w.rec.is_some() && self.has_interest(&w.r, w.conn)
+    }
+
+    // Whether a connector has an interest in a resource.
+    fn has_interest(&self, r: &Resource, conn: ConnId) -> bool
+        ensures { result ≡ has_interest r.now conn self.now.interests }
+    {
+        is_any_part(self.owners.items(), r, conn)
     }
 
     /// How many interests there are.
@@ -249,8 +292,10 @@ impl Interests {
         ensures owner_room { self.old.owner_room ≤ self.new.owner_room }
         ensures record_room { self.old.record_room ≤ self.new.record_room + records_of w.now.rec }
     {
-        self.owners.set(&w.r, w.conn, w.excl);
-        give_record(&mut self.records, &w.r, w.conn, w.rec);
+        if self.has_interest(&w.r, w.conn) {
+            self.owners.set(&w.r, w.conn, w.excl);
+            give_record(&mut self.records, &w.r, w.conn, w.rec);
+        }
     }
 
     /// A waiter is granted. One that alters has its interest in the resource altered: the interest
@@ -411,6 +456,13 @@ fn part_of<'a>(owners: &'a [Held], r: &Resource, conn: ConnId) -> Option<&'a Hel
     owners.iter().find(|held| is_part(held, r, conn))
 }
 
+// Whether a connector has an interest in a resource.
+fn is_any_part(owners: &[Held], r: &Resource, conn: ConnId) -> bool
+    ensures { result ≡ list_any (is_interest r.now conn) owners.now }
+{
+    owners.iter().any(|held| is_part(held, r, conn))
+}
+
 // Whether an interest of a connector has record data.
 fn is_any_recorded(owners: &[Held], records: &Records, conn: ConnId) -> bool
     ensures { result ≡ list_any (λ held. (held.conn.0 == conn.0)
@@ -436,42 +488,6 @@ fn is_part_retained(owners: &[Held], r: &Resource, conn: ConnId) -> bool
     owners
         .iter()
         .any(|held| is_part(held, r, conn) && held.retained)
-}
-
-// How many owners have record data.
-fn count_recorded(owners: &[Held], records: &Records) -> usize
-    ensures { result ≡ length (filter (λ held. is_some
-        (record_of held.r held.conn records.now.records)) owners.now) }
-{
-    owners
-        .iter()
-        .filter(|held| is_recorded(records, held))
-        .count()
-}
-
-// How many owners have record data, but for this waiter's interest.
-fn count_recorded_others(owners: &[Held], records: &Records, w: &Waiter) -> usize
-    ensures { result ≡ length (filter (λ held. not (is_interest w.now.r w.now.conn held)
-        && is_some (record_of held.r held.conn records.now.records)) owners.now) }
-{
-    owners
-        .iter()
-        .filter(|held| !is_part(held, &w.r, w.conn) && is_recorded(records, held))
-        .count()
-}
-
-// How many owners have record data once this waiter's interest is altered.
-fn count_recorded_altered(owners: &[Held], records: &Records, w: &Waiter) -> usize
-    ensures { result ≡ length (filter (λ held. is_interest w.now.r w.now.conn held
-        && is_some w.now.rec
-        || is_some (record_of held.r held.conn records.now.records)) owners.now) }
-{
-    owners
-        .iter()
-        .filter(|held| {
-            is_part(held, &w.r, w.conn) && w.rec.is_some() || is_recorded(records, held)
-        })
-        .count()
 }
 
 // Whether an owner is told of a waiter.

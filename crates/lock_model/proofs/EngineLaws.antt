@@ -9,10 +9,8 @@ use Rattle.cf_types.specs.declared.forms.Caps.{Caps}
 use Rattle.cf_types.specs.declared.forms.Kind.{Kind}
 use Rattle.cf_types.specs.declared.forms.Kind.TheVariants as kind
 use Rattle.cf_types.specs.declared.numbers.ConnId.{ConnId}
-use Rattle.cf_types.specs.declared.lock_commands.LockCmd.{LockCmd}
 use Rattle.engine_api.specs.declared.shapes.Shape.{Shape}
-use Rattle.engine_api.specs.Meaning.{step_result}
-use Rattle.engine_api.specs.Items.{Fits, IsNoMore, IsNoMoreOf, IsNextItem}
+use Rattle.engine_api.specs.Items.{Fits, IsNoMore, IsNoMoreOf}
 use Rattle.lock_queue.specs.declared.waiters.Waiter.{Waiter}
 use Rattle.lock_model.specs.declared.items.LockItem.{LockItem}
 use Rattle.lock_model.specs.declared.items.LockItem.TheVariants.{Owner, Waits}
@@ -21,7 +19,6 @@ use Rattle.lock_model.specs.Contents.{Content, IsContent, no_content, records_of
 use Rattle.lock_model.specs.Departures.{with_returned}
 use Rattle.lock_model.specs.Meaning.{lock_meaning}
 use Rattle.lock_model.proofs.ContentLaws.{items_in}
-use Rattle.lock_model.proofs.CommandLaws as commands
 use Rattle.lock_model.proofs.DepartureLaws as departures
 
 pub content-nothing : (caps : Caps) → IsContent caps no_content
@@ -32,11 +29,6 @@ content-nothing caps =
       due = refl;
       records = omega arith;
     }
-
-pub step-content : (shape : Shape) (caps : Caps) (content : Content) (by : ConnId) (cmd : LockCmd)
-    → IsContent caps content
-    → IsContent caps (step_result lock_meaning (record { shape = shape; caps = caps; state = content }) by cmd).state
-step-content shape caps content by cmd is = commands.content-step caps content by cmd is
 
 pub leave-content : (shape : Shape) (caps : Caps) (content : Content) (conn : ConnId) (keep : Bool)
     → IsContent caps content
@@ -136,14 +128,14 @@ waiter_placed interests waiters w =
     ap (λ (l : List LockItem). map owner interests ++ l) (map-append Waits waiters (w ∷ []))
     ∙ sym (append_assoc (map owner interests) (map Waits waiters) (Waits w ∷ []))
 
-pub items-place : (shape : Shape) (caps : Caps) (content : Content) (item : LockItem)
-    → IsNextItem lock_meaning (IsContent caps) shape content item
+pub items-place : (content whole : Content) (item : LockItem) (others : List LockItem)
+    → items whole ≡ items content ++ item ∷ others
     → items (content_with content item) ≡ items content ++ item ∷ []
-items-place shape caps content (Owner held rec) next =
+items-place content whole (Owner held rec) others first =
     let x : Interest = record { held = held; rec = rec } in
     owner_placed content.interests content.waiters x
-    (nobody next.whole content.interests content.waiters x next.others next.first)
-items-place shape caps content (Waits w) next = waiter_placed content.interests content.waiters w
+    (nobody whole content.interests content.waiters x others first)
+items-place content whole (Waits w) others first = waiter_placed content.interests content.waiters w
 
 -- ---- without the last item
 
@@ -164,14 +156,14 @@ owner_away interests [] x e = ap (λ (l : List Interest). record { interests = l
     (last-away interests x)
 owner_away interests (w ∷ ws) x e = absurd (cc)
 
-pub unplace-place : (shape : Shape) (caps : Caps) (content : Content) (item : LockItem)
-    → IsNextItem lock_meaning (IsContent caps) shape content item
+pub unplace-place : (content whole : Content) (item : LockItem) (others : List LockItem)
+    → items whole ≡ items content ++ item ∷ others
     → content_without_last (content_with content item) ≡ content
-unplace-place shape caps content (Owner held rec) next =
+unplace-place content whole (Owner held rec) others first =
     let x : Interest = record { held = held; rec = rec } in
     owner_away content.interests content.waiters x
-    (nobody next.whole content.interests content.waiters x next.others next.first)
-unplace-place shape caps content (Waits w) next = waiter_away content.interests content.waiters w
+    (nobody whole content.interests content.waiters x others first)
+unplace-place content whole (Waits w) others first = waiter_away content.interests content.waiters w
 
 -- ---- what items need
 
@@ -241,11 +233,6 @@ need-leave shape caps content conn keep is =
       omega (arith, led.items, entries-items left, entries-items content),
       omega (arith, led.records, elements-items left, elements-items content),
     )
-
-pub need-same : (kind : Kind) (content : Content)
-    → IsNoMoreOf kind (need_of (items content)) (need_of (items content))
-need-same kind content = no_more_of kind (need_of (items content)) (need_of (items content))
-    (omega arith, omega arith)
 
 -- a content whose items fit another capacity is one there
 fits_records : (kind : Kind) (need caps : Caps) → Fits kind need caps → need.elements ≤ caps.elements

@@ -8,10 +8,12 @@ use Rattle.std.proofs.lemmas.List.Elements.{filter-append}
 use Rattle.std.proofs.lemmas.List.Folds.{list_all-append}
 use Rattle.std.proofs.lemmas.List.Sums.{sum_by-append}
 use Rattle.std.proofs.lemmas.Option.{get_or_from_slice_get}
+use Rattle.cf_types.specs.Forms.{is_lock}
 use Rattle.cf_types.specs.declared.forms.Caps.{Caps}
 use Rattle.cf_types.specs.declared.resources.Resource.{Resource}
 use Rattle.cf_types.specs.Resources.{same_part}
 use Rattle.cf_types.proofs.ResourceLaws.{same_part-eq, same_part-refl}
+use Rattle.engine_api.proofs.FrontLaws.{FrontLaws, fronts}
 use Rattle.list_laws.specs.Pairwise.{pairwise}
 use Rattle.list_laws.specs.Insertions.{insertion}
 use Rattle.list_laws.proofs.FilterLaws.{filter_all, filter_swap, all_from_none}
@@ -25,7 +27,8 @@ use Rattle.lock_model.specs.Interests.{Interest, AreInterests, is_of, interests_
 use Rattle.lock_model.specs.Contents.{Content, IsContent, is_due, records_of, owner, items, content_with, content_without_last, without_last}
 use Rattle.lock_model.proofs.InterestLaws.{part_of}
 use Rattle.lock_model.proofs.GrantLaws.{waiter_part}
-use Rattle.lock_model.proofs.EngineLaws.{behind_owners, behind_items, nobody}
+use Rattle.lock_model.specs.Meaning.{lock_meaning}
+use Rattle.lock_model.proofs.EngineLaws.{behind_owners, behind_items, nobody, content-nothing, made-items, content-moved, items-place, unplace-place}
 
 -- ---- the first items of a content
 
@@ -195,6 +198,22 @@ content-next caps content whole (Waits w) others is e =
     (no_more_owners whole content.interests content.waiters w others e)
     ∙ append-nil content.interests)
     (front_waiters whole content.interests content.waiters (Waits w ∷ others) e)
+
+-- ---- what the first items make
+
+pub lock-fronts : FrontLaws lock_meaning is_lock (λ shape caps content. IsContent caps content)
+lock-fronts =
+    fronts lock_meaning is_lock (λ shape caps content. IsContent caps content)
+    (record {
+      content_empty = λ shape caps. content-nothing caps;
+      items_empty = λ shape. refl;
+      made_again = λ shape caps content is. made-items content;
+      content_moved = λ shape caps other content kind is fits. content-moved shape caps other content is fits;
+      content_place = λ shape caps content item is next.
+          content-next caps content next.whole item next.others next.content next.first;
+      items_place = λ shape caps content item is next. items-place content next.whole item next.others next.first;
+      unplace_place = λ shape caps content item is next. unplace-place content next.whole item next.others next.first;
+    })
 
 -- ---- where items stand
 

@@ -4,7 +4,7 @@ use lock_table::Held;
 
 /// What a copy of a lock structure is made of: first each interest with its record data, then each
 /// waiter.
-#[derive(Clone, Copy, Debug)]
+#[derive(Clone, Copy)]
 pub enum LockItem {
     /// A connector owns a resource.
     Owner { held: Held, rec: Option<Adjunct> },

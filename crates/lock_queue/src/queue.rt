@@ -12,7 +12,7 @@ use std::marker::Model;
 /// resource, in the order in which they are granted, with how many more there is room for.
 ///
 /// They lie in one list in that order, so the number of table entries plays no part in any answer.
-#[derive(Debug, Drop)]
+#[derive(Drop)]
 pub struct Queue {
     waiters: Vec<Waiter>,
 }

@@ -3,7 +3,7 @@ ghost use Rattle.std.specs.List.{prefix_len, insert};
 ghost use Rattle.std.specs.Vec.{vec_len, vec_capacity};
 ghost use Rattle.cf_types.specs.Resources.{resource_up_to};
 ghost use Rattle.lock_record.specs.declared.recorded.Record.{Record};
-ghost use Rattle.lock_record.specs.Recorded.{is_record, record_of, has_record, records_without, records_with, records_of, records_without_conn};
+ghost use Rattle.lock_record.specs.Recorded.{is_record, record_of, has_record, records_without, records_with, records_of, records_without_conn, AreRecords};
 
 use crate::recorded::Record;
 use cf_types::{Adjunct, ConnId, NoMemory, Resource};
@@ -12,7 +12,7 @@ use std::marker::Model;
 
 /// The record data of a lock structure. Contracts see them in the order of resources, with how many
 /// the structure may have, and how many more there is room for.
-#[derive(Debug, Drop)]
+#[derive(Drop)]
 pub struct Records {
     records: Vec<Record>,
     limit: u32,
@@ -108,6 +108,16 @@ fn resources_of(alloc: Global, records: &[Record], conn: ConnId) -> Result<Vec<R
     Ok(list)
 }
 
+// How many record data there are but for a connector's for a resource.
+fn count_others(records: &[Record], r: &Resource, conn: ConnId) -> usize
+    ensures { result ≡ length (records_without r.now conn records.now) }
+{
+    records
+        .iter()
+        .filter(|recorded| !is_record(recorded, r, conn))
+        .count()
+}
+
 impl Records {
     /// No record data, for a structure that may have so many. It takes no memory yet.
     pub fn new(alloc: Global, limit: u32) -> Result<Records, NoMemory>
@@ -134,9 +144,18 @@ impl Records {
 
     /// How many record data there are.
     pub fn count(&self) -> u32
-        ensures { result ≡ length self.now.records }
+        ensures count { result ≡ length self.now.records }
+        ensures records { AreRecords self.now.records }
     {
         self.records.len() as u32
+    }
+
+    /// How many record data there are but for a connector's for a resource.
+    pub fn count_others(&self, r: &Resource, conn: ConnId) -> u32
+        ensures count { result ≡ length (records_without r.now conn self.now.records) }
+        ensures records { AreRecords self.now.records }
+    {
+        count_others(&self.records, r, conn) as u32
     }
 
     /// A connector's record data for a resource.

@@ -1,6 +1,6 @@
 -- Interests: which connector owns which resource. They stand in the order of resources and, of one resource, in the
 -- order in which they came to stand.
-use Rattle.std.specs.Prelude.{Bool, IsTrue, not, ◌&&◌, ◌==◌, if◌then◌else◌, List, Option, filter, find, map}
+use Rattle.std.specs.Prelude.{Bool, IsTrue, not, ◌&&◌, ◌==◌, if◌then◌else◌, List, filter, map}
 use Rattle.std.specs.List.{list_any}
 use Rattle.cf_types.specs.declared.numbers.ConnId.{ConnId}
 use Rattle.cf_types.specs.declared.resources.Resource.{Resource}
@@ -19,9 +19,6 @@ is_interest r conn held = same_resource held.r r && (held.conn.0 == conn.0)
 -- the owners of a resource, in standing order
 abbrev pub owners_of : Resource → List Held → List Held
 owners_of r owners = filter (is_on r) owners
-
-abbrev pub interest_of : Resource → ConnId → List Held → Option Held
-interest_of r conn owners = find (is_interest r conn) owners
 
 abbrev pub has_interest : Resource → ConnId → List Held → Bool
 has_interest r conn owners = list_any (is_interest r conn) owners

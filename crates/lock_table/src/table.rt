@@ -21,7 +21,7 @@ pub type Owners<'a> = slice::Iter<'a, Held>;
 /// resource, in the order in which they came to stand, with how many more there is room for.
 ///
 /// They lie in one list in that order, so the number of table entries plays no part in any answer.
-#[derive(Debug, Drop)]
+#[derive(Drop)]
 pub struct Table {
     owners: Vec<Held>,
 }

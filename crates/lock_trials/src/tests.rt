@@ -129,6 +129,6 @@ fn recorded_locks_outlive_a_failure(rt: HostRuntime) -> Result<(), Fail> {
     let told = reads_records(&mut engine, &mut out)?;
     assert!(rt; owned && told);
     let count = copied_count(&engine, alloc)?;
-    assert_eq!(rt; count, 1);
+    assert!(rt; count == 1);
     Ok(())
 }

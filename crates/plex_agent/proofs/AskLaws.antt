@@ -78,12 +78,13 @@ module _ (limit : ℕ) (kind : Kind) (line : Option AnyAsk) (on : StrNo) where
   pub asks_refused : (now : Step) (refusal : CallRefused) (end : AgentEnd) (before : AtWork) (after : DeskShown)
       (items : List Shown) → IsReady line now → now ≢ step.Rest → IsLaterOn on before.desk after
       → (pass_at after on).sure ≤ (pass_at after on).known
-      → (refusal ≢ refused.NoMemory → limit ≤ (pass_at after on).known) → items ≡ before.shown.items
+      → (refusal ≢ refused.NoMemory → limit ≤ (pass_at after on).known)
+      → (refusal ≡ refused.NoMemory → after ≡ before.desk) → items ≡ before.shown.items
       → end ≡ end_of on refusal
       → Asks limit kind line on now before (at_work after items end)
-  asks_refused now refusal end before after items ready goes later ordered full same ends =
+  asks_refused now refusal end before after items ready goes later ordered full still same ends =
       subst (λ (end : AgentEnd). Asks limit kind line on now before (at_work after items end)) (sym ends)
-      (by_refusal refusal full)
+      (by_refusal refusal full still)
     where
       halts : Halts kind line on now before.desk after
       halts =
@@ -91,10 +92,12 @@ module _ (limit : ℕ) (kind : Kind) (line : Option AnyAsk) (on : StrNo) where
           record { asked = some.0; next = some.1; later = later; ordered = ordered }
 
       by_refusal : (refusal : CallRefused) → (refusal ≢ refused.NoMemory → limit ≤ (pass_at after on).known)
+          → (refusal ≡ refused.NoMemory → after ≡ before.desk)
           → Asks limit kind line on now before (at_work after items (end_of on refusal))
-      by_refusal (refused.JournalFull most) full =
+      by_refusal (refused.JournalFull most) full still =
           asks_end now before (at_work after items (ended.JournalFull on)) (refl, halts, full (λ is. cc)) same
-      by_refusal refused.NoMemory full = asks_end now before (at_work after items ended.NoMemory) halts same
+      by_refusal refused.NoMemory full still =
+          asks_end now before (at_work after items ended.NoMemory) (halts, still refl) same
 
 -- ---- a step of a line at a board's structure
 

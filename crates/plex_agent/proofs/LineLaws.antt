@@ -6,6 +6,7 @@ use Rattle.std.specs.List.{range_with_len}
 use Rattle.std.proofs.lemmas.List.FromFn.{length-range_with_len, get_or-range_with_len}
 use Rattle.std.proofs.lemmas.List.Elements.{All-map, All-get_or, All-weaker, All-push}
 use Rattle.std.proofs.lemmas.Option.{slice_get-map, slice_get_within, get_or_from_slice_get}
+use Rattle.cf_types.specs.declared.limits.TheConstants.{CONNECTORS, CALLERS}
 use Rattle.cf_types.specs.declared.forms.Kind.{Kind}
 use Rattle.cf_types.specs.declared.forms.StrForm.{StrForm}
 use Rattle.cf_types.specs.declared.numbers.ConnId.{ConnId}
@@ -65,14 +66,14 @@ module _ {L : Type 0} where
 
 -- the desks of a new board are those of callers
 pub seats : {L : Type 0} (board : BoardShown L) (desks : List DeskShown) (n : ℕ)
-    → desks ≡ map (new_desk board) (range_with_len 0 n) → n ≤ 33 → All (IsSeat board) desks
+    → desks ≡ map (new_desk board) (range_with_len 0 n) → n ≤ CALLERS → All (IsSeat board) desks
 seats board desks n are few =
     subst (All (IsSeat board)) (sym are)
     (All-map (IsSeat board) (new_desk board) (range_with_len 0 n) (λ k d below.
     let count : length (range_with_len 0 n) ≡ n = length-range_with_len 0 n in
     let within : k < n = omega (arith, count, below) in
     let owner : get_or (range_with_len 0 n) k d ≡ 0 + k = get_or-range_with_len 0 n k d within in
-    let small : get_or (range_with_len 0 n) k d ≤ 32 = omega (arith, owner, within, few) in
+    let small : get_or (range_with_len 0 n) k d ≤ CONNECTORS = omega (arith, owner, within, few) in
     record { of_board = new_desk-of_board board _; owner = small }))
 
 -- a line at the only structure, behind others

@@ -59,6 +59,8 @@ fn ask_step<L: Link>(
         (at_work desk.old items.old.items ended.Done)
         (at_work desk.new items.new.items ended.Done))) }
     ensures refused { IfErr result (λ _. IsLaterOn on desk.old desk.new) }
+    ensures no_memory { IfErr result (λ refusal. refusal ≡ refused.NoMemory
+        → desk.new ≡ desk.old) }
     ensures full { IfErr result (λ refusal. refusal ≢ refused.NoMemory
         → IfSome (cell_on board.now on) (λ cell. cell.limit ≤ (pass_at desk.new on).known)) }
     ensures items { IfErr result (λ _. items.new.items ≡ items.old.items) }

@@ -1,7 +1,8 @@
 -- What is known where a call of a board is a call of one of its stations, with one of a desk's places.
-use Rattle.std.proofs.Common.{◌≡◌, ◌≢◌, ℕ, ◌<◌, ◌≤◌, length, get_or, set, refl, sym, ap, subst, ◌∙◌, arith, get_or-set_same}
+use Rattle.std.proofs.Common.{◌≡◌, ◌≢◌, ℕ, ◌<◌, ◌≤◌, List, length, get_or, set, refl, sym, ap, subst, ◌∙◌, arith, get_or-set_same}
 use Rattle.std.specs.Prelude.{Some, None, Ok, Err, Option, Result, slice_get, IfOk, IfErr, IfSome}
 use Rattle.std.proofs.Math.Seq.{map-set_same}
+use Rattle.std.proofs.lemmas.List.{set-get_or}
 use Rattle.std.proofs.lemmas.Option.{slice_get_read, get_or_from_slice_get}
 use Rattle.cf_types.specs.declared.numbers.StrNo.{StrNo}
 use Rattle.engine_api.specs.declared.told.Told.{Told}
@@ -97,6 +98,24 @@ module _ {L : Type 0} where
       × (cell.limit ≤ (pass_at after on).known)) board on station is
       (subst (λ (p : PassShown). (refusal ≡ refused.JournalFull station.limit) × (station.limit ≤ p.known))
       (sym at) (full other))
+
+-- a desk in which a place was put back as it was
+put_again : (desk has : DeskShown) (j : ℕ) (place after : PassShown) → desk ≡ has
+    → place ≡ get_or has.passes j place → after ≡ place
+    → (let changed : DeskShown = record { owner = has.owner; passes = set has.passes j after } in changed) ≡ desk
+put_again desk has j place after same is still =
+    ap (λ (passes : List PassShown). (let d : DeskShown = record { owner = has.owner; passes = passes } in d))
+    (ap (set has.passes j) (still ∙ is) ∙ set-get_or has.passes j place) ∙ sym same
+
+-- where memory was lacking the desk is as it was
+pub still-on : (desk has : DeskShown) (j : ℕ) (place after : PassShown) (answer : Result Told CallRefused)
+    → desk ≡ has → place ≡ get_or has.passes j place
+    → IfErr answer (λ refusal. refusal ≡ refused.NoMemory → after ≡ place)
+    → IfErr answer (λ refusal. refusal ≡ refused.NoMemory
+    → (let changed : DeskShown = record { owner = has.owner; passes = set has.passes j after } in changed) ≡ desk)
+still-on desk has j place after (Ok told) same is still = still
+still-on desk has j place after (Err refusal) same is still =
+    λ none. put_again desk has j place after same is (still none)
 
 -- a call keeps what is fixed, made or not
 pub call-fixed : (answer : Result Told CallRefused) (asked : AnyAsk) (before after : PassShown)

@@ -163,6 +163,8 @@ impl<L: Link> Board<L> {
         ensures answered { IfOk result (λ told. desk.new
             ≡ with_pass on (with_call ask told (pass_at desk.old on)) desk.old) }
         ensures refused { IfErr result (λ _. IsLaterOn on desk.old desk.new) }
+        ensures no_memory { IfErr result (λ refusal. refusal ≡ refused.NoMemory
+            → desk.new ≡ desk.old) }
         ensures full { IfErr result (λ refusal. refusal ≢ refused.NoMemory
             → IfSome (cell_on self.now on) (λ cell. (refusal ≡ refused.JournalFull cell.limit)
             × (cell.limit ≤ (pass_at desk.new on).known))) }

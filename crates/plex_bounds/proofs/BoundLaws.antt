@@ -2,6 +2,7 @@
 use Rattle.std.proofs.Common.{◌≡◌, ℕ, zero, suc, ◌+◌, ◌≤◌, ◌<◌, List, length, Option, Some, None, slice_get, refl, ap, subst, ◌∙◌, arith}
 use Rattle.std.proofs.lemmas.List.{length-map}
 use Rattle.std.proofs.lemmas.Option.{slice_get_within}
+use Rattle.list_laws.proofs.TableLaws.{get_within}
 use Rattle.cf_types.specs.declared.numbers.ConnId.{ConnId}
 use Rattle.cf_types.specs.declared.numbers.StrNo.{StrNo}
 use Rattle.plex_script.specs.declared.asks.AnyHistory.{AnyHistory}
@@ -15,7 +16,6 @@ use Rattle.plex_script.specs.Heard.{AnyCall, any_calls, calls_of, calls_on, leng
 use Rattle.plex_script.specs.Follows.{AgreesWith, lines_of}
 use Rattle.any_model.proofs.HistoryLaws.{calls_length}
 use Rattle.serial_model.specs.Headline.{EndsRight, ShowsHistories}
-use Rattle.serial_model.proofs.Lines.{get_within}
 use Rattle.plex_bounds.specs.Bounds.{IsWithinScript, most_of_lines, most_calls}
 use Rattle.plex_bounds.proofs.ShareLaws.{sum_below, shares_bound}
 use Rattle.plex_bounds.proofs.CountLaws.{most_on, calls_shown, most_at_end, follows_few, stops_few}

@@ -7,6 +7,7 @@ use Rattle.std.proofs.lemmas.List.Elements.{All-map, All-same, All-weaker}
 use Rattle.std.proofs.lemmas.List.FromFn.{length-range_with_len, length-map-range_with_len, get_or-range_with_len, get_or-map-range_with_len}
 use Rattle.std.proofs.lemmas.Option.{slice_get_within, slice_get-get_or, get_or_from_slice_get}
 use Rattle.std.proofs.lemmas.Simd.{map-map}
+use Rattle.cf_types.specs.declared.limits.TheConstants.{CONNECTORS}
 use Rattle.plex_script.specs.declared.asks.AnyHistory.{AnyHistory}
 use Rattle.plex_script.specs.declared.scripts.Line.{Line}
 use Rattle.plex_script.specs.declared.scripts.Script.{Script}
@@ -20,6 +21,7 @@ use Rattle.desk_model.specs.Turns.{AtWork}
 use Rattle.desk_model.specs.Callers.{IsLineFor, Serves, no_items}
 use Rattle.desk_model.proofs.DeskLaws.{new_desk-of_board}
 use Rattle.serve_laws.proofs.ServeLaw.{serves_right}
+use Rattle.serve_laws.proofs.Alone.{alone_serves}
 use Rattle.plex_floor.specs.declared.runs.Finished.{Finished}
 use Rattle.plex_floor.specs.Standing.{IsPlayable}
 use Rattle.plex_floor.specs.Played.{IsBoardOf}
@@ -66,7 +68,7 @@ module _ {L : Type 0} (board : BoardShown L) where
         ∙ ap (λ n. map (λ owner. idle_worker (new_desk board owner)) (range_with_len 0 (n + 1))) (sym counted)
 
   -- the callers have desks of the board
-  pub crew_is_idle : (crew : List AtWork) → crew ≡ crew_of board → board.callers ≤ 32 → All (IsIdle board) crew
+  pub crew_is_idle : (crew : List AtWork) → crew ≡ crew_of board → board.callers ≤ CONNECTORS → All (IsIdle board) crew
   crew_is_idle crew new few =
       let n = board.callers + 1 in
       All-same (IsIdle board) crew (crew_of board) new
@@ -74,7 +76,7 @@ module _ {L : Type 0} (board : BoardShown L) where
       (λ k d lt. (new_desk-of_board board (get_or (range_with_len 0 n) k d), within k d lt)))
     where
       within : (k d : ℕ) → k < length (range_with_len 0 (board.callers + 1))
-          → get_or (range_with_len 0 (board.callers + 1)) k d ≤ 32
+          → get_or (range_with_len 0 (board.callers + 1)) k d ≤ CONNECTORS
       within k d lt =
           let n = board.callers + 1 in
           let inside : k < n = omega (arith, lt, length-range_with_len 0 n) in
@@ -166,7 +168,8 @@ module _ {L : Type 0} (limit : ℕ) (script : Script) (board : BoardShown L) (li
       subst (ShowsHistories limit script histories) (sym were_shown)
       (serves_right limit script board histories workers fits.forms fits.cells
       (length-worked board script.lines crew workers new worked' ∙ ap (λ n. n + 1) fits.callers)
-      (serves board script.lines crew workers new worked')
+      (λ c worker there. alone_serves board script.lines (record { desk = new_desk board c; shown = no_items }) worker
+      (serves board script.lines crew workers new worked' c worker there))
       (had_memory workers (subst (All HadMemory) were_shown had))
       (subst (λ (desks : List DeskShown). AreClosed board desks histories) at_desks closed))
 

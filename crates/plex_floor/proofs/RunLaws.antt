@@ -34,6 +34,8 @@ use Rattle.desk_model.specs.Floors.{Floor}
 use Rattle.plex_floor.specs.Standing.{AreDesksOf, IsFloorOf, IsPlayable}
 use Rattle.plex_floor.specs.Played.{IsBoardOf, IsPlayed}
 use Rattle.serial_exact.proofs.ExactLaw.{exact}
+use Rattle.serial_model.specs.Headline.{ShowsHistories}
+use Rattle.serve_laws.proofs.Schedules.{serial_shows}
 
 -- a script that may be run states a policy
 pub policy_of : (script : Script) → IsRunnable script → IsPolicy script
@@ -227,3 +229,26 @@ finished_transcripts limit script board (Ok shown) desks histories (Ok it) may i
 finished_transcripts limit script board (Err e) desks histories (Ok it) may is played closed same had = absurd
     (false≢true had)
 finished_transcripts limit script board shown desks histories (Err e) may is played closed same had = tt
+
+-- and what they and the histories show
+pub finished_shows : {L : Type 0} (limit : ℕ) (script : Script) (board : BoardShown L)
+    (shown : Result (Vec Transcript Global) NoMemory) (desks : List DeskShown) (histories : List AnyHistory)
+    (finished : Result Finished NoMemory)
+    → IsRunnable script → IsBoardOf limit script board
+    → IfOk shown (λ some. IsPlayed board script desks some.items) → AreClosed board desks histories
+    → IfOk finished (λ it. it.histories ≡ histories)
+    → IfOk finished (λ it. IfOk shown (λ some. it.transcripts ≡ some.items)) → OnOk finished (IsOk shown)
+    → IfOk finished (λ it. ShowsHistories limit script it.histories it.transcripts)
+finished_shows {L} limit script board (Ok shown) desks histories (Ok it) may is played closed same items had =
+    let playable : All (IsPlayable board) script.lines = lines_playable limit script board is may in
+    let shows : ShowsHistories limit script histories (map (λ worker. worker.shown) played.floor.workers) =
+    serial_shows limit script board played.floor histories is.forms is.cells is.callers
+    (λ k d below. (playable k d below).caller) played.plays played.memory
+    (subst (λ (ds : List DeskShown). AreClosed board ds histories) (sym played.desks_are) closed) in
+    subst (λ (ts : List Transcript). ShowsHistories limit script it.histories ts)
+    (played.shown_are ∙ sym items)
+    (subst (λ (hs : List AnyHistory). ShowsHistories limit script hs
+    (map (λ (worker : AtWork). worker.shown) played.floor.workers)) (sym same) shows)
+finished_shows limit script board (Err e) desks histories (Ok it) may is played closed same items had = absurd
+    (false≢true had)
+finished_shows limit script board shown desks histories (Err e) may is played closed same items had = tt

@@ -4,6 +4,7 @@ use Rattle.std.specs.List.{range_with_len}
 use Rattle.std.proofs.lemmas.List.{length-replicate}
 use Rattle.std.proofs.lemmas.List.Elements.{All-map, All-replicate, All-get_or}
 use Rattle.std.proofs.lemmas.Option.{slice_get_within, get_or_from_slice_get}
+use Rattle.cf_types.specs.declared.limits.TheConstants.{CONNECTORS}
 use Rattle.cf_types.specs.declared.numbers.ConnId.{ConnId}
 use Rattle.plex_script.specs.declared.transcripts.AgentEnd.{AgentEnd}
 use Rattle.plex_script.specs.declared.transcripts.AgentEnd.TheVariants as ended
@@ -45,7 +46,7 @@ module _ {L : Type 0} (board : BoardShown L) (desks : List DeskShown) (shown : L
       ∙ ap (λ (l : List (Option ConnId)). (let it : Floor = record
       { workers = (new_floor board).workers; tray = no_notes board; last = l } in it)) last_is
 
-  pub new_floor_fits : board.callers ≤ 32 → shown ≡ replicate count no_items → IsTrayOf board tray
+  pub new_floor_fits : board.callers ≤ CONNECTORS → shown ≡ replicate count no_items → IsTrayOf board tray
       → last ≡ replicate (length board.cells) None → IsFloorOf board (floor_of desks shown tray last)
   new_floor_fits few shown_are tray_fits last_is =
       let are = new_desks-are board desks desks_are in

@@ -3,6 +3,7 @@ ghost use Rattle.std.specs.Prelude.{◌≡◌, ◌+◌, ◌≤◌, IfOk, OnOk, I
 ghost use Rattle.std.specs.Vec.{vec_len};
 ghost use Rattle.std.specs.List.{range_with_len};
 ghost use Rattle.cf_types.specs.declared.limits.TheConstants.{CONNECTORS};
+ghost use Rattle.serial_model.specs.Headline.{ShowsHistories};
 ghost use Rattle.serial_model.specs.Runnable.{IsRunnable};
 ghost use Rattle.serial_model.specs.Serial.{serial_run};
 ghost use Rattle.desk_model.specs.Boards.{new_desk};
@@ -19,7 +20,7 @@ use std::sync::Wait;
 
 /// What a run leaves: the history of each structure, and the transcript of each caller, from the
 /// operator on.
-#[derive(Debug, Drop)]
+#[derive(Drop)]
 pub struct Finished {
     pub histories: Listing<AnyHistory>,
     pub transcripts: Listing<Transcript>,
@@ -88,6 +89,11 @@ pub fn serial<L: Link>(
         ≡ (serial_run limit script.now).histories) }
     ensures transcripts { IfOk result.0 (λ it. it.transcripts
         ≡ (serial_run limit script.now).transcripts) }
+    // It is one of the schedules that the callers' law speaks of: a legal history of each
+    // structure, each caller's calls in it once and in their order, transcripts that follow the
+    // script, and tests that tell what stood.
+    ensures shows { IfOk result.0 (λ it.
+        ShowsHistories limit script.now it.histories it.transcripts) }
     ensures links { result.1.items ≡ links.items }
 {
     let (board, desks) = match Board::start(rt, alloc, script, limit, links) {

@@ -7,8 +7,6 @@ mod making;
 mod numbers;
 mod policy;
 mod summing;
-#[cfg(test)]
-mod tests;
 mod texts;
 mod work;
 

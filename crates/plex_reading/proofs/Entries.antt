@@ -9,7 +9,7 @@ use Rattle.engine_api.specs.declared.asks.What.{What}
 use Rattle.engine_api.specs.declared.asks.What.TheVariants as what
 use Rattle.engine_api.specs.declared.histories.Entry.{Entry}
 use Rattle.engine_api.specs.Meaning.{Meaning}
-use Rattle.engine_api.specs.History.{next_entry, IsNextAs, Continues}
+use Rattle.engine_api.specs.History.{next_entry, IsNextAs, IsUnmarked, Continues}
 use Rattle.plex_spell.specs.Words.{tail_of, line_of}
 use Rattle.plex_script.specs.declared.scripts.AnyAsk.{AnyAsk}
 use Rattle.plex_script.specs.declared.scripts.Script.{Script}
@@ -86,16 +86,16 @@ module _ {C R I S : Type 0} (meaning : Meaning C R I S) (form : StrForm) (of : A
 
   pub same_entries : (next : List (Entry C R) → ConnId → Option AnyAsk) (before one other : List (Entry C R))
       (xs ys : List (List ℕ))
-      → AreApart script.connectors → length one ≡ length other
+      → AreApart script.connectors → length one ≡ length other → IsUnmarked one → IsUnmarked other
       → Continues meaning form before one → Continues meaning form before other → Asked next before one
       → Asked next before other
       → text_of (map line one ++ xs) ≡ text_of (map line other ++ ys) → (one ≡ other) × (text_of xs ≡ text_of ys)
-  same_entries next before [] [] xs ys apart same goes goes' asked asked' e = (refl, e)
-  same_entries next before [] (b ∷ other) xs ys apart same goes goes' asked asked' e = absurd (omega (arith, same))
-  same_entries next before (a ∷ one) [] xs ys apart same goes goes' asked asked' e = absurd (omega (arith, same))
-  same_entries next before (a ∷ one) (b ∷ other) xs ys apart same goes goes' asked asked' e =
-      let call = next_is meaning form before a a.what goes.0 in
-      let call' = next_is meaning form before b b.what goes'.0 in
+  same_entries next before [] [] xs ys apart same marks marks' goes goes' asked asked' e = (refl, e)
+  same_entries next before [] (b ∷ other) xs ys apart same marks marks' goes goes' asked asked' e = absurd (omega (arith, same))
+  same_entries next before (a ∷ one) [] xs ys apart same marks marks' goes goes' asked asked' e = absurd (omega (arith, same))
+  same_entries next before (a ∷ one) (b ∷ other) xs ys apart same marks marks' goes goes' asked asked' e =
+      let call = next_is meaning form before a a.what marks.0 goes.0 in
+      let call' = next_is meaning form before b b.what marks'.0 goes'.0 in
       let front = front_of (length before + 1) a call in
       let front' = front_of (length before + 1) b call' in
       let numbers : decimal b.no ≡ decimal a.no = ap decimal (call'.number ∙ sym call.number) in
@@ -120,7 +120,7 @@ module _ {C R I S : Type 0} (meaning : Meaning C R I S) (form : StrForm) (of : A
       let rest : text_of (map line one ++ xs) ≡ text_of (map line other ++ ys) =
       append_cancel_left (line b ++ 10 ∷ []) (text_of (map line one ++ xs)) (text_of (map line other ++ ys))
       (ap (λ (x : Entry C R). (line x ++ 10 ∷ []) ++ text_of (map line one ++ xs)) (sym same_entry) ∙ e) in
-      let more = same_entries next (before ++ b ∷ []) one other xs ys apart (omega (arith, same))
+      let more = same_entries next (before ++ b ∷ []) one other xs ys apart (omega (arith, same)) marks.1 marks'.1
       (subst (λ (x : Entry C R). Continues meaning form (before ++ x ∷ []) one) same_entry goes.1) goes'.1
       (subst (λ (x : Entry C R). Asked next (before ++ x ∷ []) one) same_entry asked.2) asked'.2 rest in
       let others : one ≡ other = more.0 in

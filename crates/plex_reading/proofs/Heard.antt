@@ -10,10 +10,10 @@ use Rattle.engine_api.specs.declared.asks.What.{What}
 use Rattle.engine_api.specs.declared.asks.What.TheVariants as what
 use Rattle.engine_api.specs.declared.histories.Entry.{Entry}
 use Rattle.engine_api.specs.Meaning.{Meaning}
-use Rattle.engine_api.specs.History.{calls, numbers, IsNextAs, Continues}
+use Rattle.engine_api.specs.History.{calls, numbers, IsCallAs, IsNextAs, IsUnmarked, Continues}
 use Rattle.plex_script.specs.Heard.{AnyCall, call_numbered}
 use Rattle.any_model.specs.Kinds.{numbers_from}
-use Rattle.any_model.proofs.KindLaws.{numbers_from-suc}
+use Rattle.any_model.proofs.WordLaws.{numbers_from-suc}
 
 -- each of these is the call with its number
 abbrev pub AreHeard : List AnyCall → List AnyCall → Type 0
@@ -104,24 +104,24 @@ pub record IsCallOf {C R : Type 0} (entry : Entry C R) (told : What C) (n : ℕ)
   pub number : entry.no ≡ n
 
 module _ {C R I S : Type 0} (meaning : Meaning C R I S) (form : StrForm) where
-  pub next_is : (before : List (Entry C R)) (entry : Entry C R) (told : What C)
+  pub next_is : (before : List (Entry C R)) (entry : Entry C R) (told : What C) → IsCallAs told
       → IsNextAs meaning form before entry told
       → IsCallOf entry told (length before + 1)
-  next_is before entry (what.Call ask) e = record { ask = ask; is = refl; number = ap (λ (it : Entry C R). it.no) e }
-  next_is before entry (what.Lost cf) e = absurd e
+  next_is before entry (what.Call ask) is_call e = record { ask = ask; is = refl; number = ap (λ (it : Entry C R). it.no) e }
+  next_is before entry (what.Lost cf) is_call e = absurd is_call
 
-  counted : (before entries : List (Entry C R)) → Continues meaning form before entries
+  counted : (before entries : List (Entry C R)) → IsUnmarked entries → Continues meaning form before entries
       → numbers entries ≡ numbers_from (length before + 1) (length entries)
-  counted before [] goes = refl
-  counted before (entry ∷ entries) goes =
-      let call = next_is before entry entry.what goes.0 in
+  counted before [] marks goes = refl
+  counted before (entry ∷ entries) marks goes =
+      let call = next_is before entry entry.what marks.0 goes.0 in
       let longer : length (before ++ entry ∷ []) + 1 ≡ (length before + 1) + 1 = omega
       (arith, length-append before (entry ∷ [])) in
       let more : numbers entries ≡ numbers_from ((length before + 1) + 1) (length entries) =
-      counted (before ++ entry ∷ []) entries goes.1 ∙ ap (λ (k : ℕ). numbers_from k (length entries)) longer in
+      counted (before ++ entry ∷ []) entries marks.1 goes.1 ∙ ap (λ (k : ℕ). numbers_from k (length entries)) longer in
       rw call.is
       (ap (λ (k : ℕ). k ∷ numbers entries) call.number ∙ ap (λ (ns : List ℕ). (length before + 1) ∷ ns) more)
 
-  pub counted_legal : (entries : List (Entry C R)) → Continues meaning form [] entries
+  pub counted_legal : (entries : List (Entry C R)) → IsUnmarked entries → Continues meaning form [] entries
       → numbers entries ≡ numbers_from 1 (length entries)
-  counted_legal entries goes = counted [] entries goes
+  counted_legal entries marks goes = counted [] entries marks goes

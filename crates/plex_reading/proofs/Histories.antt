@@ -15,9 +15,10 @@ use Rattle.engine_api.specs.declared.asks.Ask.{Ask}
 use Rattle.engine_api.specs.declared.asks.What.TheVariants as what
 use Rattle.engine_api.specs.declared.histories.Entry.{Entry}
 use Rattle.engine_api.specs.Meaning.{Meaning}
-use Rattle.engine_api.specs.History.{Call, calls, numbers, Continues, IsLegal, IsPoint}
+use Rattle.engine_api.specs.History.{Call, calls, numbers, Continues, IsLegal, IsUnmarked, IsPoint}
 use Rattle.engine_api.specs.Told.{told_of}
 use Rattle.engine_api.proofs.HistoryLaws.{calls-append, continues_legal}
+use Rattle.engine_api.proofs.NumberLaws.{numbered_legal}
 use Rattle.cache_model.specs.Meaning.{cache_meaning}
 use Rattle.list_model.specs.Meaning.{list_meaning}
 use Rattle.lock_model.specs.Meaning.{lock_meaning}
@@ -93,12 +94,12 @@ module _ {C R I S : Type 0} (meaning : Meaning C R I S) (form : StrForm) (of : A
       (answer_words : Script → R → List (List ℕ)) where
     asked_all : (whole before entries : List (Entry C R)) → IsPlayedAt script on form.kind
         (map (any_call of) (calls whole))
-        → before ++ entries ≡ whole → Continues meaning form before entries
+        → before ++ entries ≡ whole → IsUnmarked entries → Continues meaning form before entries
         → AllByRecursion (λ call. call.by.0 ≤ length script.connectors) (map (any_call of) (calls entries))
         → Asked meaning form of one_ask cmd_words answer_words script next before entries
-    asked_all whole before [] plays is goes callers = tt
-    asked_all whole before (entry ∷ entries) plays is goes callers =
-        let call = next_is meaning form before entry entry.what goes.0 in
+    asked_all whole before [] plays is marks goes callers = tt
+    asked_all whole before (entry ∷ entries) plays is marks goes callers =
+        let call = next_is meaning form before entry entry.what marks.0 goes.0 in
         let split : map (any_call of) (calls (entry ∷ entries)) ≡ told_call entry call.ask ∷ map (any_call of)
         (calls entries) =
         call_first entry entries call.ask call.is in
@@ -112,12 +113,13 @@ module _ {C R I S : Type 0} (meaning : Meaning C R I S) (form : StrForm) (of : A
               (ap (λ (h : List (Entry C R)). own_calls (map (any_call of) (calls h)) entry.by) (sym is)
               ∙ own_split before entry entries asked same)),
           both.0,
-          asked_all whole (before ++ entry ∷ []) entries plays (append_assoc before (entry ∷ []) entries ∙ is) goes.1
-              both.1,
+          asked_all whole (before ++ entry ∷ []) entries plays (append_assoc before (entry ∷ []) entries ∙ is)
+              marks.1 goes.1 both.1,
         )
 
     pub same_history : (n : ℕ) (one other : List (Entry C R)) (xs ys : List (List ℕ)) → AreApart script.connectors
-        → length one < 2 ^ 64 → length other < 2 ^ 64 → IsLegal meaning form one → IsLegal meaning form other
+        → length one < 2 ^ 64 → length other < 2 ^ 64
+        → IsLegal meaning form one × IsUnmarked one → IsLegal meaning form other × IsUnmarked other
         → IsPlayedAt script on form.kind (map (any_call of) (calls one)) → IsPlayedAt script on form.kind
         (map (any_call of) (calls other))
         → AllByRecursion (λ call. call.by.0 ≤ length script.connectors) (map (any_call of) (calls one))
@@ -129,11 +131,12 @@ module _ {C R I S : Type 0} (meaning : Meaning C R I S) (form : StrForm) (of : A
         let line : Entry C R → List ℕ = entry_line cmd_words answer_words script in
         let counts = same_heading (codes "HISTORY") (structure_name script n) (length one) (length other)
         (map line one ++ xs) (map line other ++ ys) small small' e in
-        let goes = continues_legal meaning form one legal in
-        let goes' = continues_legal meaning form other legal' in
-        same_entries meaning form of one_ask cmd_words answer_words script next [] one other xs ys apart counts.0 goes
-        goes'
-        (asked_all one [] one plays refl goes callers) (asked_all other [] other plays' refl goes' callers') counts.1
+        let goes = continues_legal meaning form one legal.0 in
+        let goes' = continues_legal meaning form other legal'.0 in
+        same_entries meaning form of one_ask cmd_words answer_words script next [] one other xs ys apart counts.0 legal.1
+        legal'.1 goes goes'
+        (asked_all one [] one plays refl legal.1 goes callers)
+        (asked_all other [] other plays' refl legal'.1 goes' callers') counts.1
 
 -- ---- histories of whatever kind
 
@@ -281,30 +284,15 @@ histories_same script n (a ∷ one) (b ∷ other) xs ys apart same short short' 
 
 module _ {C R I S : Type 0} (meaning : Meaning C R I S) (of : Ask C → AnyAsk) (form : StrForm)
     (entries : List (Entry C R))
-    (legal : IsLegal meaning form entries) where
+    (legal : IsLegal meaning form entries × IsUnmarked entries) where
   numbers_legal : numbers entries ≡ numbers_from 1 (length entries)
-  numbers_legal = counted_legal meaning form entries (continues_legal meaning form entries legal)
+  numbers_legal = counted_legal meaning form entries legal.1 (continues_legal meaning form entries legal.0)
 
   counted_of : map (λ (call : AnyCall). call.no) (map (any_call of) (calls entries)) ≡ numbers_from 1 (length entries)
   counted_of = map-map (λ (call : AnyCall). call.no) (any_call of) (calls entries) ∙ numbers_legal
 
   point_of : (at : ℕ) → IsPoint entries at → at ≤ length entries
-  point_of at (inl none) = omega (arith, none)
-  point_of at (inr there) = within (subst (λ (ns : List ℕ). Contains ns at) numbers_legal there)
-    where
-      length_from : (first n : ℕ) → length (numbers_from first n) ≡ n
-      length_from first zero = refl
-      length_from first (suc n) = ap suc (length_from (first + 1) n)
-
-      index_from : (first n k d : ℕ) → k < n → slice_index_or (numbers_from first n) k d ≡ first + k
-      index_from first zero k d low = absurd (omega (arith, low))
-      index_from first (suc n) zero d low = omega arith
-      index_from first (suc n) (suc k) d low = index_from (first + 1) n k d (omega (arith, low)) ∙ omega arith
-
-      within : Contains (numbers_from 1 (length entries)) at → at ≤ length entries
-      within (k, low, is) =
-          let below : k < length entries = omega (arith, low, length_from 1 (length entries)) in
-          omega (arith, is, index_from 1 (length entries) k at below, below)
+  point_of at point = let numbered = numbered_legal meaning form entries legal.0 in numbered.within at point
 
 pub any_counted : (form : StrForm) (entries : AnyHistory) → IsAnyLegal form entries
     → map (λ call. call.no) (any_calls entries) ≡ numbers_from 1 (any_length entries)

@@ -22,8 +22,7 @@ use Rattle.plex_script.specs.declared.transcripts.Shown.TheVariants as shown
 use Rattle.plex_script.specs.Agent.{first_step, step_after, asked_by, shell_ask, call_of}
 use Rattle.plex_script.specs.Heard.{AnyCall, call_numbered, calls_on}
 use Rattle.plex_script.specs.Follows.{IsHeard, Runs, ShowsAct, ShowsLines, ShowsClosing, ShowsClosings, Follows, lines_of, number_on, numbers_on, is_linked_by}
-use Rattle.plex_script.proofs.TestLaws.{test_numbers, word_numbers}
-use Rattle.serial_model.proofs.Closings.{runs_elsewhere}
+use Rattle.plex_script.proofs.TestLaws.{test_numbers, word_numbers, runs_elsewhere}
 use Rattle.plex_reading.proofs.Heard.{AreHeard, heard_front, heard_back}
 use Rattle.plex_reading.proofs.Works.{Work, work_of, closing, works, Consumes, Plays}
 

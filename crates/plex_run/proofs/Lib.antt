@@ -9,3 +9,5 @@ pub mod ReadingLaws
 pub mod LoadRunLaws
 pub mod WordLaws
 pub mod WorkLaws
+pub mod UnreadLaws
+pub mod LocksLaws

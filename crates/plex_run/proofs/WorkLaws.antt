@@ -1,6 +1,5 @@
 -- Work that words ask for is of one kind.
 use Rattle.std.proofs.Common.{◌≡◌, ℕ, ◌⊎◌, inl, inr, Option, None, Some, sym, ap, subst, ◌∙◌, arith}
-use Rattle.std.specs.Prelude.{IfSome}
 use Rattle.plex_run.specs.declared.way.Way.{Way}
 use Rattle.plex_run.specs.declared.way.Way.TheVariants as ways
 use Rattle.plex_run.specs.declared.way.Work.{Work}
@@ -12,6 +11,7 @@ abbrev number_in : Option Work → ℕ
 number_in None = 0
 number_in (Some (works.Script way)) = 0
 number_in (Some (works.Load n)) = n
+number_in (Some works.Locks) = 0
 
 -- a load ends as that of the number that was asked for
 pub ends_as_asked : (work : Option Work) (said : Work) (n m : ℕ) (out : Output) (status : ℕ) → work ≡ Some said
@@ -29,14 +29,17 @@ not_script work said way n is script load =
     let same : Some (works.Script way) ≡ Some (works.Load n) = sym (is ∙ ap Some script) ∙ load in cc
 
 -- where no work is found, the words say none
-pub nothing_said : (work : Option Work) (Serial Threads : Type 0) (Loading : ℕ → Type 0) → work ≡ None
+pub nothing_said : (work : Option Work) (Serial Threads Locks : Type 0) (Loading : ℕ → Type 0) → work ≡ None
     → (Serial → work ≡ Some (works.Script ways.InTurn)) → (Threads → work ≡ Some (works.Script ways.OnThreads))
-    → ((n : ℕ) → Loading n → work ≡ Some (works.Load n)) → Serial ⊎ (Threads ⊎ ((n : ℕ) × Loading n)) → ⊥
-nothing_said work Serial Threads Loading none serial threads load (inl one) =
+    → (Locks → work ≡ Some works.Locks) → ((n : ℕ) → Loading n → work ≡ Some (works.Load n))
+    → Serial ⊎ (Threads ⊎ (Locks ⊎ ((n : ℕ) × Loading n))) → ⊥
+nothing_said work Serial Threads Locks Loading none serial threads locks load (inl one) =
     not_none work (works.Script ways.InTurn) none (serial one)
-nothing_said work Serial Threads Loading none serial threads load (inr (inl one)) =
+nothing_said work Serial Threads Locks Loading none serial threads locks load (inr (inl one)) =
     not_none work (works.Script ways.OnThreads) none (threads one)
-nothing_said work Serial Threads Loading none serial threads load (inr (inr one)) =
+nothing_said work Serial Threads Locks Loading none serial threads locks load (inr (inr (inl one))) =
+    not_none work works.Locks none (locks one)
+nothing_said work Serial Threads Locks Loading none serial threads locks load (inr (inr (inr one))) =
     not_none work (works.Load one.0) none (load one.0 one.1)
 
 -- the statuses of a load
@@ -44,7 +47,3 @@ pub not_two : (status : ℕ) → (status ≡ 0) ⊎ ((status ≡ 5) ⊎ (status 
 not_two status (inl e) is = omega (arith, e, is)
 not_two status (inr (inl e)) is = omega (arith, e, is)
 not_two status (inr (inr e)) is = omega (arith, e, is)
-
-pub IfSome-always : {X : Type 0} (found : Option X) (P : X → Type 0) → ((x : X) → P x) → IfSome found P
-IfSome-always None P each = tt
-IfSome-always (Some x) P each = each x

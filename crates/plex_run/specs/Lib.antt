@@ -4,3 +4,4 @@ pub mod Full
 pub mod StatusLines
 pub mod Outcome
 pub mod Loading
+pub mod Locks

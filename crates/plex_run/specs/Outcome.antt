@@ -1,6 +1,8 @@
 -- What a run of the program means: which script came in, what goes out, and what each status says.
 use Rattle.std.specs.Prelude.{◌≡◌, ◌≢◌, ◌⊎◌, ◌↔◌, ℕ, ◌≤◌, ◌<◌, ◌==◌, if◌then◌else◌, List, [], ◌∷◌, ◌++◌, ◌^◌, length, map, slice_get, Option, None, Some, IfSome, is_some, codes, String, string_bytes, nat_eq, true, false, IsTrue}
 use Rattle.std.specs.List.{list_any}
+use Rattle.cf_io.specs.declared.read_end.ReadEnd.{ReadEnd}
+use Rattle.cf_io.specs.declared.read_end.ReadEnd.TheVariants as ends
 use Rattle.cf_types.specs.declared.forms.StrForm.{StrForm}
 use Rattle.cf_types.specs.declared.names.Name16.{Name16}
 use Rattle.cf_types.specs.declared.numbers.StrNo.{StrNo}
@@ -51,10 +53,16 @@ IsStatus status = IsTrue (list_any (nat_eq status) (0 ∷ 2 ∷ 3 ∷ 4 ∷ 5 �
 -- what is written with the statuses whose line is always the same, and stands alone
 abbrev pub status_line : ℕ → Option (List ℕ)
 status_line status =
-    if status == 2 then Some (codes "USAGE plexrun serial or threads or load N\n")
+    if status == 2 then Some (codes "USAGE plexrun serial or threads or load N or locks\n")
     else if status == 4 then Some (codes "FAULT READ\n")
     else if status == 7 then Some too_long_line
     else None
+
+-- the status where no text came
+abbrev pub read_status : ReadEnd → ℕ
+read_status ends.ReadFault = 4
+read_status (ends.TooLong limit) = 7
+read_status ends.NoMemory = 6
 
 -- ---- texts
 

@@ -1,9 +1,10 @@
 //! The program's one call: a script comes in from a source, or a number makes one, and the report
-//! or the summary of its run goes out to a sink.
+//! or the summary of its run, or what became of its locks, goes out to a sink.
 #![tactic(auto)]
 
 mod full;
 mod loading;
+mod locks;
 mod not_yet;
 mod program;
 mod running;

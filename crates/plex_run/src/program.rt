@@ -9,14 +9,16 @@ ghost use Rattle.plex_run.specs.StatusLines.{script_line, memory_line};
 ghost use Rattle.plex_run.specs.Written.{output, HasFailed, Gains};
 ghost use Rattle.plex_run.specs.Outcome.{IsSerial, IsThreads, Say, IsStatus, status_line, script_limit, EndsWith, EndsRight};
 ghost use Rattle.plex_run.specs.Loading.{IsLoading, EndsLoad};
+ghost use Rattle.plex_run.specs.Locks.{IsLocks, EndsLocks};
 
 use crate::loading::loaded;
+use crate::locks::locked_in;
 use crate::running::reported;
 use crate::serving::{Unserved, served};
 use crate::status_lines::{script_line, why_text};
 use crate::way::{Way, Work, work_of};
-use crate::writing::{say, say_no_memory, say_too_long};
-use cf_io::{ReadEnd, Sink, Source, read_all};
+use crate::writing::{say, say_no_memory, say_unread};
+use cf_io::{Sink, Source, read_all};
 use cf_link::Link;
 use cf_types::NoMemory;
 use plex_agent::Gate;
@@ -29,13 +31,13 @@ use std::sync::Wait;
 use std::thread::Threads;
 
 /// The greatest length of a script, in bytes.
-const SCRIPT_LIMIT: usize = 1_048_576;
+pub(crate) const SCRIPT_LIMIT: usize = 1_048_576;
 
 /// How many calls a journal takes.
 pub(crate) const JOURNAL_LIMIT: u32 = 65_536;
 
-// Tells the line of a text that isn't served, and why.
-fn refused<K: Sink>(alloc: Global, line: u32, why: &[u8], sink: &mut K) -> u8
+/// Tells the line of a text that isn't served, and why.
+pub(crate) fn refused<K: Sink>(alloc: Global, line: u32, why: &[u8], sink: &mut K) -> u8
     ensures refused { result ≡ 3 → Gains (output K.held K.faults sink.old sink.new)
         (script_line line why.now) }
     ensures no_memory { result ≡ 6 → Gains (output K.held K.faults sink.old sink.new)
@@ -108,22 +110,30 @@ fn judged<R: Threads + Wait + Sync, K: Sink, L: Link, G: Gate>(
 /// is read: the script that N makes (`plex_load::make`) is run on threads, and a summary of its run
 /// (`plex_load::summary`) is written in place of a report. No journal gets full by it.
 ///
+/// With the one word `locks` a script's lock requests are done in lock words, each connector's on a
+/// thread of its own, where one can be made (`plex_locks::locked`), and what became of them is
+/// written (`plex_locks::locks_text`). The script has one lock structure at most, and all of its
+/// callers' lines obtain or release locks, without record data and without RETRY. The gate is told
+/// of each line.
+///
 /// | Status | Comes | Written to the sink |
 /// |---|---|---|
-/// | 0 | the script was read and run whole, and the report written whole; or the load was run, and its summary written whole | the report; the summary |
-/// | 2 | the words are none of these forms | `USAGE plexrun serial or threads or load N` |
-/// | 3 | the text is no script, or not all of it is built yet | `SCRIPT line why` |
+/// | 0 | the script was read and run whole, and the report written whole; or the load was run, and its summary written whole; or the locks were done, and what became of them written whole | the report; the summary; what became of the locks |
+/// | 2 | the words are none of these forms | `USAGE plexrun serial or threads or load N or locks` |
+/// | 3 | the text is no script, or not all of it is built yet, or lock words can't do all of it | `SCRIPT line why` |
 /// | 4 | a read failed | `FAULT READ` |
-/// | 5 | a write failed while a report that belongs to 0, or a summary, was written | a front of it |
+/// | 5 | a write failed while what belongs to 0 was written | a front of it |
 /// | 6 | there was no memory | `NOMEMORY`, alone or behind a front of what belongs to 0 or 8 |
 /// | 7 | more than 1,048,576 bytes came | `TOOLONG 1048576` |
 /// | 8 | a journal of 65,536 calls got full | `JOURNALFULL structure 65536`, and the report: whole unless a write failed |
 ///
 /// With 3 the line is the first faulty one, and why is LATE, SYNTAX, LIMIT, UNKNOWN, TWICE or
-/// SPACE; or else the first line that isn't built, and NOTYET. With 8 the structure is the first in
+/// SPACE; or else the first line that isn't built, and NOTYET, or with `locks` the first that lock
+/// words can't do, and NOTWORDS. With 8 the structure is the first in
 /// the policy whose journal got full. Lines are counted from 1. The causes are tried in the order
 /// 2, 4, 7, 3, 8, 5; want of memory may stand in place of any but 2. Memory is taken for one line
-/// of the report at a time. A load has 0, 5 or 6, and with 6 nothing stands before the line.
+/// of the report at a time. A load has 0, 5 or 6, and locks don't have 8; with 6 nothing stands before
+/// their line.
 pub fn run<R: Threads + Wait + Sync, S: Source, K: Sink, L: Link, G: Gate>(
     rt: &R,
     alloc: Global,
@@ -161,9 +171,20 @@ pub fn run<R: Threads + Wait + Sync, S: Source, K: Sink, L: Link, G: Gate>(
         → EndsLoad n (output K.held K.faults sink.old sink.new) result }
     ensures load_unread { (n : ℕ) → IsLoading words.now n → source.new ≡ source.old }
 
+    // With `locks` what became of the script's locks is written: with 0 whole and nothing else, and
+    // with 5 a front of it. The text says that script, which lock words can do whole. Each
+    // connector did its lines in their order. It is told that it held a word, or didn't, exactly
+    // where its own earlier outcomes say so. A word that is told to be contended, or raced for, was
+    // granted to another connector; one that is contended, in the state that is told. Each word in
+    // the end has the value of what the outcomes leave held, and these locks are compatible. Where
+    // no read failed and there was memory, the text decides: 7 where it is too long, 3 where it is
+    // no script that lock words can do whole, and else 0 or 5.
+    ensures locks { IsLocks words.now → IfSome (S.left source.old)
+        (λ text. EndsLocks text (output K.held K.faults sink.old sink.new) result) }
+
     // The other causes, and what is written where the source doesn't tell its bytes.
     ensures usage { (result ≡ 2) ↔ (IsSerial words.now ⊎ (IsThreads words.now
-        ⊎ ((n : ℕ) × IsLoading words.now n)) → ⊥) }
+        ⊎ (IsLocks words.now ⊎ ((n : ℕ) × IsLoading words.now n))) → ⊥) }
     ensures read_fault { result ≡ 4 → Rises (S.faults source.old) (S.faults source.new) }
     ensures write_fault { result ≡ 5 → HasFailed (output K.held K.faults sink.old sink.new) }
     ensures no_memory { result ≡ 6 → EndsWith (output K.held K.faults sink.old sink.new)
@@ -178,6 +199,8 @@ pub fn run<R: Threads + Wait + Sync, S: Source, K: Sink, L: Link, G: Gate>(
     ensures at_end { (way : Way) → Say words.now way
         → (result ≡ 0) ⊎ ((result ≡ 3) ⊎ ((result ≡ 5) ⊎ (result ≡ 8)))
         → IsAtEnd (S.left source.new) }
+    ensures locks_at_end { IsLocks words.now
+        → (result ≡ 0) ⊎ ((result ≡ 3) ⊎ (result ≡ 5)) → IsAtEnd (S.left source.new) }
     ensures unread { result ≡ 2 → source.new ≡ source.old }
 
     // The counts never fall.
@@ -190,25 +213,18 @@ pub fn run<R: Threads + Wait + Sync, S: Source, K: Sink, L: Link, G: Gate>(
     let way = match work_of(words) {
         Some(Work::Script(way)) => way,
         Some(Work::Load(n)) => return loaded(rt, alloc, n, sink, links, gate),
+        Some(Work::Locks) => return locked_in(rt, alloc, source, sink, gate),
         None => {
-            say(sink, b"USAGE plexrun serial or threads or load N\n");
+            say(
+                sink,
+                b"USAGE plexrun serial or threads or load N or locks\n",
+            );
             return 2;
         }
     };
     let text = match read_all(alloc, source, SCRIPT_LIMIT) {
         Ok(text) => text,
-        Err(ReadEnd::ReadFault) => {
-            say(sink, b"FAULT READ\n");
-            return 4;
-        }
-        Err(ReadEnd::TooLong { .. }) => {
-            say_too_long(sink);
-            return 7;
-        }
-        Err(ReadEnd::NoMemory) => {
-            say_no_memory(sink);
-            return 6;
-        }
+        Err(end) => return say_unread(end, sink),
     };
     judged(rt, alloc, way, &text, sink, links, gate)
 }

@@ -19,7 +19,6 @@ use plex_agent::Gate;
 use plex_crew::threads;
 use plex_floor::{Finished, serial};
 use plex_script::Script;
-use serial_model::one_run;
 use std::alloc::Global;
 use std::mem;
 use std::sync::Wait;
@@ -39,7 +38,6 @@ fn run_by<R: Threads + Wait + Sync, L: Link, G: Gate>(
     ensures run { IfOk result.0 (λ it. IsRunOf way script.now (reading_of it)) }
     ensures links { result.1.items ≡ links.items }
 {
-    one_run(JOURNAL_LIMIT, script);
     match way {
         Way::InTurn => serial(rt, alloc, JOURNAL_LIMIT, script, links),
         Way::OnThreads => threads(rt, alloc, JOURNAL_LIMIT, script, links, gate),

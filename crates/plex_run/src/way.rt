@@ -2,6 +2,7 @@
 ghost use Rattle.std.specs.Prelude.{◌≡◌, ◌≢◌, ◌⊎◌, ◌↔◌, ℕ, Some, None, codes, string_bytes};
 ghost use Rattle.plex_run.specs.Outcome.{IsSerial, IsThreads};
 ghost use Rattle.plex_run.specs.Loading.{IsLoading, number_said};
+ghost use Rattle.plex_run.specs.Locks.{IsLocks};
 ghost use Rattle.plex_run.specs.declared.way.Way.{Way};
 ghost use Rattle.plex_run.specs.declared.way.Way.TheVariants as ways;
 ghost use Rattle.plex_run.specs.declared.way.Work.TheVariants as works;
@@ -24,6 +25,8 @@ pub(crate) enum Work {
     Script(Way),
     /// The script that this number makes is run on threads.
     Load(u32),
+    /// The locks of the script that comes in are done in words.
+    Locks,
 }
 
 // What one word asks for.
@@ -32,6 +35,7 @@ fn work_of_word(word: &String) -> Option<Work>
         ↔ (string_bytes word.now ≡ codes "serial") }
     ensures on_threads { (result ≡ Some (works.Script ways.OnThreads))
         ↔ (string_bytes word.now ≡ codes "threads") }
+    ensures locks { (result ≡ Some works.Locks) ↔ (string_bytes word.now ≡ codes "locks") }
     ensures no_load { (n : ℕ) → result ≢ Some (works.Load n) }
 {
     if word.as_str() == "serial" {
@@ -39,6 +43,9 @@ fn work_of_word(word: &String) -> Option<Work>
     }
     if word.as_str() == "threads" {
         return Some(Work::Script(Way::OnThreads));
+    }
+    if word.as_str() == "locks" {
+        return Some(Work::Locks);
     }
     None
 }
@@ -49,6 +56,7 @@ fn work_of_two(word: &String, numeral: &String) -> Option<Work>
         ↔ ((string_bytes word.now ≡ codes "load")
         × (number_said (string_bytes numeral.now) ≡ Some n)) }
     ensures no_script { (way : Way) → result ≢ Some (works.Script way) }
+    ensures no_locks { result ≢ Some works.Locks }
 {
     if word.as_str() != "load" {
         return None;
@@ -64,6 +72,7 @@ pub(crate) fn work_of(words: &[String]) -> Option<Work>
     ensures in_turn { (result ≡ Some (works.Script ways.InTurn)) ↔ IsSerial words.now }
     ensures on_threads { (result ≡ Some (works.Script ways.OnThreads)) ↔ IsThreads words.now }
     ensures load { (n : ℕ) → (result ≡ Some (works.Load n)) ↔ IsLoading words.now n }
+    ensures locks { (result ≡ Some works.Locks) ↔ IsLocks words.now }
 {
     match words {
         [word] => work_of_word(word),

@@ -1,13 +1,13 @@
 //! What a sink is told of a run.
-ghost use Rattle.std.specs.Prelude.{◌≡◌, ◌≤◌, ◌<◌, ◌++◌, ◌^◌, length, Err, OnOk, OnErr};
+ghost use Rattle.std.specs.Prelude.{◌≡◌, ◌⊎◌, ◌≤◌, ◌<◌, ◌++◌, ◌^◌, length, Err, OnOk, OnErr, IfSome};
 ghost use Rattle.plex_reading.specs.Readings.{report_of};
 ghost use Rattle.plex_run.specs.declared.writing.Unwritten.TheVariants as reason;
 ghost use Rattle.plex_run.specs.StatusLines.{full_line, memory_line, too_long_line};
 ghost use Rattle.plex_run.specs.Written.{output, HasFailed, Writes, WritesFront, Gains};
-ghost use Rattle.plex_run.specs.Outcome.{reading_of};
+ghost use Rattle.plex_run.specs.Outcome.{reading_of, read_status, status_line};
 
 use crate::status_lines::full_line;
-use cf_io::{Sink, write_all};
+use cf_io::{ReadEnd, Sink, write_all};
 use cf_types::{Name16, NoMemory};
 use plex_floor::Finished;
 use plex_report::line;
@@ -47,12 +47,38 @@ pub(crate) fn say_no_memory<K: Sink>(sink: &mut K)
     say(sink, b"NOMEMORY\n");
 }
 
-/// Tells of a text that is too long.
-pub(crate) fn say_too_long<K: Sink>(sink: &mut K)
+// Tells of a text that is too long.
+fn say_too_long<K: Sink>(sink: &mut K)
     ensures gains { Gains (output K.held K.faults sink.old sink.new) too_long_line }
     ensures faults { K.faults sink.old ≤ K.faults sink.new }
 {
     say(sink, b"TOOLONG 1048576\n");
+}
+
+/// Tells why no text came, and the status.
+pub(crate) fn say_unread<K: Sink>(end: ReadEnd, sink: &mut K) -> u8
+    ensures status { result ≡ read_status end }
+    ensures line { IfSome (status_line result)
+        (Gains (output K.held K.faults sink.old sink.new)) }
+    ensures no_memory { result ≡ 6 → Gains (output K.held K.faults sink.old sink.new)
+        memory_line }
+    ensures statuses { (result ≡ 4) ⊎ ((result ≡ 6) ⊎ (result ≡ 7)) }
+    ensures faults { K.faults sink.old ≤ K.faults sink.new }
+{
+    match end {
+        ReadEnd::ReadFault => {
+            say(sink, b"FAULT READ\n");
+            4
+        }
+        ReadEnd::TooLong { .. } => {
+            say_too_long(sink);
+            7
+        }
+        ReadEnd::NoMemory => {
+            say_no_memory(sink);
+            6
+        }
+    }
 }
 
 // Writes a text.

@@ -1,6 +1,7 @@
 -- What is wrong with a line, from what was read of it.
 use Rattle.std.proofs.Common.{◌≡◌, ℕ, ◌<◌, ◌||◌, Bool, true, false, not, List, [], ◌∷◌, ◌++◌, Option, Some, None, refl, sym, ap, ◌∙◌, arith, inl, inr, Ok, Err, IsTrue, codes, length}
 use Rattle.std.specs.Option.{is_some}
+use Rattle.cf_types.specs.declared.limits.TheConstants.{CONNECTORS}
 use Rattle.cf_types.specs.declared.numbers.ConnId.{ConnId}
 use Rattle.cf_types.specs.declared.forms.Kind.{Kind}
 use Rattle.plex_spell.specs.declared.rigour.Rigour.{Rigour}
@@ -324,7 +325,7 @@ or_false false b h = (refl, h)
 full_structures : (script : Script) → is_full script (codes "STRUCTURE") ≡ false → length script.structures < 16
 full_structures script h = grind (arith, nat_tests)
 
-full_connectors : (script : Script) → is_full script (codes "CONNECTOR") ≡ false → length script.connectors < 32
+full_connectors : (script : Script) → is_full script (codes "CONNECTOR") ≡ false → length script.connectors < CONNECTORS
 full_connectors script h = grind (arith, nat_tests)
 
 room-of : (script : Script) (first : List ℕ) (rest : Words) (d : Declaration) → Declares Names (declared_in script)

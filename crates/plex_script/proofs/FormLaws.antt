@@ -7,6 +7,7 @@ use Rattle.std.proofs.lemmas.List.Elements.{All-nil, All-push, All-set}
 use Rattle.std.proofs.lemmas.List.Folds.{list_any_at}
 use Rattle.std.proofs.lemmas.List.Quantifiers.{all_pairs_push}
 use Rattle.std.proofs.lemmas.Option.{get_or_from_slice_get, slice_get_within}
+use Rattle.cf_types.specs.declared.limits.TheConstants.{CONNECTORS}
 use Rattle.cf_types.specs.declared.numbers.StrNo.{StrNo}
 use Rattle.cf_types.specs.declared.forms.Kind.{Kind}
 use Rattle.cf_types.specs.declared.forms.Kind.TheVariants as kind
@@ -42,7 +43,7 @@ abbrev Within : ℕ → ℕ → Type 0
 Within high n = (1 ≤ n) × (n ≤ high)
 
 formed : (form : StrForm) → IsKind form.kind → Within 4096 form.caps.entries → Within 4096 form.caps.elements
-    → Within 32 form.conns → IsVectorOf form.kind form.vector → form.prefs ≡ [] → IsForm form
+    → Within CONNECTORS form.conns → IsVectorOf form.kind form.vector → form.prefs ≡ [] → IsForm form
 formed form kind_ entries elements conns vector none =
     let told = no_pref form.prefs none in
     record {
@@ -143,11 +144,11 @@ room_structures script first is h =
     grind (arith, nat_tests)
 
 pub room_connectors : (script : Script) (first : List ℕ) → first ≡ codes "CONNECTOR" → is_full script first ≡ false
-    → length script.connectors + 1 ≤ 32
+    → length script.connectors + 1 ≤ CONNECTORS
 room_connectors script first is h =
     let full : is_full script (codes "CONNECTOR") ≡ false =
     subst (λ (word : List ℕ). is_full script word ≡ false) is h in
-    let less : nat_le 32 (length script.connectors) ≡ false = full in
+    let less : nat_le CONNECTORS (length script.connectors) ≡ false = full in
     grind (arith, nat_tests)
 
 declared-keeps : (script : Script) (first : List ℕ) (ws : Words) (declaration : Declaration) → IsWellFormed script

@@ -3,6 +3,7 @@ use Rattle.std.proofs.Common.{◌≡◌, ℕ, ◌≤◌, ◌==◌, Bool, true, f
 use Rattle.std.specs.Bool.{if◌then◌else◌}
 use Rattle.std.proofs.lemmas.Bool.Decides.{nat_tests}
 use Rattle.std.proofs.lemmas.List.Elements.{All-nil, All-push, All-weaker}
+use Rattle.cf_types.specs.declared.limits.TheConstants.{CONNECTORS}
 use Rattle.cf_types.specs.declared.numbers.ConnId.{ConnId}
 use Rattle.cf_types.specs.declared.numbers.StrNo.{StrNo}
 use Rattle.cf_types.specs.declared.forms.Kind.{Kind}
@@ -33,18 +34,18 @@ use Rattle.plex_script.proofs.KeptAll.{Known, script-keeps}
 
 -- ---- who calls
 
-no_operator : (by : ConnId) → by.0 ≤ 32 → not (is_operator by) ≡ true → IsConnector by
+no_operator : (by : ConnId) → by.0 ≤ CONNECTORS → not (is_operator by) ≡ true → IsConnector by
 no_operator by few h = let some : 1 ≤ by.0 = grind (arith, nat_tests) in (some, few)
 
 operator : (by : ConnId) → is_operator by ≡ true → IsOperator by
 operator by h = grind (arith, nat_tests)
 
-one_of : (count : ℕ) (conn : ConnId) → count ≤ 32 → IsOneOf count conn → IsConnector conn
+one_of : (count : ℕ) (conn : ConnId) → count ≤ CONNECTORS → IsOneOf count conn → IsConnector conn
 one_of count conn few h = (h.0, omega (arith, few, h.1))
 
 -- ---- what is asked
 
-command-may : (declared : Declared) (by : ConnId) (command : ShellCmd) → length declared.connectors ≤ 32 → by.0 ≤ 32
+command-may : (declared : Declared) (by : ConnId) (command : ShellCmd) → length declared.connectors ≤ CONNECTORS → by.0 ≤ CONNECTORS
     → may_give by command ≡ true
     → AreWithin declared (shell_tokens command) → MayCommand by command
 command-may declared by (cmd.Connect keep) few low may h = no_operator by low may
@@ -76,8 +77,8 @@ command-may declared by (cmd.Vary cf off) few low may h = (operator by may, h.1.
 command-may declared by cmd.DuplexStart few low may h = operator by may
 command-may declared by cmd.DuplexStop few low may h = operator by may
 
-ask-may : (declared : Declared) (by : ConnId) (given : Option ℕ) (asked : AnyAsk) → length declared.connectors ≤ 32
-    → by.0 ≤ 32 → MayAsk by given asked
+ask-may : (declared : Declared) (by : ConnId) (given : Option ℕ) (asked : AnyAsk) → length declared.connectors ≤ CONNECTORS
+    → by.0 ≤ CONNECTORS → MayAsk by given asked
     → AreWithin declared (ask_tokens given asked) → MayAskAny by asked
 ask-may declared by given (any.Cache (Shell command)) few low may h = command-may declared by command few low may.0 h
 ask-may declared by given (any.Cache (Content command)) few low may h = no_operator by low may.0
@@ -87,7 +88,7 @@ ask-may declared by given (any.Lock (Shell command)) few low may h = command-may
 ask-may declared by given (any.Lock (Content command)) few low may h = no_operator by low may.0
 
 act-may : (declared : Declared) (by : ConnId) (k : Kind) (given : Option ℕ) (act : Act) (retry : ℕ)
-    → length declared.connectors ≤ 32 → by.0 ≤ 32
+    → length declared.connectors ≤ CONNECTORS → by.0 ≤ CONNECTORS
     → MayDo by k given act retry → AreWithin declared (act_tokens given act) → IsActOf k by act
 act-may declared by k given (Call asked) retry few low may h = (
   may.0,
@@ -137,7 +138,7 @@ line-keeps script at by on ws after h caller known adds =
     let bounds = words-within (declared_in script) (acts ++ retries) ws [] adds.says.spelled in
     let front = within-front (declared_in script) acts retries bounds in
     let back = within-back (declared_in script) acts retries bounds in
-    let low : by.0 ≤ 32 = omega (arith, caller, h.connectors) in
+    let low : by.0 ≤ CONNECTORS = omega (arith, caller, h.connectors) in
     let k = kind_of script.structures on in
     let does : IsActOf k by adds.act =
     act-may (declared_in script) by k adds.says.given adds.act adds.retry h.connectors low adds.says.allowed front in

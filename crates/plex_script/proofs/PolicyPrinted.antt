@@ -9,6 +9,7 @@ use Rattle.std.proofs.lemmas.List.{get_or_append_left, get_or-map, length-map}
 use Rattle.std.proofs.lemmas.List.Folds.{list_any_none}
 use Rattle.std.proofs.lemmas.List.Sums.{sum_by-append, sum_by-cons}
 use Rattle.std.proofs.lemmas.Option.{slice_get-get_or}
+use Rattle.cf_types.specs.declared.limits.TheConstants.{CONNECTORS, VECTOR_BITS}
 use Rattle.cf_types.specs.declared.names.Name16.{Name16}
 use Rattle.cf_types.specs.declared.numbers.CfId.{CfId}
 use Rattle.cf_types.specs.declared.numbers.StrNo.{StrNo}
@@ -189,19 +190,19 @@ form-row : (k : Kind) (form : StrForm) → IsRow 1000 (form_tokens k form)
 form-row kind.Cache form =
     row-wider 390 1000 _ (omega arith)
     (row-append 325 65 (Literal (codes "CACHE") ∷ Number 1 4096 form.caps.entries ∷ Number 1 4096 form.caps.elements
-    ∷ Number 1 32 form.conns ∷ Number 1 1024 form.vector ∷ []) _ (record { plain = refl; short = omega arith })
+    ∷ Number 1 CONNECTORS form.conns ∷ Number 1 VECTOR_BITS form.vector ∷ []) _ (record { plain = refl; short = omega arith })
     (disposition-row form.keep))
 form-row (kind.List headers locks how) form =
     row-wider 585 1000 _ (omega arith)
     (row-append 325 260 (Literal (codes "LIST") ∷ Number 1 4096 form.caps.entries ∷ Number 1 4096 form.caps.elements
-    ∷ Number 1 32 form.conns ∷ Number 1 1024 form.vector ∷ []) _ (record { plain = refl; short = omega arith })
+    ∷ Number 1 CONNECTORS form.conns ∷ Number 1 VECTOR_BITS form.vector ∷ []) _ (record { plain = refl; short = omega arith })
     (row-append 65 195 _ _ (disposition-row form.keep)
     (row-append 130 65 (Number 1 64 headers ∷ Number 0 64 locks ∷ []) _ (record { plain = refl; short = omega arith })
     (references-row how))))
 form-row kind.Lock form =
     row-wider 325 1000 _ (omega arith)
     (row-append 260 65 (Literal (codes "LOCK") ∷ Number 1 4096 form.caps.entries ∷ Number 1 4096 form.caps.elements
-    ∷ Number 1 32 form.conns ∷ []) _ (record { plain = refl; short = omega arith })
+    ∷ Number 1 CONNECTORS form.conns ∷ []) _ (record { plain = refl; short = omega arith })
     (disposition-row form.keep))
 
 disposition-within : (declared : Declared) (keep : Bool) → AreWithin declared (disposition keep ∷ [])
@@ -487,7 +488,7 @@ structures-add facilities structures count names few forms room =
 
 connector-adds : (facilities : List Set) (structures : List StrForm) (front : List Name16) (name : Name16)
     (back : List Name16)
-    (count : ℕ) → HaveNames (λ (n : Name16). n) (front ++ name ∷ back) → length front < 32
+    (count : ℕ) → HaveNames (λ (n : Name16). n) (front ++ name ∷ back) → length front < CONNECTORS
     → LeadsOne (policy facilities structures front) count (connector_line name)
     (policy facilities structures (front ++ name ∷ []))
 connector-adds facilities structures front name back count names few =
@@ -501,7 +502,7 @@ connector-adds facilities structures front name back count names few =
       length-append (32 ∷ name_word name) [],
       length-append (codes "CONNECTOR") (tail_of (name_word name ∷ [])),
     ) in
-    let full : nat_le 32 (length front) ≡ false = room-left (length front) 32 few in
+    let full : nat_le CONNECTORS (length front) ≡ false = room-left (length front) CONNECTORS few in
     let fresh = fresh_name (λ (n : Name16). n) front name back names in
     line-adds (policy facilities structures front)
     (policy facilities structures (front ++ name ∷ [])) count words good short
@@ -516,7 +517,7 @@ connector-adds facilities structures front name back count names few =
     })
 
 pub connectors-add : (facilities : List Set) (structures : List StrForm) (connectors : List Name16) (count : ℕ)
-    → AreNames connectors → length connectors ≤ 32
+    → AreNames connectors → length connectors ≤ CONNECTORS
     → Leads (policy facilities structures []) count (map connector_line connectors)
     (policy facilities structures connectors)
 connectors-add facilities structures connectors count names few =

@@ -1,11 +1,17 @@
--- Tests show no calls: what a line shows that tests a bit or a word has no call's number.
-use Rattle.std.proofs.Common.{◌≡◌, ℕ, ◌*◌, Bool, true, false, List, [], ◌∷◌, ap}
+-- Which calls a line's items show: a test of a bit or a word shows none, and a run shows those on its structure alone.
+use Rattle.std.proofs.Common.{◌≡◌, ℕ, ◌*◌, ◌==◌, Bool, true, false, List, [], ◌∷◌, Option, refl, ap}
 use Rattle.std.specs.Prelude.{MatchBool, nat_lt}
+use Rattle.cf_types.specs.declared.forms.Kind.{Kind}
 use Rattle.cf_types.specs.declared.forms.StrForm.{StrForm}
+use Rattle.cf_types.specs.declared.numbers.ConnId.{ConnId}
 use Rattle.cf_types.specs.declared.numbers.StrNo.{StrNo}
+use Rattle.plex_script.specs.declared.agents.Step.{Step}
+use Rattle.plex_script.specs.declared.scripts.AnyAsk.{AnyAsk}
 use Rattle.plex_script.specs.declared.transcripts.Shown.{Shown}
 use Rattle.plex_script.specs.declared.transcripts.Shown.TheVariants as shown
-use Rattle.plex_script.specs.Follows.{ShowsTest, ShowsWord, numbers_on}
+use Rattle.plex_script.specs.Agent.{step_after}
+use Rattle.plex_script.specs.Heard.{AnyCall}
+use Rattle.plex_script.specs.Follows.{Runs, ShowsTest, ShowsWord, numbers_on}
 
 pub test_numbers : (form : StrForm) (place : StrNo) (index : ℕ) (items : List Shown) (on : StrNo)
     → ShowsTest form place index items → numbers_on on items ≡ []
@@ -26,3 +32,17 @@ word_numbers form place word items on shows = by_test (nat_lt (32 * word) form.v
         (items ≡ shown.BadIndex place word true form.vector ∷ []) → numbers_on on items ≡ []
     by_test true k = ap (numbers_on on) k.1.1
     by_test false k = ap (numbers_on on) k
+
+-- a run's calls are on its structure alone
+pub runs_elsewhere : (kind : Kind) (line : Option AnyAsk) (calls : List AnyCall) (by : ConnId) (on other : StrNo)
+    (now : Step) (items : List Shown)
+    → on.0 == other.0 ≡ false → Runs kind line calls by on now items → numbers_on other items ≡ []
+runs_elsewhere kind line calls by on other now [] apart runs = refl
+runs_elsewhere kind line calls by on other now (shown.Call place number ∷ items) apart runs =
+    let away : place.0 == other.0 ≡ false = rw runs.1 apart in
+    rw away (runs_elsewhere kind line calls by on other (step_after now runs.0) items apart runs.3)
+runs_elsewhere kind line calls by on other now (shown.Test place index bit at ∷ items) apart runs = absurd runs
+runs_elsewhere kind line calls by on other now (shown.Word place word bits at ∷ items) apart runs = absurd runs
+runs_elsewhere kind line calls by on other now (shown.BadIndex place index word len ∷ items) apart runs = absurd runs
+runs_elsewhere kind line calls by on other now (shown.Posted place sure ∷ items) apart runs = absurd runs
+runs_elsewhere kind line calls by on other now (shown.Took place sure ∷ items) apart runs = absurd runs

@@ -16,7 +16,7 @@ pub const ROUND: u32 = 64;
 pub const ROUND_ASKS: u64 = 2 * ROUND as u64 + 1;
 
 /// What a caller asks next in the work of one line.
-#[derive(Clone, Copy, Debug, PartialEq, Eq)]
+#[derive(Clone, Copy, PartialEq, Eq)]
 pub enum Step {
     /// The line's call; it may be asked so many times again.
     Call { asks: u32 },

@@ -2,7 +2,7 @@ use cf_types::{CacheCmd, CacheReply, ListCmd, ListReply, LockCmd, LockReply};
 use engine_api::History;
 
 /// The history of a structure, of whatever kind.
-#[derive(Debug, Drop)]
+#[derive(Drop)]
 pub enum AnyHistory {
     Cache(History<CacheCmd, CacheReply>),
     List(History<ListCmd, ListReply>),

@@ -1,7 +1,7 @@
 use cf_types::{Name16, Pref, StrForm, StrNo};
 
 /// What a line of the policy declares.
-#[derive(Debug, Drop)]
+#[derive(Drop)]
 pub enum Declaration {
     /// A facility and its units.
     Facility(Pref),

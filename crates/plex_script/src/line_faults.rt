@@ -2,7 +2,7 @@ use crate::faults::Why;
 use std::alloc::AllocFailed;
 
 /// Why a line was not read.
-#[derive(Clone, Copy, Debug, PartialEq, Eq)]
+#[derive(Clone, Copy, PartialEq, Eq)]
 pub(crate) enum LineFault {
     /// This is wrong with it.
     Wrong(Why),

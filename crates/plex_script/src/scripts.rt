@@ -2,7 +2,7 @@ use cf_types::{CacheCmd, ConnId, ListCmd, Listing, LockCmd, Name16, Pref, StrFor
 use engine_api::Ask;
 
 /// A call of a structure of any kind.
-#[derive(Debug, Drop)]
+#[derive(Drop)]
 pub enum AnyAsk {
     Cache(Ask<CacheCmd>),
     List(Ask<ListCmd>),
@@ -10,7 +10,7 @@ pub enum AnyAsk {
 }
 
 /// What a line of a script does.
-#[derive(Debug, Drop)]
+#[derive(Drop)]
 pub enum Act {
     /// Calls the structure.
     Call(AnyAsk),
@@ -27,7 +27,7 @@ pub enum Act {
 }
 
 /// A line of a script that does something.
-#[derive(Debug, Drop)]
+#[derive(Drop)]
 pub struct Line {
     /// The number of the line in the text, from 1; it stands still at the greatest of 32 bits.
     pub at: u32,
@@ -41,7 +41,7 @@ pub struct Line {
 }
 
 /// A script: the policy in the order in which it is declared, and the lines that do something.
-#[derive(Debug, Drop)]
+#[derive(Drop)]
 pub struct Script {
     /// The facilities and their units.
     pub facilities: Listing<Pref>,

@@ -1,7 +1,7 @@
 use cf_types::{Listing, StrNo};
 
 /// What a caller was shown.
-#[derive(Clone, Copy, Debug, PartialEq, Eq)]
+#[derive(Clone, Copy, PartialEq, Eq)]
 pub enum Shown {
     /// The number of its call.
     Call {
@@ -54,7 +54,7 @@ pub enum AgentEnd {
 }
 
 /// What a caller was shown, in order, and how its work ended.
-#[derive(Debug, Drop)]
+#[derive(Drop)]
 pub struct Transcript {
     pub items: Listing<Shown>,
     pub end: AgentEnd,

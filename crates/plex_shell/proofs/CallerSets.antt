@@ -1,6 +1,7 @@
 -- Sets of callers: that the active connectors are one, and how letters to one are posted.
 use Rattle.std.proofs.Common.{◌≡◌, ℕ, suc, ◌+◌, ◌-◌, ◌<◌, ◌≤◌, Bool, true, false, cond, not, ◌&&◌, ◌==◌, List, [], ◌∷◌, filter, refl, sym, subst, arith}
 use Rattle.std.proofs.lemmas.Bool.{eq-eqb, ne_eqb, and_right}
+use Rattle.cf_types.specs.declared.limits.TheConstants.{CALLERS}
 use Rattle.cf_types.specs.declared.events.Event.{Event}
 use Rattle.cf_types.specs.declared.numbers.ConnId.{ConnId}
 use Rattle.cf_types.specs.ConnSets.{conns_from, is_member, without_member}
@@ -10,10 +11,10 @@ use Rattle.cf_types.proofs.ConnSetLaws.{filter_agree_from, is_member-from, witho
 use Rattle.plex_shell.specs.Callers.{AreCallers}
 
 -- those of the callers that pass a test
-AreCallers-filter : (p : ConnId → Bool) → AreCallers (filter p (conns_from 0 33))
+AreCallers-filter : (p : ConnId → Bool) → AreCallers (filter p (conns_from 0 CALLERS))
 AreCallers-filter p = record {
-  in_order = filter_agree_from p (λ conn. is_member conn (filter p (conns_from 0 33))) 0 33
-      (λ conn low high. sym (is_member-from p conn 0 33 low high));
+  in_order = filter_agree_from p (λ conn. is_member conn (filter p (conns_from 0 CALLERS))) 0 CALLERS
+      (λ conn low high. sym (is_member-from p conn 0 CALLERS low high));
 }
 
 pub AreCallers-actives : (conns : Connections) → AreCallers (actives conns)
@@ -25,11 +26,11 @@ and-true true = refl
 and-true false = refl
 
 AreCallers-filter_without : (p : ConnId → Bool) (conn : ConnId)
-    → AreCallers (without_member conn (filter p (conns_from 0 33)))
+    → AreCallers (without_member conn (filter p (conns_from 0 CALLERS)))
 AreCallers-filter_without p conn =
     let others : ConnId → Bool = λ other. p other && not (other.0 == conn.0) in
-    let same : filter others (conns_from 0 33) ≡ without_member conn (filter p (conns_from 0 33)) =
-    without_member-from p others conn 0 33
+    let same : filter others (conns_from 0 CALLERS) ≡ without_member conn (filter p (conns_from 0 CALLERS)) =
+    without_member-from p others conn 0 CALLERS
     (and_right (p conn) (not (conn.0 == conn.0)) (rw (eq-eqb conn.0 conn.0 refl) refl))
     (λ other apart high. rw (ne_eqb other.0 conn.0 apart) (and-true (p other))) in
     subst (λ (set : List ConnId). AreCallers set) same (AreCallers-filter others)
@@ -47,7 +48,7 @@ AreCallers-without conn set are =
 
 -- the members from this number on
 abbrev pub members_from : List ConnId → ℕ → List ConnId
-members_from set number = filter (λ conn. is_member conn set) (conns_from number (33 - number))
+members_from set number = filter (λ conn. is_member conn set) (conns_from number (CALLERS - number))
 
 -- of these, where a member or not comes first
 abbrev members_at : Bool → List ConnId → ℕ → List ConnId
@@ -55,11 +56,11 @@ members_at true set number = record { 0 = number } ∷ members_from set (number 
 members_at false set number = members_from set (number + 1)
 
 -- one of them is the first, where it is a member
-members_from-first : (set : List ConnId) (number : ℕ) → number < 33
+members_from-first : (set : List ConnId) (number : ℕ) → number < CALLERS
     → members_from set number ≡ members_at (is_member (record { 0 = number }) set) set number
 unfolding conns_from
 members_from-first set number within =
-    let one_more : suc (33 - (number + 1)) ≡ 33 - number = omega arith in
+    let one_more : suc (CALLERS - (number + 1)) ≡ CALLERS - number = omega arith in
     subst (λ (count : ℕ). filter (λ (conn : ConnId). is_member conn set) (conns_from number count)
     ≡ members_at (is_member (record { 0 = number }) set) set number)
     one_more (go (is_member (record { 0 = number }) set))
@@ -74,7 +75,7 @@ members_from-first set number within =
 abbrev pub LeadsFrom : List ConnId → Event → Mailboxes → ℕ → Mailboxes → Type 0
 LeadsFrom set event whole number now = with_letters now (letters_to (members_from set number) event) ≡ whole
 
-module _ (set : List ConnId) (event : Event) (number : ℕ) (within : number < 33) (whole now : Mailboxes) where
+module _ (set : List ConnId) (event : Event) (number : ℕ) (within : number < CALLERS) (whole now : Mailboxes) where
   pub leads_member : is_member (record { 0 = number }) set ≡ true → LeadsFrom set event whole number now
       → LeadsFrom set event whole (number + 1) (with_letter now
       (record { to = record { 0 = number }; event = event }))
@@ -85,12 +86,12 @@ module _ (set : List ConnId) (event : Event) (number : ℕ) (within : number < 3
   leads_nobody none before = rw (members_from-first set number within, none) at before
 
 -- nobody is left behind the callers
-nobody_left : (set : List ConnId) (number : ℕ) → 33 ≤ number → members_from set number ≡ []
+nobody_left : (set : List ConnId) (number : ℕ) → CALLERS ≤ number → members_from set number ≡ []
 unfolding conns_from
 nobody_left set number past =
-    let none : 0 ≡ 33 - number = omega arith in
+    let none : 0 ≡ CALLERS - number = omega arith in
     subst (λ (count : ℕ). filter (λ (conn : ConnId). is_member conn set) (conns_from number count) ≡ []) none refl
 
-pub leads_all : (set : List ConnId) (event : Event) (number : ℕ) (whole now : Mailboxes) → 33 ≤ number
+pub leads_all : (set : List ConnId) (event : Event) (number : ℕ) (whole now : Mailboxes) → CALLERS ≤ number
     → LeadsFrom set event whole number now → now ≡ whole
 leads_all set event number whole now past leads = rw (nobody_left set number past) at leads

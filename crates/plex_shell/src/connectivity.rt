@@ -12,7 +12,7 @@ use std::marker::Model;
 pub(crate) const PLACES: usize = FACILITIES as usize + 1;
 
 /// For each facility, the connectors that can't reach it. Contracts see their list.
-#[derive(Debug, Drop)]
+#[derive(Drop)]
 pub(crate) struct Connectivity {
     severed: [ConnSet; PLACES],
 }

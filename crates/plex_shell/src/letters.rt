@@ -1,14 +1,12 @@
 ghost use Rattle.std.specs.Prelude.{◌≡◌, ◌+◌, ◌≤◌};
+ghost use Rattle.cf_types.specs.declared.limits.TheConstants.{CALLERS};
 ghost use Rattle.cf_types.specs.Mailboxes.{letters_to, with_letters};
 ghost use Rattle.plex_shell.specs.Callers.{AreCallers};
 
-use cf_types::limits::CONNECTORS;
+use cf_types::limits::CALLERS;
 use cf_types::{ConnId, Event, Letter};
 use conn_core::ConnSet;
 use event_mail::Mail;
-
-/// How many callers there are, the operator among them.
-const CALLERS: u8 = CONNECTORS + 1;
 
 /// The same event to each member of a set, in number order.
 pub(crate) fn tell(mail: &mut Mail, to: ConnSet, event: Event)

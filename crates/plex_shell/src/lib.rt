@@ -10,8 +10,6 @@ mod letters;
 mod places;
 mod rebuild_causes;
 mod shell;
-#[cfg(test)]
-mod tests;
 mod varied;
 mod verdicts;
 

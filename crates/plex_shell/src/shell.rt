@@ -11,6 +11,7 @@ ghost use Rattle.plex_shell.specs.Verdicts.{refused_or, doer_of, verdict, leaver
 use crate::connectivity::Connectivity;
 use crate::varied::VariedOff;
 use crate::verdicts::Verdict;
+use cf_types::limits::CALLERS;
 use cf_types::{
     Caps, CfId, ConnId, ConnState, Letter, Listing, NoMemory, Refusal, ShellCmd, ShellReply,
     StrForm,
@@ -23,7 +24,7 @@ use std::alloc::Global;
 use std::marker::Model;
 
 /// The most letters that `act` posts, and `lost`.
-pub const ACT_LETTERS: u32 = 66;
+pub const ACT_LETTERS: u32 = 2 * CALLERS as u32;
 
 /// The shell of one structure. Contracts see the form, what the shell keeps (instances, connections
 /// and mail), and for how many letters room is taken.
@@ -55,7 +56,7 @@ impl Model for Shell {
 
 impl Shell {
     /// The shell of a structure of this form, in which nobody is connected. `callers` is the
-    /// greatest number of a connector, 32 at most.
+    /// greatest number of a connector, 64 at most.
     pub fn start(alloc: Global, form: &StrForm, callers: u8) -> Result<Shell, NoMemory>
         requires form { IsForm form.now }
         requires callers { callers ≤ CONNECTORS }

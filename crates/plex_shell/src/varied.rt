@@ -8,7 +8,7 @@ use cf_types::CfId;
 use std::marker::Model;
 
 /// For each facility, whether it is varied off for the structure. Contracts see their list.
-#[derive(Debug, Drop)]
+#[derive(Drop)]
 pub(crate) struct VariedOff {
     places: [bool; PLACES],
 }

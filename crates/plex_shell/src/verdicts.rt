@@ -1,7 +1,7 @@
 use cf_types::Refusal;
 
 /// What is to be done with a call.
-#[derive(Clone, Copy, Debug, PartialEq, Eq)]
+#[derive(Clone, Copy, PartialEq, Eq)]
 pub enum Verdict {
     /// It is refused.
     Refuse(Refusal),

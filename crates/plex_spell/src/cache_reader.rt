@@ -51,12 +51,69 @@ fn write(alloc: Global, judge: &Judge, words: &mut Words) -> Result<CacheCmd, Mi
     })
 }
 
+fn cross_invalidate(judge: &Judge, words: &mut Words) -> Result<CacheCmd, Miss>
+    ensures { Gives result words.new (values_at judge.now.rigour
+        (names_of judge.now) name_places (λ v. cache.CrossInval v.0) words.old) }
+{
+    let name = name(judge.rigour, words)?;
+    Ok(CacheCmd::CrossInval { name })
+}
+
+fn castout(judge: &Judge, words: &mut Words) -> Result<CacheCmd, Miss>
+    ensures { Gives result words.new (values_at judge.now.rigour
+        (names_of judge.now) name_places (λ v. cache.Castout v.0) words.old) }
+{
+    let name = name(judge.rigour, words)?;
+    Ok(CacheCmd::Castout { name })
+}
+
+fn unlock(judge: &Judge, words: &mut Words) -> Result<CacheCmd, Miss>
+    ensures { Gives result words.new (values_at judge.now.rigour
+        (names_of judge.now) name_places (λ v. cache.Unlock v.0) words.old) }
+{
+    let name = name(judge.rigour, words)?;
+    Ok(CacheCmd::Unlock { name })
+}
+
+fn of_class(judge: &Judge, words: &mut Words) -> Result<CacheCmd, Miss>
+    ensures { Gives result words.new (values_at judge.now.rigour
+        (names_of judge.now) number_places (λ v. cache.CoClass v.0) words.old) }
+{
+    let class = number(judge.rigour, words)?;
+    Ok(CacheCmd::CoClass { class })
+}
+
+fn dir_info(judge: &Judge, words: &mut Words) -> Result<CacheCmd, Miss>
+    ensures { Gives result words.new (values_at judge.now.rigour
+        (names_of judge.now) name_places (λ v. cache.DirInfo v.0) words.old) }
+{
+    let name = name(judge.rigour, words)?;
+    Ok(CacheCmd::DirInfo { name })
+}
+
+fn delete(judge: &Judge, words: &mut Words) -> Result<CacheCmd, Miss>
+    ensures { Gives result words.new (values_at judge.now.rigour
+        (names_of judge.now) name_places (λ v. cache.Delete v.0) words.old) }
+{
+    let name = name(judge.rigour, words)?;
+    Ok(CacheCmd::Delete { name })
+}
+
+fn of_storage(judge: &Judge, words: &mut Words) -> Result<CacheCmd, Miss>
+    ensures { Gives result words.new (values_at judge.now.rigour
+        (names_of judge.now) number_places (λ v. cache.StgStats v.0) words.old) }
+{
+    let stg = number(judge.rigour, words)?;
+    Ok(CacheCmd::StgStats { stg })
+}
+
 /// Takes a command of a cache structure.
 pub fn cache(alloc: Global, judge: &Judge, words: &mut Words) -> Result<CacheCmd, Miss>
     ensures { Gives result words.new (cache_at judge.now.rigour (names_of judge.now) words.old) }
 {
-    let verb = words.next().ok_or(Miss::NoForm)?;
-    let rigour = judge.rigour;
+    let Some(verb) = words.next() else {
+        return Err(Miss::NoForm);
+    };
     if is(verb, b"READ") {
         return read(judge, words);
     }
@@ -64,45 +121,31 @@ pub fn cache(alloc: Global, judge: &Judge, words: &mut Words) -> Result<CacheCmd
         return write(alloc, judge, words);
     }
     if is(verb, b"CROSSINVAL") {
-        return Ok(CacheCmd::CrossInval {
-            name: name(rigour, words)?,
-        });
+        return cross_invalidate(judge, words);
     }
     if is(verb, b"REGLIST") {
         return Ok(CacheCmd::RegList);
     }
     if is(verb, b"CASTOUT") {
-        return Ok(CacheCmd::Castout {
-            name: name(rigour, words)?,
-        });
+        return castout(judge, words);
     }
     if is(verb, b"UNLOCK") {
-        return Ok(CacheCmd::Unlock {
-            name: name(rigour, words)?,
-        });
+        return unlock(judge, words);
     }
     if is(verb, b"COCLASS") {
-        return Ok(CacheCmd::CoClass {
-            class: number(rigour, words)?,
-        });
+        return of_class(judge, words);
     }
     if is(verb, b"COSTATS") {
         return Ok(CacheCmd::CoStats);
     }
     if is(verb, b"DIRINFO") {
-        return Ok(CacheCmd::DirInfo {
-            name: name(rigour, words)?,
-        });
+        return dir_info(judge, words);
     }
     if is(verb, b"DELETE") {
-        return Ok(CacheCmd::Delete {
-            name: name(rigour, words)?,
-        });
+        return delete(judge, words);
     }
     if is(verb, b"STGSTATS") {
-        return Ok(CacheCmd::StgStats {
-            stg: number(rigour, words)?,
-        });
+        return of_storage(judge, words);
     }
     Err(Miss::NoForm)
 }

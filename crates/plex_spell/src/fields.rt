@@ -22,7 +22,9 @@ pub fn bounded(rigour: Rigour, words: &mut Words, low: u32, high: u32) -> Result
     ensures value { Gives result words.new (on_first (number_of rigour low high) words.old) }
     ensures range { low ≤ high → IfOk result (λ n. n ≤ high) }
 {
-    let word = words.next().ok_or(Miss::NoForm)?;
+    let Some(word) = words.next() else {
+        return Err(Miss::NoForm);
+    };
     numerals::number(rigour, word, low, high).ok_or(Miss::NoForm)
 }
 
@@ -37,7 +39,9 @@ pub fn number(rigour: Rigour, words: &mut Words) -> Result<u32, Miss>
 pub(crate) fn name(rigour: Rigour, words: &mut Words) -> Result<Name16, Miss>
     ensures { Gives result words.new (on_first (name_of rigour) words.old) }
 {
-    let word = words.next().ok_or(Miss::NoForm)?;
+    let Some(word) = words.next() else {
+        return Err(Miss::NoForm);
+    };
     singles::name(rigour, word).ok_or(Miss::NoForm)
 }
 
@@ -45,7 +49,9 @@ pub(crate) fn name(rigour: Rigour, words: &mut Words) -> Result<Name16, Miss>
 pub(crate) fn key(rigour: Rigour, words: &mut Words) -> Result<Key16, Miss>
     ensures { Gives result words.new (on_first (key_of rigour) words.old) }
 {
-    let word = words.next().ok_or(Miss::NoForm)?;
+    let Some(word) = words.next() else {
+        return Err(Miss::NoForm);
+    };
     singles::key(rigour, word).ok_or(Miss::NoForm)
 }
 
@@ -53,7 +59,9 @@ pub(crate) fn key(rigour: Rigour, words: &mut Words) -> Result<Key16, Miss>
 pub(crate) fn short(rigour: Rigour, words: &mut Words) -> Result<Adjunct, Miss>
     ensures { Gives result words.new (on_first (text_of rigour ADJUNCT_BYTES) words.old) }
 {
-    let word = words.next().ok_or(Miss::NoForm)?;
+    let Some(word) = words.next() else {
+        return Err(Miss::NoForm);
+    };
     singles::short(rigour, word).ok_or(Miss::NoForm)
 }
 
@@ -61,7 +69,9 @@ pub(crate) fn short(rigour: Rigour, words: &mut Words) -> Result<Adjunct, Miss>
 pub(crate) fn data(alloc: Global, rigour: Rigour, words: &mut Words) -> Result<Body, Miss>
     ensures { Gives result words.new (on_first (data_of rigour) words.old) }
 {
-    let word = words.next().ok_or(Miss::NoForm)?;
+    let Some(word) = words.next() else {
+        return Err(Miss::NoForm);
+    };
     singles::data(alloc, rigour, word)
 }
 
@@ -69,7 +79,9 @@ pub(crate) fn data(alloc: Global, rigour: Rigour, words: &mut Words) -> Result<B
 pub(crate) fn resource(rigour: Rigour, words: &mut Words) -> Result<Resource, Miss>
     ensures { Gives result words.new (on_first (resource_of rigour) words.old) }
 {
-    let word = words.next().ok_or(Miss::NoForm)?;
+    let Some(word) = words.next() else {
+        return Err(Miss::NoForm);
+    };
     singles::resource(rigour, word).ok_or(Miss::NoForm)
 }
 
@@ -77,7 +89,9 @@ pub(crate) fn resource(rigour: Rigour, words: &mut Words) -> Result<Resource, Mi
 pub fn new_name(rigour: Rigour, words: &mut Words) -> Result<Name16, Miss>
     ensures { Gives result words.new (on_first (new_name_of rigour) words.old) }
 {
-    let word = words.next().ok_or(Miss::NoForm)?;
+    let Some(word) = words.next() else {
+        return Err(Miss::NoForm);
+    };
     singles::new_name(rigour, word).ok_or(Miss::NoForm)
 }
 
@@ -85,7 +99,9 @@ pub fn new_name(rigour: Rigour, words: &mut Words) -> Result<Name16, Miss>
 pub fn new_facility(words: &mut Words) -> Result<CfId, Miss>
     ensures { Gives result words.new (on_first facility_of words.old) }
 {
-    let word = words.next().ok_or(Miss::NoForm)?;
+    let Some(word) = words.next() else {
+        return Err(Miss::NoForm);
+    };
     singles::facility_number(word).ok_or(Miss::NoForm)
 }
 
@@ -94,7 +110,9 @@ pub fn facility(judge: &Judge, words: &mut Words) -> Result<CfId, Miss>
     ensures { Gives result words.new (on_first (facility_in judge.now.rigour
         (names_of judge.now)) words.old) }
 {
-    let word = words.next().ok_or(Miss::NoForm)?;
+    let Some(word) = words.next() else {
+        return Err(Miss::NoForm);
+    };
     singles::facility(judge, word).ok_or(Miss::NoForm)
 }
 
@@ -103,7 +121,9 @@ pub(crate) fn connector(judge: &Judge, words: &mut Words) -> Result<ConnId, Miss
     ensures { Gives result words.new (on_first (connector_in judge.now.rigour
         (names_of judge.now)) words.old) }
 {
-    let word = words.next().ok_or(Miss::NoForm)?;
+    let Some(word) = words.next() else {
+        return Err(Miss::NoForm);
+    };
     singles::connector(judge, word).ok_or(Miss::NoForm)
 }
 
@@ -112,7 +132,9 @@ pub fn structure(judge: &Judge, words: &mut Words) -> Result<StrNo, Miss>
     ensures { Gives result words.new (on_first (structure_in judge.now.rigour
         (names_of judge.now)) words.old) }
 {
-    let word = words.next().ok_or(Miss::NoForm)?;
+    let Some(word) = words.next() else {
+        return Err(Miss::NoForm);
+    };
     singles::structure(judge, word).ok_or(Miss::NoForm)
 }
 
@@ -133,7 +155,9 @@ fn either_word(word: &[u8], first: &[u8], second: &[u8]) -> Option<bool>
 pub fn either(words: &mut Words, first: &[u8], second: &[u8]) -> Result<bool, Miss>
     ensures { Gives result words.new (on_first (either_of first.now second.now) words.old) }
 {
-    let word = words.next().ok_or(Miss::NoForm)?;
+    let Some(word) = words.next() else {
+        return Err(Miss::NoForm);
+    };
     either_word(word, first, second).ok_or(Miss::NoForm)
 }
 
@@ -156,7 +180,9 @@ fn decision_word(word: &[u8]) -> Option<Decision>
 pub(crate) fn decision(words: &mut Words) -> Result<Decision, Miss>
     ensures { Gives result words.new (on_first decision_of words.old) }
 {
-    let word = words.next().ok_or(Miss::NoForm)?;
+    let Some(word) = words.next() else {
+        return Err(Miss::NoForm);
+    };
     decision_word(word).ok_or(Miss::NoForm)
 }
 
@@ -179,7 +205,9 @@ fn refs_word(word: &[u8]) -> Option<Refs>
 pub fn references(words: &mut Words) -> Result<Refs, Miss>
     ensures { Gives result words.new (on_first refs_of words.old) }
 {
-    let word = words.next().ok_or(Miss::NoForm)?;
+    let Some(word) = words.next() else {
+        return Err(Miss::NoForm);
+    };
     refs_word(word).ok_or(Miss::NoForm)
 }
 
@@ -236,7 +264,9 @@ fn by_id(rigour: Rigour, words: &mut Words) -> Result<At, Miss>
     ensures { Gives result words.new (option_map (λ read. (at.Id read.0, read.1)) (on_first
         (record_of rigour) words.old)) }
 {
-    let word = words.next().ok_or(Miss::NoForm)?;
+    let Some(word) = words.next() else {
+        return Err(Miss::NoForm);
+    };
     let id = singles::record_id(rigour, word).ok_or(Miss::NoForm)?;
     Ok(At::Id(id))
 }

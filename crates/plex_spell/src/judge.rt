@@ -12,7 +12,7 @@ pub struct Judge<'a> {
     pub facilities: &'a [Pref],
     /// The structures that are declared before the words, at most 16.
     pub structures: &'a [StrForm],
-    /// The connectors that are declared before the words, at most 32.
+    /// The connectors that are declared before the words, at most 64.
     pub connectors: &'a [Name16],
     ghost few_structures: { length structures.now ≤ STRUCTURES },
     ghost few_connectors: { length connectors.now ≤ CONNECTORS },

@@ -1,7 +1,7 @@
 use cf_types::{Key16, Name16};
 
 /// What a new list record is known by.
-#[derive(Clone, Copy, Debug)]
+#[derive(Clone, Copy)]
 pub(crate) enum Label {
     Name(Name16),
     Key(Key16),

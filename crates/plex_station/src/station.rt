@@ -144,6 +144,8 @@ impl<L: Link> Station<L> {
         ensures later { IfOk result (λ told. place.old.known < told.no) }
         ensures answered { IfOk result (λ told. place.new ≡ with_call ask told place.old) }
         ensures refused { IfErr result (λ _. IsLater place.old place.new) }
+        ensures no_memory { IfErr result (λ refusal. refusal ≡ refused.NoMemory
+            → place.new ≡ place.old) }
         ensures full { IfErr result (λ refusal. refusal ≢ refused.NoMemory
             → (refusal ≡ refused.JournalFull self.now.limit)
             × (self.now.limit ≤ place.new.known)) }

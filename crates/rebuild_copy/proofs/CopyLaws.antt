@@ -1,5 +1,5 @@
 -- Engines that are filled by items, one after another.
-use Rattle.std.proofs.Common.{◌≡◌, ℕ, ◌+◌, ◌-◌, ◌<◌, IsTrue, List, [], ◌∷◌, ◌++◌, Some, Result, Ok, Err, OnOk, OnErr, length, take, drop, slice_get, ⊎_elim, sym, ap, ◌∙◌, subst, arith, append-nil, append_assoc}
+use Rattle.std.proofs.Common.{◌≡◌, ℕ, ◌+◌, ◌-◌, ◌<◌, List, [], ◌∷◌, ◌++◌, Some, Result, Ok, Err, OnOk, OnErr, length, take, drop, slice_get, ⊎_elim, sym, ap, ◌∙◌, subst, arith, append_assoc}
 use Rattle.std.proofs.lemmas.List.{drop_all}
 use Rattle.std.specs.Prelude.{Bool}
 use Rattle.std.proofs.lemmas.List.Sums.{fold-append}
@@ -8,7 +8,7 @@ use Rattle.cf_types.specs.declared.forms.Caps.{Caps}
 use Rattle.cf_types.specs.declared.forms.Kind.{Kind}
 use Rattle.cf_types.specs.declared.forms.Kind.TheVariants as kind
 use Rattle.engine_api.specs.declared.shapes.Shape.{Shape}
-use Rattle.engine_api.specs.Meaning.{Meaning, Held, items_of, with_item, without_last_item}
+use Rattle.engine_api.specs.Meaning.{Meaning, Held, new_held, items_of, with_item, without_last_item}
 use Rattle.engine_api.specs.Items.{Fits, IsNoMore, IsNextItem, content_of_items}
 use Rattle.list_laws.proofs.TakeLaws.{take_next, split_next}
 use Rattle.rebuild_copy.specs.Copies.{Copy, copy_in, IsFilled, IsCopyOf, with_next}
@@ -35,83 +35,37 @@ module _ {C R I S : Type 0} (meaning : Meaning C R I S) (is_kind : Kind → Bool
     (IsContent : Shape → Caps → S → Type 0) where
   -- what every engine promises of items
   pub record ItemLaws : Type 0 where
-    pub content_empty : (shape : Shape) (caps : Caps) → IsContent shape caps (meaning.empty shape)
-    pub items_empty : (shape : Shape) → meaning.items shape (meaning.empty shape) ≡ []
-    pub made_again : (shape : Shape) (caps : Caps) (state : S) → IsContent shape caps state
-        → content_of_items meaning shape (meaning.items shape state) ≡ meaning.forget state
-    pub content_moved : (shape : Shape) (caps other : Caps) (state : S) → IsTrue (is_kind shape.kind)
-        → IsContent shape caps state → Fits shape.kind (meaning.need (meaning.items shape state)) other
-        → IsContent shape other (meaning.forget state)
-    pub content_place : (shape : Shape) (caps : Caps) (state : S) (item : I) → IsContent shape caps state
-        → IsNextItem meaning (IsContent shape caps) shape state item
-        → IsContent shape caps (meaning.place shape state item)
-    pub items_place : (shape : Shape) (caps : Caps) (state : S) (item : I) → IsContent shape caps state
-        → IsNextItem meaning (IsContent shape caps) shape state item
-        → meaning.items shape (meaning.place shape state item) ≡ meaning.items shape state ++ item ∷ []
-    pub unplace_place : (shape : Shape) (caps : Caps) (state : S) (item : I) → IsContent shape caps state
-        → IsNextItem meaning (IsContent shape caps) shape state item
-        → meaning.unplace shape (meaning.place shape state item) ≡ state
+    pub items_front : (shape : Shape) (caps : Caps) (state : S) (front others : List I) → IsContent shape caps state
+        → meaning.items shape state ≡ front ++ others
+        → meaning.items shape (content_of_items meaning shape front) ≡ front
+    pub unplace_front : (shape : Shape) (caps : Caps) (state : S) (front : List I) (item : I) (others : List I)
+        → IsContent shape caps state → meaning.items shape state ≡ front ++ item ∷ others
+        → meaning.unplace shape (content_of_items meaning shape (front ++ item ∷ []))
+        ≡ content_of_items meaning shape front
     pub need_first : (items others : List I) → IsNoMore (meaning.need items) (meaning.need (items ++ others))
 
-  module _ (laws : ItemLaws) where
-    -- ---- the content that items make
+  -- a new engine has no item, and what it was made with is its capacity
+  pub started : ((shape : Shape) (caps : Caps) → IsContent shape caps (meaning.empty shape))
+      → ((shape : Shape) → meaning.items shape (meaning.empty shape) ≡ []) → (held : Held S)
+      → held ≡ new_held meaning held.shape held.caps → IsFilled meaning IsContent held
+  started content_empty items_empty held new =
+      let state : held.state ≡ meaning.empty held.shape = ap (λ (h : Held S). h.state) new in
+      let none : items_of meaning held ≡ [] = ap (meaning.items held.shape) state ∙ items_empty held.shape in
+      record {
+        at = held.caps;
+        whole = meaning.empty held.shape;
+        others = [];
+        content = content_empty held.shape held.caps;
+        first = items_empty held.shape ∙ ap (λ (l : List I). l ++ []) (sym none);
+        alone = ap (content_of_items meaning held.shape) none ∙ sym state;
+        unaltered = ap (λ (h : Held S). h.base) new;
+      }
 
+  module _ (laws : ItemLaws) where
     made_push : (shape : Shape) (front : List I) (item : I)
         → content_of_items meaning shape (front ++ item ∷ [])
         ≡ meaning.place shape (content_of_items meaning shape front) item
     made_push shape front item = fold-append (meaning.place shape) (meaning.empty shape) front (item ∷ [])
-
-    -- an item is the next one of what the items before it make
-    next_of : (shape : Shape) (caps : Caps) (whole : S) (front : List I) (item : I) (others : List I)
-        → IsContent shape caps whole → meaning.items shape whole ≡ front ++ item ∷ others
-        → meaning.items shape (content_of_items meaning shape front) ≡ front
-        → IsNextItem meaning (IsContent shape caps) shape (content_of_items meaning shape front) item
-    next_of shape caps whole front item others content split same =
-        record {
-          whole = whole;
-          others = others;
-          content = content;
-          first = split ∙ ap (λ (l : List I). l ++ item ∷ others) (sym same);
-        }
-
-    -- the content that the first items of a content make
-    record IsFront (shape : Shape) (caps : Caps) (front : List I) : Type 0 where
-      content : IsContent shape caps (content_of_items meaning shape front)
-      items : meaning.items shape (content_of_items meaning shape front) ≡ front
-
-    no_front : (shape : Shape) (caps : Caps) → IsFront shape caps []
-    no_front shape caps = record { content = laws.content_empty shape caps; items = laws.items_empty shape }
-
-    module _ (shape : Shape) (caps : Caps) (whole : S) (content : IsContent shape caps whole) where
-      front_with : (front : List I) (item : I) (others : List I) → meaning.items shape whole ≡ front ++ item ∷ others
-          → IsFront shape caps front → IsFront shape caps (front ++ item ∷ [])
-      front_with front item others split is =
-          let next = next_of shape caps whole front item others content split is.items in
-          let made = content_of_items meaning shape front in
-          let push = made_push shape front item in
-          record {
-            content = subst (IsContent shape caps) (sym push) (laws.content_place shape caps made item is.content next);
-            items = ap (meaning.items shape) push ∙ laws.items_place shape caps made item is.content next
-                ∙ ap (λ (l : List I). l ++ item ∷ []) is.items;
-          }
-
-      front_longer : (front rest others : List I) → meaning.items shape whole ≡ front ++ (rest ++ others)
-          → IsFront shape caps front → IsFront shape caps (front ++ rest)
-      front_longer front [] others split is = subst (IsFront shape caps) (sym (append-nil front)) is
-      front_longer front (item ∷ rest) others split is =
-          subst (IsFront shape caps) (append_assoc front (item ∷ []) rest)
-          (front_longer (front ++ item ∷ []) rest others
-          (split ∙ sym (append_assoc front (item ∷ []) (rest ++ others)))
-          (front_with front item (rest ++ others) split is))
-
-      -- the first items of a content make one that has just them
-      front_of : (front others : List I) → meaning.items shape whole ≡ front ++ others → IsFront shape caps front
-      front_of front others split = front_longer [] front others split (no_front shape caps)
-
-      items_forgotten : meaning.items shape (meaning.forget whole) ≡ meaning.items shape whole
-      items_forgotten =
-          ap (meaning.items shape) (sym (laws.made_again shape caps whole content))
-          ∙ (front_of (meaning.items shape whole) [] (sym (append-nil (meaning.items shape whole)))).items
 
     -- ---- an engine that is filled
 
@@ -144,13 +98,15 @@ module _ {C R I S : Type 0} (meaning : Meaning C R I S) (is_kind : Kind → Bool
           ∙ ap (λ (l : List I). l ++ item ∷ rest) (sym here.first)
 
       -- the next item can be placed
-      pub place-next : IsNextItem meaning (IsContent new.shape new.caps) new.shape new.state item
+      pub place-next : IsNextItem meaning IsContent new.shape new.state item
       place-next =
           record {
-            whole = meaning.forget old.state;
+            at = old.caps;
+            whole = old.state;
             others = rest;
-            content = laws.content_moved new.shape old.caps new.caps old.state here.kind here.content here.fits;
-            first = items_forgotten new.shape old.caps old.state here.content ∙ split;
+            content = here.content;
+            first = split;
+            alone = full.alone;
           }
 
       pub place-fits : Fits new.shape.kind (meaning.need (items_of meaning new ++ item ∷ [])) new.caps
@@ -160,26 +116,32 @@ module _ {C R I S : Type 0} (meaning : Meaning C R I S) (is_kind : Kind → Bool
           (append_assoc (items_of meaning new) (item ∷ []) rest ∙ sym split)
           (laws.need_first (items_of meaning new ++ item ∷ []) rest)) here.fits
 
-      -- what was filled so far is a content
-      filled-content : IsContent new.shape new.caps new.state
-      filled-content = subst (IsContent new.shape new.caps) full.alone
-          (front_of new.shape new.caps full.whole full.content (items_of meaning new) full.others full.first).content
+      -- with the next item it is what the first items make, with that one
+      placed_state : content_of_items meaning new.shape (items_of meaning new ++ item ∷ [])
+          ≡ meaning.place new.shape new.state item
+      placed_state =
+          made_push new.shape (items_of meaning new) item
+          ∙ ap (λ (s : S). meaning.place new.shape s item) full.alone
+
+      split_behind : all ≡ (items_of meaning new ++ item ∷ []) ++ rest
+      split_behind = split ∙ sym (append_assoc (items_of meaning new) (item ∷ []) rest)
 
       pub placed-items : items_of meaning (with_item meaning new item) ≡ items_of meaning new ++ item ∷ []
-      placed-items = laws.items_place new.shape new.caps new.state item filled-content place-next
+      placed-items =
+          ap (meaning.items new.shape) (sym placed_state)
+          ∙ laws.items_front new.shape old.caps old.state (items_of meaning new ++ item ∷ []) rest here.content
+          split_behind
 
       pub placed-filled : IsFilled meaning IsContent (with_item meaning new item)
-      unfolding place-next
       placed-filled =
           record {
-            whole = meaning.forget old.state;
+            at = old.caps;
+            whole = old.state;
             others = rest;
-            content = place-next.content;
-            first = place-next.first ∙ sym (append_assoc (items_of meaning new) (item ∷ []) rest)
-                ∙ ap (λ (l : List I). l ++ rest) (sym placed-items);
-            alone = ap (content_of_items meaning new.shape) placed-items
-                ∙ made_push new.shape (items_of meaning new) item
-                ∙ ap (λ (s : S). meaning.place new.shape s item) full.alone;
+            content = here.content;
+            first = split_behind ∙ ap (λ (l : List I). l ++ rest) (sym placed-items);
+            alone = ap (content_of_items meaning new.shape) placed-items ∙ placed_state;
+            unaltered = full.unaltered;
           }
 
       pub placed-copy : copy_in meaning (with_item meaning new item)
@@ -212,27 +174,26 @@ module _ {C R I S : Type 0} (meaning : Meaning C R I S) (is_kind : Kind → Bool
           full.first ∙ ap (λ (l : List I). l ++ full.others) last.1
           ∙ append_assoc front (last.0 ∷ []) full.others
 
-      made : IsFront held.shape held.caps front
-      made = front_of held.shape held.caps full.whole full.content front (last.0 ∷ full.others) whole_split
-
       state_left : meaning.unplace held.shape held.state ≡ content_of_items meaning held.shape front
       state_left =
-          ap (meaning.unplace held.shape)
-          (sym full.alone ∙ ap (content_of_items meaning held.shape) last.1 ∙ made_push held.shape front last.0)
-          ∙ laws.unplace_place held.shape held.caps (content_of_items meaning held.shape front) last.0 made.content
-          (next_of held.shape held.caps full.whole front last.0 full.others full.content whole_split made.items)
+          ap (meaning.unplace held.shape) (sym full.alone ∙ ap (content_of_items meaning held.shape) last.1)
+          ∙ laws.unplace_front held.shape full.at full.whole front last.0 full.others full.content whole_split
 
       pub dropped-items : items_of meaning (without_last_item meaning held) ≡ front
-      dropped-items = ap (meaning.items held.shape) state_left ∙ made.items
+      dropped-items =
+          ap (meaning.items held.shape) state_left
+          ∙ laws.items_front held.shape full.at full.whole front (last.0 ∷ full.others) full.content whole_split
 
       pub dropped-filled : IsFilled meaning IsContent (without_last_item meaning held)
       dropped-filled =
           record {
+            at = full.at;
             whole = full.whole;
             others = last.0 ∷ full.others;
             content = full.content;
             first = whole_split ∙ ap (λ (l : List I). l ++ last.0 ∷ full.others) (sym dropped-items);
             alone = ap (content_of_items meaning held.shape) dropped-items ∙ sym state_left;
+            unaltered = full.unaltered;
           }
 
       pub dropped-one : (after : Held S) (copy : Copy I) → copy_in meaning held ≡ copy

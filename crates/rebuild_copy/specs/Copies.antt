@@ -4,7 +4,7 @@ use Rattle.cf_types.specs.declared.forms.Caps.{Caps}
 use Rattle.cf_types.specs.declared.forms.Kind.{Kind}
 use Rattle.engine_api.specs.declared.shapes.Shape.{Shape}
 use Rattle.engine_api.specs.Meaning.{Meaning, Held, items_of}
-use Rattle.engine_api.specs.Items.{Fits, content_of_items}
+use Rattle.engine_api.specs.Items.{Fits, IsAlone, content_of_items}
 use Rattle.rebuild_copy.specs.declared.moved.Moved.{Moved}
 
 -- a new engine as it is filled: its shape, its capacity, and the items so far
@@ -19,15 +19,24 @@ module _ {C R I S : Type 0} (meaning : Meaning C R I S) where
 
   -- what an engine holds that has just these items
   abbrev pub held_of : Copy I → Held S
-  held_of copy = record { shape = copy.shape; caps = copy.caps; state = content_of_items meaning copy.shape copy.items }
+  held_of copy =
+      record {
+        shape = copy.shape;
+        base = copy.caps;
+        caps = copy.caps;
+        state = content_of_items meaning copy.shape copy.items;
+      }
 
-  -- an engine has just its items, and they are the first of some content's
+  -- an engine has just its items, and they are the first of some content's, at whatever capacity; its own capacity is
+  -- the one that it was made with
   pub record IsFilled (IsContent : Shape → Caps → S → Type 0) (held : Held S) : Type 0 where
+    pub at : Caps
     pub whole : S
     pub others : List I
-    pub content : IsContent held.shape held.caps whole
+    pub content : IsContent held.shape at whole
     pub first : meaning.items held.shape whole ≡ items_of meaning held ++ others
-    pub alone : content_of_items meaning held.shape (items_of meaning held) ≡ held.state
+    pub alone : IsAlone meaning held.shape held.state
+    pub unaltered : held.base ≡ held.caps
 
   -- a copy of the first items of a content of the same shape, all of which fit
   pub record IsCopyOf (is_kind : Kind → Bool) (IsContent : Shape → Caps → S → Type 0) (copy : Copy I) (old : Held S) :

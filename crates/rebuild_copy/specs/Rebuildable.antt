@@ -1,5 +1,5 @@
 -- A structure's primary, and the new instance of a rebuild.
-use Rattle.std.specs.Prelude.{ℕ, ◌+◌, ◌-◌, min, Bool, IsTrue, List, [], length, take, Option, None, Some}
+use Rattle.std.specs.Prelude.{ℕ, ◌+◌, ◌-◌, min, Bool, IsTrue, IfSome, List, [], length, take, Option, None, Some}
 use Rattle.cf_types.specs.declared.forms.Caps.{Caps}
 use Rattle.cf_types.specs.declared.forms.Kind.{Kind}
 use Rattle.engine_api.specs.declared.shapes.Shape.{Shape}
@@ -53,16 +53,22 @@ module _ {C R I S : Type 0} (meaning : Meaning C R I S) where
   -- the new instance in the primary's place: what there was, without registrations, at its own capacity
   abbrev pub switched : Held S → Option Fresh → Held S
   switched held fresh =
-      record { shape = held.shape; caps = caps_or fresh held.caps; state = meaning.forget held.state }
+      record {
+        shape = held.shape;
+        base = caps_or fresh held.base;
+        caps = caps_or fresh held.caps;
+        state = meaning.forget held.state;
+      }
 
   -- a new instance, where one stands, has the first items of what the primary holds, and room for all
   abbrev pub IsCopying : (Kind → Bool) → (Shape → Caps → S → Type 0) → Option (Copy I) → Held S → Type 0
   IsCopying is_kind IsContent None held = Unit {0}
   IsCopying is_kind IsContent (Some copy) held = IsCopyOf meaning is_kind IsContent copy held
 
-  -- the primary has a content of its shape and capacity
-  pub record IsRebuildable (is_kind : Kind → Bool) (IsContent : Shape → Caps → S → Type 0) (held : Held S)
-      (copying : Option (Copy I)) : Type 0 where
+  -- the primary has a content of its shape and capacity; the order, where there is one, is that of its items
+  pub record IsRebuildable (is_kind : Kind → Bool) (IsContent : Shape → Caps → S → Type 0) {O : Type 0}
+      (IsOrder : O → Held S → Type 0) (held : Held S) (copying : Option (Copy I)) (order : Option O) : Type 0 where
     pub kind : IsTrue (is_kind held.shape.kind)
     pub content : IsContent held.shape held.caps held.state
     pub copy : IsCopying is_kind IsContent copying held
+    pub ordered : IfSome order (λ o. IsOrder o held)

@@ -39,13 +39,21 @@ impl<E: Engine> Copying<E> {
         Copying { fresh }
     }
 
-    /// Copies the next items of the old instance: `n` of them, or those that are left.
+    /// Copies the next items of the old instance, found by their order: `n` of them, or those that
+    /// are left.
     ///
     /// # Errors
     ///
     /// `NoMemory`, and then no item was copied.
-    pub fn step(&mut self, alloc: Global, old: &E, n: u32) -> Result<Moved, NoMemory>
-        requires { IsCopyOf E.meaning E.is_kind E.is_content self.old (E.held old.now) }
+    pub fn step(
+        &mut self,
+        alloc: Global,
+        old: &E,
+        order: &E::Order,
+        n: u32,
+    ) -> Result<Moved, NoMemory>
+        requires copy { IsCopyOf E.meaning E.is_kind E.is_content self.old (E.held old.now) }
+        requires order { E.is_order order.now (E.held old.now) }
         ensures moved { IfOk result (λ moved. moved ≡ moved_by E.meaning n (E.held old.now)
             self.old) }
         ensures copy { OnOk result (self.new ≡ with_next E.meaning n (E.held old.now) self.old) }
@@ -53,7 +61,7 @@ impl<E: Engine> Copying<E> {
     {
         let left = self.left(old);
         let moved = n.min(left);
-        self.copy_next(alloc, old, moved)?;
+        self.copy_next(alloc, old, order, moved)?;
         Ok(Moved {
             moved,
             left: left - moved,
@@ -83,6 +91,7 @@ impl<E: Engine> Copying<E> {
         requires all { left_of E.meaning self (E.held old.now) ≡ 0 }
         ensures { E.held result ≡ record {
           shape = self.shape;
+          base = self.caps;
           caps = self.caps;
           state = E.meaning.forget (E.held old.now).state;
         } }
@@ -101,14 +110,21 @@ impl<E: Engine> Copying<E> {
 
     // Copies so many of the old instance's items. Where memory lacks, those that were copied go
     // again.
-    fn copy_next(&mut self, alloc: Global, old: &E, n: u32) -> Result<(), NoMemory>
+    fn copy_next(
+        &mut self,
+        alloc: Global,
+        old: &E,
+        order: &E::Order,
+        n: u32,
+    ) -> Result<(), NoMemory>
         requires copy { IsCopyOf E.meaning E.is_kind E.is_content self.old (E.held old.now) }
+        requires order { E.is_order order.now (E.held old.now) }
         requires there { n ≤ left_of E.meaning self.old (E.held old.now) }
         ensures ok { OnOk result (self.new ≡ with_next E.meaning n (E.held old.now) self.old) }
         ensures err { OnErr result (self.new ≡ self.old) }
     {
         for k in 0..n {
-            match self.copy_one(alloc, old) {
+            match self.copy_one(alloc, old, order) {
                 Ok(()) => {}
                 Err(fault) => {
                     self.drop_last(k);
@@ -120,14 +136,15 @@ impl<E: Engine> Copying<E> {
     }
 
     // Copies the next item.
-    fn copy_one(&mut self, alloc: Global, old: &E) -> Result<(), NoMemory>
+    fn copy_one(&mut self, alloc: Global, old: &E, order: &E::Order) -> Result<(), NoMemory>
         requires copy { IsCopyOf E.meaning E.is_kind E.is_content self.old (E.held old.now) }
+        requires order { E.is_order order.now (E.held old.now) }
         requires there { 0 < left_of E.meaning self.old (E.held old.now) }
         ensures ok { OnOk result (self.new ≡ with_next E.meaning 1 (E.held old.now) self.old) }
         ensures err { OnErr result (self.new ≡ self.old) }
     {
         let copied = self.fresh.count();
-        let item = old.item(alloc, copied)?;
+        let item = old.item_in(alloc, order, copied)?;
         match self.fresh.place(item) {
             Ok(()) => Ok(()),
             Err(_item) => Err(NoMemory),

@@ -1,5 +1,5 @@
 /// What a step of a copy moved.
-#[derive(Clone, Copy, Debug, PartialEq, Eq)]
+#[derive(Clone, Copy, PartialEq, Eq)]
 pub struct Moved {
     /// How many items it copied.
     pub moved: u32,

@@ -1,5 +1,5 @@
 //! A structure's primary, and the new instance of a rebuild.
-ghost use Rattle.std.specs.Prelude.{◌≡◌, ◌++◌, ◌≤◌, IsTrue, IfSome, IfOk, OnOk, OnErr, None, Some, true, is_some, length, min};
+ghost use Rattle.std.specs.Prelude.{◌≡◌, ◌++◌, ◌≤◌, IsTrue, IfSome, IfOk, OnOk, OnErr, None, Some, true, is_some, option_map, length, min};
 ghost use Rattle.cf_types.specs.Forms.{IsCaller};
 ghost use Rattle.cf_types.specs.Gains.{Gains};
 ghost use Rattle.engine_api.specs.Items.{Fits};
@@ -20,6 +20,8 @@ use std::marker::Model;
 pub struct Rebuildable<E: Engine> {
     primary: E,
     copying: Option<Copying<E>>,
+    // where the primary's items are found, from the first copy of them until the primary changes
+    order: Option<E::Order>,
 }
 
 impl<E: Engine> Model for Rebuildable<E> {
@@ -30,8 +32,23 @@ impl<E: Engine> Model for Rebuildable<E> {
 
     ghost view = { λ r. record { primary = r.primary; fresh = option_map fresh_of r.copying } };
 
-    ghost invariant = { λ r. IsRebuildable E.meaning E.is_kind E.is_content (E.held r.primary)
-        r.copying };
+    ghost invariant = { λ r. IsRebuildable E.meaning E.is_kind E.is_content E.is_order
+        (E.held r.primary) r.copying r.order };
+}
+
+// The order that was taken before, or else a new one.
+fn order_of<E: Engine>(
+    alloc: Global,
+    primary: &E,
+    kept: Option<E::Order>,
+) -> Result<E::Order, NoMemory>
+    requires { IfSome kept (λ order. E.is_order order (E.held primary.now)) }
+    ensures { IfOk result (λ order. E.is_order order (E.held primary.now)) }
+{
+    match kept {
+        Some(order) => Ok(order),
+        None => primary.order(alloc),
+    }
 }
 
 impl<E: Engine> Rebuildable<E> {
@@ -45,6 +62,7 @@ impl<E: Engine> Rebuildable<E> {
         Rebuildable {
             primary,
             copying: None,
+            order: None,
         }
     }
 
@@ -55,14 +73,23 @@ impl<E: Engine> Rebuildable<E> {
         &self.primary
     }
 
-    /// The primary, and the new instance as it stands, with the first of the primary's items.
+    /// The primary, and the new instance as it stands: of the primary's shape, at its own capacity,
+    /// with the first of the primary's items.
     pub fn into_instances(self) -> (E, Option<E>)
         ensures primary { result.0 ≡ self.primary }
         ensures fresh { is_some result.1 ≡ is_some self.fresh }
         ensures front { IfSome result.1 (λ engine. items_of E.meaning (E.held engine)
             ≡ front_of E.meaning (E.held self.primary) self.fresh) }
+        ensures shape { IfSome result.1 (λ engine. (E.held engine).shape
+            ≡ (E.held self.primary).shape) }
+        ensures caps { IfSome result.1 (λ engine. Some (E.held engine).caps
+            ≡ option_map (λ fresh. fresh.caps) self.fresh) }
     {
-        let Rebuildable { primary, copying } = self;
+        let Rebuildable {
+            primary,
+            copying,
+            ..
+        } = self;
         match copying {
             Some(copying) => (primary, Some(copying.give_up())),
             None => (primary, None),
@@ -111,6 +138,7 @@ impl<E: Engine> Rebuildable<E> {
         ensures fits { length (letters_of E.meaning (E.held self.old.primary) by cmd.now) ≤
             out.old.mail.room }
     {
+        self.order = None;
         self.primary.apply(by, cmd, out)
     }
 
@@ -142,6 +170,7 @@ impl<E: Engine> Rebuildable<E> {
             out.old.mail.room }
     {
         self.restart();
+        self.order = None;
         self.primary.leave(conn, keep, out);
     }
 
@@ -153,6 +182,7 @@ impl<E: Engine> Rebuildable<E> {
             ≡ with_back E.meaning (E.held self.old.primary) conn }
         ensures fresh { self.new.fresh ≡ None }
     {
+        self.order = None;
         self.primary.back(conn);
     }
 
@@ -181,7 +211,12 @@ impl<E: Engine> Rebuildable<E> {
         ensures err { OnErr result (self.new.fresh ≡ self.old.fresh) }
     {
         match &mut self.copying {
-            Some(copying) => copying.step(alloc, &self.primary, n),
+            Some(copying) => {
+                let order = order_of(alloc, &self.primary, self.order.take())?;
+                let moved = copying.step(alloc, &self.primary, &order, n);
+                self.order = Some(order);
+                moved
+            }
             None => Ok(Moved { moved: 0, left: 0 }),
         }
     }
@@ -196,6 +231,7 @@ impl<E: Engine> Rebuildable<E> {
     {
         if let Some(copying) = self.copying.take() {
             let fresh = copying.finish(&self.primary);
+            self.order = None;
             self.primary = fresh;
         }
     }
@@ -214,5 +250,6 @@ impl<E: Engine> Rebuildable<E> {
         ensures { self.new ≡ record self.old { fresh = None } }
     {
         self.copying = None;
+        self.order = None;
     }
 }

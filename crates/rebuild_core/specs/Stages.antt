@@ -1,5 +1,5 @@
 -- The stages of a rebuild: what each waits for, and what comes once nobody owes it any more.
-use Rattle.std.specs.Prelude.{◌≡◌, ◌≢◌, ℕ, Bool, IsTrue, false, ◌==◌, List, [], ◌∷◌, Option, None, Some, unwrap_or}
+use Rattle.std.specs.Prelude.{◌≡◌, ◌≢◌, ℕ, Bool, false, ◌==◌, List, [], ◌∷◌, Option, None, Some, unwrap_or}
 use Rattle.cf_types.specs.declared.events.Event.{Event}
 use Rattle.cf_types.specs.declared.events.Event.TheVariants as event
 use Rattle.cf_types.specs.declared.events.Stage.{Stage}
@@ -7,7 +7,7 @@ use Rattle.cf_types.specs.declared.events.Stage.TheVariants.{Quiesce, Connect, C
 use Rattle.cf_types.specs.declared.forms.Caps.{Caps}
 use Rattle.cf_types.specs.declared.numbers.CfId.{CfId}
 use Rattle.cf_types.specs.declared.numbers.ConnId.{ConnId}
-use Rattle.cf_types.specs.ConnSets.{is_member, without_member}
+use Rattle.cf_types.specs.ConnSets.{without_member}
 use Rattle.rebuild_core.specs.declared.passed.Passed.{Passed}
 use Rattle.rebuild_core.specs.declared.passed.Passed.TheVariants.{No, Into, Ended}
 use Rattle.rebuild_core.specs.declared.rebuild.Rebuild.{Rebuild}
@@ -124,9 +124,3 @@ abbrev pub rebuild_onward : Rebuild → Option Rebuild
 rebuild_onward rebuild = rebuild_left (outcome_of rebuild) rebuild
 
 -- ---- what is true of a rebuild between two calls
-
--- somebody owes what the stage waits for, only members owe, and a new instance goes with CONNECT and COPY alone
-pub record IsUnderWay (rebuild : Rebuild) : Type 0 where
-  pub awaits : rebuild.owing ≢ []
-  pub members : (conn : ConnId) → IsTrue (is_member conn rebuild.owing) → IsTrue (is_member conn rebuild.members)
-  pub fresh : rebuild.fresh ≡ fresh_in rebuild.stage rebuild.fresh

@@ -1,7 +1,7 @@
 use cf_types::Stage;
 
 /// Whether a stage of a rebuild passed.
-#[derive(Clone, Copy, Debug, PartialEq, Eq)]
+#[derive(Clone, Copy, PartialEq, Eq)]
 pub enum Passed {
     /// The stage goes on.
     No,

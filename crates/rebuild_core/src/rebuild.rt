@@ -9,7 +9,7 @@ use crate::passed::Passed;
 use cf_types::{Caps, CfId, ConnId, ConnSet, Event, Stage};
 
 /// A rebuild under way (IXLREBLD).
-#[derive(Clone, Copy, Debug)]
+#[derive(Clone, Copy)]
 pub struct Rebuild {
     /// Its number: the structure's rebuilds are counted from 1.
     pub number: u32,

@@ -29,7 +29,7 @@ use Rattle.engine_api.specs.declared.shapes.Shape.{Shape}
 use Rattle.engine_api.specs.History.{after_what, machine_after, replay}
 use Rattle.engine_api.specs.Items.{Fits, IsNoMore, IsNoMoreOf}
 use Rattle.engine_api.specs.Machine.{Machine, opening, step, loss_step, unless, with_entered, room_of, command_done, content_done, content_after, departure_from, with_made, with_back_of}
-use Rattle.engine_api.specs.Meaning.{Meaning, step_result, first_refusal}
+use Rattle.engine_api.specs.Meaning.{Meaning, unless_refused, first_refusal}
 use Rattle.engine_api.specs.Rebuilds.{fresh_of, is_switch, is_held_up, letters_past}
 use Rattle.engine_api.specs.Shapes.{shape_of}
 use Rattle.engine_api.specs.Shell.{if_failed, simplex_again, with_off, Shell, ShellOutcome, Leaver, shell_cause, content_cause, if_small, if_too_small, if_rebuilding, unless_active, unless_rebuilding, unless_owed, is_connect, unless_copied_to, no_deeds, with_posted, goes, deallocated, unless_gone, facility_of, is_kept, switched, shell_onward, shell_without, given_outcome, stop_outcome, fresh_made, rebuild_connect_outcome, complete_outcome, departing_shell, emptied, take_event, conns_answered, responded, response_outcome}
@@ -112,9 +112,9 @@ module _ {C R I S : Type 0} (meaning : Meaning C R I S) (is_kind : Kind → Bool
   pub record ContentLaws : Type 0 where
     pub content_empty : (shape : Shape) (caps : Caps) → IsContent shape caps (meaning.empty shape)
     pub items_empty : (shape : Shape) → meaning.items shape (meaning.empty shape) ≡ []
-    pub content_step : (shape : Shape) (caps : Caps) (state : S) (by : ConnId) (cmd : C)
-        → IsContent shape caps state → IsContent shape caps (step_result meaning
-        (record { shape = shape; caps = caps; state = state }) by cmd).state
+    pub content_done : (shape : Shape) (caps : Caps) (state : S) (by : ConnId) (cmd : C)
+        → IsTrue (is_kind shape.kind) → IsContent shape caps state → meaning.cause shape caps state by cmd ≡ None
+        → IsContent shape caps (meaning.done shape caps state by cmd).state
     pub content_leave : (shape : Shape) (caps : Caps) (state : S) (conn : ConnId) (keep : Bool)
         → IsContent shape caps state → IsContent shape caps (meaning.leave shape state conn keep).state
     pub content_back : (shape : Shape) (caps : Caps) (state : S) (conn : ConnId)
@@ -139,6 +139,18 @@ module _ {C R I S : Type 0} (meaning : Meaning C R I S) (is_kind : Kind → Bool
     abbrev Holds : Shell → S → Type 0
     Holds shell content =
         IsContent (shape_of form) shell.caps content × HasRoom meaning form shell.rebuild content
+
+    -- a step leads from content to content, refused or not
+    stepped : (caps : Caps) (state : S) (by : ConnId) (cmd : C) → IsContent (shape_of form) caps state
+        → IsContent (shape_of form) caps (unless_refused (meaning.cause (shape_of form) caps state by cmd) state
+        (meaning.done (shape_of form) caps state by cmd)).state
+    stepped caps state by cmd is = go (meaning.cause (shape_of form) caps state by cmd) refl
+      where
+        go : (refused : Option Refusal) → meaning.cause (shape_of form) caps state by cmd ≡ refused
+            → IsContent (shape_of form) caps (unless_refused refused state
+            (meaning.done (shape_of form) caps state by cmd)).state
+        go None none = laws.content_done (shape_of form) caps state by cmd kind is none
+        go (Some refusal) some = is
 
     -- ---- room in a new instance
 
@@ -491,7 +503,7 @@ module _ {C R I S : Type 0} (meaning : Meaning C R I S) (is_kind : Kind → Bool
             (with_entered (unless meaning form cause machine (content_done meaning form machine by command))).machine
         go (Some refusal) is = record { content = held.content; room = held.room }
         go None is = record {
-          content = laws.content_step (shape_of form) machine.shell.caps machine.content by command held.content;
+          content = stepped machine.shell.caps machine.content by command held.content;
           room = room_for_any machine by manned held machine.shell.rebuild refl is _;
         }
 

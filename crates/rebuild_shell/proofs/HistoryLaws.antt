@@ -2,6 +2,7 @@
 use Rattle.std.proofs.Common.{◌≡◌, List, [], ◌∷◌, ◌++◌, length, refl, sym, ap, ◌∙◌, subst}
 use Rattle.std.specs.Prelude.{fold}
 use Rattle.std.proofs.lemmas.List.Sums.{fold_push}
+use Rattle.cf_types.specs.declared.limits.TheConstants.{CALLERS}
 use Rattle.cf_types.specs.declared.forms.StrForm.{StrForm}
 use Rattle.cf_types.specs.declared.numbers.ConnId.{ConnId}
 use Rattle.cf_types.specs.Connections.{actives}
@@ -34,7 +35,7 @@ module _ {C R I S : Type 0} (meaning : Meaning C R I S) (form : StrForm) where
       rw answered (sym (rebuild-loss meaning form machine by cf))
 
   may_next : (machine : Machine S) (by : ConnId) (told : What C) (answer : Reply R)
-      → length machine.shell.conns ≡ 33 → HasPlace machine.shell.rebuild
+      → length machine.shell.conns ≡ CALLERS → HasPlace machine.shell.rebuild
       → answer ≡ reply_for meaning form machine by told
       → MayBeTold (actives machine.shell.conns) (telling_of told answer) machine.shell.rebuild
   may_next machine by (what.Call asked) answer places placed answered =

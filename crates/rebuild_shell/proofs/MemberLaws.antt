@@ -2,6 +2,7 @@
 -- somebody is.
 use Rattle.std.proofs.Common.{◌≡◌, ◌≢◌, Bool, true, false, List, [], ◌∷◌, length, Option, None, Some, refl, sym, ap, ◌∙◌, subst, arith}
 use Rattle.std.specs.Prelude.{is_some, if◌then◌else◌, unwrap_or, fold}
+use Rattle.cf_types.specs.declared.limits.TheConstants.{CALLERS}
 use Rattle.cf_types.specs.declared.connections.ConnState.{ConnState}
 use Rattle.cf_types.specs.declared.connections.ConnState.TheVariants as conn
 use Rattle.cf_types.specs.declared.events.Event.{Event}
@@ -316,7 +317,7 @@ module _ {C R I S : Type 0} (meaning : Meaning C R I S) (form : StrForm) (machin
 
   -- ---- the members behind a command
 
-  members_other : (command : ShellCmd) → is_connection command ≡ false → length machine.shell.conns ≡ 33
+  members_other : (command : ShellCmd) → is_connection command ≡ false → length machine.shell.conns ≡ CALLERS
       → HasPlace machine.shell.rebuild → HasMembers machine.shell.rebuild now
       → shell_cause form (room meaning form machine by) machine.shell by command ≡ None
       → HasMembers (outcome_by command).shell.rebuild (actives (outcome_by command).shell.conns)

@@ -2,6 +2,7 @@
 use Rattle.std.proofs.Common.{◌≡◌, ℕ, Bool, true, false, List, [], ◌∷◌, Option, None, Some, inl, inr, refl, sym, ap, ◌∙◌}
 use Rattle.std.specs.Prelude.{if◌then◌else◌, is_some, is_none}
 use Rattle.std.proofs.lemmas.Bool.{and_parts, eqb-true, both_ways}
+use Rattle.cf_types.specs.declared.limits.TheConstants.{CALLERS}
 use Rattle.cf_types.specs.declared.events.Event.{Event}
 use Rattle.cf_types.specs.declared.events.Stage.{Stage}
 use Rattle.cf_types.specs.declared.events.Stage.TheVariants.{Quiesce, Connect, Copy, Cleanup, Stopping}
@@ -188,7 +189,7 @@ primary-without by (Some rebuild) shell stands =
 pub nobody_active : (conns : Connections) → defined_count conns ≡ 0 → Somebody (actives conns) → ⊥
 unfolding actives
 nobody_active conns none (conn, (others, are)) =
-    let nobody = filter_none_from (is_active conns) 0 33
+    let nobody = filter_none_from (is_active conns) 0 CALLERS
     (λ c low high. ap is_active_state (gone-from_none_defined conns none c)) in
     let wrong : [] ≡ conn ∷ others = sym nobody ∙ are in cc
 

@@ -1,6 +1,7 @@
 -- What a call does to a rebuild is what its entry tells of it.
 use Rattle.std.proofs.Common.{◌≡◌, Bool, true, false, List, [], ◌∷◌, length, Option, None, Some, not, inl, inr, refl, sym, ap, ◌∙◌, subst, arith}
 use Rattle.std.specs.Prelude.{if◌then◌else◌, unwrap_or}
+use Rattle.cf_types.specs.declared.limits.TheConstants.{CALLERS}
 use Rattle.cf_types.specs.declared.events.Event.{Event}
 use Rattle.cf_types.specs.declared.events.Event.TheVariants as event
 use Rattle.cf_types.specs.declared.events.Stage.{Stage}
@@ -165,12 +166,12 @@ active_of true fine = refl
 active_of false fine = absurd (cc)
 
 -- whoever is active is one of those that are, since its connection has a place
-pub active_member : (conns : Connections) (conn : ConnId) → length conns ≡ 33 → is_active conns conn ≡ true
+pub active_member : (conns : Connections) (conn : ConnId) → length conns ≡ CALLERS → is_active conns conn ≡ true
     → is_member conn (actives conns) ≡ true
 active_member conns conn places active =
     is_member-actives conns conn (omega (arith, places, is_active-within conns conn active)) ∙ active
 
-somebody_active : (shell : Shell) (by : ConnId) → length shell.conns ≡ 33 → unless_somebody shell by ≡ None
+somebody_active : (shell : Shell) (by : ConnId) → length shell.conns ≡ CALLERS → unless_somebody shell by ≡ None
     → Somebody (actives shell.conns)
 somebody_active shell by places fine = go (is_operator by) fine
   where
@@ -442,7 +443,7 @@ module _ {C R I S : Type 0} (meaning : Meaning C R I S) (form : StrForm) (machin
   may_simplex None = tt
   may_simplex (Some cf) = tt
 
-  pub may_command : length machine.shell.conns ≡ 33 → HasPlace machine.shell.rebuild → (command : ShellCmd)
+  pub may_command : length machine.shell.conns ≡ CALLERS → HasPlace machine.shell.rebuild → (command : ShellCmd)
       → shell_cause form room machine.shell by command ≡ None
       → MayBeTold active (telling command (done command).reply) machine.shell.rebuild
   may_command places placed (cmd.Connect keep) fine = tt
@@ -464,7 +465,7 @@ module _ {C R I S : Type 0} (meaning : Meaning C R I S) (form : StrForm) (machin
   may_command places placed cmd.DuplexStart fine = tt
   may_command places placed cmd.DuplexStop fine = may_simplex machine.shell.instances.secondary
 
-  pub may-step : length machine.shell.conns ≡ 33 → HasPlace machine.shell.rebuild → (asked : Ask C)
+  pub may-step : length machine.shell.conns ≡ CALLERS → HasPlace machine.shell.rebuild → (asked : Ask C)
       → MayBeTold active (told asked (step meaning form machine by asked)) machine.shell.rebuild
   may-step places placed (ask.Shell command) = go (shell_cause form room machine.shell by command) refl
     where

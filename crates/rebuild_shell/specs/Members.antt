@@ -2,7 +2,7 @@
 use Rattle.std.specs.Prelude.{◌≡◌, ◌≢◌, ◌⊎◌, true, false, is_some, ◌+◌, List, ◌∷◌, length, Option, None, Some}
 use Rattle.cf_types.specs.declared.events.Stage.{Stage}
 use Rattle.cf_types.specs.declared.events.Stage.TheVariants.{Quiesce, Connect, Copy, Cleanup, Stopping}
-use Rattle.cf_types.specs.declared.limits.TheConstants.{CONNECTORS}
+use Rattle.cf_types.specs.declared.limits.TheConstants.{CALLERS}
 use Rattle.cf_types.specs.declared.numbers.CfId.{CfId}
 use Rattle.cf_types.specs.declared.numbers.ConnId.{ConnId}
 use Rattle.cf_types.specs.Connections.{actives}
@@ -50,7 +50,7 @@ pub record IsPaired (shell : Shell) : Type 0 where
 -- there is a place for each connection, in a rebuild the members are just the connectors that are active, and the
 -- instances stand that there are to be
 pub record IsManned (shell : Shell) : Type 0 where
-  pub places : length shell.conns ≡ CONNECTORS + 1
+  pub places : length shell.conns ≡ CALLERS
   pub members : HasMembers shell.rebuild (actives shell.conns)
   pub placed : HasPlace shell.rebuild
   pub primary : HasPrimary shell

@@ -1,5 +1,7 @@
 mod gates;
+mod journals;
 mod loads;
+mod locks;
 mod rebuilds;
 mod reports;
 mod runs;
@@ -44,10 +46,9 @@ fn two_at_once(rt: HostRuntime) -> Result<(), Fail> {
     ];
     let gate = Meeting::new(&writes);
     let (status, report) = ran(&rt, rt.alloc(), &script, &gate)?;
-    assert_eq!(rt; gate.met(), 2);
-    assert_eq!(rt; status, 0);
+    assert!(rt; gate.met() == 2 && status == 0);
     assert!(rt; report.contains("\nHISTORY GBP 6\n"));
-    assert_eq!(rt; entries(&report), 6);
+    assert!(rt; entries(&report) == 6);
     assert!(rt; report.ends_with("\nEND\n"));
     Ok(())
 }
@@ -66,12 +67,12 @@ fn a_thousand_writes_each(rt: HostRuntime) -> Result<(), Fail> {
         script.push_str("A GBP WRITE NA 0 a CHANGED 1\nB GBP WRITE NB 0 b CHANGED 1\n")?;
     }
     let (status, report) = ran(&rt, rt.alloc(), &script, &OpenGate)?;
-    assert_eq!(rt; status, 0);
+    assert!(rt; status == 0);
     assert!(rt; report.contains("\nHISTORY GBP 2004\n"));
-    assert_eq!(rt; entries(&report), 2_004);
+    assert!(rt; entries(&report) == 2_004);
     for heading in ["TRANSCRIPT A 1002", "TRANSCRIPT B 1002"] {
         let numbers = call_numbers(rt.alloc(), &report, heading, "GBP")?;
-        assert_eq!(rt; numbers.len(), 1_002, "{heading}");
+        assert!(rt; numbers.len() == 1_002, "{heading}");
         assert!(rt; numbers.is_sorted_by(|one, next| one < next), "{heading}");
     }
     assert!(rt; report.ends_with("\nEND\n"));
@@ -114,8 +115,7 @@ fn a_note_between_threads(rt: HostRuntime) -> Result<(), Fail> {
     ];
     let gate = Order::new(&holds);
     let (status, report) = ran(&rt, rt.alloc(), &script, &gate)?;
-    assert_eq!(rt; gate.kept(), 2);
-    assert_eq!(rt; status, 0);
+    assert!(rt; gate.kept() == 2 && status == 0);
     let calls = script_of(rt.alloc(), POLICY, IN_ORDER)?;
     let departures = report.strip_prefix(calls.as_str());
     assert!(rt; departures == Some(A_DEPARTS_FIRST) || departures == Some(B_DEPARTS_FIRST));
@@ -179,9 +179,8 @@ fn four_at_once(rt: HostRuntime) -> Result<(), Fail> {
     ];
     let gate = Meeting::new(&seconds);
     let (status, report) = ran(&rt, rt.alloc(), &script, &gate)?;
-    assert_eq!(rt; gate.met(), 4);
-    assert_eq!(rt; status, 0);
+    assert!(rt; gate.met() == 4 && status == 0);
     let done = script_of(rt.alloc(), FOUR, FOUR_DONE)?;
-    assert_eq!(rt; report.as_str(), done.as_str());
+    assert!(rt; report.as_str() == done.as_str());
     Ok(())
 }

@@ -5,6 +5,7 @@ use Rattle.std.proofs.lemmas.List.{get_or-replicate, length-replicate, length-ma
 use Rattle.std.proofs.lemmas.List.FromFn.{length-map-range_with_len, get_or-map-range_with_len}
 use Rattle.std.proofs.lemmas.List.Elements.{All-nil, All-cons, All-weaker, All-map}
 use Rattle.std.proofs.lemmas.Option.{slice_get-map, slice_get_within, slice_get-get_or, get_or_from_slice_get}
+use Rattle.list_laws.proofs.TableLaws.{get_within}
 use Rattle.cf_types.specs.declared.forms.StrForm.{StrForm}
 use Rattle.cf_types.specs.declared.forms.Kind.{Kind}
 use Rattle.cf_types.specs.declared.forms.Kind.TheVariants as kind
@@ -33,11 +34,6 @@ use Rattle.serial_exact.proofs.LineTurns.{of_all}
 use Rattle.serial_exact.proofs.LineRuns.{IsStageOf}
 
 -- ---- lists
-
-pub get_within : {X : Type 0} (xs : List X) (i : ℕ) → i < length xs → (x : X) × (slice_get xs i ≡ Some x)
-get_within [] i within = absurd (omega arith)
-get_within (x ∷ xs) zero within = (x, refl)
-get_within (x ∷ xs) (suc i) within = get_within xs i (omega arith)
 
 pub all_at : {X : Type 0} (P : X → Type 0) (xs : List X) (i : ℕ) (x : X) → All P xs → slice_get xs i ≡ Some x → P x
 all_at P xs i x all there =

@@ -148,7 +148,7 @@ ends_so limit kind line on last pass desk after (ended.JournalFull place) within
     let halts = halts_so kind line on last pass desk after within ends.1 in
     record { ends = (ends.0, halts.0, ends.2); desk_is = halts.1 }
 ends_so limit kind line on last pass desk after ended.NoMemory within ends =
-    let halts = halts_so kind line on last pass desk after within ends in
+    let halts = halts_so kind line on last pass desk after within ends.0 in
     record { ends = halts.0; desk_is = halts.1 }
 
 -- where the calls lead

@@ -1,7 +1,3 @@
-//! What the run of a script on one thread is, and the law of what it shows. There is no code but
-//! the law: contracts cite `specs/`, and proofs cite `proofs/`.
+//! What the run of a script on one thread is, and what histories and transcripts of a run show.
+//! There is no code: contracts cite `specs/`.
 #![tactic(auto)]
-
-mod laws;
-
-pub use laws::one_run;

@@ -12,6 +12,7 @@ use Rattle.plex_script.specs.declared.asks.AnyHistory.{AnyHistory}
 use Rattle.plex_script.specs.declared.transcripts.AgentEnd.{AgentEnd}
 use Rattle.plex_script.specs.declared.transcripts.AgentEnd.TheVariants as ended
 use Rattle.plex_script.specs.declared.transcripts.Shown.{Shown}
+use Rattle.plex_script.specs.declared.transcripts.Transcript.{Transcript}
 use Rattle.plex_script.specs.declared.transcripts.Shown.TheVariants as shown
 use Rattle.plex_script.specs.Agent.{shell_ask}
 use Rattle.plex_script.specs.Heard.{AnyCall, is_linked, calls_on, length_on}
@@ -21,9 +22,10 @@ use Rattle.any_cell.specs.Passes.{PassShown}
 use Rattle.desk_model.specs.Desks.{DeskShown, pass_at}
 use Rattle.desk_model.specs.Boards.{BoardShown}
 use Rattle.desk_model.specs.Turns.{AtWork, Asks, Departs, is_done_as}
-use Rattle.desk_model.specs.Callers.{DepartsEach}
+use Rattle.serve_laws.specs.Chains.{DepartsEach, Hears}
 use Rattle.serve_laws.proofs.Passes.{Caller, advances_none}
-use Rattle.serve_laws.proofs.Moves.{AreWithin, Goes, goes_none, goes_then, moves_go, moves_still}
+use Rattle.serve_laws.proofs.Moves.{AreWithin, Goes, goes_then, moves_go, moves_still, hears_go}
+use Rattle.serve_laws.proofs.Hearings.{hears_then}
 use Rattle.serve_laws.proofs.Turns.{EndsAs, Turned, asks_turned}
 use Rattle.serve_laws.proofs.Lines.{IsSetting, Owns, owns_still}
 
@@ -181,12 +183,14 @@ module _ {L : Type 0} (limit : ℕ) (board : BoardShown L) (me : Caller)
 
   pub departs_rest : (k : ℕ) (cells : List (CellShown L)) (before after : AtWork) → is_done_as before.shown.end ≡
       false
-      → DepartsEach k cells before after → after ≡ before
-  departs_rest k [] before after stopped does = does
-  departs_rest k (cell ∷ cells) before after stopped (between, one, rest) =
-      let same : between ≡ before = rw stopped at one in
-      departs_rest (k + 1) cells between after (ap (λ (w : AtWork). is_done_as w.shown.end) same ∙ stopped) rest
-      ∙ same
+      → DepartsEach k cells before after → Hears before after
+  departs_rest k [] before after stopped hears = hears
+  departs_rest k (cell ∷ cells) before after stopped (between, (ready, hears, one), rest) =
+      let still : is_done_as ready.shown.end ≡ false =
+      ap (λ (t : Transcript). is_done_as t.end) hears.shown ∙ stopped in
+      let same : between ≡ ready = rw still at one in
+      hears_then before between after (subst (Hears before) (sym same) hears)
+      (departs_rest (k + 1) cells between after (ap (λ (w : AtWork). is_done_as w.shown.end) same ∙ still) rest)
 
   -- how one departure ends
   abbrev OneEnds : Kind → ℕ → DeskShown → List Shown → AgentEnd → Type 0
@@ -256,17 +260,17 @@ module _ {L : Type 0} (limit : ℕ) (board : BoardShown L) (me : Caller)
       → before.shown.end ≡ ended.Done
       → length before.desk.passes ≡ length board.cells → DepartsEach k cells before after
       → Departed k cells before after
-  departs_play k [] before after are going long does =
-      subst (Departed k [] before) (sym does)
-      (record {
+  departs_play k [] before after are going long hears =
+      record {
         part = [];
-        goes = goes_none me before;
-        shows = λ owns within links. subst (ClosingEnd k [] []) (sym going) refl;
-      })
-  departs_play k (cell ∷ cells) before after are going long (between, one, rest) =
+        goes = hears_go me before after hears;
+        shows = λ owns within links.
+            subst (ClosingEnd k [] []) (sym (ap (λ (t : Transcript). t.end) hears.shown ∙ going)) refl;
+      }
+  departs_play k (cell ∷ cells) before after are going long (between, (ready, hears, one), rest) =
       by_end between.shown.end refl
       (λ (open' : between.shown.end ≡ ended.Done). departs_play (k + 1) cells between after are_behind open'
-      (turned.moves.passes ∙ long) rest)
+      (turned.moves.passes ∙ ready_long) rest)
     where
       there : slice_get board.cells k ≡ Some cell
       there = let none : k + 0 ≡ k = omega arith in sym (are 0 ∙ ap (slice_get board.cells) none)
@@ -274,31 +278,52 @@ module _ {L : Type 0} (limit : ℕ) (board : BoardShown L) (me : Caller)
       are_behind : AreFrom board (k + 1) cells
       are_behind j = let next : k + suc j ≡ k + 1 + j = omega arith in are (suc j) ∙ ap (slice_get board.cells) next
 
-      turned : DepartedOne cell.form.kind (place k) before between
-      turned = one_departs cell (place k) before between there going long one
+      heard : Goes me before ready []
+      heard = hears_go me before ready hears
 
-      inside : k < length before.desk.passes
-      inside = omega (arith, slice_get_within board.cells k cell there, long)
+      ready_long : length ready.desk.passes ≡ length board.cells
+      ready_long = hears.passes ∙ long
+
+      turned : DepartedOne cell.form.kind (place k) ready between
+      turned = one_departs cell (place k) ready between there
+          (ap (λ (t : Transcript). t.end) hears.shown ∙ going) ready_long one
+
+      first : Goes me before between turned.part
+      first = goes_then me before ready between [] turned.part heard
+          (moves_go me (place k) ready between turned.part turned.moves)
+
+      inside : k < length ready.desk.passes
+      inside = omega (arith, slice_get_within board.cells k cell there, ready_long)
 
       ends : Owns me.conn before.desk → AreWithin me between.desk
-          → OneEnds cell.form.kind k before.desk turned.part between.shown.end
-      ends owns within = turned.shows (owns (place k) inside) (within (place k))
+          → OneEnds cell.form.kind k ready.desk turned.part between.shown.end
+      ends owns within = turned.shows (owns_still me before ready [] heard owns (place k) inside) (within (place k))
+
+      -- to hear of others changes nothing of where the caller is active
+      links_ready : AreLinked k before.desk → AreLinked k ready.desk
+      links_ready links on past =
+          links on past
+          ∙ ap (λ (t : List AnyCall). is_linked t) (ap (λ (p : PassShown). p.calls) (sym (hears.later on).same))
 
       still : (end : AgentEnd) → between.shown.end ≡ end → is_done_as end ≡ false
-          → (AreLinked k before.desk → OneEnds cell.form.kind k before.desk turned.part end
+          → (AreLinked k ready.desk → OneEnds cell.form.kind k ready.desk turned.part end
           → ClosingEnd k (cell ∷ cells) turned.part end)
           → Departed k (cell ∷ cells) before after
       still end is stopped shows =
-          let same : after ≡ between = departs_rest (k + 1) cells between after (ap is_done_as is ∙ stopped) rest in
-          subst (Departed k (cell ∷ cells) before) (sym same)
-          (record {
+          let later : Hears between after =
+          departs_rest (k + 1) cells between after (ap is_done_as is ∙ stopped) rest in
+          let same : after.shown.end ≡ end = ap (λ (t : Transcript). t.end) later.shown ∙ is in
+          let goes : Goes me between after [] = hears_go me between after later in
+          record {
             part = turned.part;
-            goes = moves_go me (place k) before between turned.part turned.moves;
-            shows = λ owns within links. subst (ClosingEnd k (cell ∷ cells) turned.part) (sym is)
-                (shows links (subst (OneEnds cell.form.kind k before.desk turned.part) is (ends owns within)));
-          })
+            goes = subst (Goes me before after) (append-nil turned.part)
+                (goes_then me before between after turned.part [] first goes);
+            shows = λ owns within links. subst (ClosingEnd k (cell ∷ cells) turned.part) (sym same)
+                (shows (links_ready links)
+                (subst (OneEnds cell.form.kind k ready.desk turned.part) is (ends owns (goes.back within))));
+          }
 
-      links_behind : AreLinked k before.desk → AreLinked (k + 1) between.desk
+      links_behind : AreLinked k ready.desk → AreLinked (k + 1) between.desk
       links_behind links on past =
           let apart : k == on.0 ≡ false = grind (arith, nat_tests) in
           links on (omega (arith, past)) ∙ ap (λ (t : List AnyCall). is_linked t)
@@ -309,19 +334,18 @@ module _ {L : Type 0} (limit : ℕ) (board : BoardShown L) (me : Caller)
           → Departed k (cell ∷ cells) before after
       by_end ended.Done is later =
           let others : Departed (k + 1) cells between after = later is in
-          let first : Goes me before between turned.part =
-          moves_go me (place k) before between turned.part turned.moves in
           record {
             part = turned.part ++ others.part;
             goes = goes_then me before between after turned.part others.part first others.goes;
             shows = λ owns within links.
-                closing_then k cell cells before.desk turned.part others.part after.shown.end links
-                (subst (OneEnds cell.form.kind k before.desk turned.part) is (ends owns (others.goes.back within)))
-                (others.shows (owns_still me before between turned.part first owns) within (links_behind links));
+                closing_then k cell cells ready.desk turned.part others.part after.shown.end (links_ready links)
+                (subst (OneEnds cell.form.kind k ready.desk turned.part) is (ends owns (others.goes.back within)))
+                (others.shows (owns_still me before between turned.part first owns) within
+                (links_behind (links_ready links)));
           }
       by_end (ended.JournalFull on) is later =
           still (ended.JournalFull on) is refl
-          (λ links ends. closing_stops k cell cells before.desk turned.part on links ends)
+          (λ links ends. closing_stops k cell cells ready.desk turned.part on links ends)
       by_end ended.NoMemory is later =
           still ended.NoMemory is refl
-          (λ links ends. closing_breaks k cell cells before.desk turned.part links ends)
+          (λ links ends. closing_breaks k cell cells ready.desk turned.part links ends)

@@ -3,6 +3,7 @@ pub mod Items
 pub mod Passes
 pub mod Adds
 pub mod Moves
+pub mod Hearings
 pub mod Turns
 pub mod ActTurns
 pub mod Lines
@@ -10,3 +11,6 @@ pub mod Closings
 pub mod Lookups
 pub mod Work
 pub mod ServeLaw
+pub mod Keeping
+pub mod Alone
+pub mod Schedules

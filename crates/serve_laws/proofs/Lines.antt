@@ -1,5 +1,5 @@
 -- A caller's lines, one after another.
-use Rattle.std.proofs.Common.{◌≡◌, ℕ, ◌≤◌, ◌<◌, ◌==◌, Bool, true, false, List, [], ◌∷◌, ◌++◌, length, Some, refl, sym, ap, subst, ◌∙◌, arith, append_assoc, slice_get, MatchBool}
+use Rattle.std.proofs.Common.{◌≡◌, ℕ, ◌≤◌, ◌<◌, ◌==◌, Bool, true, false, List, [], ◌∷◌, ◌++◌, length, Some, refl, sym, ap, subst, ◌∙◌, arith, append_assoc, append-nil, slice_get, MatchBool}
 use Rattle.std.proofs.lemmas.Option.{slice_get_within}
 use Rattle.cf_types.specs.declared.forms.StrForm.{StrForm}
 use Rattle.cf_types.specs.declared.numbers.ConnId.{ConnId}
@@ -9,6 +9,7 @@ use Rattle.plex_script.specs.declared.scripts.Line.{Line}
 use Rattle.plex_script.specs.declared.transcripts.AgentEnd.{AgentEnd}
 use Rattle.plex_script.specs.declared.transcripts.AgentEnd.TheVariants as ended
 use Rattle.plex_script.specs.declared.transcripts.Shown.{Shown}
+use Rattle.plex_script.specs.declared.transcripts.Transcript.{Transcript}
 use Rattle.plex_script.specs.Agent.{first_step, call_of}
 use Rattle.plex_script.specs.Heard.{calls_on, length_on}
 use Rattle.plex_script.specs.Follows.{RunsUpTo, ShowsLines}
@@ -17,9 +18,11 @@ use Rattle.any_model.specs.Kinds.{Rising}
 use Rattle.desk_model.specs.Desks.{DeskShown, pass_at}
 use Rattle.desk_model.specs.Boards.{BoardShown, cell_on}
 use Rattle.desk_model.specs.Turns.{AtWork, Acts, Turns, is_done_as}
-use Rattle.desk_model.specs.Callers.{DoesLines, lines_by}
+use Rattle.desk_model.specs.Callers.{lines_by}
+use Rattle.serve_laws.specs.Chains.{DoesLines, Hears}
 use Rattle.serve_laws.proofs.Passes.{Caller}
-use Rattle.serve_laws.proofs.Moves.{same_number, AreWithin, Goes, goes_none, goes_then, moves_go}
+use Rattle.serve_laws.proofs.Moves.{same_number, AreWithin, Goes, goes_then, moves_go, hears_go}
+use Rattle.serve_laws.proofs.Hearings.{hears_then}
 use Rattle.serve_laws.proofs.Turns.{EndsAs}
 use Rattle.serve_laws.proofs.ActTurns.{ShownWhole, ShownUpTo, ShownCut, TurnedBy, acts_turned}
 
@@ -102,13 +105,16 @@ module _ {L : Type 0} (limit : ℕ) (board : BoardShown L) (me : Caller)
     pub goes : Goes me before after part
     pub shows : Owns me.conn before.desk → AreWithin me after.desk → LinesEnd lines part after.shown.end
 
-  -- a caller whose work has ended does nothing more
+  -- a caller whose work has ended does nothing more, but hears
   lines_rest : (lines : List Line) (before after : AtWork) → is_done_as before.shown.end ≡ false
-      → DoesLines board lines before after → after ≡ before
-  lines_rest [] before after stopped does = does
-  lines_rest (line ∷ lines) before after stopped (cell, there, (between, turn, rest)) =
-      let same : between ≡ before = rw stopped at turn in
-      lines_rest lines between after (ap (λ (w : AtWork). is_done_as w.shown.end) same ∙ stopped) rest ∙ same
+      → DoesLines board lines before after → Hears before after
+  lines_rest [] before after stopped hears = hears
+  lines_rest (line ∷ lines) before after stopped (cell, there, (between, (ready, hears, turn), rest)) =
+      let still : is_done_as ready.shown.end ≡ false =
+      ap (λ (t : Transcript). is_done_as t.end) hears.shown ∙ stopped in
+      let same : between ≡ ready = rw still at turn in
+      hears_then before between after (subst (Hears before) (sym same) hears)
+      (lines_rest lines between after (ap (λ (w : AtWork). is_done_as w.shown.end) same ∙ still) rest)
 
   line_turned : (line : Line) (cell : CellShown L) (before after : AtWork) → cell_on board line.on ≡ Some cell
       → before.shown.end ≡ ended.Done → length before.desk.passes ≡ length board.cells
@@ -217,51 +223,63 @@ module _ {L : Type 0} (limit : ℕ) (board : BoardShown L) (me : Caller)
   pub lines_play : (lines : List Line) (before after : AtWork) → before.shown.end ≡ ended.Done
       → length before.desk.passes ≡ length board.cells
       → AreBy me.conn lines → DoesLines board lines before after → Played lines before after
-  lines_play [] before after going long mine does =
-      subst (Played [] before) (sym does)
-      (record {
+  lines_play [] before after going long mine hears =
+      record {
         part = [];
-        goes = goes_none me before;
-        shows = λ owns within. subst (LinesEnd [] []) (sym going) refl;
-      })
-  lines_play (line ∷ lines) before after going long mine (cell, there, (between, turn, rest)) =
+        goes = hears_go me before after hears;
+        shows = λ owns within.
+            subst (LinesEnd [] []) (sym (ap (λ (t : Transcript). t.end) hears.shown ∙ going)) refl;
+      }
+  lines_play (line ∷ lines) before after going long mine (cell, there, (between, (ready, hears, turn), rest)) =
       by_end between.shown.end refl
       (λ (open' : between.shown.end ≡ ended.Done). lines_play lines between after open'
-      (turned.moves.passes ∙ long) mine.1 rest)
+      (turned.moves.passes ∙ ready_long) mine.1 rest)
     where
-      turned : TurnedBy me limit cell.form line.on line.retry line.by before between line.act
-      turned = line_turned line cell before between there going long turn
+      heard : Goes me before ready []
+      heard = hears_go me before ready hears
+
+      ready_long : length ready.desk.passes ≡ length board.cells
+      ready_long = hears.passes ∙ long
+
+      turned : TurnedBy me limit cell.form line.on line.retry line.by ready between line.act
+      turned = line_turned line cell ready between there
+          (ap (λ (t : Transcript). t.end) hears.shown ∙ going) ready_long turn
+
+      first : Goes me before between turned.part
+      first = goes_then me before ready between [] turned.part heard
+          (moves_go me line.on ready between turned.part turned.moves)
 
       known : slice_get me.forms line.on.0 ≡ Some cell.form
       known = setting.forms_are line.on.0 cell there
 
-      inside : line.on.0 < length before.desk.passes
-      inside = omega (arith, slice_get_within board.cells line.on.0 cell there, long)
+      inside : line.on.0 < length ready.desk.passes
+      inside = omega (arith, slice_get_within board.cells line.on.0 cell there, ready_long)
 
       ends : Owns me.conn before.desk → AreWithin me between.desk
           → LineEnds line cell.form turned.part between.shown.end
-      ends owns within = turned.shows (owns line.on inside ∙ sym mine.0) (within line.on)
+      ends owns within = turned.shows (owns_still me before ready [] heard owns line.on inside ∙ sym mine.0)
+          (within line.on)
 
       still : (end : AgentEnd) → between.shown.end ≡ end → is_done_as end ≡ false
           → (LineEnds line cell.form turned.part end → LinesEnd (line ∷ lines) turned.part end)
           → Played (line ∷ lines) before after
       still end is stopped shows =
-          let same : after ≡ between = lines_rest lines between after (ap is_done_as is ∙ stopped) rest in
-          subst (Played (line ∷ lines) before) (sym same)
-          (record {
+          let later : Hears between after = lines_rest lines between after (ap is_done_as is ∙ stopped) rest in
+          let same : after.shown.end ≡ end = ap (λ (t : Transcript). t.end) later.shown ∙ is in
+          let goes : Goes me between after [] = hears_go me between after later in
+          record {
             part = turned.part;
-            goes = moves_go me line.on before between turned.part turned.moves;
-            shows = λ owns within. subst (LinesEnd (line ∷ lines) turned.part) (sym is)
-                (shows (subst (LineEnds line cell.form turned.part) is (ends owns within)));
-          })
+            goes = subst (Goes me before after) (append-nil turned.part)
+                (goes_then me before between after turned.part [] first goes);
+            shows = λ owns within. subst (LinesEnd (line ∷ lines) turned.part) (sym same)
+                (shows (subst (LineEnds line cell.form turned.part) is (ends owns (goes.back within))));
+          }
 
       by_end : (end : AgentEnd) → between.shown.end ≡ end
           → (between.shown.end ≡ ended.Done → Played lines between after)
           → Played (line ∷ lines) before after
       by_end ended.Done is later =
           let others : Played lines between after = later is in
-          let first : Goes me before between turned.part =
-          moves_go me line.on before between turned.part turned.moves in
           record {
             part = turned.part ++ others.part;
             goes = goes_then me before between after turned.part others.part first others.goes;

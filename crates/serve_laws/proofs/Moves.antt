@@ -4,11 +4,13 @@ use Rattle.std.proofs.lemmas.Bool.Decides.{nat_tests}
 use Rattle.std.proofs.lemmas.List.{length-set, get_or-set_same, get_or-set_other}
 use Rattle.cf_types.specs.declared.numbers.StrNo.{StrNo}
 use Rattle.plex_script.specs.declared.transcripts.Shown.{Shown}
+use Rattle.plex_script.specs.declared.transcripts.Transcript.{Transcript}
 use Rattle.any_cell.specs.Passes.{PassShown}
 use Rattle.desk_model.specs.Desks.{DeskShown, no_pass, pass_at, with_pass}
 use Rattle.desk_model.specs.Turns.{AtWork}
+use Rattle.serve_laws.specs.Chains.{Hears}
 use Rattle.serve_laws.proofs.Items.{Each}
-use Rattle.serve_laws.proofs.Passes.{Caller, IsShown, IsGood, IsWithin, Advances}
+use Rattle.serve_laws.proofs.Passes.{Caller, IsShown, IsGood, IsWithin, Advances, advances_later}
 
 -- ---- one pass of a desk is replaced
 
@@ -165,3 +167,25 @@ module _ (me : Caller) where
             shows = λ other. shows is here other (on.0 == other.0) refl;
             each = subst (Each (IsGood me)) (sym moves.items) each;
           }
+
+  -- ---- hearings
+
+  -- a caller that hears of others is shown nothing
+  pub hears_go : (before after : AtWork) → Hears before after → Goes before after []
+  hears_go before after hears =
+      record {
+        items = ap (λ (t : Transcript). t.items) hears.shown ∙ sym (append-nil before.shown.items);
+        owner = hears.owner;
+        passes = hears.passes;
+        owners = λ on. ap (λ (p : PassShown). p.owner) (hears.later on).same;
+        back = λ within on. (advances on).back (within on);
+        forth = λ within is. record {
+          shows = λ on. subst (λ (t : Transcript). IsShown on (pass_at after.desk on) t.items) (sym hears.shown)
+              (subst (IsShown on (pass_at after.desk on)) (append-nil before.shown.items)
+              ((advances on).forth (within on) before.shown.items (is.shows on) is.each).0);
+          each = subst (λ (t : Transcript). Each (IsGood me) t.items) (sym hears.shown) is.each;
+        };
+      }
+    where
+      advances : (on : StrNo) → Advances me on (pass_at before.desk on) (pass_at after.desk on) []
+      advances on = advances_later me on (pass_at before.desk on) (pass_at after.desk on) (hears.later on)

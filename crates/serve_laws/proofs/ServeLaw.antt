@@ -6,6 +6,7 @@ use Rattle.std.proofs.lemmas.Bool.{cases_lt}
 use Rattle.std.proofs.lemmas.List.{length-map, get_or_past}
 use Rattle.std.proofs.lemmas.List.Elements.{All-nil}
 use Rattle.std.proofs.lemmas.Option.{slice_get_within}
+use Rattle.list_laws.proofs.TableLaws.{get_within}
 use Rattle.cf_types.specs.declared.forms.StrForm.{StrForm}
 use Rattle.cf_types.specs.declared.numbers.ConnId.{ConnId}
 use Rattle.cf_types.specs.declared.numbers.StrNo.{StrNo}
@@ -24,12 +25,13 @@ use Rattle.any_model.proofs.HistoryLaws.{calls_rise}
 use Rattle.desk_model.specs.Desks.{DeskShown, no_pass, pass_at}
 use Rattle.desk_model.specs.Boards.{BoardShown, IsStarted, IsClosed, IsAccount, AreClosed, new_desk}
 use Rattle.desk_model.specs.Turns.{AtWork}
-use Rattle.desk_model.specs.Callers.{Serves, no_items}
+use Rattle.desk_model.specs.Callers.{no_items}
+use Rattle.serve_laws.specs.Chains.{Serves}
 use Rattle.serve_laws.specs.Ends.{WorkEnds, ShowsWork}
 use Rattle.serve_laws.proofs.Passes.{Caller, IsWithin}
 use Rattle.serve_laws.proofs.Moves.{AreWithin, IsTranscript}
 use Rattle.serve_laws.proofs.Lines.{IsSetting}
-use Rattle.serve_laws.proofs.Lookups.{get_within, get_map, get_mapped, all_get, kind_of_type}
+use Rattle.serve_laws.proofs.Lookups.{get_map, get_mapped, all_get, kind_of_type}
 use Rattle.serve_laws.proofs.Work.{caller_of, begins_long, begins_owning, begins_shown, Finished, finishes}
 
 module _ {L : Type 0} (limit : ℕ) (script : Script) (board : BoardShown L) (histories : List AnyHistory)

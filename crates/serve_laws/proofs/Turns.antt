@@ -179,7 +179,7 @@ module _ (me : Caller) where
             moves = both.0;
             shows = λ owner within. (here, both.1 owner within, omega (arith, full, within.known));
           }
-      ends ended.NoMemory stop =
+      ends ended.NoMemory (stop, same) =
           let both = halts ended.NoMemory stop in
           record { part = map (call_item on) tolds; moves = both.0; shows = λ owner within. both.1 owner within }
 

@@ -9,26 +9,24 @@ use Rattle.plex_script.specs.declared.scripts.Script.{Script}
 use Rattle.plex_script.specs.declared.transcripts.AgentEnd.{AgentEnd}
 use Rattle.plex_script.specs.declared.transcripts.AgentEnd.TheVariants as ended
 use Rattle.plex_script.specs.declared.transcripts.Shown.{Shown}
+use Rattle.plex_script.specs.declared.transcripts.Transcript.{Transcript}
 use Rattle.plex_script.specs.Heard.{AnyCall, own_calls, is_linked, calls_on}
 use Rattle.plex_script.specs.Follows.{AgreesWith, ShowsLines, ShowsClosings, lines_of, numbers_on}
 use Rattle.any_cell.specs.Passes.{PassShown, unused_pass}
 use Rattle.any_cell.specs.Cells.{CellShown}
 use Rattle.desk_model.specs.Desks.{no_pass, pass_at}
-use Rattle.desk_model.specs.Boards.{BoardShown, new_desk}
+use Rattle.desk_model.specs.Boards.{BoardShown}
 use Rattle.desk_model.specs.Turns.{AtWork, is_done_as}
-use Rattle.desk_model.specs.Callers.{Serves, DepartsEach, no_items}
-use Rattle.serve_laws.specs.Ends.{WorkEnds}
+use Rattle.serve_laws.specs.Chains.{Serves, DepartsEach, Hears}
+use Rattle.serve_laws.specs.Ends.{WorkEnds, beginner}
 use Rattle.serve_laws.proofs.Fronts.{take_front}
 use Rattle.serve_laws.proofs.Items.{each_none}
 use Rattle.serve_laws.proofs.Passes.{Caller, IsGood, IsShown}
-use Rattle.serve_laws.proofs.Moves.{AreWithin, IsTranscript, Goes, goes_then}
+use Rattle.serve_laws.proofs.Moves.{AreWithin, IsTranscript, Goes, goes_then, hears_go}
 use Rattle.serve_laws.proofs.Lines.{IsSetting, Owns, owns_still, Played, LinesEnd, own_lines, lines_play}
 use Rattle.serve_laws.proofs.Closings.{ClosingEnd, Departed, AreLinked, departs_rest, departs_play}
 
 -- ---- how a caller begins
-
-abbrev pub beginner : {L : Type 0} → BoardShown L → ConnId → AtWork
-beginner board conn = record { desk = new_desk board conn.0; shown = no_items }
 
 module _ {L : Type 0} (conn : ConnId) where
   new_owner : (cells : List (CellShown L)) (i : ℕ) → i < length cells
@@ -90,34 +88,38 @@ module _ {L : Type 0} (limit : ℕ) (board : BoardShown L) (script : Script) (hi
         subst (LinesEnd limit board me setting (lines_of script conn) played.part) going
         (played.shows (begins_owning board conn) within)
 
-    operator_ends : between.shown.end ≡ ended.Done → worker ≡ between → conn.0 == 0 ≡ true → Finished worker
-    operator_ends going same operator =
-        subst Finished (sym same)
-        (record {
+    operator_ends : between.shown.end ≡ ended.Done → Hears between worker → conn.0 == 0 ≡ true → Finished worker
+    operator_ends going later operator =
+        let same : worker.shown.end ≡ ended.Done = ap (λ (t : Transcript). t.end) later.shown ∙ going in
+        let goes : Goes me between worker [] = hears_go me between worker later in
+        record {
           part = played.part;
-          goes = played.goes;
-          ends = λ within agrees. subst (WorkEnds limit script histories conn played.part) (sym going) (record {
+          goes = subst (Goes me (beginner board conn) worker) (append-nil played.part)
+              (goes_then me (beginner board conn) between worker played.part [] played.goes goes);
+          ends = λ within agrees. subst (WorkEnds limit script histories conn played.part) (sym same) (record {
             during = played.part;
             after = [];
             shows = sym (append-nil played.part);
-            lines = lines_shown going within;
+            lines = lines_shown going (goes.back within);
             closings = rw operator refl;
             agrees = agrees;
           });
-        })
+        }
 
-    stopped_ends : (end : AgentEnd) → between.shown.end ≡ end → is_done_as end ≡ false → worker ≡ between
+    stopped_ends : (end : AgentEnd) → between.shown.end ≡ end → is_done_as end ≡ false → Hears between worker
         → Finished worker
-    stopped_ends end is stopped same =
-        subst Finished (sym same)
-        (record {
+    stopped_ends end is stopped later =
+        let same : worker.shown.end ≡ end = ap (λ (t : Transcript). t.end) later.shown ∙ is in
+        let goes : Goes me between worker [] = hears_go me between worker later in
+        record {
           part = played.part;
-          goes = played.goes;
-          ends = λ within agrees. subst (WorkEnds limit script histories conn played.part) (sym is)
+          goes = subst (Goes me (beginner board conn) worker) (append-nil played.part)
+              (goes_then me (beginner board conn) between worker played.part [] played.goes goes);
+          ends = λ within agrees. subst (WorkEnds limit script histories conn played.part) (sym same)
               (by_end end stopped agrees
               (subst (LinesEnd limit board me setting (lines_of script conn) played.part) is
-              (played.shows (begins_owning board conn) within)));
-        })
+              (played.shows (begins_owning board conn) (goes.back within))));
+        }
       where
         by_end : (end : AgentEnd) → is_done_as end ≡ false → AgreesWith histories conn played.part
             → LinesEnd limit board me setting (lines_of script conn) played.part end
@@ -256,22 +258,22 @@ module _ {L : Type 0} (limit : ℕ) (board : BoardShown L) (script : Script) (hi
                 agrees;
           }
 
-    closes : MatchBool (conn.0 == 0) (worker ≡ between) (DepartsEach 0 board.cells between worker) → Finished worker
+    closes : MatchBool (conn.0 == 0) (Hears between worker) (DepartsEach 0 board.cells between worker) → Finished worker
     closes closing = by_end between.shown.end refl
       where
         by_owner : (b : Bool) → conn.0 == 0 ≡ b → between.shown.end ≡ ended.Done
-            → MatchBool b (worker ≡ between) (DepartsEach 0 board.cells between worker) → Finished worker
-        by_owner true operator going same = operator_ends going same operator
+            → MatchBool b (Hears between worker) (DepartsEach 0 board.cells between worker) → Finished worker
+        by_owner true operator going hears = operator_ends going hears operator
         by_owner false connector going departs =
             connector_ends going connector
             (departs_play limit board me setting played.part 0 board.cells between worker
             (λ j. (let same : j ≡ 0 + j = omega arith in ap (slice_get board.cells) same)) going
             (played.goes.passes ∙ begins_long board conn) departs)
 
-        still : (b : Bool) → MatchBool b (worker ≡ between) (DepartsEach 0 board.cells between worker)
+        still : (b : Bool) → MatchBool b (Hears between worker) (DepartsEach 0 board.cells between worker)
             → is_done_as between.shown.end ≡ false
-            → worker ≡ between
-        still true same stopped = same
+            → Hears between worker
+        still true hears stopped = hears
         still false departs stopped =
             departs_rest limit board me setting played.part 0 board.cells between worker stopped departs
 
@@ -287,7 +289,4 @@ module _ {L : Type 0} (limit : ℕ) (board : BoardShown L) (script : Script) (hi
       let played : Played limit board me setting (lines_of script conn) (beginner board conn) serves.between =
       lines_play limit board me setting (lines_of script conn) (beginner board conn) serves.between refl
       (begins_long board conn) (own_lines conn script.lines) serves.during in
-      closes serves.between worker played
-      (subst (λ (owner : ConnId). MatchBool (owner.0 == 0) (worker ≡ serves.between)
-      (DepartsEach 0 board.cells serves.between worker))
-      played.goes.owner serves.closing)
+      closes serves.between worker played serves.closing

@@ -184,12 +184,14 @@ fn failed(alloc: Global) -> Result<Shell, NoMemory> {
     Ok(shell)
 }
 
-// B fails, and A is told by these events.
-fn told_of_failure(shell: &mut Shell) -> Result<(Option<Event>, Option<Event>), NoMemory> {
+// B fails. Whether A is told by these events then.
+fn tells_failure(
+    shell: &mut Shell,
+    first: Option<Event>,
+    second: Option<Event>,
+) -> Result<bool, NoMemory> {
     let _failed = ask(shell, B, ShellCmd::Fail)?;
-    let first = next(shell, A)?;
-    let second = next(shell, A)?;
-    Ok((first, second))
+    Ok(next(shell, A)? == first && next(shell, A)? == second)
 }
 
 const NUMBER: u32 = 1;
@@ -200,9 +202,12 @@ const GONE: Event = Event::DiscFail { conn: B };
 fn departure_in_quiesce(rt: HostRuntime) -> Result<(), Fail> {
     let mut shell = quiesce(rt.alloc())?;
     answer(&mut shell, A)?;
-    let (first, second) = told_of_failure(&mut shell)?;
-    assert_eq!(rt; first, Some(Event::RebuildConnect { number: NUMBER }));
-    assert_eq!(rt; second, Some(GONE));
+    let told = tells_failure(
+        &mut shell,
+        Some(Event::RebuildConnect { number: NUMBER }),
+        Some(GONE),
+    )?;
+    assert!(rt; told);
     Ok(())
 }
 
@@ -210,33 +215,38 @@ fn departure_in_quiesce(rt: HostRuntime) -> Result<(), Fail> {
 fn departure_in_connect(rt: HostRuntime) -> Result<(), Fail> {
     let mut shell = connect(rt.alloc())?;
     let made = ask(&mut shell, A, ShellCmd::RebuildConnect)?;
-    assert_eq!(rt; made, Ok(ShellReply::OkAt { cf: CfId(2) }));
-    let (first, second) = told_of_failure(&mut shell)?;
-    assert_eq!(rt; first, Some(Event::ConnectsDone { number: NUMBER }));
-    assert_eq!(rt; second, Some(GONE));
+    assert!(rt; made == Ok(ShellReply::OkAt { cf: CfId(2) }));
+    let told = tells_failure(
+        &mut shell,
+        Some(Event::ConnectsDone { number: NUMBER }),
+        Some(GONE),
+    )?;
+    assert!(rt; told);
     Ok(())
 }
 
 #[test]
 fn departure_in_copy(rt: HostRuntime) -> Result<(), Fail> {
     let mut shell = copy(rt.alloc())?;
-    let (first, second) = told_of_failure(&mut shell)?;
-    assert_eq!(rt; first, Some(GONE));
-    assert_eq!(rt; second, None);
+    let told = tells_failure(&mut shell, Some(GONE), None)?;
+    assert!(rt; told);
     let completed = ask(&mut shell, A, ShellCmd::RebuildComplete)?;
-    assert_eq!(rt; completed, Ok(ShellReply::Ok));
-    assert_eq!(rt; shell.instances(), (Some(CfId(2)), None, None));
+    assert!(rt; completed == Ok(ShellReply::Ok));
+    assert!(rt; shell.instances() == (Some(CfId(2)), None, None));
     Ok(())
 }
 
 #[test]
 fn departure_in_cleanup(rt: HostRuntime) -> Result<(), Fail> {
     let mut shell = cleanup(rt.alloc())?;
-    assert_eq!(rt; shell.caps(), LARGER);
+    assert!(rt; shell.caps() == LARGER);
     answer(&mut shell, A)?;
-    let (first, second) = told_of_failure(&mut shell)?;
-    assert_eq!(rt; first, Some(Event::Complete { number: NUMBER }));
-    assert_eq!(rt; second, Some(GONE));
+    let told = tells_failure(
+        &mut shell,
+        Some(Event::Complete { number: NUMBER }),
+        Some(GONE),
+    )?;
+    assert!(rt; told);
     Ok(())
 }
 
@@ -244,9 +254,12 @@ fn departure_in_cleanup(rt: HostRuntime) -> Result<(), Fail> {
 fn departure_in_stopping(rt: HostRuntime) -> Result<(), Fail> {
     let mut shell = stopping(rt.alloc())?;
     answer(&mut shell, A)?;
-    let (first, second) = told_of_failure(&mut shell)?;
-    assert_eq!(rt; first, Some(Event::StopDone { number: NUMBER }));
-    assert_eq!(rt; second, Some(GONE));
+    let told = tells_failure(
+        &mut shell,
+        Some(Event::StopDone { number: NUMBER }),
+        Some(GONE),
+    )?;
+    assert!(rt; told);
     Ok(())
 }
 
@@ -254,19 +267,16 @@ fn departure_in_stopping(rt: HostRuntime) -> Result<(), Fail> {
 fn rebuild_refuses_outside_its_stages(rt: HostRuntime) -> Result<(), Fail> {
     let mut shell = quiesce(rt.alloc())?;
     let again = ask(&mut shell, A, ShellCmd::RebuildStart { caps: LARGER })?;
-    assert_eq!(rt; again, Err(Refusal::RebuildInProgress { number: NUMBER }));
+    assert!(rt; again == Err(Refusal::RebuildInProgress { number: NUMBER }));
     let early = ask(&mut shell, A, ShellCmd::RebuildConnect)?;
-    assert_eq!(rt;
-        early,
-        Err(Refusal::WrongStage {
-            stage: Stage::Quiesce
-        })
+    assert!(rt;
+        early
+            == Err(Refusal::WrongStage {
+                stage: Stage::Quiesce
+            })
     );
     let newcomer = ask(&mut shell, ConnId(3), ShellCmd::Connect { keep: true })?;
-    assert_eq!(rt;
-        newcomer,
-        Err(Refusal::RebuildInProgress { number: NUMBER })
-    );
+    assert!(rt; newcomer == Err(Refusal::RebuildInProgress { number: NUMBER }));
     Ok(())
 }
 
@@ -278,31 +288,31 @@ fn lost_facility_is_told_once_and_takes_no_instance(rt: HostRuntime) -> Result<(
     let lost = ShellCmd::LoseConn { conn: A, cf };
     let _early = ask(&mut shell, OP, lost)?;
     let made = ask(&mut shell, A, ShellCmd::Connect { keep: false })?;
-    assert_eq!(rt; made, Ok(ShellReply::OkNew { cf: CfId(2) }));
+    assert!(rt; made == Ok(ShellReply::OkNew { cf: CfId(2) }));
     let _restored = ask(&mut shell, OP, ShellCmd::RestoreConn { conn: A, cf })?;
     let _lost = ask(&mut shell, OP, lost)?;
     let _again = ask(&mut shell, OP, lost)?;
     let told = next(&mut shell, A)?;
-    assert_eq!(rt; told, Some(Event::LostConn { cf }));
+    assert!(rt; told == Some(Event::LostConn { cf }));
     let nothing = next(&mut shell, A)?;
-    assert_eq!(rt; nothing, None);
+    assert!(rt; nothing == None);
     Ok(())
 }
 
 #[test]
 fn lost_facilities_leave_one_instance_and_then_none(rt: HostRuntime) -> Result<(), Fail> {
     let mut shell = duplexed(rt.alloc())?;
-    assert_eq!(rt; shell.instances(), (Some(FIRST), Some(SECOND), None));
+    assert!(rt; shell.instances() == (Some(FIRST), Some(SECOND), None));
     let again = ask(&mut shell, OP, ShellCmd::DuplexStart)?;
-    assert_eq!(rt; again, Err(Refusal::AlreadyDuplexed));
+    assert!(rt; again == Err(Refusal::AlreadyDuplexed));
     let simplex = vary(&mut shell, FIRST, true)?;
-    assert_eq!(rt; simplex, Ok(ShellReply::Simplex { cf: SECOND }));
-    assert_eq!(rt; shell.instances(), (Some(SECOND), None, None));
+    assert!(rt; simplex == Ok(ShellReply::Simplex { cf: SECOND }));
+    assert!(rt; shell.instances() == (Some(SECOND), None, None));
     let failed = vary(&mut shell, SECOND, true)?;
-    assert_eq!(rt; failed, Ok(ShellReply::FailedNow));
-    assert_eq!(rt; shell.instances(), (None, None, None));
+    assert!(rt; failed == Ok(ShellReply::FailedNow));
+    assert!(rt; shell.instances() == (None, None, None));
     let told = next(&mut shell, A)?;
-    assert_eq!(rt; told, Some(Event::StrFail));
+    assert!(rt; told == Some(Event::StrFail));
     Ok(())
 }
 
@@ -310,13 +320,13 @@ fn lost_facilities_leave_one_instance_and_then_none(rt: HostRuntime) -> Result<(
 fn failed_structure_refuses_until_it_is_gone(rt: HostRuntime) -> Result<(), Fail> {
     let mut shell = failed(rt.alloc())?;
     let newcomer = ask(&mut shell, B, ShellCmd::Connect { keep: false })?;
-    assert_eq!(rt; newcomer, Err(Refusal::StructureFailed));
-    assert_eq!(rt; refused_content(&shell, A), Some(Refusal::StructureFailed));
+    assert!(rt; newcomer == Err(Refusal::StructureFailed));
+    assert!(rt; refused_content(&shell, A) == Some(Refusal::StructureFailed));
     let _left = ask(&mut shell, A, ShellCmd::Disconnect)?;
     let nowhere = ask(&mut shell, A, ShellCmd::Connect { keep: false })?;
-    assert_eq!(rt; nowhere, Err(Refusal::NoFacility));
+    assert!(rt; nowhere == Err(Refusal::NoFacility));
     let _on = vary(&mut shell, FIRST, false)?;
     let made = ask(&mut shell, A, ShellCmd::Connect { keep: false })?;
-    assert_eq!(rt; made, Ok(ShellReply::OkNew { cf: FIRST }));
+    assert!(rt; made == Ok(ShellReply::OkNew { cf: FIRST }));
     Ok(())
 }

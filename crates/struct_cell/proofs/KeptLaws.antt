@@ -12,14 +12,17 @@ use Rattle.engine_api.specs.declared.asks.What.TheVariants as what
 use Rattle.engine_api.specs.declared.histories.Entry.{Entry}
 use Rattle.engine_api.specs.Meaning.{Meaning}
 use Rattle.engine_api.specs.Machine.{Machine, CallOutcome, opening, step}
-use Rattle.engine_api.specs.History.{Call, calls, next, next_entry, next_reply, replay}
+use Rattle.engine_api.specs.History.{Call, Turn, calls, next_reply, replay, next_entry, with_call, with_marks, marks_by, after_turn, IsUnmarked}
+use Rattle.engine_api.specs.LinkAsks.{links_asked}
 use Rattle.engine_api.specs.Shapes.{shape_of}
-use Rattle.engine_api.proofs.HistoryLaws.{calls-next, next_call, legal_none, legal_next, replay-push}
+use Rattle.engine_api.proofs.AskLaws.{no_marks}
+use Rattle.engine_api.proofs.HistoryLaws.{calls-turn, call_added, quiet_turn, turn-quiet, legal_none, legal_turn, replay-push, unmarked_push}
+use Rattle.engine_api.proofs.NumberLaws.{number_added, numbered_legal, length-turn}
 use Rattle.struct_machine.specs.StructureView.{StructureView, stands_at}
 use Rattle.vec_words.specs.declared.logged.Logged.{Logged}
 use Rattle.vec_words.specs.declared.logged.Logged.TheVariants.{Committed}
 use Rattle.vec_words.specs.declared.stores.Place.{Place}
-use Rattle.vec_words.specs.Logged.{commits_of, count_of, bit_in}
+use Rattle.vec_words.specs.Logged.{CallRecord, commits_of, count_of, bit_in}
 use Rattle.vec_words.specs.Stores.{StoresEach, IsSpared}
 use Rattle.vec_words.specs.Tokens.{WordTable, SeatSeen}
 use Rattle.vec_words.proofs.Commits.{commits-commit}
@@ -28,7 +31,6 @@ use Rattle.vec_words.proofs.StoreLaws.{stores-commits}
 use Rattle.struct_cell.specs.declared.inside.CellKey.{CellKey}
 use Rattle.struct_cell.specs.Cells.{About, commit_of, IsCell, Shows}
 use Rattle.struct_cell.specs.Touches.{TouchedWords, IsOfTable}
-use Rattle.struct_cell.proofs.PointLaws.{numbered_none, numbered_next, length-next}
 use Rattle.struct_cell.specs.Words.{words_in}
 use Rattle.struct_cell.proofs.ShownLaws.{shows_next}
 
@@ -74,8 +76,7 @@ module _ {C R I S L : Type 0} (meaning : Meaning C R I S) where
         count = ap count_of log;
         callers = All-nil (λ (call : Call C R). call.by.0 ≤ key.callers);
         most = omega arith;
-        legal = legal_none meaning key.form;
-        numbered = numbered_none;
+        legal = (legal_none meaning key.form, tt);
         machine = machine_is ∙ ap (opening meaning) (sym form_is);
         bits = λ n index conn some most below.
             subst (λ (l : List (Logged (About C R))). Shows meaning key.form key.callers l []) (sym log)
@@ -86,7 +87,93 @@ module _ {C R I S L : Type 0} (meaning : Meaning C R I S) where
             n index conn some most below;
       })
 
-  -- a call keeps it
+  -- a turn keeps it, where its words are stored and its call is committed
+  pub cell_turned : (key : CellKey C R L) (limit : ℕ) (standing standing' : StructureView S)
+      (touched touched' : TouchedWords) (journal : List (Entry C R))
+      (links : Links L) (seat begun stored seat' : SeatSeen (About C R)) (bits : ℕ → ℕ → ℕ) (turn : Turn C)
+      (number : ℕ) (reply : Reply R)
+      → IsCell meaning key limit standing touched journal links seat
+      → number ≡ number_added meaning key.form journal turn
+      → reply ≡ (let call = call_added meaning key.form journal turn in call.reply)
+      → standing'.machine ≡ replay meaning key.form (after_turn meaning key.form journal turn)
+      → IsUnmarked (after_turn meaning key.form journal turn)
+      → standing'.form ≡ standing.form → IsOfTable touched touched' → turn.by.0 ≤ key.callers → number ≤ limit
+      → ((conn : ConnId) (index : ℕ) → 0 < conn.0 → conn.0 ≤ touched'.conns → index < touched'.len
+      → IsSpared touched'.places conn.0 (index / 32)
+      → stands_at meaning standing'.machine conn index ≡ stands_at meaning standing.machine conn index)
+      → begun ≡ record seat { number = number }
+      → StoresEach key.words.conns key.words.len bits touched'.places begun stored
+      → ((conn word : ℕ) → bits conn word ≡ words_in meaning standing'.form standing'.machine conn word)
+      → seat'
+      ≡ record stored { number = 0; log = stored.log ++ Committed stored.number turn.by.0 (turn.ask, reply) ∷ [] }
+      → IsCell meaning key limit standing' touched' (after_turn meaning key.form journal turn) links seat'
+  cell_turned key limit standing standing' touched touched' journal links seat begun stored seat' bits turn number reply
+      cell number_is replies machine_is unmarked form_is same_table within few kept begun_is each are seat_is =
+      let form = key.form in
+      let history = after_turn meaning form journal turn in
+      let about : About C R = (turn.ask, reply) in
+      let begun_log : begun.log ≡ seat.log = ap (λ (s : SeatSeen (About C R)). s.log) begun_is in
+      let begun_number : begun.number ≡ number = ap (λ (s : SeatSeen (About C R)). s.number) begun_is in
+      let begun_table : begun.table ≡ seat.table = ap (λ (s : SeatSeen (About C R)). s.table) begun_is in
+      let stored_number : stored.number ≡ number = ap (λ (s : SeatSeen (About C R)). s.number) each.seat
+      ∙ begun_number in
+      let stored_table : stored.table ≡ seat.table = ap (λ (s : SeatSeen (About C R)). s.table) each.seat
+      ∙ begun_table in
+      let log_is : seat'.log ≡ stored.log ++ Committed number turn.by.0 about ∷ [] =
+      ap (λ (s : SeatSeen (About C R)). s.log) seat_is
+      ∙ ap (λ (n : ℕ). stored.log ++ Committed n turn.by.0 about ∷ []) stored_number in
+      let call : Call C R = call_added meaning form journal turn in
+      let here : CallRecord (About C R) = record { number = number; caller = turn.by.0; about = about } in
+      let here_is : here ≡ commit_of call =
+      ap (λ (n : ℕ). (let one : CallRecord (About C R) = record { number = n; caller = turn.by.0; about = about } in one))
+      number_is
+      ∙ ap (λ (r : Reply R). (let one : CallRecord (About C R) = record {
+        number = call.no;
+        caller = turn.by.0;
+        about = (turn.ask, r);
+      } in one)) replies in
+      record {
+        form = form_is ∙ cell.form;
+        limit_is = cell.limit_is;
+        links_are = cell.links_are;
+        table = ap (λ (s : SeatSeen (About C R)). s.table) seat_is ∙ stored_table ∙ cell.table;
+        touches = (same_table.0 ∙ cell.touches.0, same_table.1 ∙ cell.touches.1);
+        conns = cell.conns;
+        len = cell.len;
+        idle = ap (λ (s : SeatSeen (About C R)). s.number) seat_is;
+        commits = ap commits_of log_is ∙ commits-commit stored.log number turn.by.0 about
+            ∙ ap (λ (cs : List (CallRecord (About C R))). cs ++ here ∷ [])
+            (stores-commits key.words.conns key.words.len bits touched'.places begun stored each
+            ∙ ap commits_of begun_log ∙ cell.commits)
+            ∙ ap (λ (one : CallRecord (About C R)). map commit_of (calls journal) ++ one ∷ []) here_is
+            ∙ sym (ap (map commit_of) (calls-turn meaning form journal turn)
+            ∙ map-append commit_of (calls journal) (call ∷ []));
+        count = ap count_of log_is ∙ count-push stored.log (Committed number turn.by.0 about)
+            ∙ number_is ∙ sym (length-turn meaning form journal turn);
+        callers = subst (All (λ (c : Call C R). c.by.0 ≤ key.callers)) (sym (calls-turn meaning form journal turn))
+            (All-push (λ (c : Call C R). c.by.0 ≤ key.callers) (calls journal) call cell.callers within);
+        most = (
+            let all : length history ≡ number_added meaning form journal turn = length-turn meaning form journal turn in
+            let limit_is : limit ≡ key.limit = cell.limit_is in
+            omega (arith, all, few, limit_is, number_is));
+        legal = (legal_turn meaning form journal turn cell.legal.0, unmarked);
+        machine = machine_is;
+        bits = subst (λ (l : List (Logged (About C R))). Shows meaning form key.callers l history) (sym log_is)
+            (shows_next meaning form key.callers journal turn number standing'.machine touched'.places bits seat begun
+            stored turn.by.0 about
+            cell.bits (numbered_legal meaning form journal cell.legal.0) begun_log begun_number number_is
+            (subst (λ (n : ℕ). StoresEach n form.vector bits touched'.places begun stored) cell.conns
+            (subst (λ (n : ℕ). StoresEach key.words.conns n bits touched'.places begun stored) cell.len each))
+            (λ conn word. are conn word
+            ∙ ap (λ (f : StrForm). words_in meaning f standing'.machine conn word) (form_is ∙ cell.form))
+            machine_is
+            (λ conn index some most inside spared.
+            kept conn index some (subst (λ (n : ℕ). conn.0 ≤ n) (sym (same_table.0 ∙ cell.touches.0)) most)
+            (subst (λ (n : ℕ). index < n) (sym (same_table.1 ∙ cell.touches.1)) inside) spared
+            ∙ ap (λ (m : Machine S). meaning.stands m.content conn index) cell.machine));
+      }
+
+  -- a call before which no mark stands keeps it
   pub cell_called : (key : CellKey C R L) (limit : ℕ) (standing standing' : StructureView S)
       (touched touched' : TouchedWords) (journal : List (Entry C R))
       (links : Links L) (seat begun stored seat' : SeatSeen (About C R)) (bits : ℕ → ℕ → ℕ) (by : ConnId)
@@ -105,74 +192,31 @@ module _ {C R I S L : Type 0} (meaning : Meaning C R I S) where
   cell_called key limit standing standing' touched touched' journal links seat begun stored seat' bits by ask reply
       cell steps form_is same_table within few kept begun_is each are seat_is =
       let form = key.form in
-      let number_of = length journal + 1 in
-      let history = next meaning form journal by ask in
-      let about : About C R = (ask, reply) in
+      let turn : Turn C = quiet_turn meaning form by ask in
+      let quiet : after_turn meaning form journal turn ≡ with_call meaning form journal by ask =
+      turn-quiet meaning form journal by ask in
+      let none : with_marks meaning form journal (marks_by meaning form turn.down journal by ask) ≡ journal =
+      ap (with_marks meaning form journal) (no_marks (links_asked meaning form (replay meaning form journal) by ask)) in
       let at_journal : step meaning standing.form standing.machine by ask ≡ step meaning form
       (replay meaning form journal) by ask =
       ap (λ (f : StrForm). step meaning f standing.machine by ask) cell.form
       ∙ ap (λ (m : Machine S). step meaning form m by ask) cell.machine in
       let replies : reply ≡ next_reply meaning form journal by ask = ap (λ (a : CallOutcome R S). a.reply)
       (steps ∙ at_journal) in
-      let machine_is : standing'.machine ≡ replay meaning form history =
+      let machine_is : standing'.machine ≡ replay meaning form (with_call meaning form journal by ask) =
       ap (λ (a : CallOutcome R S). a.machine) (steps ∙ at_journal)
       ∙ sym (replay-push meaning form journal (next_entry meaning form journal by ask)) in
-      let journal_is : history ≡ entered journal by ask reply =
-      ap (λ (r : Reply R). entered journal by ask r) (sym replies) in
-      let begun_log : begun.log ≡ seat.log = ap (λ (s : SeatSeen (About C R)). s.log) begun_is in
-      let begun_number : begun.number ≡ number_of = ap (λ (s : SeatSeen (About C R)). s.number) begun_is in
-      let begun_table : begun.table ≡ seat.table = ap (λ (s : SeatSeen (About C R)). s.table) begun_is in
-      let stored_number : stored.number ≡ number_of = ap (λ (s : SeatSeen (About C R)). s.number) each.seat
-      ∙ begun_number in
-      let stored_table : stored.table ≡ seat.table = ap (λ (s : SeatSeen (About C R)). s.table) each.seat
-      ∙ begun_table in
-      let log_is : seat'.log ≡ stored.log ++ Committed number_of by.0 about ∷ [] =
-      ap (λ (s : SeatSeen (About C R)). s.log) seat_is
-      ∙ ap (λ (n : ℕ). stored.log ++ Committed n by.0 about ∷ []) stored_number in
-      let call : Call C R = next_call meaning form journal by ask in
-      let here : List (Call C R) = calls journal ++ call ∷ [] in
-      subst (λ (j : List (Entry C R)). IsCell meaning key limit standing' touched' j links seat') journal_is (record {
-        form = form_is ∙ cell.form;
-        limit_is = cell.limit_is;
-        links_are = cell.links_are;
-        table = ap (λ (s : SeatSeen (About C R)). s.table) seat_is ∙ stored_table ∙ cell.table;
-        touches = (same_table.0 ∙ cell.touches.0, same_table.1 ∙ cell.touches.1);
-        conns = cell.conns;
-        len = cell.len;
-        idle = ap (λ (s : SeatSeen (About C R)). s.number) seat_is;
-        commits = ap commits_of log_is ∙ commits-commit stored.log number_of by.0 about
-            ∙ ap (λ (cs : List _). cs ++ record { number = number_of; caller = by.0; about = about } ∷ [])
-            (stores-commits key.words.conns key.words.len bits touched'.places begun stored each
-            ∙ ap commits_of begun_log ∙ cell.commits)
-            ∙ ap (λ (r : Reply R). map commit_of (calls journal) ++ record
-            { number = number_of; caller = by.0; about = (ask, r) } ∷ []) replies
-            ∙ sym (ap (map commit_of) (calls-next meaning form journal by ask)
-            ∙ map-append commit_of (calls journal) (call ∷ []));
-        count = ap count_of log_is ∙ count-push stored.log (Committed number_of by.0 about)
-            ∙ sym (length-next meaning form journal by ask);
-        callers = subst (All (λ (c : Call C R). c.by.0 ≤ key.callers)) (sym (calls-next meaning form journal by ask))
-            (All-push (λ (c : Call C R). c.by.0 ≤ key.callers) (calls journal) call cell.callers within);
-        most = (
-            let all : length history ≡ length journal + 1 = length-next meaning form journal by ask in
-            let limit_is : limit ≡ key.limit = cell.limit_is in
-            omega (arith, all, few, limit_is));
-        legal = legal_next meaning form journal by ask cell.legal;
-        numbered = numbered_next meaning form journal by ask cell.numbered;
-        machine = machine_is;
-        bits = subst (λ (l : List (Logged (About C R))). Shows meaning form key.callers l history) (sym log_is)
-            (shows_next meaning form key.callers journal by ask standing'.machine touched'.places bits seat begun
-            stored by.0 about
-            cell.bits cell.numbered begun_log begun_number
-            (subst (λ (n : ℕ). StoresEach n form.vector bits touched'.places begun stored) cell.conns
-            (subst (λ (n : ℕ). StoresEach key.words.conns n bits touched'.places begun stored) cell.len each))
-            (λ conn word. are conn word
-            ∙ ap (λ (f : StrForm). words_in meaning f standing'.machine conn word) (form_is ∙ cell.form))
-            machine_is
-            (λ conn index some most inside spared.
-            kept conn index some (subst (λ (n : ℕ). conn.0 ≤ n) (sym (same_table.0 ∙ cell.touches.0)) most)
-            (subst (λ (n : ℕ). index < n) (sym (same_table.1 ∙ cell.touches.1)) inside) spared
-            ∙ ap (λ (m : Machine S). meaning.stands m.content conn index) cell.machine));
-      })
+      let journal_is : after_turn meaning form journal turn ≡ entered journal by ask reply =
+      quiet ∙ ap (λ (r : Reply R). entered journal by ask r) (sym replies) in
+      subst (λ (j : List (Entry C R)). IsCell meaning key limit standing' touched' j links seat') journal_is
+      (cell_turned key limit standing standing' touched touched' journal links seat begun stored seat' bits turn
+      (length journal + 1) reply cell
+      (ap (λ (h : List (Entry C R)). length h + 1) (sym none))
+      (replies ∙ ap (λ (h : List (Entry C R)). next_reply meaning form h by ask) (sym none))
+      (machine_is ∙ ap (replay meaning form) (sym quiet))
+      (subst IsUnmarked (sym quiet)
+      (unmarked_push journal (next_entry meaning form journal by ask) cell.legal.1 tt))
+      form_is same_table within (omega (arith, few)) kept begun_is each are seat_is)
 
   -- so does a step that leaves the seat as it was
   pub cell_same : (key : CellKey C R L) (limit : ℕ) (standing : StructureView S) (touched : TouchedWords)

@@ -1,6 +1,6 @@
 pub mod PlaceLaws
+pub mod SpotLaws
 pub mod Binary
-pub mod PointLaws
 pub mod ShownLaws
 pub mod KeptLaws
 pub mod ToldLaws

@@ -1,4 +1,4 @@
--- What the words show after one more call.
+-- What the words show after one more turn: a call, and the marks before it.
 use Rattle.std.proofs.Common.{◌≡◌, ℕ, ◌+◌, ◌*◌, ◌/◌, ◌%◌, ◌<◌, ◌≤◌, inl, inr, Bool, true, false, nat_lt, List, [], ◌∷◌, ◌++◌, length, take, refl, sym, ap, subst, ◌∙◌, arith, take_all}
 use Rattle.std.proofs.lemmas.Bool.{cases_lt}
 use Rattle.std.proofs.lemmas.Bool.Decides.{nat_tests}
@@ -9,7 +9,9 @@ use Rattle.engine_api.specs.declared.asks.Ask.{Ask}
 use Rattle.engine_api.specs.declared.histories.Entry.{Entry}
 use Rattle.engine_api.specs.Meaning.{Meaning}
 use Rattle.engine_api.specs.Machine.{Machine}
-use Rattle.engine_api.specs.History.{next, next_entry, replay, last_call_below}
+use Rattle.engine_api.specs.History.{Turn, replay, next_entry, with_marks, marks_by, after_turn, last_call_below, IsNumbered}
+use Rattle.engine_api.proofs.HistoryLaws.{added_turn}
+use Rattle.engine_api.proofs.NumberLaws.{number_added, number_past, last_below-turn, last_below-past, length-turn}
 use Rattle.vec_world.specs.Log.{bits_at}
 use Rattle.vec_words.specs.declared.logged.Logged.{Logged}
 use Rattle.vec_words.specs.declared.logged.Logged.TheVariants.{Committed}
@@ -20,23 +22,23 @@ use Rattle.vec_words.specs.Tokens.{SeatSeen}
 use Rattle.vec_words.proofs.Logs.{bits-commit}
 use Rattle.vec_words.proofs.StoreLaws.{stores-below, stores-from}
 use Rattle.struct_cell.specs.Words.{shown_in, words_in}
-use Rattle.struct_cell.specs.Cells.{About, IsNumbered, Shows, shown_after, shown_below}
+use Rattle.struct_cell.specs.Cells.{About, Shows, shown_after, shown_below}
 use Rattle.struct_cell.proofs.Binary.{whole_bit}
-use Rattle.struct_cell.proofs.PointLaws.{last_below-next, last_below-past, length-next}
 
 module _ {C R I S : Type 0} (meaning : Meaning C R I S) (form : StrForm) where
   -- ---- histories
 
   -- up to the next call's number nothing is different
-  shown-old : (history : List (Entry C R)) (by : ConnId) (ask : Ask C) (n : ℕ) (conn : ConnId) (index : ℕ)
-      → IsNumbered history → n ≤ length history + 1
-      → shown_below meaning form
-      (next meaning form history by ask) n conn index ≡ shown_below meaning form history n conn index
-  shown-old history by ask n conn index was low =
+  shown-old : (history : List (Entry C R)) (turn : Turn C) (n : ℕ) (conn : ConnId) (index : ℕ)
+      → IsNumbered history → n ≤ number_added meaning form history turn
+      → shown_below meaning form (after_turn meaning form history turn) n conn index
+      ≡ shown_below meaning form history n conn index
+  shown-old history turn n conn index was low =
+      let behind = added_turn meaning form history turn in
       ap (λ (h : List (Entry C R)). shown_after meaning form h conn index)
-      (ap (λ (k : ℕ). take k (next meaning form history by ask)) (last_below-next meaning form history by ask n low)
-      ∙ take-append-le (last_call_below history n) history (next_entry meaning form history by ask ∷ [])
-      (was.below n))
+      (ap (λ (k : ℕ). take k (after_turn meaning form history turn)) (last_below-turn meaning form history turn n low)
+      ∙ ap (take (last_call_below history n)) behind.1
+      ∙ take-append-le (last_call_below history n) history behind.0 (was.below n))
 
   shown-end : (history : List (Entry C R)) (n : ℕ) (conn : ConnId) (index : ℕ) → IsNumbered history
       → length history < n
@@ -45,16 +47,16 @@ module _ {C R I S : Type 0} (meaning : Meaning C R I S) (form : StrForm) where
       ap (λ (h : List (Entry C R)). shown_after meaning form h conn index)
       (ap (λ (k : ℕ). take k history) (was.ended n past) ∙ take_all (length history) history (omega arith))
 
-  shown-new : (history : List (Entry C R)) (by : ConnId) (ask : Ask C) (n : ℕ) (conn : ConnId) (index : ℕ)
-      → length history + 1 < n
-      → shown_below meaning form (next meaning form history by ask) n conn index ≡ shown_after meaning form
-      (next meaning form history by ask) conn index
-  shown-new history by ask n conn index past =
-      let all : length
-      (next meaning form history by ask) ≡ length history + 1 = length-next meaning form history by ask in
+  shown-new : (history : List (Entry C R)) (turn : Turn C) (n : ℕ) (conn : ConnId) (index : ℕ)
+      → number_added meaning form history turn < n
+      → shown_below meaning form (after_turn meaning form history turn) n conn index
+      ≡ shown_after meaning form (after_turn meaning form history turn) conn index
+  shown-new history turn n conn index past =
+      let number = number_added meaning form history turn in
+      let all : length (after_turn meaning form history turn) ≡ number = length-turn meaning form history turn in
       ap (λ (h : List (Entry C R)). shown_after meaning form h conn index)
-      (ap (λ (k : ℕ). take k (next meaning form history by ask)) (last_below-past meaning form history by ask n past)
-      ∙ take_all (length history + 1) (next meaning form history by ask) (omega (arith, all)))
+      (ap (λ (k : ℕ). take k (after_turn meaning form history turn)) (last_below-past meaning form history turn n past)
+      ∙ take_all number (after_turn meaning form history turn) (omega (arith, all)))
 
   -- ---- words
 
@@ -75,46 +77,46 @@ module _ {C R I S : Type 0} (meaning : Meaning C R I S) (form : StrForm) where
       by_end true is = let below : index < form.vector = grind (arith, nat_tests) in rw is (same below)
       by_end false is = rw is refl
 
-  -- a call's stores, and its commit
-  pub shows_next : (conns : ℕ) (history : List (Entry C R)) (by : ConnId) (ask : Ask C) (machine : Machine S)
+  -- a call's stores, and its commit. Whatever its marks and the call itself left is in the words that are stored
+  pub shows_next : (conns : ℕ) (history : List (Entry C R)) (turn : Turn C) (number : ℕ) (machine : Machine S)
       (named : List Place)
       (bits : ℕ → ℕ → ℕ) (before begun stored : SeatSeen (About C R)) (caller : ℕ) (about : About C R)
       → Shows meaning form conns before.log history → IsNumbered history
-      → begun.log ≡ before.log → begun.number ≡ length history + 1
+      → begun.log ≡ before.log → begun.number ≡ number → number ≡ number_added meaning form history turn
       → StoresEach conns form.vector bits named begun stored
       → ((conn word : ℕ) → bits conn word ≡ words_in meaning form machine conn word)
-      → machine ≡ replay meaning form (next meaning form history by ask)
+      → machine ≡ replay meaning form (after_turn meaning form history turn)
       → ((conn : ConnId) (index : ℕ) → 0 < conn.0 → conn.0 ≤ conns → index < form.vector
       → IsSpared named conn.0 (index / 32)
       → meaning.stands machine.content conn index ≡ meaning.stands (replay meaning form history).content conn index)
-      → Shows meaning form conns (stored.log ++ Committed (length history + 1) caller about ∷ [])
-      (next meaning form history by ask)
-  shows_next conns history by ask machine named bits before begun stored caller about shows was same_log number each
-      are machine_is kept n index conn some most below =
-      let number_of = length history + 1 in
+      → Shows meaning form conns (stored.log ++ Committed number caller about ∷ []) (after_turn meaning form history turn)
+  shows_next conns history turn number machine named bits before begun stored caller about shows was same_log begins
+      number_is each are machine_is kept n index conn some most below =
+      let added = number_added meaning form history turn in
+      let above : length history < added = number_past meaning form history turn in
       let w = word_number form.vector conn.0 (index / 32) in
-      let after : shown_after meaning form
-      (next meaning form history by ask) conn index ≡ shown_in meaning form machine conn index =
+      let after : shown_after meaning form (after_turn meaning form history turn) conn index
+      ≡ shown_in meaning form machine conn index =
       ap (λ (m : Machine S). shown_in meaning form m conn index) (sym machine_is) in
-      ap (λ (b : ℕ). bit_in b index) (bits-commit stored.log number_of caller about w n)
-      ∙ elim (cases_lt n number_of) [
+      ap (λ (b : ℕ). bit_in b index) (bits-commit stored.log number caller about w n)
+      ∙ elim (cases_lt n number) [
         | inl low ↦
             ap (λ (b : ℕ). bit_in b index)
-            (stores-below conns form.vector bits named begun stored w n each (subst (λ (k : ℕ). n < k) (sym number)
+            (stores-below conns form.vector bits named begun stored w n each (subst (λ (k : ℕ). n < k) (sym begins)
             low)
             ∙ ap (λ (l : List (Logged (About C R))). bits_at (steps_of l) w n) same_log)
             ∙ shows n index conn some most below
-            ∙ sym (shown-old history by ask (n + 1) conn index was (omega (arith, low)))
+            ∙ sym (shown-old history turn (n + 1) conn index was (omega (arith, low, number_is)))
         | inr high ↦
             stores-from conns form.vector bits named begun stored conn.0 (index / 32) n
             (λ (b : ℕ). bit_in b index ≡ shown_in meaning form machine conn index)
-            each some below (subst (λ (k : ℕ). k ≤ n) (sym number) high)
+            each some below (subst (λ (k : ℕ). k ≤ n) (sym begins) high)
             (ap (λ (b : ℕ). bit_in b index) (are conn.0 (index / 32)) ∙ bit_of_word machine conn index)
             (λ spared. ap (λ (l : List (Logged (About C R))). bit_in (bits_at (steps_of l) w n) index) same_log
             ∙ shows n index conn some most below
-            ∙ shown-end history (n + 1) conn index was (omega (arith, high))
+            ∙ shown-end history (n + 1) conn index was (omega (arith, high, above, number_is))
             ∙ sym (masked machine (replay meaning form history) conn index
             (λ inside. kept conn index some most inside spared)))
             ∙ sym after
-            ∙ sym (shown-new history by ask (n + 1) conn index (omega (arith, high)))
+            ∙ sym (shown-new history turn (n + 1) conn index (omega (arith, high, number_is)))
       ]

@@ -4,6 +4,7 @@ use Rattle.std.specs.Prelude.{Contains}
 use Rattle.std.proofs.lemmas.Bool.Decides.{nat_tests}
 use Rattle.std.proofs.lemmas.List.{length-map, get_or-map}
 use Rattle.std.proofs.lemmas.List.Elements.{All-map, All-weaker}
+use Rattle.cf_types.specs.declared.limits.TheConstants.{VECTOR_BITS}
 use Rattle.cf_types.specs.declared.forms.StrForm.{StrForm}
 use Rattle.cf_types.specs.declared.forms.Kind.{Kind}
 use Rattle.cf_types.specs.declared.forms.Kind.TheVariants as kind
@@ -19,6 +20,7 @@ use Rattle.vec_words.specs.declared.logged.Sight.{Sight}
 use Rattle.vec_words.specs.Logged.{steps_of, calls_in, word_number, words_of, bit_in, IsIssued, IsHonest}
 use Rattle.vec_words.specs.Tokens.{WordTable, SeatSeen, PassSeen, IsShown}
 use Rattle.vec_words.proofs.Commits.{committed-all}
+use Rattle.engine_api.proofs.NumberLaws.{numbered_legal}
 use Rattle.struct_cell.specs.declared.inside.CellKey.{CellKey}
 use Rattle.struct_cell.specs.Cells.{About, own_call_of, commit_of, IsCell, shown_after, shown_below}
 use Rattle.struct_cell.specs.Touches.{TouchedWords}
@@ -62,7 +64,8 @@ module _ {C R I S L : Type 0} (meaning : Meaning C R I S) (key : CellKey C R L) 
   issued_point n (inr (inr flying)) = inl (flying ∙ cell.idle)
 
   pub issued_within : (n : ℕ) → IsIssued seat.log seat.number n → n ≤ length journal
-  issued_within n issued = cell.numbered.within n (issued_point n issued)
+  issued_within n issued =
+      let numbered = numbered_legal meaning key.form journal cell.legal.0 in numbered.within n (issued_point n issued)
 
   shown_is : (h : List (Entry C R)) (conn : ConnId) (index : ℕ) → index < key.form.vector
       → shown_after meaning key.form h conn index ≡ stands_after meaning key.form h conn index
@@ -77,6 +80,7 @@ module _ {C R I S L : Type 0} (meaning : Meaning C R I S) (key : CellKey C R L) 
       → IsTold meaning key.form journal owner test
   told owner test most honest =
       let conn : ConnId = record { 0 = owner } in
+      let numbered = numbered_legal meaning key.form journal cell.legal.0 in
       let point : IsPoint journal test.at = issued_point test.at honest.issued in
       let bits_of : ℕ → ℕ
       → Bool = λ len n. bit_in
@@ -89,7 +93,7 @@ module _ {C R I S L : Type 0} (meaning : Meaning C R I S) (key : CellKey C R L) 
       let here : shown_below meaning key.form journal (test.at + 1) conn test.index ≡ shown_after meaning key.form
       (take test.at journal) conn test.index =
       ap (λ (k : ℕ). shown_after meaning key.form (take k journal) conn test.index)
-      (cell.numbered.points test.at point) in
+      (numbered.points test.at point) in
       let before : test.sure < test.at → shown_below meaning key.form journal (test.at - 1 + 1) conn test.index
       ≡ shown_after meaning key.form (take (last_call_below journal test.at) journal) conn test.index =
       λ later. (let same : test.at - 1 + 1 ≡ test.at = omega (arith, later) in
@@ -183,10 +187,10 @@ same_tables {D} words other passes same is list_is all =
     (subst (λ (w : WordTable). All (λ (pass : PassSeen D). pass.table ≡ w) passes) is all)
 
 -- a form's vectors are small
-pub vector_small : (form : StrForm) → IsForm form → form.vector ≤ 1024
+pub vector_small : (form : StrForm) → IsForm form → form.vector ≤ VECTOR_BITS
 vector_small form is = by_kind form.kind is.vector
   where
-    by_kind : (k : Kind) → IsVectorOf k form.vector → form.vector ≤ 1024
+    by_kind : (k : Kind) → IsVectorOf k form.vector → form.vector ≤ VECTOR_BITS
     by_kind kind.Cache it = it.1
     by_kind (kind.List headers locks refs) it = it.1
     by_kind kind.Lock it = omega (arith, it)

@@ -7,7 +7,7 @@ use Rattle.engine_api.specs.declared.asks.Ask.{Ask}
 use Rattle.engine_api.specs.declared.asks.Reply.{Reply}
 use Rattle.engine_api.specs.declared.histories.Entry.{Entry}
 use Rattle.engine_api.specs.Meaning.{Meaning}
-use Rattle.engine_api.specs.History.{Call, calls, replay, last_call_below, IsLegal, IsPoint}
+use Rattle.engine_api.specs.History.{Call, calls, replay, last_call_below, IsLegal, IsUnmarked}
 use Rattle.struct_machine.specs.StructureView.{StructureView}
 use Rattle.vec_world.specs.Log.{bits_at}
 use Rattle.vec_words.specs.declared.logged.Logged.{Logged}
@@ -30,14 +30,6 @@ module _ {C R : Type 0} where
   abbrev pub own_call_of : Call C R → ℕ × About C R
   own_call_of call = (call.no, (call.ask, call.reply))
 
-  -- What the numbers of calls have to do with a history's length: none is past it, nor is the last call below any
-  -- number; the last call below a number past it is its end; and the last call up to a call's number is that call.
-  pub record IsNumbered (history : List (Entry C R)) : Type 0 where
-    pub within : (n : ℕ) → IsPoint history n → n ≤ length history
-    pub below : (n : ℕ) → last_call_below history n ≤ length history
-    pub ended : (n : ℕ) → length history < n → last_call_below history n ≡ length history
-    pub points : (n : ℕ) → IsPoint history n → last_call_below history (n + 1) ≡ n
-
 module _ {C R I S : Type 0} (meaning : Meaning C R I S) (form : StrForm) where
   -- the bit that a vector shows after a history, and after the last call below a number
   abbrev pub shown_after : List (Entry C R) → ConnId → ℕ → Bool
@@ -54,7 +46,7 @@ module _ {C R I S : Type 0} (meaning : Meaning C R I S) (form : StrForm) where
       ≡ shown_below history (n + 1) conn index
 
 -- What lies under the lock stands to what never changes. Nothing is in flight; the log's commits are the journal's
--- calls; the journal is legal, and leads to the machine; and at each number the words show what stood after the last
+-- calls; the journal is legal, with no marks yet, and leads to the machine; and at each number the words show what stood after the last
 -- call up to it.
 pub record IsCell {C R I S L : Type 0} (meaning : Meaning C R I S) (key : CellKey C R L) (limit : ℕ)
     (standing : StructureView S)
@@ -72,7 +64,6 @@ pub record IsCell {C R I S L : Type 0} (meaning : Meaning C R I S) (key : CellKe
     pub count : count_of seat.log ≡ length journal
     pub callers : All (λ call. call.by.0 ≤ key.callers) (calls journal)
     pub most : length journal ≤ key.limit
-    pub legal : IsLegal meaning key.form journal
-    pub numbered : IsNumbered journal
+    pub legal : IsLegal meaning key.form journal × IsUnmarked journal
     pub machine : standing.machine ≡ replay meaning key.form journal
     pub bits : Shows meaning key.form key.callers seat.log journal

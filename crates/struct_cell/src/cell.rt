@@ -1,12 +1,14 @@
 //! The cell.
-ghost use Rattle.std.specs.Prelude.{◌≡◌, ◌+◌, ◌<◌, ◌≤◌, ◌++◌, ◌≢◌, ℕ, [], ◌∷◌, IsTrue, IfOk, IfErr, IfSome, Err, None, All, length, map, max, is_some};
+ghost use Rattle.std.specs.Prelude.{◌≡◌, ◌+◌, ◌<◌, ◌≤◌, ◌++◌, ◌≢◌, ℕ, [], ◌∷◌, IsTrue, IfOk, IfErr, IfSome, Err, None, Some, All, length, map, max, is_some, true, false};
 ghost use Rattle.std.specs.List.{range_with_len};
 ghost use Rattle.cf_types.specs.declared.limits.TheConstants.{CONNECTORS};
 ghost use Rattle.cf_types.specs.Forms.{IsForm};
 ghost use Rattle.engine_api.specs.Asking.{MayAsk, IsBuilt};
-ghost use Rattle.engine_api.specs.History.{calls, own, replay, IsLegal};
+ghost use Rattle.engine_api.specs.History.{calls, own, replay, IsLegal, IsUnmarked};
 ghost use Rattle.engine_api.specs.Meaning.{items_of};
 ghost use Rattle.engine_api.specs.Rebuilds.{fresh_of};
+ghost use Rattle.engine_api.specs.Shapes.{shape_of};
+ghost use Rattle.rebuild_shell.specs.Capacities.{fresh_caps};
 ghost use Rattle.vec_words.specs.Logged.{count_of};
 ghost use Rattle.vec_words.specs.Tokens.{new_pass, learned_pass};
 ghost use Rattle.struct_cell.specs.Cells.{own_call_of, IsCell};
@@ -35,6 +37,14 @@ use vec_words::{EngineSeat, Pass, Vectors};
 pub struct Cell<E: Engine, L: Link> {
     lock: KeyLock<CellFact<E, L>>,
     vectors: Vectors<(Ask<E::Cmd>, Reply<E::Reply>)>,
+}
+
+// Whether a journal of so many entries has no room below its limit.
+fn is_full(count: usize, limit: u32) -> bool
+    ensures full { result ≡ true → limit ≤ count }
+    ensures room { result ≡ false → count < limit }
+{
+    count >= limit as usize
 }
 
 impl<E: Engine, L: Link> Model for Cell<E, L> {
@@ -159,7 +169,7 @@ impl<E: Engine, L: Link> Cell<E, L> {
             → (refusal ≡ refused.JournalFull self.now.limit) × (self.now.limit ≤ pass.new.known)) }
     {
         let count = inside.journal.len();
-        if count >= inside.limit as usize {
+        if is_full(count, inside.limit) {
             return Err(self.journal_full(&mut inside.seat, pass, inside.limit));
         }
         reserve_entry(&mut inside.journal)?;
@@ -215,7 +225,8 @@ impl<E: Engine, L: Link> Cell<E, L> {
         passes: Vec<Pass<(Ask<E::Cmd>, Reply<E::Reply>)>>,
     ) -> Closed<E, L>
         requires passes { All (λ pass. pass.table ≡ self.words) passes.items }
-        ensures legal { IsLegal E.meaning self.form result.history }
+        ensures legal { IsLegal E.meaning self.form result.history
+            × IsUnmarked result.history }
         ensures most { length result.history ≤ self.limit }
         ensures callers { All (λ call. call.by.0 ≤ self.callers) (calls result.history) }
         ensures mine { All (λ pass. pass.mine ≡ map own_call_of (own result.history
@@ -234,6 +245,14 @@ impl<E: Engine, L: Link> Cell<E, L> {
         ensures front { IfSome result.fresh (λ engine. items_of E.meaning (E.held engine)
             ≡ copied_items E.meaning self.form
             (replay E.meaning self.form result.history)) }
+        ensures shape { IfSome result.first (λ engine. (E.held engine).shape
+            ≡ shape_of self.form) }
+        ensures caps { IfSome result.first (λ engine. (E.held engine).caps
+            ≡ (replay E.meaning self.form result.history).shell.caps) }
+        ensures fresh_shape { IfSome result.fresh (λ engine. (E.held engine).shape
+            ≡ shape_of self.form) }
+        ensures fresh_caps { IfSome result.fresh (λ engine. Some (E.held engine).caps
+            ≡ fresh_caps (replay E.meaning self.form result.history).shell.rebuild) }
     {
         let Cell { lock, vectors } = self;
         let mut inside = lock.end(rt);

@@ -1,12 +1,13 @@
-ghost use Rattle.std.specs.Prelude.{◌≡◌, ◌/◌, ◌<◌, ◌≤◌, ℕ, [], true, false, IfOk, OnOk, All};
+ghost use Rattle.std.specs.Prelude.{◌≡◌, ◌+◌, ◌/◌, ◌<◌, ◌≤◌, ℕ, [], true, false, IfOk, OnOk, All};
 ghost use Rattle.cf_types.specs.declared.limits.TheConstants.{VECTOR_BITS};
 ghost use Rattle.cf_types.specs.Gains.{is_for};
 ghost use Rattle.cf_types.specs.declared.numbers.ConnId.{ConnId};
 ghost use Rattle.struct_machine.specs.Changes.{IsUntouched};
-ghost use Rattle.struct_cell.specs.Touches.{IsOfTable, IsEvery};
+ghost use Rattle.struct_cell.specs.Touches.{IsOfTable, IsEvery, ComeBefore};
 ghost use Rattle.vec_words.specs.Logged.{words_of};
 ghost use Rattle.vec_words.specs.Stores.{IsWithin, IsSpared, AreDistinct};
 
+use crate::place_set::PlaceSet;
 use cf_types::{BitChange, ConnId, NoMemory};
 use std::alloc::Global;
 use std::marker::Model;
@@ -17,10 +18,8 @@ use vec_words::Place;
 /// word.
 #[derive(Drop)]
 pub(crate) struct Touched {
-    conns: u8,
-    len: u32,
     every: Vec<Place>,
-    named: Vec<Place>,
+    named: PlaceSet,
     all: bool,
 }
 
@@ -32,15 +31,14 @@ impl Model for Touched {
     ghost Value = { TouchedWords };
 
     ghost view = { λ t. record {
-      conns = t.conns;
-      len = t.len;
+      conns = t.named.conns;
+      len = t.named.len;
       places = if t.all then t.every.items
-          else t.named.items;
+          else t.named.places;
     } };
 
-    ghost invariant = { λ t. All (IsWithin t.conns t.len) t.named.items × AreDistinct t.named.items
-        × All (IsWithin t.conns t.len) t.every.items × AreDistinct t.every.items
-        × IsEvery t.conns t.len t.every.items };
+    ghost invariant = { λ t. All (IsWithin t.named.conns t.named.len) t.every.items
+        × AreDistinct t.every.items × IsEvery t.named.conns t.named.len t.every.items };
 }
 
 impl Touched {
@@ -51,10 +49,8 @@ impl Touched {
             touched ≡ record { conns = conns; len = len; places = [] }) }
     {
         let every = every_word(alloc, conns, len)?;
-        let named = Vec::with_capacity(alloc, every.len())?;
+        let named = PlaceSet::new(alloc, conns, len)?;
         Ok(Touched {
-            conns,
-            len,
             every,
             named,
             all: false,
@@ -74,7 +70,7 @@ impl Touched {
             self.all = true;
             return;
         }
-        self.all = !name_all(&mut self.named, self.conns, self.len, changed.bits());
+        self.all = !name_all(&mut self.named, changed.bits());
     }
 
     /// The words.
@@ -86,57 +82,44 @@ impl Touched {
         if self.all {
             self.every.as_slice()
         } else {
-            self.named.as_slice()
+            self.named.places()
         }
     }
 }
 
-// The words of these bits, behind others. False where there is no room for all of them. Bits past
-// the vectors have no word.
-fn name_all(named: &mut Vec<Place>, conns: u8, len: u32, bits: &[BitChange]) -> bool
-    requires within { All (IsWithin conns len) named.old.items }
-    requires distinct { AreDistinct named.old.items }
-    ensures within { All (IsWithin conns len) named.new.items }
-    ensures distinct { AreDistinct named.new.items }
-    ensures spared { result ≡ true → (conn : ConnId) (index : ℕ) → 0 < conn.0 → conn.0 ≤ conns
-        → index < len → IsSpared named.new.items conn.0 (index / 32)
+// Puts the words of these bits in. False where there is no room for all of them. Bits past the
+// vectors have no word.
+fn name_all(named: &mut PlaceSet, bits: &[BitChange]) -> bool
+    ensures table { IsOfTable named.old named.new }
+    ensures spared { result ≡ true → (conn : ConnId) (index : ℕ) → 0 < conn.0
+        → conn.0 ≤ named.old.conns → index < named.old.len
+        → IsSpared named.new.places conn.0 (index / 32)
         → All (λ change. is_for conn index change ≡ false) bits.now }
 {
     for change in bits {
-        if !name_one(named, conns, len, change) {
+        if !name_one(named, change) {
             return false;
         }
     }
     true
 }
 
-// The word of a bit. False where there is no room for it.
-fn name_one(named: &mut Vec<Place>, conns: u8, len: u32, change: &BitChange) -> bool
-    requires within { All (IsWithin conns len) named.old.items }
-    requires distinct { AreDistinct named.old.items }
-    ensures within { All (IsWithin conns len) named.new.items }
-    ensures distinct { AreDistinct named.new.items }
-    ensures others { (conn word : ℕ) → IsSpared named.new.items conn word
-        → IsSpared named.old.items conn word }
-    ensures spared { result ≡ true → (conn : ConnId) (index : ℕ) → 0 < conn.0 → conn.0 ≤ conns
-        → index < len → IsSpared named.new.items conn.0 (index / 32)
-        → is_for conn index change.now ≡ false }
+// Puts the word of a bit in. False where there is no room for it.
+fn name_one(named: &mut PlaceSet, change: &BitChange) -> bool
+    ensures table { IsOfTable named.old named.new }
+    ensures others { (conn word : ℕ) → IsSpared named.new.places conn word
+        → IsSpared named.old.places conn word }
+    ensures spared { result ≡ true → (conn : ConnId) (index : ℕ) → 0 < conn.0
+        → conn.0 ≤ named.old.conns → index < named.old.len
+        → IsSpared named.new.places conn.0 (index / 32) → is_for conn index change.now ≡ false }
 {
-    if change.conn.0 == 0 || change.conn.0 > conns || change.index >= len {
+    if change.conn.0 == 0 || change.conn.0 > named.conns() || change.index >= named.len() {
         return true;
     }
-    let place = Place {
+    named.insert(Place {
         conn: change.conn,
         word: change.index / 32,
-    };
-    if named.contains(&place) {
-        return true;
-    }
-    if named.len() == named.capacity() {
-        return false;
-    }
-    named.push_reserved(place);
-    true
+    })
 }
 
 // Every word of vectors of `len` bits for connectors 1 to `conns`.
@@ -153,14 +136,16 @@ fn every_word(alloc: Global, conns: u8, len: u32) -> Result<Vec<Place>, NoMemory
     Ok(places)
 }
 
-// The words of one connector's vector, behind others.
+// The words of one connector's vector, behind those of the connectors before it.
 fn put_words(places: &mut Vec<Place>, conns: u8, len: u32, conn: ConnId) -> Result<(), NoMemory>
     requires conn { (0 < conn.0) × (conn.0 ≤ conns) }
     requires len { len ≤ VECTOR_BITS }
     requires within { All (IsWithin conns len) places.old.items }
     requires distinct { AreDistinct places.old.items }
+    requires before { ComeBefore places.old.items conn.0 0 }
     ensures within { OnOk result (All (IsWithin conns len) places.new.items) }
     ensures distinct { OnOk result (AreDistinct places.new.items) }
+    ensures before { OnOk result (ComeBefore places.new.items (conn.0 + 1) 0) }
     ensures others { OnOk result ((other word : ℕ) → IsSpared places.new.items other word
         → IsSpared places.old.items other word) }
     ensures here { OnOk result ((word : ℕ) → word < words_of len
@@ -172,19 +157,19 @@ fn put_words(places: &mut Vec<Place>, conns: u8, len: u32, conn: ConnId) -> Resu
     Ok(())
 }
 
-// A word behind others, unless it is one of them.
+// A word behind those that come before it.
 fn put_word(places: &mut Vec<Place>, conns: u8, len: u32, place: Place) -> Result<(), NoMemory>
     requires place { IsWithin conns len place }
     requires within { All (IsWithin conns len) places.old.items }
     requires distinct { AreDistinct places.old.items }
+    requires before { ComeBefore places.old.items place.conn.0 place.word }
     ensures within { OnOk result (All (IsWithin conns len) places.new.items) }
     ensures distinct { OnOk result (AreDistinct places.new.items) }
+    ensures before { OnOk result (ComeBefore places.new.items place.conn.0 (place.word + 1)) }
     ensures others { OnOk result ((other word : ℕ) → IsSpared places.new.items other word
         → IsSpared places.old.items other word) }
     ensures here { OnOk result (IsSpared places.new.items place.conn.0 place.word → ⊥) }
 {
-    if !places.contains(&place) {
-        places.push(place)?;
-    }
+    places.push(place)?;
     Ok(())
 }

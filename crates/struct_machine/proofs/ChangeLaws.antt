@@ -10,7 +10,7 @@ use Rattle.cf_types.specs.Gains.{Bits, Gains, is_for, bits_told, difference}
 use Rattle.engine_api.specs.declared.deeds.Deeds.{Deeds}
 use Rattle.engine_api.specs.Machine.{content_after}
 use Rattle.engine_api.specs.Meaning.{Meaning, Held, stands_in}
-use Rattle.struct_machine.specs.Changes.{ChangeList, Covers, has_deeds}
+use Rattle.struct_machine.specs.Changes.{ChangeList, Covers, may_change_bits}
 
 -- ---- what is told covers what changed
 
@@ -50,47 +50,40 @@ covers_ready {C} {R} {I} {S} meaning before ready after named changed same none 
     (subst₂ (λ (held : Held S) (names : List BitChange). Gains (stands_in meaning held) (stands_in meaning after)
     names changed.bits) same none gains)
 
--- ---- deeds that are none leave the content
+-- ---- deeds that change no bits leave the content
 
-none_of : (a b c d e f g h : Bool) → a || b || c || d || e || f || g || h ≡ false
-    → (a ≡ false) × (b ≡ false) × (f ≡ false) × (h ≡ false)
-none_of false false false false false false false false same = (refl, refl, refl, refl)
-none_of true b c d e f g h same = absurd cc
-none_of false true c d e f g h same = absurd cc
-none_of false false true d e f g h same = absurd cc
-none_of false false false true e f g h same = absurd cc
-none_of false false false false true f g h same = absurd cc
-none_of false false false false false true g h same = absurd cc
-none_of false false false false false false true h same = absurd cc
-none_of false false false false false false false true same = absurd cc
-
-module _ {C R I S : Type 0} (meaning : Meaning C R I S) (form : StrForm) (rebuilding : Bool) where
-  deeds_none : (deeds : Deeds) (state : S) → has_deeds deeds ≡ false
+module _ {C R I S : Type 0} (meaning : Meaning C R I S) (form : StrForm) where
+  content_kept : (rebuilding : Bool) (deeds : Deeds) (state : S) → may_change_bits rebuilding deeds ≡ false
       → content_after meaning form rebuilding deeds state ≡ state
-  deeds_none deeds state none =
-      let none = none_of (is_some deeds.back) (is_some deeds.make) (is_some deeds.second) (is_some deeds.drop_at)
-      deeds.restart deeds.switch deeds.drop_fresh deeds.drop_all none in
-      by_deeds deeds.back deeds.make deeds.switch deeds.drop_all none.0 none.1 none.2 none.3
+  content_kept rebuilding deeds state none =
+      by_deeds rebuilding deeds.back deeds.make deeds.switch deeds.drop_all none
     where
-      by_deeds : (back : Option ConnId) (make : Option CfId) (switch drop_all : Bool) → is_some back ≡ false
-          → is_some make ≡ false → switch ≡ false → drop_all ≡ false
+      by_deeds : (rebuilding : Bool) (back : Option ConnId) (make : Option CfId) (switch drop_all : Bool)
+          → may_change_bits rebuilding
+          (record deeds { back = back; make = make; switch = switch; drop_all = drop_all }) ≡ false
           → content_after meaning form rebuilding
           (record deeds { back = back; make = make; switch = switch; drop_all = drop_all }) state ≡ state
-      by_deeds None None false false no_back no_make stays kept = refl
-      by_deeds (Some conn) make switch drop_all no_back no_make stays kept = absurd cc
-      by_deeds None (Some cf) switch drop_all no_back no_make stays kept = absurd cc
-      by_deeds None None true drop_all no_back no_make stays kept = absurd cc
-      by_deeds None None false true no_back no_make stays kept = absurd cc
+      by_deeds rebuilding (Some conn) make switch drop_all none = absurd cc
+      by_deeds false None (Some cf) switch drop_all none = absurd cc
+      by_deeds false None None true drop_all none = absurd cc
+      by_deeds false None None false true none = absurd cc
+      by_deeds false None None false false none = refl
+      by_deeds true None None true drop_all none = absurd cc
+      by_deeds true None (Some cf) true drop_all none = absurd cc
+      by_deeds true None None false true none = absurd cc
+      by_deeds true None (Some cf) false true none = absurd cc
+      by_deeds true None None false false none = refl
+      by_deeds true None (Some cf) false false none = refl
 
   -- a departure whose bits are named, and then a command's deeds
-  pub covers_deeds : (deeds : Deeds) (before middle after : S) (named changed : ChangeList)
-      → changed ≡ record named { all = has_deeds deeds }
+  pub covers_deeds : (rebuilding : Bool) (deeds : Deeds) (before middle after : S) (named changed : ChangeList)
+      → changed ≡ record named { all = may_change_bits rebuilding deeds }
       → after ≡ content_after meaning form rebuilding deeds middle
       → Gains (meaning.stands before) (meaning.stands middle) [] named.bits
       → Covers changed (meaning.stands before) (meaning.stands after)
-  covers_deeds deeds before middle after named changed noted done gains =
+  covers_deeds rebuilding deeds before middle after named changed noted done gains =
       subst (λ (list : ChangeList). Covers list (meaning.stands before) (meaning.stands after)) (sym noted)
       (λ conn index untouched.
-      ap (λ (state : S). meaning.stands state conn index) (done ∙ deeds_none deeds middle untouched.not_all)
-      ∙ covers_gains (meaning.stands before) (meaning.stands middle) (record named { all = has_deeds deeds }) gains
+      ap (λ (state : S). meaning.stands state conn index) (done ∙ content_kept rebuilding deeds middle untouched.not_all)
+      ∙ covers_gains (meaning.stands before) (meaning.stands middle) (record named { all = may_change_bits rebuilding deeds }) gains
       conn index untouched)

@@ -6,3 +6,4 @@ pub mod KeptLaws
 pub mod PostedLaws
 pub mod RefusalLaws
 pub mod ToldLaws
+pub mod RoomLaws

@@ -1,5 +1,5 @@
 -- Which vector bits a call may have changed.
-use Rattle.std.specs.Prelude.{◌≡◌, ℕ, Bool, false, ◌||◌, List, All, is_some}
+use Rattle.std.specs.Prelude.{◌≡◌, ℕ, Bool, false, not, ◌&&◌, ◌||◌, List, All, is_some}
 use Rattle.cf_types.specs.declared.effects.BitChange.{BitChange}
 use Rattle.cf_types.specs.declared.numbers.ConnId.{ConnId}
 use Rattle.cf_types.specs.Gains.{Bits, is_for}
@@ -20,8 +20,8 @@ abbrev pub Covers : ChangeList → Bits → Bits → Type 0
 Covers changed before after =
     (conn : ConnId) (index : ℕ) → IsUntouched changed conn index → after conn index ≡ before conn index
 
--- a command does something to the instances, or takes a connection up again
-abbrev pub has_deeds : Deeds → Bool
-has_deeds deeds =
-    is_some deeds.back || is_some deeds.make || is_some deeds.second || is_some deeds.drop_at || deeds.restart
-    || deeds.switch || deeds.drop_fresh || deeds.drop_all
+-- A command may change bits where it takes a connection up again, makes the primary, puts a rebuild's new instance in
+-- its place, or ends all instances.
+abbrev pub may_change_bits : (rebuilding : Bool) → Deeds → Bool
+may_change_bits rebuilding deeds =
+    is_some deeds.back || ((is_some deeds.make && not rebuilding) || (deeds.switch || deeds.drop_all))

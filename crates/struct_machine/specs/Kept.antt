@@ -1,9 +1,13 @@
 -- A machine in its parts: a shell, and a primary with a rebuild's new instance.
-use Rattle.std.specs.Prelude.{◌≡◌, ℕ, Option, None, Some, option_map}
+use Rattle.std.specs.Prelude.{◌≡◌, ℕ, Bool, true, false, if◌then◌else◌, Option, None, Some, option_map}
 use Rattle.cf_types.specs.declared.forms.Caps.{Caps}
 use Rattle.cf_types.specs.declared.forms.StrForm.{StrForm}
 use Rattle.cf_types.specs.declared.numbers.ConnId.{ConnId}
+use Rattle.cf_types.specs.declared.shell_commands.ShellCmd.{ShellCmd}
+use Rattle.cf_types.specs.declared.shell_commands.ShellCmd.TheVariants as cmd
 use Rattle.engine_api.specs.declared.asks.Ask.{Ask}
+use Rattle.engine_api.specs.declared.asks.Ask.TheVariants as ask
+use Rattle.engine_api.specs.declared.deeds.Room.{Room}
 use Rattle.engine_api.specs.Meaning.{Meaning, Held}
 use Rattle.engine_api.specs.Machine.{Machine, CallOutcome, room_of, call_done, unless}
 use Rattle.engine_api.specs.Shapes.{shape_of}
@@ -19,6 +23,19 @@ abbrev pub judged : {C R I S : Type 0} → Meaning C R I S → StrForm → Machi
 judged meaning form machine by asked =
     unless meaning form (call_cause form (room_of meaning form machine) machine.shell by asked) machine
     (call_done meaning form machine by asked)
+
+-- only who connects to the new instance is refused by what the content needs
+abbrev pub command_looks : ShellCmd → Bool
+command_looks cmd.RebuildConnect = true
+command_looks _ = false
+
+abbrev pub looks_at_need : {C : Type 0} → Ask C → Bool
+looks_at_need (ask.Shell command) = command_looks command
+looks_at_need (ask.Content command) = false
+
+-- what the instances know, without the need where nobody looks at it
+abbrev pub room_seen : (looks : Bool) → Room → Room
+room_seen looks room = record room { need = if looks then room.need else record { entries = 0; elements = 0 } }
 
 -- how many items the new instance has, none where none stands
 abbrev pub copied_in : Option Fresh → ℕ

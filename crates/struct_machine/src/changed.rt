@@ -1,5 +1,5 @@
 ghost use Rattle.std.specs.Prelude.{◌≡◌, [], false, true};
-ghost use Rattle.struct_machine.specs.Changes.{has_deeds};
+ghost use Rattle.struct_machine.specs.Changes.{may_change_bits};
 
 use cf_types::{BitChange, Effects};
 use engine_api::Deeds;
@@ -7,7 +7,7 @@ use std::alloc::Global;
 use std::marker::Model;
 
 /// Which vector bits a call may have changed. Most calls name each bit that they changed; one that
-/// makes or drops an instance, or takes a connection up again, may have changed any.
+/// makes the primary, replaces it or ends it, or takes a connection up again, may have changed any.
 #[derive(Drop)]
 pub struct Changed {
     pub(crate) effects: Effects,
@@ -55,17 +55,14 @@ impl Changed {
         self.all = false;
     }
 
-    // What a command did beside the bits that are named: any deed may have changed any bit.
-    pub(crate) fn note(&mut self, deeds: Deeds)
-        ensures { self.new ≡ record self.old { all = has_deeds deeds } }
+    // What a command did beside the bits that are named. Where it may have changed others, that is
+    // any bit: the bits of what ends aren't looked up one by one.
+    pub(crate) fn note(&mut self, deeds: Deeds, rebuilding: bool)
+        ensures { self.new ≡ record self.old { all = may_change_bits rebuilding deeds } }
     {
         self.all = deeds.back.is_some()
-            || deeds.make.is_some()
-            || deeds.second.is_some()
-            || deeds.drop_at.is_some()
-            || deeds.restart
+            || (deeds.make.is_some() && !rebuilding)
             || deeds.switch
-            || deeds.drop_fresh
             || deeds.drop_all;
     }
 }

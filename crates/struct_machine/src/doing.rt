@@ -6,7 +6,7 @@ ghost use Rattle.engine_api.specs.Meaning.{stands_in};
 ghost use Rattle.engine_api.specs.Machine.{content_done, content_reply, command_done, room_of, step};
 ghost use Rattle.engine_api.specs.Shell.{call_cause, shell_cause, content_cause};
 ghost use Rattle.struct_machine.specs.Changes.{Covers};
-ghost use Rattle.struct_machine.specs.Kept.{AreOf, machine_of, judged};
+ghost use Rattle.struct_machine.specs.Kept.{AreOf, machine_of, judged, command_looks, looks_at_need, room_seen};
 
 use crate::changed::Changed;
 use crate::deeds::{do_deeds, spare_caps};
@@ -75,8 +75,8 @@ fn answer_judged<E: Engine>(
     ensures err { OnErr result (machine_of E.held shell.new content.new
         ≡ machine_of E.held shell.old content.old) }
 {
-    let room = room_of(form, shell, content);
-    if let Some(refusal) = refusal_of(shell, by, ask, &room) {
+    let room = room_of(form, shell, content, looks_at_need(ask));
+    if let Some(refusal) = cause_of(form, shell, content, by, ask, &room) {
         return Ok(Reply::Refused(refusal));
     }
     match ask {
@@ -85,14 +85,36 @@ fn answer_judged<E: Engine>(
     }
 }
 
-// What the instances know.
-fn room_of<E: Engine>(form: &StrForm, shell: &Shell, content: &Rebuildable<E>) -> Room
+// Whether the content's need is among what a call is judged by.
+fn looks_at_need<C>(ask: &Ask<C>) -> bool
+    ensures { result ≡ looks_at_need ask.now }
+{
+    match ask {
+        Ask::Shell(cmd) => command_looks(cmd),
+        Ask::Content(_) => false,
+    }
+}
+
+// The same of a common command.
+fn command_looks(cmd: &ShellCmd) -> bool
+    ensures { result ≡ command_looks cmd.now }
+{
+    match cmd {
+        ShellCmd::RebuildConnect => true,
+        _ => false,
+    }
+}
+
+// What the instances know. The need, for which the whole content is gone through, is found only
+// where it is looked at.
+fn room_of<E: Engine>(form: &StrForm, shell: &Shell, content: &Rebuildable<E>, looks: bool) -> Room
     requires { AreOf E.held E.meaning form.now shell.now content.now }
-    ensures { result ≡ room_of E.meaning form.now (machine_of E.held shell.now content.now) }
+    ensures { result ≡ room_seen looks
+        (room_of E.meaning form.now (machine_of E.held shell.now content.now)) }
 {
     let _ = form;
     let (primary, _, _) = shell.instances();
-    let need = if primary.is_some() {
+    let need = if looks && primary.is_some() {
         content.primary().need()
     } else {
         Caps {
@@ -113,6 +135,28 @@ fn refusal_of<C>(shell: &Shell, by: ConnId, ask: &Ask<C>, room: &Room) -> Option
         Verdict::Refuse(refusal) => Some(refusal),
         Verdict::Act | Verdict::Content | Verdict::Copy => None,
     }
+}
+
+// The same by all that the instances know, also where `room` leaves out the need.
+fn cause_of<E: Engine>(
+    form: &StrForm,
+    shell: &Shell,
+    content: &Rebuildable<E>,
+    by: ConnId,
+    ask: &Ask<E::Cmd>,
+    room: &Room,
+) -> Option<Refusal>
+    requires may { MayAsk by ask.now }
+    requires room { room.now ≡ room_seen (looks_at_need ask.now)
+        (room_of E.meaning form.now (machine_of E.held shell.now content.now)) }
+    requires of_form { AreOf E.held E.meaning form.now shell.now content.now }
+    ensures { result ≡ call_cause form.now
+        (room_of E.meaning form.now (machine_of E.held shell.now content.now)) shell.now.shell by
+        ask.now }
+{
+    let _ = form;
+    let _ = content;
+    refusal_of(shell, by, ask, room)
 }
 
 // A command on the content that the shell doesn't refuse. The bits that it changed are named.
@@ -163,9 +207,11 @@ fn do_command<E: Engine>(
     requires formed { IsForm form.now }
     requires kind { IsTrue (E.is_kind form.now.kind) }
     requires may { MayCommand by cmd.now }
-    requires room { room.now
-        ≡ room_of E.meaning form.now (machine_of E.held shell.old content.old) }
-    requires accepted { shell_cause form.now room.now shell.old.shell by cmd.now ≡ None }
+    requires room { room.now ≡ room_seen (command_looks cmd.now)
+        (room_of E.meaning form.now (machine_of E.held shell.old content.old)) }
+    requires accepted { shell_cause form.now
+        (room_of E.meaning form.now (machine_of E.held shell.old content.old)) shell.old.shell by
+        cmd.now ≡ None }
     requires unnamed { changed.old.bits ≡ [] }
     requires of_form { AreOf E.held E.meaning form.now shell.old content.old }
     ensures ok { IfOk result (λ reply.
@@ -182,7 +228,7 @@ fn do_command<E: Engine>(
     let rebuilding = shell.is_rebuilding();
     prepare(alloc, shell, content, &mut changed.effects, by, cmd)?;
     let (reply, deeds) = shell.act(by, cmd, room);
-    changed.note(deeds);
+    changed.note(deeds, rebuilding);
     do_deeds(form, content, spare, deeds, rebuilding);
     Ok(Reply::Shell(reply))
 }

@@ -1,10 +1,12 @@
-ghost use Rattle.std.specs.Prelude.{◌≡◌, ℕ, IfOk, OnOk, OnErr, IsTrue, IfSome, is_some};
+ghost use Rattle.std.specs.Prelude.{◌≡◌, ℕ, IfOk, OnOk, OnErr, IsTrue, IfSome, Some, is_some};
 ghost use Rattle.cf_types.specs.Forms.{IsForm, IsCaller};
 ghost use Rattle.cf_types.specs.declared.numbers.ConnId.{ConnId};
 ghost use Rattle.engine_api.specs.Asking.{MayAsk, IsBuilt};
 ghost use Rattle.engine_api.specs.Machine.{step};
 ghost use Rattle.engine_api.specs.Meaning.{items_of};
 ghost use Rattle.engine_api.specs.Rebuilds.{fresh_of};
+ghost use Rattle.engine_api.specs.Shapes.{shape_of};
+ghost use Rattle.rebuild_shell.specs.Capacities.{fresh_caps};
 ghost use Rattle.struct_machine.specs.Changes.{IsUntouched};
 ghost use Rattle.struct_machine.specs.StructureView.{new_structure, stands_at, copied_items};
 
@@ -106,7 +108,8 @@ impl<E: Engine> Machine<E> {
         )
     }
 
-    /// The primary, and a rebuild's new instance, where they stand.
+    /// The primary, and a rebuild's new instance, where they stand: both of the structure's shape,
+    /// each at its own capacity.
     pub fn into_instances(self) -> (Option<E>, Option<E>)
         ensures stands { is_some result.0 ≡ is_some self.machine.shell.instances.primary }
         ensures content { IfSome result.0
@@ -114,6 +117,13 @@ impl<E: Engine> Machine<E> {
         ensures fresh { is_some result.1 ≡ is_some (fresh_of self.machine.shell.rebuild) }
         ensures front { IfSome result.1 (λ engine. items_of E.meaning (E.held engine)
             ≡ copied_items E.meaning self.form self.machine) }
+        ensures shape { IfSome result.0 (λ engine. (E.held engine).shape ≡ shape_of self.form) }
+        ensures caps { IfSome result.0 (λ engine. (E.held engine).caps
+            ≡ self.machine.shell.caps) }
+        ensures fresh_shape { IfSome result.1 (λ engine. (E.held engine).shape
+            ≡ shape_of self.form) }
+        ensures fresh_caps { IfSome result.1 (λ engine. Some (E.held engine).caps
+            ≡ fresh_caps self.machine.shell.rebuild) }
     {
         let Machine { shell, content, .. } = self;
         let (standing, _, _) = shell.instances();

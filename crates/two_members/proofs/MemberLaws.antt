@@ -5,6 +5,7 @@ use Rattle.std.specs.List.{range_with_len}
 use Rattle.std.proofs.lemmas.List.{length-append}
 use Rattle.std.proofs.lemmas.List.FromFn.{length-map-range_with_len}
 use Rattle.std.proofs.lemmas.List.Elements.{All-nil, All-cons, All-same}
+use Rattle.cf_types.specs.declared.limits.TheConstants.{CONNECTORS}
 use Rattle.plex_script.specs.declared.scripts.Script.{Script}
 use Rattle.plex_script.specs.Scripts.{IsScript}
 use Rattle.plex_script.proofs.FormedLines.{script-formed}
@@ -53,7 +54,7 @@ module _ {L : Type 0} (board : BoardShown L) where
       record { callers = counted ∙ two; operator = it.0; first = it.1; second = it.2 }
 
   pub member : (desk : DeskShown) (owner : ℕ) → HasPool board → desk ≡ new_desk board owner → 1 ≤ owner
-      → owner ≤ 32 → IsMember board desk
+      → owner ≤ CONNECTORS → IsMember board desk
   member desk owner pool new some few =
       subst (IsMember board) (sym new)
       (record { pool = pool; of_board = new_desk-of_board board owner; connector = (some, few) })

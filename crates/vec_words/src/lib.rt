@@ -24,6 +24,3 @@ pub use pass::Pass;
 pub use seat::EngineSeat;
 pub use stores::{Changes, Place};
 pub use vectors::Vectors;
-
-#[cfg(test)]
-mod tests;

@@ -10,7 +10,7 @@ use crate::vectors::Vectors;
 use cf_types::ConnId;
 
 /// A word of a connector's vector.
-#[derive(Clone, Copy, PartialEq, Eq, Debug)]
+#[derive(Clone, Copy, PartialEq, Eq)]
 pub struct Place {
     pub conn: ConnId,
     pub word: u32,

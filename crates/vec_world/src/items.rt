@@ -5,7 +5,7 @@ use crate::NoMemory;
 use std::marker::Model;
 
 /// Items in order. Contracts see it as the list of them.
-#[derive(Debug, Drop)]
+#[derive(Drop)]
 pub struct Items<T> {
     items: Vec<T>,
 }

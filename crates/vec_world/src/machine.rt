@@ -27,6 +27,3 @@ pub fn run(alloc: Global, words: u32, passes: u8, steps: &[Step]) -> Result<Worl
     }
     Ok(world)
 }
-
-#[cfg(test)]
-mod tests;

@@ -5,7 +5,7 @@
 /// A step stands for one load or store of a word that threads share, or for a number that one pass
 /// hands to another. Words and passes are numbered from 0. A step that can't act does nothing: that
 /// holds of each that names a word or a pass that isn't there. No step fails but for memory.
-#[derive(Clone, Copy, Debug, PartialEq, Eq)]
+#[derive(Clone, Copy, PartialEq, Eq)]
 pub enum Step {
     /// Stores 32 bits of the vector, and a stamp, into a word: a part of what a command of the
     /// coupling facility changes in a connector's vector, as a cross-invalidation (IXLCACHE) or a

@@ -9,7 +9,7 @@ use crate::{Items, NoMemory, Step};
 use std::alloc::Global;
 
 /// The words of a vector, what was committed, and what each pass knows.
-#[derive(Debug, Drop)]
+#[derive(Drop)]
 pub struct World {
     /// The words: 32 bits of the vector in the lower half of each, and a stamp in the upper half.
     pub words: Items<u64>,

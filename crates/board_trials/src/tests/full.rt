@@ -5,7 +5,8 @@ use super::{FIRST, SECOND};
 use crate::halts::Halt;
 use crate::past::counted;
 use crate::seats::{connect, read, write};
-use crate::trials::{Trial, close, start, start_connected};
+use crate::trial::Trial;
+use crate::trials::{close, start, start_connected};
 use crate::waits::{raise, wait_for};
 use cf_link::Steady;
 use plex_board::{Board, Desk};
@@ -84,15 +85,12 @@ fn journal_gets_full(rt: HostRuntime) -> Result<(), Fail> {
     let one = one?;
     let two = two?;
     let entries = history.entries();
-    assert_eq!(rt; one.refusal, CallRefused::JournalFull { limit: FULL });
-    assert_eq!(rt; two.refusal, CallRefused::JournalFull { limit: FULL });
-    assert_eq!(rt; entries.len(), FULL as usize);
-    assert_eq!(rt; counted(entries, FIRST), 1 + one.answered as usize);
-    assert_eq!(rt; counted(entries, SECOND), 1 + two.answered as usize);
-    assert_eq!(rt;
-        2 + u64::from(one.answered) + u64::from(two.answered),
-        u64::from(FULL)
-    );
+    assert!(rt; one.refusal == CallRefused::JournalFull { limit: FULL });
+    assert!(rt; two.refusal == CallRefused::JournalFull { limit: FULL });
+    assert!(rt; entries.len() == FULL as usize);
+    assert!(rt; counted(entries, FIRST) == 1 + one.answered as usize);
+    assert!(rt; counted(entries, SECOND) == 1 + two.answered as usize);
+    assert!(rt; 2 + u64::from(one.answered) + u64::from(two.answered) == u64::from(FULL));
     Ok(())
 }
 
@@ -121,10 +119,10 @@ fn fourth_call_finds_journal_full(rt: HostRuntime) -> Result<(), Fail> {
     let mut trial = start(&rt, alloc, 3)?;
     let (numbers, fourth) = call_four_times(&rt, alloc, &trial.board, &mut trial.first)?;
     let history = close(&rt, alloc, trial)?;
-    assert_eq!(rt; numbers, [1, 2, 3]);
+    assert!(rt; numbers == [1, 2, 3]);
     let full = Halt::Refused(CallRefused::JournalFull { limit: 3 });
-    assert_eq!(rt; fourth, Err(full));
-    assert_eq!(rt; history.entries().len(), 3);
-    assert_eq!(rt; counted(history.entries(), FIRST), 3);
+    assert!(rt; fourth == Err(full));
+    assert!(rt; history.entries().len() == 3);
+    assert!(rt; counted(history.entries(), FIRST) == 3);
     Ok(())
 }

@@ -5,7 +5,8 @@ use super::{FIRST, PLENTY, READS, Race, SECOND, new_race};
 use crate::halts::Halt;
 use crate::past::{Answer, bits_after, is_of, tells};
 use crate::seats::{post, read, take, test, write};
-use crate::trials::{Trial, close, start_connected};
+use crate::trial::Trial;
+use crate::trials::{close, start_connected};
 use crate::waits::{raise, wait_for};
 use cf_link::Steady;
 use plex_board::{Board, Desk};
@@ -118,7 +119,7 @@ fn a_note_tells_of_a_write(rt: HostRuntime) -> Result<(), Fail> {
     let heard = heard?;
     let entries = history.entries();
     let bits = bits_after(alloc, entries, SECOND)?;
-    assert_eq!(rt; heard.len(), READS as usize);
+    assert!(rt; heard.len() == READS as usize);
     for Heard { posted, answer } in &heard {
         let Answer { bit, at, sure } = *answer;
         assert!(rt;

@@ -1,4 +1,5 @@
 ghost use Rattle.std.specs.Prelude.{◌≡◌, ◌≤◌, ◌+◌, IsSome};
+ghost use Rattle.cf_types.specs.declared.limits.TheConstants.{CALLERS};
 ghost use Rattle.cf_types.specs.Connections.{with_answer};
 ghost use Rattle.cf_types.specs.Forms.{IsCaller};
 ghost use Rattle.cf_types.specs.Mailboxes.{next_event, owed_event};
@@ -27,11 +28,11 @@ impl Shell {
     pub(crate) fn respond(&mut self, by: ConnId) -> (ShellReply, Deeds)
         requires caller { IsCaller by }
         requires owes { IsSome (owed_event self.old.shell.mail by) }
-        requires room { 33 ≤ self.old.room }
+        requires room { CALLERS ≤ self.old.room }
         ensures form { self.new.form ≡ self.old.form }
         ensures acts { record { reply = result.0; shell = self.new.shell; deeds = result.1 }
             ≡ response_outcome self.old.shell by (owed_event self.old.shell.mail by) }
-        ensures room { self.old.room ≤ self.new.room + 33 }
+        ensures room { self.old.room ≤ self.new.room + CALLERS }
     {
         let event = self.mail.respond(by).unwrap();
         answer(&mut self.conns, by, event);

@@ -1,5 +1,6 @@
 //! VARY, lost facilities, and what becomes of a structure that loses an instance.
 ghost use Rattle.std.specs.Prelude.{◌≡◌, ◌≤◌, ◌+◌};
+ghost use Rattle.cf_types.specs.declared.limits.TheConstants.{CALLERS};
 ghost use Rattle.cf_types.specs.Forms.{IsFacility};
 ghost use Rattle.engine_api.specs.Shell.{vary_outcome, mark_outcome, loss_outcome, primary_loss, fresh_loss, simplex_outcome, failed_outcome};
 ghost use Rattle.plex_shell.specs.declared.shell.TheConstants.{ACT_LETTERS};
@@ -66,11 +67,11 @@ impl Shell {
 
     // The primary is lost: the secondary takes its place, where one stands.
     fn lose_primary(&mut self, cf: CfId) -> (ShellReply, Deeds)
-        requires { 33 ≤ self.old.room }
+        requires { CALLERS ≤ self.old.room }
         ensures form { self.new.form ≡ self.old.form }
         ensures acts { record { reply = result.0; shell = self.new.shell; deeds = result.1 }
             ≡ primary_loss self.old.form cf self.old.shell.instances.secondary self.old.shell }
-        ensures room { self.old.room ≤ self.new.room + 33 }
+        ensures room { self.old.room ≤ self.new.room + CALLERS }
     {
         match self.secondary {
             None => self.fail(),
@@ -99,11 +100,11 @@ impl Shell {
     // The last instance is lost: the structure fails, a rebuild ends, the capacity is the policy's
     // again, and the active connectors are told.
     fn fail(&mut self) -> (ShellReply, Deeds)
-        requires { 33 ≤ self.old.room }
+        requires { CALLERS ≤ self.old.room }
         ensures form { self.new.form ≡ self.old.form }
         ensures acts { record { reply = result.0; shell = self.new.shell; deeds = result.1 }
             ≡ failed_outcome self.old.form self.old.shell }
-        ensures room { self.old.room ≤ self.new.room + 33 }
+        ensures room { self.old.room ≤ self.new.room + CALLERS }
     {
         self.primary = None;
         self.secondary = None;
@@ -122,11 +123,11 @@ impl Shell {
 
     // A rebuild whose new instance stands in the facility loses it, and stops.
     fn lose_fresh(&mut self, cf: CfId) -> (ShellReply, Deeds)
-        requires { 33 ≤ self.old.room }
+        requires { CALLERS ≤ self.old.room }
         ensures form { self.new.form ≡ self.old.form }
         ensures acts { record { reply = result.0; shell = self.new.shell; deeds = result.1 }
             ≡ fresh_loss cf self.old.shell.rebuild self.old.shell }
-        ensures room { self.old.room ≤ self.new.room + 33 }
+        ensures room { self.old.room ≤ self.new.room + CALLERS }
     {
         match self.rebuild {
             Some(rebuild) if is_at(cf, rebuild.fresh) => {

@@ -1,5 +1,6 @@
 //! REBUILD START, STOP, CONNECT and COMPLETE, and the passing of their stages.
 ghost use Rattle.std.specs.Prelude.{◌≡◌, ◌≤◌, ◌+◌, Some, None};
+ghost use Rattle.cf_types.specs.declared.limits.TheConstants.{CALLERS};
 ghost use Rattle.cf_types.specs.Forms.{IsCapacity, IsCaller};
 ghost use Rattle.cf_types.specs.declared.shell_commands.ShellReply.TheVariants as replies;
 ghost use Rattle.engine_api.specs.Rebuilds.{event_past, beginning_of, end_of, is_switch, is_copy};
@@ -19,11 +20,11 @@ impl Shell {
     /// REBUILD START: the active connectors are its members, and are told.
     pub(crate) fn start_rebuild(&mut self, caps: Caps) -> (ShellReply, Deeds)
         requires caps { IsCapacity caps }
-        requires room { 33 ≤ self.old.room }
+        requires room { CALLERS ≤ self.old.room }
         ensures form { self.new.form ≡ self.old.form }
         ensures acts { record { reply = result.0; shell = self.new.shell; deeds = result.1 }
             ≡ start_outcome self.old.shell caps }
-        ensures room { self.old.room ≤ self.new.room + 33 }
+        ensures room { self.old.room ≤ self.new.room + CALLERS }
     {
         let number = self.started + 1;
         let members = self.conns.active();
@@ -35,11 +36,11 @@ impl Shell {
 
     /// REBUILD STOP: the new instance is given up, and the members are told.
     pub(crate) fn stop_rebuild(&mut self) -> (ShellReply, Deeds)
-        requires { 33 ≤ self.old.room }
+        requires { CALLERS ≤ self.old.room }
         ensures form { self.new.form ≡ self.old.form }
         ensures acts { record { reply = result.0; shell = self.new.shell; deeds = result.1 }
             ≡ stop_outcome self.old.shell self.old.shell.rebuild }
-        ensures room { self.old.room ≤ self.new.room + 33 }
+        ensures room { self.old.room ≤ self.new.room + CALLERS }
     {
         match self.rebuild {
             None => (ShellReply::Ok, no_deeds()),
@@ -60,10 +61,10 @@ impl Shell {
     /// The rebuild stops without its new instance, and its members are told.
     pub(crate) fn give_up(&mut self, rebuild: Rebuild)
         requires kept { IsKeptRebuild rebuild }
-        requires room { 33 ≤ self.old.room }
+        requires room { CALLERS ≤ self.old.room }
         ensures form { self.new.form ≡ self.old.form }
         ensures shell { self.new.shell ≡ stopped_shell rebuild self.old.shell }
-        ensures room { self.old.room ≤ self.new.room + 33 }
+        ensures room { self.old.room ≤ self.new.room + CALLERS }
     {
         let mut stopped = rebuild;
         stopped.stop();
@@ -80,12 +81,12 @@ impl Shell {
         requires kept { IsKeptRebuild before }
         requires passed { passed ≡ outcome_of before }
         requires after { after ≡ next_rebuild before }
-        requires room { 33 ≤ self.old.room }
+        requires room { CALLERS ≤ self.old.room }
         ensures form { self.new.form ≡ self.old.form }
         ensures shell { self.new.shell ≡ shell_onward before self.old.shell }
         ensures switch { result ≡ is_switch (outcome_of before) }
         ensures conns { self.new.shell.conns ≡ self.old.shell.conns }
-        ensures room { self.old.room ≤ self.new.room + 33 }
+        ensures room { self.old.room ≤ self.new.room + CALLERS }
     {
         self.rebuild = match passed {
             Passed::No | Passed::Into(_) => Some(after),
@@ -106,11 +107,11 @@ impl Shell {
     pub(crate) fn connect_rebuild(&mut self, by: ConnId) -> (ShellReply, Deeds)
         requires caller { IsCaller by }
         requires owed { unless_owed is_connect by self.old.shell.rebuild ≡ None }
-        requires room { 33 ≤ self.old.room }
+        requires room { CALLERS ≤ self.old.room }
         ensures form { self.new.form ≡ self.old.form }
         ensures acts { record { reply = result.0; shell = self.new.shell; deeds = result.1 }
             ≡ rebuild_connect_outcome self.old.form self.old.shell by self.old.shell.rebuild }
-        ensures room { self.old.room ≤ self.new.room + 33 }
+        ensures room { self.old.room ≤ self.new.room + CALLERS }
     {
         match self.rebuild {
             None => (ShellReply::Ok, no_deeds()),
@@ -137,11 +138,11 @@ impl Shell {
     pub(crate) fn complete_rebuild(&mut self, by: ConnId) -> (ShellReply, Deeds)
         requires caller { IsCaller by }
         requires owed { unless_owed is_copy by self.old.shell.rebuild ≡ None }
-        requires room { 33 ≤ self.old.room }
+        requires room { CALLERS ≤ self.old.room }
         ensures form { self.new.form ≡ self.old.form }
         ensures acts { record { reply = result.0; shell = self.new.shell; deeds = result.1 }
             ≡ complete_outcome self.old.shell by self.old.shell.rebuild }
-        ensures room { self.old.room ≤ self.new.room + 33 }
+        ensures room { self.old.room ≤ self.new.room + CALLERS }
     {
         match self.rebuild {
             None => (ShellReply::Ok, no_deeds()),
@@ -164,14 +165,14 @@ impl Shell {
     /// where the new instance takes the old one's place.
     pub(crate) fn answer_rebuild(&mut self, by: ConnId, event: &Event) -> bool
         requires caller { IsCaller by }
-        requires room { 33 ≤ self.old.room }
+        requires room { CALLERS ≤ self.old.room }
         ensures form { self.new.form ≡ self.old.form }
         ensures acts { record {
           reply = replies.Responded event.now;
           shell = self.new.shell;
           deeds = record no_deeds { switch = result };
         } ≡ responded by event.now self.old.shell.rebuild self.old.shell }
-        ensures room { self.old.room ≤ self.new.room + 33 }
+        ensures room { self.old.room ≤ self.new.room + CALLERS }
     {
         match self.rebuild {
             Some(rebuild) if is_response(rebuild.stage, rebuild.number, event) => {
@@ -186,11 +187,11 @@ impl Shell {
     /// A connector that departs is no member any more.
     pub(crate) fn leave_rebuild(&mut self, by: ConnId)
         requires caller { IsCaller by }
-        requires room { 33 ≤ self.old.room }
+        requires room { CALLERS ≤ self.old.room }
         ensures form { self.new.form ≡ self.old.form }
         ensures shell { self.new.shell ≡ shell_without by self.old.shell.rebuild self.old.shell }
         ensures conns { self.new.shell.conns ≡ self.old.shell.conns }
-        ensures room { self.old.room ≤ self.new.room + 33 }
+        ensures room { self.old.room ≤ self.new.room + CALLERS }
     {
         if let Some(rebuild) = self.rebuild {
             let mut after = rebuild;

@@ -19,9 +19,7 @@ const OF_SEVEN: &str = "LOAD 7\n\
 fn the_load_of_seven(rt: HostRuntime) -> Result<(), Fail> {
     let gate = Count::new();
     let (status, text) = ran_by(&rt, rt.alloc(), "load 7", "", &gate)?;
-    assert_eq!(rt; status, 0);
-    assert_eq!(rt; text.as_str(), OF_SEVEN);
-    assert_eq!(rt; gate.lines(), 4_004);
+    assert!(rt; status == 0 && text.as_str() == OF_SEVEN && gate.lines() == 4_004);
     Ok(())
 }
 
@@ -30,10 +28,9 @@ fn the_load_of_seven(rt: HostRuntime) -> Result<(), Fail> {
 fn words_of_no_load(rt: HostRuntime) -> Result<(), Fail> {
     for words in ["load 07", "load", "load 4294967296"] {
         let (status, text) = ran_by(&rt, rt.alloc(), words, "", &OpenGate)?;
-        assert_eq!(rt; status, 2, "{words}");
-        assert_eq!(rt;
-            text.as_str(),
-            "USAGE plexrun serial or threads or load N\n",
+        assert!(rt; status == 2, "{words}");
+        assert!(rt;
+            text.as_str() == "USAGE plexrun serial or threads or load N or locks\n",
             "{words}"
         );
     }

@@ -61,8 +61,7 @@ fn two_members_rebuild(rt: HostRuntime) -> Result<(), Fail> {
     ];
     let gate = Order::new(&holds);
     let (status, report) = ran(&rt, rt.alloc(), &script, &gate)?;
-    assert_eq!(rt; gate.kept(), 14);
-    assert_eq!(rt; status, 0);
+    assert!(rt; gate.kept() == 14 && status == 0);
     for told in [
         " REBUILD CONNECT -> OK CF2\n",
         " COPY 1 -> COPIED 1 1\n",
@@ -170,7 +169,7 @@ const MOVED: &str = "HISTORY QUEUE 23\n\
 fn a_queue_and_locks_move(rt: HostRuntime) -> Result<(), Fail> {
     let script = script_of(rt.alloc(), TWO_KINDS, MOVES)?;
     let (status, report) = ran_by(&rt, rt.alloc(), "serial", &script, &OpenGate)?;
-    assert_eq!(rt; status, 0);
+    assert!(rt; status == 0);
     let moved = script_of(rt.alloc(), TWO_KINDS, MOVED)?;
     assert!(rt; report.starts_with(moved.as_str()));
     assert!(rt; report.contains("\nQUEUE TEST 3 NOTEMPTY 14\n"));

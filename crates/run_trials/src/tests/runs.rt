@@ -12,7 +12,7 @@ use std::test::Fail;
 use std::thread::Threads;
 
 /// How many bytes a report can have here.
-const ROOM: usize = 1 << 18;
+const ROOM: usize = 1 << 22;
 
 /// How many bytes one write takes at most.
 const PIECE: usize = 4096;

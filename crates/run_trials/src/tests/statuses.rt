@@ -80,9 +80,8 @@ const NO_LINES: &[u8] = b"HISTORY GBP 0\nTRANSCRIPT OP 0\nTRANSCRIPT A 0\nTRANSC
 #[test]
 fn policy_alone(rt: HostRuntime) -> Result<(), Fail> {
     let (status, text) = ran(&rt, rt.alloc(), "serial", "")?;
-    assert_eq!(rt; status, 0);
-    assert!(rt; text.as_slice().starts_with(POLICY.as_bytes()));
-    assert_eq!(rt; text.as_slice()[POLICY.len()..], *NO_LINES);
+    assert!(rt; status == 0 && text.as_slice().starts_with(POLICY.as_bytes()));
+    assert!(rt; &text.as_slice()[POLICY.len()..] == NO_LINES);
     Ok(())
 }
 
@@ -91,8 +90,7 @@ fn failing_sink(rt: HostRuntime) -> Result<(), Fail> {
     let source = source_of(rt.alloc(), POLICY, "", &[])?;
     let mut sink = sink_of(rt.alloc(), 10, &[2])?;
     let status = run_into(&rt, rt.alloc(), "serial", source, &mut sink)?;
-    assert_eq!(rt; status, 5);
-    assert_eq!(rt; sink.bytes.as_slice(), b"FACILITY C".as_slice());
+    assert!(rt; status == 5 && sink.bytes.as_slice() == b"FACILITY C".as_slice());
     Ok(())
 }
 
@@ -104,11 +102,7 @@ fn full_journal_and_a_failing_sink(rt: HostRuntime) -> Result<(), Fail> {
     source.bytes.extend_from_slice(events.as_slice())?;
     let mut sink = sink_of(rt.alloc(), 64, &[2])?;
     let status = run_into(&rt, rt.alloc(), "serial", source, &mut sink)?;
-    assert_eq!(rt; status, 8);
-    assert_eq!(rt;
-        sink.bytes.as_slice(),
-        b"JOURNALFULL GBP 65536\n".as_slice()
-    );
+    assert!(rt; status == 8 && sink.bytes.as_slice() == b"JOURNALFULL GBP 65536\n".as_slice());
     Ok(())
 }
 
@@ -122,7 +116,7 @@ fn no_facility_is_large_enough(rt: HostRuntime) -> Result<(), Fail> {
     )?;
     let mut sink = sink_of(rt.alloc(), 64, &[])?;
     let status = run_into(&rt, rt.alloc(), "serial", source, &mut sink)?;
-    assert_eq!(rt; status, 0);
+    assert!(rt; status == 0);
     assert!(rt;
         sink.bytes.as_slice().ends_with(
             b"HISTORY GBP 1\n1 A CONNECT DELETE -> REFUSED 65 NOSPACE 16 10\n\
@@ -143,7 +137,7 @@ fn one_connection_at_most(rt: HostRuntime) -> Result<(), Fail> {
     )?;
     let mut sink = sink_of(rt.alloc(), 64, &[])?;
     let status = run_into(&rt, rt.alloc(), "serial", source, &mut sink)?;
-    assert_eq!(rt; status, 0);
+    assert!(rt; status == 0);
     assert!(rt;
         sink.bytes.as_slice().ends_with(
             b"HISTORY GBP 3\n1 A CONNECT DELETE -> OK NEW CF1\n\
@@ -164,8 +158,7 @@ const ONE_CALLER_END: &[u8] =
 #[test]
 fn read_and_test(rt: HostRuntime) -> Result<(), Fail> {
     let (status, text) = ran(&rt, rt.alloc(), "serial", ONE_CALLER)?;
-    assert_eq!(rt; status, 0);
-    assert!(rt; text.as_slice().ends_with(ONE_CALLER_END));
+    assert!(rt; status == 0 && text.as_slice().ends_with(ONE_CALLER_END));
     Ok(())
 }
 
@@ -173,8 +166,7 @@ fn read_and_test(rt: HostRuntime) -> Result<(), Fail> {
 #[test]
 fn read_and_test_on_threads(rt: HostRuntime) -> Result<(), Fail> {
     let (status, text) = ran(&rt, rt.alloc(), "threads", ONE_CALLER)?;
-    assert_eq!(rt; status, 0);
-    assert!(rt; text.as_slice().ends_with(ONE_CALLER_END));
+    assert!(rt; status == 0 && text.as_slice().ends_with(ONE_CALLER_END));
     Ok(())
 }
 
@@ -187,7 +179,7 @@ fn post_and_take(rt: HostRuntime) -> Result<(), Fail> {
         "A GBP CONNECT DELETE\nB GBP CONNECT DELETE\nA GBP WRITE P1 0 a CHANGED 1\n\
          B GBP TAKE\nA GBP POST\nB GBP TAKE\n",
     )?;
-    assert_eq!(rt; status, 0);
+    assert!(rt; status == 0);
     assert!(rt;
         text.as_slice().ends_with(
             b"TRANSCRIPT OP 0\nTRANSCRIPT A 4\nGBP 1\nGBP 3\nGBP POST 3\nGBP 4\n\
@@ -205,8 +197,7 @@ fn misspelt_policy(rt: HostRuntime) -> Result<(), Fail> {
         "serial",
         "* A line that says nothing.\nFACILTY CF3 100\n",
     )?;
-    assert_eq!(rt; status, 3);
-    assert_eq!(rt; text.as_slice(), b"SCRIPT 9 SYNTAX\n".as_slice());
+    assert!(rt; status == 3 && text.as_slice() == b"SCRIPT 9 SYNTAX\n".as_slice());
     Ok(())
 }
 
@@ -218,8 +209,7 @@ fn unbuilt_line(rt: HostRuntime) -> Result<(), Fail> {
         "serial",
         "A GBP CONNECT DELETE\nOP GBP DUPLEX START\n",
     )?;
-    assert_eq!(rt; status, 3);
-    assert_eq!(rt; text.as_slice(), b"SCRIPT 9 NOTYET\n".as_slice());
+    assert!(rt; status == 3 && text.as_slice() == b"SCRIPT 9 NOTYET\n".as_slice());
     Ok(())
 }
 
@@ -229,8 +219,7 @@ fn oversized_source(rt: HostRuntime) -> Result<(), Fail> {
     source.bytes = vec![in rt.alloc(); b'*'; 1_048_577]?;
     let mut sink = sink_of(rt.alloc(), 64, &[])?;
     let status = run_into(&rt, rt.alloc(), "serial", source, &mut sink)?;
-    assert_eq!(rt; status, 7);
-    assert_eq!(rt; sink.bytes.as_slice(), b"TOOLONG 1048576\n".as_slice());
+    assert!(rt; status == 7 && sink.bytes.as_slice() == b"TOOLONG 1048576\n".as_slice());
     Ok(())
 }
 
@@ -239,8 +228,7 @@ fn failing_source(rt: HostRuntime) -> Result<(), Fail> {
     let source = source_of(rt.alloc(), POLICY, "", &[1])?;
     let mut sink = sink_of(rt.alloc(), 64, &[])?;
     let status = run_into(&rt, rt.alloc(), "serial", source, &mut sink)?;
-    assert_eq!(rt; status, 4);
-    assert_eq!(rt; sink.bytes.as_slice(), b"FAULT READ\n".as_slice());
+    assert!(rt; status == 4 && sink.bytes.as_slice() == b"FAULT READ\n".as_slice());
     Ok(())
 }
 
@@ -259,11 +247,11 @@ fn missing_words(rt: HostRuntime) -> Result<(), Fail> {
         &mut links,
         &OpenGate,
     );
-    assert_eq!(rt; status, 2);
-    assert_eq!(rt;
-        sink.bytes.as_slice(),
-        b"USAGE plexrun serial or threads or load N\n".as_slice()
+    assert!(rt;
+        status == 2
+            && sink.bytes.as_slice()
+                == b"USAGE plexrun serial or threads or load N or locks\n".as_slice()
     );
-    assert_eq!(rt; source.calls, 0);
+    assert!(rt; source.calls == 0);
     Ok(())
 }

@@ -144,7 +144,7 @@ A IRLM EVENTS
 fn a_script_is_printed_in_plain_form(rt: HostRuntime) -> Result<(), Fail> {
     let alloc = rt.alloc();
     let script = read(alloc, LOOSE)?;
-    assert_eq!(rt; print(alloc, &script)?.as_slice(), PLAIN);
+    assert!(rt; print(alloc, &script)?.as_slice() == PLAIN);
     Ok(())
 }
 
@@ -152,9 +152,9 @@ fn a_script_is_printed_in_plain_form(rt: HostRuntime) -> Result<(), Fail> {
 fn plain_form_is_read_again(rt: HostRuntime) -> Result<(), Fail> {
     let alloc = rt.alloc();
     let script = read(alloc, PLAIN)?;
-    assert_eq!(rt; print(alloc, &script)?.as_slice(), PLAIN);
+    assert!(rt; print(alloc, &script)?.as_slice() == PLAIN);
     let lines = script.lines.items();
     let last = lines.last().ok_or("no line")?;
-    assert_eq!(rt; (lines.len(), last.at), (56, 66));
+    assert!(rt; (lines.len(), last.at) == (56, 66));
     Ok(())
 }

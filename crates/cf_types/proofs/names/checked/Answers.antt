@@ -1,4 +1,4 @@
-use Rattle.std.proofs.Common.{arith, refl}
+use Rattle.std.proofs.Common.{arith, refl, rules}
 use Rattle.std.proofs.lemmas.Grind.{common_steps}
 use Rattle.cf_types.specs.Term.{term_byte}
 use Rattle.cf_types.proofs.TermFaults.{passes_at_none, fails_at_some}
@@ -19,3 +19,7 @@ returns-in-None-clause-term c = (
   },
   λ _. refl,
 )
+
+-- the wrong body limit_itself_is_too_long is refused at this goal
+pub returns-then-text-limit-clause-term : goal.returns-then-text-limit-clause-term
+returns-then-text-limit-clause-term c = search rules

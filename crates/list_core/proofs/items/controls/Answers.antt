@@ -14,5 +14,5 @@ returns c =
     ∙ c.locks.ensures in
     let watches : c.from_vec-3.result ≡ map triple_of content.monitors =
     c.from_vec-3.ensures ∙ c.in_ok-watches.ensures ∙ map-triples c.watched.result.now
-    ∙ ap (λ (l : List Monitor). map triple_of l) c.watched.ensures in
+    ∙ ap (λ (l : List Monitor). map triple_of l) c.watched.ensures.monitors in
     λ i. Controls (c.next.ensures i) (limits i) (locks i) (watches i)

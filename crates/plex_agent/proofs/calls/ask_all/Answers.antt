@@ -45,4 +45,4 @@ returns-in-Err-clause-asks g c =
     c.in-Err.ensures.refused c.ordered.ensures
     (λ other. some_is (λ (cell : CellShown g.row.L.Denot). cell.limit ≤ (pass_at c.ask_step.new.desk c.args.on).known)
     (cell_on c.args.board.now c.args.on) cell is (c.in-Err.ensures.full other))
-    c.in-Err.ensures.items c.end_of.ensures))
+    c.in-Err.ensures.no_memory c.in-Err.ensures.items c.end_of.ensures))

@@ -1,3 +1,4 @@
+use Rattle.std.proofs.Common.{rules}
 use Rattle.plex_script.specs.Reading.{script_of}
 use Rattle.plex_script.proofs.ReadLaws.{IsRead-more}
 use Rattle.plex_script.proofs.reader.read.Goals as goal
@@ -8,3 +9,6 @@ loop-rest-preserved c =
     c.first_line.result.0.now c.first_line.result.1.now
     (script_of c.add_line.new.draft) c.saturating_add-number.result c.loop-rest.invariant c.first_line.ensures.lines
     c.saturating_add-number.ensures c.in-Ok.ensures.ok
+
+pub returns-in-Err-clause-fault : goal.returns-in-Err-clause-fault
+returns-in-Err-clause-fault c = search rules

@@ -1,5 +1,6 @@
 -- A member's letter is the first of those that are left.
 use Rattle.std.proofs.Common.{◌<◌, arith, sym, ap, ◌∙◌}
+use Rattle.cf_types.specs.declared.limits.TheConstants.{CALLERS}
 use Rattle.cf_types.specs.Mailboxes.{letters_to, with_letters}
 use Rattle.event_mail.specs.Post.{Post}
 use Rattle.plex_shell.proofs.CallerSets.{leads_member, leads_nobody, leads_all}
@@ -9,7 +10,7 @@ use Rattle.plex_shell.proofs.letters.tell.Goals.{then-has, else-has}
 pub loop-number-preserved : goal.loop-number-preserved
 loop-number-preserved c =
     let n = c.loop-number.number in
-    let within : n < 33 = omega arith in
+    let within : n < CALLERS = omega arith in
     let now = c.loop-number.mail.boxes in
     let whole = with_letters c.args.mail.now.boxes (letters_to c.args.to c.args.event) in
     elim c.if-has.branch [

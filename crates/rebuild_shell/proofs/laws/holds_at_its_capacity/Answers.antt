@@ -1,3 +1,4 @@
+use Rattle.engine_api.proofs.FrontLaws.{content-moved}
 use Rattle.rebuild_shell.proofs.CapacityLaws.{ContentLaws, held-replay}
 use Rattle.rebuild_shell.proofs.laws.holds_at_its_capacity.Goals as goal
 
@@ -7,10 +8,15 @@ returns g c =
     let laws : ContentLaws g.E.Engine.meaning g.E.Engine.is_kind g.E.Engine.is_content = record {
       content_empty = from.content_empty;
       items_empty = from.items_empty;
-      content_step = from.content_step;
+      content_done = from.content_done;
       content_leave = from.content_leave;
       content_back = from.content_back;
-      content_moved = from.content_moved;
+      content_moved = content-moved g.E.Engine.meaning g.E.Engine.is_kind g.E.Engine.is_content (record {
+        made_again = from.made_again;
+        items_front = from.items_front;
+        content_front = from.content_front;
+        unplace_front = from.unplace_front;
+      });
       need_first = from.need_first;
       need_leave = from.need_leave;
     } in

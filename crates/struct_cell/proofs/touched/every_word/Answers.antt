@@ -8,6 +8,7 @@ loop-before-preserved c =
     record {
       within = put.within;
       distinct = put.distinct;
+      ordered = put.before;
       every = vectors-more c.loop-before.places.items c.put_words.new.places.items
           (words_of c.args.len) c.loop-before.before
           put.others put.here c.loop-before.invariant.every;

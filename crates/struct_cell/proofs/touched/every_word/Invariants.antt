@@ -1,12 +1,14 @@
-use Rattle.std.proofs.Common.{◌<◌, ◌≤◌, ℕ, All}
+use Rattle.std.proofs.Common.{◌+◌, ◌<◌, ◌≤◌, ℕ, All}
 use Rattle.vec_words.specs.Logged.{words_of}
 use Rattle.vec_words.specs.Stores.{IsWithin, IsSpared, AreDistinct}
+use Rattle.struct_cell.specs.Touches.{ComeBefore}
 use Rattle.struct_cell.proofs.touched.every_word.Given as goal
 
 abbrev pub invariant-loop-before : goal.invariant-loop-before
 invariant-loop-before l = record {
   within : All (IsWithin l.fn.conns l.fn.len) l.places.items;
   distinct : AreDistinct l.places.items;
+  ordered : ComeBefore l.places.items (l.before + 1) 0;
   every : (conn word : ℕ) → 0 < conn → conn ≤ l.before → word < words_of l.fn.len → IsSpared l.places.items conn word
       → ⊥;
 }

@@ -1,14 +1,14 @@
 use Rattle.std.proofs.Common.{◌≡◌, ◌/◌, ◌<◌, ◌≤◌, ℕ, All, take, false}
 use Rattle.cf_types.specs.Gains.{is_for}
 use Rattle.cf_types.specs.declared.numbers.ConnId.{ConnId}
-use Rattle.vec_words.specs.Stores.{IsWithin, IsSpared, AreDistinct}
+use Rattle.vec_words.specs.Stores.{IsSpared}
+use Rattle.struct_cell.specs.Touches.{IsOfTable}
 use Rattle.struct_cell.proofs.touched.name_all.Given as goal
 
 abbrev pub invariant-loop-change : goal.invariant-loop-change
 invariant-loop-change l = record {
-  within : All (IsWithin l.fn.conns l.fn.len) l.named.items;
-  distinct : AreDistinct l.named.items;
-  spared : (conn : ConnId) (index : ℕ) → 0 < conn.0 → conn.0 ≤ l.fn.conns → index < l.fn.len
-      → IsSpared l.named.items conn.0 (index / 32)
+  table : IsOfTable l.fn.named l.named;
+  spared : (conn : ConnId) (index : ℕ) → 0 < conn.0 → conn.0 ≤ l.fn.named.conns → index < l.fn.named.len
+      → IsSpared l.named.places conn.0 (index / 32)
       → All (λ change. is_for conn index change ≡ false) (take l.change-index l.bits);
 }

@@ -4,12 +4,13 @@ use Rattle.cf_types.specs.Forms.{IsCaller}
 use Rattle.engine_api.specs.declared.deeds.Room.{Room}
 use Rattle.engine_api.specs.Machine.{departure_from, room_of}
 use Rattle.engine_api.specs.Meaning.{Held}
-use Rattle.engine_api.specs.Shell.{Shell, ShellOutcome, leaver, shell_cause}
+use Rattle.engine_api.specs.Shell.{Shell, ShellOutcome, leaver, shell_cause, with_posted}
 use Rattle.struct_machine.specs.Kept.{machine_of}
 use Rattle.struct_machine.proofs.ChangeLaws.{covers_deeds}
 use Rattle.struct_machine.proofs.CommandLaws as law
 use Rattle.struct_machine.proofs.DeedLaws.{back_caller}
 use Rattle.struct_machine.proofs.PostedLaws.{accepted_posted, letters_none}
+use Rattle.struct_machine.proofs.RoomLaws.{cause_seen, done_seen}
 use Rattle.struct_machine.proofs.doing.do_command.Goals as goal
 
 pub act-reply-requires-clause-accepted : goal.act-reply-requires-clause-accepted
@@ -19,10 +20,15 @@ act-reply-requires-clause-accepted g c =
     let gone = departure_from g.E.Engine.meaning c.args.shell.now.form who machine in
     let posted = c.in_ok-prepare.ensures.ok_shell in
     let form = c.prepare.ensures.form ∙ c.requires.of_form.shell_form in
+    let room : Room = room_of g.E.Engine.meaning c.args.form.now machine in
+    let accepted : shell_cause c.args.form.now c.args.room.now c.args.shell.now.shell c.args.by c.args.cmd.now ≡ None =
+    subst (λ (seen : Room). shell_cause c.args.form.now seen c.args.shell.now.shell c.args.by c.args.cmd.now ≡ None)
+    (sym c.requires.room)
+    (cause_seen c.args.form.now room c.args.shell.now.shell c.args.by c.args.cmd.now ∙ c.requires.accepted) in
     subst₂ (λ (form : StrForm) (shell : Shell). shell_cause form c.args.room.now shell c.args.by c.args.cmd.now ≡ None)
     (sym form) (sym posted)
     (accepted_posted c.args.form.now c.args.room.now c.args.shell.now.shell c.args.by c.args.cmd.now gone.letters
-    (letters_none g.E.Engine.meaning c.args.shell.now.form machine who) c.requires.accepted)
+    (letters_none g.E.Engine.meaning c.args.shell.now.form machine who) accepted)
 
 pub do_deeds-requires-clause-caller : goal.do_deeds-requires-clause-caller
 do_deeds-requires-clause-caller g c κs within =
@@ -33,11 +39,13 @@ do_deeds-requires-clause-caller g c κs within =
 pub do_deeds-requires-clause-admitted : goal.do_deeds-requires-clause-admitted
 do_deeds-requires-clause-admitted g c κs within =
     let of = c.requires.of_form in
-    let accepted : shell_cause c.args.form.now (room_of g.E.Engine.meaning c.args.form.now
-    (machine_of g.E.Engine.held c.args.shell.now c.args.content.now)) c.args.shell.now.shell c.args.by c.args.cmd.now
-    ≡ None =
-    subst (λ (room : Room). shell_cause c.args.form.now room c.args.shell.now.shell c.args.by c.args.cmd.now ≡ None)
-    c.requires.room c.requires.accepted in
+    let room : Room = room_of g.E.Engine.meaning c.args.form.now
+    (machine_of g.E.Engine.held c.args.shell.now c.args.content.now) in
+    let accepted : shell_cause c.args.form.now room c.args.shell.now.shell c.args.by c.args.cmd.now ≡ None =
+    c.requires.accepted in
+    let gone = departure_from g.E.Engine.meaning c.args.form.now
+    (leaver c.args.shell.now.shell c.args.by c.args.cmd.now)
+    (machine_of g.E.Engine.held c.args.shell.now c.args.content.now) in
     let after : ShellOutcome = record {
       reply = c.act-reply.result.0;
       shell = c.act-reply.new.self.shell;
@@ -57,23 +65,26 @@ do_deeds-requires-clause-admitted g c κs within =
       state = rw of.shell_form at c.in_ok-prepare.ensures.ok_state;
       of_fresh = c.in_ok-prepare.ensures.ok_fresh;
       of_rebuild = c.is_rebuilding-rebuilding.ensures;
-      acts = rw (
+      acts = (rw (
         c.prepare.ensures.form,
         of.shell_form,
         c.in_ok-prepare.ensures.ok_shell,
         of.shell_form,
         c.requires.room,
-      ) at c.act-reply.ensures.acts;
+      ) at c.act-reply.ensures.acts)
+          ∙ done_seen c.args.form.now room (with_posted gone.letters c.args.shell.now.shell) c.args.by c.args.cmd.now;
     })
 
 pub returns-clause-ok : goal.returns-clause-ok
 returns-clause-ok g c =
     let of = c.requires.of_form in
-    let accepted : shell_cause c.args.form.now (room_of g.E.Engine.meaning c.args.form.now
-    (machine_of g.E.Engine.held c.args.shell.now c.args.content.now)) c.args.shell.now.shell c.args.by c.args.cmd.now
-    ≡ None =
-    subst (λ (room : Room). shell_cause c.args.form.now room c.args.shell.now.shell c.args.by c.args.cmd.now ≡ None)
-    c.requires.room c.requires.accepted in
+    let room : Room = room_of g.E.Engine.meaning c.args.form.now
+    (machine_of g.E.Engine.held c.args.shell.now c.args.content.now) in
+    let accepted : shell_cause c.args.form.now room c.args.shell.now.shell c.args.by c.args.cmd.now ≡ None =
+    c.requires.accepted in
+    let gone = departure_from g.E.Engine.meaning c.args.form.now
+    (leaver c.args.shell.now.shell c.args.by c.args.cmd.now)
+    (machine_of g.E.Engine.held c.args.shell.now c.args.content.now) in
     let after : ShellOutcome = record {
       reply = c.act-reply.result.0;
       shell = c.act-reply.new.self.shell;
@@ -94,13 +105,14 @@ returns-clause-ok g c =
       state = rw of.shell_form at c.in_ok-prepare.ensures.ok_state;
       of_fresh = c.in_ok-prepare.ensures.ok_fresh;
       of_rebuild = c.is_rebuilding-rebuilding.ensures;
-      acts = rw (
+      acts = (rw (
         c.prepare.ensures.form,
         of.shell_form,
         c.in_ok-prepare.ensures.ok_shell,
         of.shell_form,
         c.requires.room,
-      ) at c.act-reply.ensures.acts;
+      ) at c.act-reply.ensures.acts)
+          ∙ done_seen c.args.form.now room (with_posted gone.letters c.args.shell.now.shell) c.args.by c.args.cmd.now;
     })
     (record {
       shape = c.do_deeds.ensures.shape;
@@ -121,11 +133,13 @@ returns-clause-bits g c =
 pub returns-clause-of_form : goal.returns-clause-of_form
 returns-clause-of_form g c =
     let of = c.requires.of_form in
-    let accepted : shell_cause c.args.form.now (room_of g.E.Engine.meaning c.args.form.now
-    (machine_of g.E.Engine.held c.args.shell.now c.args.content.now)) c.args.shell.now.shell c.args.by c.args.cmd.now
-    ≡ None =
-    subst (λ (room : Room). shell_cause c.args.form.now room c.args.shell.now.shell c.args.by c.args.cmd.now ≡ None)
-    c.requires.room c.requires.accepted in
+    let room : Room = room_of g.E.Engine.meaning c.args.form.now
+    (machine_of g.E.Engine.held c.args.shell.now c.args.content.now) in
+    let accepted : shell_cause c.args.form.now room c.args.shell.now.shell c.args.by c.args.cmd.now ≡ None =
+    c.requires.accepted in
+    let gone = departure_from g.E.Engine.meaning c.args.form.now
+    (leaver c.args.shell.now.shell c.args.by c.args.cmd.now)
+    (machine_of g.E.Engine.held c.args.shell.now c.args.content.now) in
     let after : ShellOutcome = record {
       reply = c.act-reply.result.0;
       shell = c.act-reply.new.self.shell;
@@ -146,13 +160,14 @@ returns-clause-of_form g c =
       state = rw of.shell_form at c.in_ok-prepare.ensures.ok_state;
       of_fresh = c.in_ok-prepare.ensures.ok_fresh;
       of_rebuild = c.is_rebuilding-rebuilding.ensures;
-      acts = rw (
+      acts = (rw (
         c.prepare.ensures.form,
         of.shell_form,
         c.in_ok-prepare.ensures.ok_shell,
         of.shell_form,
         c.requires.room,
-      ) at c.act-reply.ensures.acts;
+      ) at c.act-reply.ensures.acts)
+          ∙ done_seen c.args.form.now room (with_posted gone.letters c.args.shell.now.shell) c.args.by c.args.cmd.now;
     })
     (record {
       shape = c.do_deeds.ensures.shape;

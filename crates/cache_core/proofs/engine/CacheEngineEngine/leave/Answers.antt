@@ -17,6 +17,6 @@ invariant_of-self c =
     record {
       cache = c.self.invariant.cache;
       caps = c.self.invariant.caps;
-      content = rw (c.release.ensures, c.drop_conn.ensures.regs) (content-without c.self.inside.caps
+      content = rw (c.release.ensures.rows, c.drop_conn.ensures.regs) (content-without c.self.inside.caps
           (content_of c.self.inside) c.args.conn c.self.invariant.content);
     }

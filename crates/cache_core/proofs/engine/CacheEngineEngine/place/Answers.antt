@@ -1,9 +1,12 @@
-use Rattle.std.proofs.Common.{◌≡◌, ◌++◌, ◌∷◌, [], List, sym, subst, true}
+use Rattle.std.proofs.Common.{◌≡◌, ◌++◌, ◌∷◌, [], IsTrue, List, sym, subst, true}
+use Rattle.cf_types.specs.Forms.{is_cache}
+use Rattle.engine_api.proofs.FrontLaws.{content-placed}
 use Rattle.list_laws.specs.Pairwise.{pairwise}
 use Rattle.cache_model.specs.declared.items.CacheItem.{CacheItem}
 use Rattle.cache_model.specs.Rows.{may_precede, names_apart}
-use Rattle.cache_model.specs.Contents.{IsContent}
-use Rattle.cache_model.proofs.EngineLaws.{alone-next, content-next}
+use Rattle.cache_model.specs.Contents.{IsContent, content_with}
+use Rattle.cache_model.specs.Meaning.{cache_meaning}
+use Rattle.cache_model.proofs.EngineLaws.{alone-next, cache-fronts}
 use Rattle.cache_core.specs.EngineView.{EngineView, content_of}
 use Rattle.cache_core.proofs.NextLaws.{before_next}
 use Rattle.cache_core.proofs.PlanLaws.{either_way}
@@ -29,12 +32,13 @@ push-requires-clause-alone c =
 
 pub invariant_of-self : goal.invariant_of-self
 invariant_of-self c =
-    let next = c.requires.next in
-    let first : next.whole.rows ≡ c.self.inside.rows.rows ++ c.args.item ∷ next.others =
-    subst (λ (e : EngineView). next.whole.rows ≡ e.held.state.rows ++ c.args.item ∷ next.others)
-    (sym c.self.view_is) next.first in
-    let whole : IsContent c.self.inside.caps next.whole = subst (λ (e : EngineView). IsContent e.held.caps next.whole)
-    (sym c.self.view_is) next.content in
+    let held = c.args.self.now.held in
+    let kind : IsTrue (is_cache held.shape.kind) = subst (λ (e : EngineView). IsTrue (is_cache e.held.shape.kind))
+    c.self.view_is c.self.invariant.cache in
+    let placed : IsContent c.self.inside.caps (content_with (content_of c.self.inside) c.args.item) =
+    subst (λ (e : EngineView). IsContent e.held.caps (content_with e.held.state c.args.item)) (sym c.self.view_is)
+    (content-placed cache_meaning is_cache (λ shape caps content. IsContent caps content) cache-fronts held.shape
+    held.state c.args.item c.requires.next held.caps kind c.requires.fits) in
     record {
       cache = c.self.invariant.cache;
       caps = c.self.invariant.caps;
@@ -43,7 +47,5 @@ invariant_of-self c =
           (record { rows = l; regs = c.self.inside.regs.regs })) c.push.result
           c.self.inside.rows.rows (c.self.inside.rows.rows ++ c.args.item ∷ []) c.push.new.self.rows c.push.ensures.ok
           c.push.ensures.err
-          (content-next c.self.inside.caps (content_of c.self.inside) next.whole c.args.item next.others
-          c.self.invariant.content whole first)
-          c.self.invariant.content;
+          placed c.self.invariant.content;
     }

@@ -23,7 +23,7 @@ left c =
     unplaced c.self.inside.rows.rows c.pop.new.self.rows c.self.inside.regs.regs c.forget_name.new.self.regs
     c.index-rows-rows.result
     (slice_get_read c.self.inside.rows.rows (length c.self.inside.rows.rows) (length c.self.inside.rows.rows - 1)
-    c.index-rows-rows.result refl (search rules) (search rules)) c.pop.ensures (search rules)
+    c.index-rows-rows.result refl (search rules) (search rules)) c.pop.ensures.rows (search rules)
 
 pub invariant_of-self : goal.invariant_of-self
 invariant_of-self c =
@@ -36,6 +36,10 @@ invariant_of-self c =
 
 pub returns : goal.returns
 returns c =
-    ap (λ (content : Content). record { shape = c.self.inside.shape; caps = c.self.inside.caps; state = content })
-    (left c)
+    ap (λ (content : Content). record {
+      shape = c.self.inside.shape;
+      base = c.self.inside.caps;
+      caps = c.self.inside.caps;
+      state = content;
+    }) (left c)
     ∙ ap (λ (e : EngineView). without_last_item cache_meaning e.held) c.self.view_is

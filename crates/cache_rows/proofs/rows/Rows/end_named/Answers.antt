@@ -1,4 +1,4 @@
-use Rattle.std.proofs.Common.{arith}
+use Rattle.std.proofs.Common.{◌∙◌, arith}
 use Rattle.cache_rows.proofs.IndexLaws.{spared-more, spared-all}
 use Rattle.cache_rows.proofs.rows.Rows.end_named.Goals as goal
 
@@ -7,6 +7,7 @@ loop-name-preserved c = (
   rw c.take.ensures.rest (spared-more c.args.names.now c.loop-name.self.rows _ c.loop-name.name-index _
       (omega arith) c.loop-name.invariant.0),
   omega (arith, c.take.ensures.room, c.loop-name.invariant.1),
+  c.take.ensures.entries ∙ c.loop-name.invariant.2,
 )
 
 pub returns-clause-rows : goal.returns-clause-rows

@@ -1,4 +1,5 @@
 use Rattle.std.proofs.Common.{◌≡◌, ℕ, ◌+◌, Bool, true, false, cond, filter, List, sym, subst, ◌∙◌, arith}
+use Rattle.cf_types.specs.declared.limits.TheConstants.{CALLERS}
 use Rattle.cf_types.specs.declared.numbers.ConnId.{ConnId}
 use Rattle.cf_types.specs.ConnSets.{conns_from, with_member}
 use Rattle.cf_types.specs.Connections.{Connections, is_active, actives}
@@ -14,7 +15,7 @@ one_more : (conns : Connections) (n : ℕ) (set new : List ConnId) → set ≡ f
 one_more conns n set new so_far active is added =
     rw (filter-from_zero_more (is_active conns) n, ← is, ← so_far) added
 
-all_of_them : (conns : Connections) (n : ℕ) (set : List ConnId) → n ≡ 33
+all_of_them : (conns : Connections) (n : ℕ) (set : List ConnId) → n ≡ CALLERS
     → set ≡ filter (is_active conns) (conns_from 0 n) → set ≡ actives conns
 unfolding actives
 all_of_them conns n set all is = subst (λ (m : ℕ). set ≡ filter (is_active conns) (conns_from 0 m)) all is

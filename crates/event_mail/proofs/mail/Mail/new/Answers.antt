@@ -1,8 +1,9 @@
 use Rattle.std.proofs.Common.{◌≡◌, ℕ, replicate, ◌∙◌, ap, arith}
+use Rattle.cf_types.specs.declared.limits.TheConstants.{CALLERS}
 use Rattle.cf_types.specs.Mailboxes.{Mailboxes, no_events, empty_mail}
 use Rattle.event_mail.proofs.mail.Mail.new.Goals as goal
 
-all_empty : (n : ℕ) (mail : Mailboxes) → n ≡ 33 → mail ≡ replicate n no_events → mail ≡ empty_mail
+all_empty : (n : ℕ) (mail : Mailboxes) → n ≡ CALLERS → mail ≡ replicate n no_events → mail ≡ empty_mail
 unfolding empty_mail
 all_empty n mail all is = is ∙ ap (λ (m : ℕ). replicate m no_events) all
 

@@ -1,7 +1,10 @@
-use Rattle.std.proofs.Common.{◌≡◌, ◌++◌, ◌∷◌, sym, ap, subst, ◌∙◌}
+use Rattle.std.proofs.Common.{◌≡◌, ◌++◌, ◌∷◌, IsTrue, sym, ap, subst, ◌∙◌}
+use Rattle.cf_types.specs.Forms.{is_lock}
 use Rattle.engine_api.specs.Meaning.{Held}
-use Rattle.lock_model.specs.Contents.{Content, IsContent, items}
-use Rattle.lock_model.proofs.ItemLaws.{content-next}
+use Rattle.engine_api.proofs.FrontLaws.{content-placed}
+use Rattle.lock_model.specs.Contents.{Content, IsContent, content_with, items}
+use Rattle.lock_model.specs.Meaning.{lock_meaning}
+use Rattle.lock_model.proofs.ItemLaws.{lock-fronts}
 use Rattle.lock_core.specs.EngineView.{EngineView}
 use Rattle.lock_core.proofs.EngineLaws.{placed-next, kept_either, ok_weaker}
 use Rattle.lock_core.proofs.engine.LockEngineEngine.place.Goals as goal
@@ -13,13 +16,17 @@ invariant_of-self c =
     let first : items next.whole ≡ items e.locks.content ++ c.args.item ∷ next.others =
     subst (λ (s : EngineView). items next.whole ≡ items s.held.state ++ c.args.item ∷ next.others) (sym c.self.view_is)
     next.first in
-    let whole : IsContent e.caps next.whole = subst (λ (s : EngineView). IsContent s.held.caps next.whole)
-    (sym c.self.view_is) next.content in
-    let placed = placed-next e.caps e.locks.content next.whole c.args.item next.others whole first in
+    let placed = placed-next next.at e.locks.content next.whole c.args.item next.others next.content first in
+    let held = c.args.self.now.held in
+    let kind : IsTrue (is_lock held.shape.kind) = subst (λ (s : EngineView). IsTrue (is_lock s.held.shape.kind))
+    c.self.view_is c.self.invariant.lock in
+    let is : IsContent e.caps (content_with e.locks.content c.args.item) =
+    subst (λ (s : EngineView). IsContent s.held.caps (content_with s.held.state c.args.item)) (sym c.self.view_is)
+    (content-placed lock_meaning is_lock (λ shape caps content. IsContent caps content) lock-fronts held.shape
+    held.state c.args.item next held.caps kind c.requires.fits) in
     let kept = kept_either e.caps c.place.result e.locks.content c.place.new.self.content c.args.item
     (ok_weaker c.place.result (λ h. h ∙ placed) c.place.ensures.ok) c.place.ensures.err c.place.ensures.few
-    (content-next e.caps e.locks.content next.whole c.args.item next.others whole first) c.self.invariant.content
-    c.self.invariant.counted in
+    is c.self.invariant.content c.self.invariant.counted in
     record {
       lock = c.self.invariant.lock;
       caps = c.self.invariant.caps;
@@ -35,8 +42,11 @@ returns-clause-ok c =
     let first : items next.whole ≡ items e.locks.content ++ c.args.item ∷ next.others =
     subst (λ (s : EngineView). items next.whole ≡ items s.held.state ++ c.args.item ∷ next.others) (sym c.self.view_is)
     next.first in
-    let whole : IsContent e.caps next.whole = subst (λ (s : EngineView). IsContent s.held.caps next.whole)
-    (sym c.self.view_is) next.content in
-    let placed = placed-next e.caps e.locks.content next.whole c.args.item next.others whole first in
-    let held : Content → Held Content = λ (k : Content). record { shape = e.shape; caps = e.caps; state = k } in
+    let placed = placed-next next.at e.locks.content next.whole c.args.item next.others next.content first in
+    let held : Content → Held Content = λ (k : Content). record {
+      shape = e.shape;
+      base = e.caps;
+      caps = e.caps;
+      state = k;
+    } in
     rw (← c.self.view_is) (ok_weaker c.place.result (λ h. ap held (h ∙ placed)) c.place.ensures.ok)

@@ -1,7 +1,33 @@
+use Rattle.std.proofs.Common.{◌≡◌, true, false, sym, subst₂, ap, ◌∙◌}
+use Rattle.lock_table.specs.Holdings.{has_interest}
+use Rattle.lock_model.specs.Interests as interests
+use Rattle.lock_model.specs.Interests.{interests_changed}
+use Rattle.lock_model.specs.Grants.{with_alteration}
+use Rattle.lock_interests.specs.InterestsView.{InterestsView, AreOwned}
 use Rattle.lock_interests.proofs.JoinLaws.{joined-changed}
+use Rattle.lock_interests.proofs.CountLaws.{has-joined, changed_none, owned-altered}
 use Rattle.lock_interests.proofs.interests.Interests.change.Goals as goal
 
-pub returns-clause-interests : goal.returns-clause-interests
-returns-clause-interests c =
+pub invariant_of-self : goal.invariant_of-self
+invariant_of-self c =
+    let w = c.args.w.now in
+    let owners = c.self.inside.owners.owners in
+    let records = c.self.inside.records.records in
+    let has : has_interest w.r w.conn owners ≡ true =
+    has-joined w.r w.conn owners records
+    ∙ ap (λ (v : InterestsView). interests.has_interest w.r w.conn v.interests) c.self.view_is
+    ∙ sym c.has_interest.ensures ∙ c.if-has_interest.true in
+    subst₂ AreOwned (sym c.set.ensures.owners) (sym c.give_record.ensures.records)
+    (owned-altered w.r w.conn w.excl w.rec owners records has c.self.invariant)
+
+pub returns-then-has_interest-clause-interests : goal.returns-then-has_interest-clause-interests
+returns-then-has_interest-clause-interests c =
     rw (← c.self.view_is, c.set.ensures.owners, c.give_record.ensures.records)
     (joined-changed c.args.w.now c.self.inside.owners.owners c.self.inside.records.records)
+
+pub returns-else-has_interest-clause-interests : goal.returns-else-has_interest-clause-interests
+returns-else-has_interest-clause-interests c =
+    let w = c.args.w.now in
+    let none : interests.has_interest w.r w.conn c.args.self.now.interests ≡ false =
+    sym c.has_interest.ensures ∙ c.if-has_interest.false in
+    sym (changed_none w.r w.conn (with_alteration w) c.args.self.now.interests none)

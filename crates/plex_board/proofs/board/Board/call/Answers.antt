@@ -1,7 +1,7 @@
 use Rattle.std.proofs.Common.{set, sym, subst}
 use Rattle.any_cell.specs.Cells.{IsAskOf}
 use Rattle.any_model.specs.Kinds.{MayAskAny}
-use Rattle.plex_board.proofs.PlaceLaws.{place-is, cell-is, cell-some, changed-of_board, changed-at, full-on, call-fixed}
+use Rattle.plex_board.proofs.PlaceLaws.{place-is, cell-is, cell-some, changed-of_board, changed-at, full-on, still-on, call-fixed}
 use Rattle.plex_board.proofs.board.Board.call.Goals as goal
 
 pub call-requires-clause-place : goal.call-requires-clause-place
@@ -31,6 +31,11 @@ returns-clause-full g c =
     (changed-at c.args.self.now c.args.desk.now _ c.args.on _ _ (sym c.desk.view_is) c.requires.desk
     c.requires.place c.from-2.ensures)
     c.call.ensures.full
+
+pub returns-clause-no_memory : goal.returns-clause-no_memory
+returns-clause-no_memory g c =
+    still-on c.args.desk.now _ _ _ c.call.new.place c.call.result (sym c.desk.view_is) c.index_mut.ensures.value
+    c.call.ensures.no_memory
 
 pub returns-clause-of_board : goal.returns-clause-of_board
 returns-clause-of_board g c =

@@ -1,4 +1,5 @@
 use Rattle.std.proofs.Common.{◌≢◌, ◌≤◌, sym, ◌∙◌, ap, subst, arith}
+use Rattle.cf_types.specs.declared.limits.TheConstants.{CONNECTORS}
 use Rattle.cf_types.specs.declared.numbers.ConnId.{ConnId}
 use Rattle.plex_script.specs.declared.transcripts.AgentEnd.TheVariants as ended
 use Rattle.desk_model.specs.Boards.{IsTrayOf}
@@ -38,7 +39,7 @@ depart-requires-clause-owner g c κs within =
     c.self.inside.last.items
     c.self.view_is c.self.invariant c.args.board.now c.requires.floor c.args.conn c.from-at.result c.requires.conn
     c.from-at.ensures _ c.index_mut.ensures.value in
-    subst (λ (conn : ConnId). (1 ≤ conn.0) × (conn.0 ≤ 32)) (sym own) c.requires.connector
+    subst (λ (conn : ConnId). (1 ≤ conn.0) × (conn.0 ≤ CONNECTORS)) (sym own) c.requires.connector
 
 pub returns-clause-departed : goal.returns-clause-departed
 returns-clause-departed g c =

@@ -7,13 +7,8 @@ pub place-requires-clause-next : goal.place-requires-clause-next
 place-requires-clause-next g c =
     let from = g.met.E.Engine g.world.𝓛 g.world.𝓜 g.world.𝓡 ((λ s x. x), (λ x. x), (λ x. x), λ x. x) in
     let laws : ItemLaws g.E.Engine.meaning g.E.Engine.is_kind g.E.Engine.is_content = record {
-      content_empty = from.content_empty;
-      items_empty = from.items_empty;
-      made_again = from.made_again;
-      content_moved = from.content_moved;
-      content_place = from.content_place;
-      items_place = from.items_place;
-      unplace_place = from.unplace_place;
+      items_front = from.items_front;
+      unplace_front = from.unplace_front;
       need_first = from.need_first;
     } in
     place-next g.E.Engine.meaning g.E.Engine.is_kind g.E.Engine.is_content laws
@@ -24,13 +19,8 @@ pub place-requires-clause-fits : goal.place-requires-clause-fits
 place-requires-clause-fits g c =
     let from = g.met.E.Engine g.world.𝓛 g.world.𝓜 g.world.𝓡 ((λ s x. x), (λ x. x), (λ x. x), λ x. x) in
     let laws : ItemLaws g.E.Engine.meaning g.E.Engine.is_kind g.E.Engine.is_content = record {
-      content_empty = from.content_empty;
-      items_empty = from.items_empty;
-      made_again = from.made_again;
-      content_moved = from.content_moved;
-      content_place = from.content_place;
-      items_place = from.items_place;
-      unplace_place = from.unplace_place;
+      items_front = from.items_front;
+      unplace_front = from.unplace_front;
       need_first = from.need_first;
     } in
     place-fits g.E.Engine.meaning g.E.Engine.is_kind g.E.Engine.is_content laws
@@ -41,13 +31,8 @@ pub invariant_of-self : goal.invariant_of-self
 invariant_of-self g c =
     let from = g.met.E.Engine g.world.𝓛 g.world.𝓜 g.world.𝓡 ((λ s x. x), (λ x. x), (λ x. x), λ x. x) in
     let laws : ItemLaws g.E.Engine.meaning g.E.Engine.is_kind g.E.Engine.is_content = record {
-      content_empty = from.content_empty;
-      items_empty = from.items_empty;
-      made_again = from.made_again;
-      content_moved = from.content_moved;
-      content_place = from.content_place;
-      items_place = from.items_place;
-      unplace_place = from.unplace_place;
+      items_front = from.items_front;
+      unplace_front = from.unplace_front;
       need_first = from.need_first;
     } in
     after-place g.E.Engine.meaning g.E.Engine.is_kind g.E.Engine.is_content laws
@@ -59,13 +44,8 @@ pub returns-clause-ok : goal.returns-clause-ok
 returns-clause-ok g c =
     let from = g.met.E.Engine g.world.𝓛 g.world.𝓜 g.world.𝓡 ((λ s x. x), (λ x. x), (λ x. x), λ x. x) in
     let laws : ItemLaws g.E.Engine.meaning g.E.Engine.is_kind g.E.Engine.is_content = record {
-      content_empty = from.content_empty;
-      items_empty = from.items_empty;
-      made_again = from.made_again;
-      content_moved = from.content_moved;
-      content_place = from.content_place;
-      items_place = from.items_place;
-      unplace_place = from.unplace_place;
+      items_front = from.items_front;
+      unplace_front = from.unplace_front;
       need_first = from.need_first;
     } in
     let one = copied-one g.E.Engine.meaning g.E.Engine.is_kind g.E.Engine.is_content laws

@@ -18,4 +18,5 @@ invariant_of-self g c =
       copy = copying_left g.E.Engine.meaning g.E.Engine.is_kind g.E.Engine.is_content held _ c.self.inside.copying
           (emptied_copy c.self.inside.copying c.args.self.now.fresh emptied_so) content
           (from.need_leave held.shape held.caps held.state c.args.conn c.args.keep is.content) is.copy;
+      ordered = tt;
     })

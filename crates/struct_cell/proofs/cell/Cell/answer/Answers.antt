@@ -1,4 +1,5 @@
 use Rattle.std.proofs.Common.{rules, arith, ◌≡◌, ◌≤◌, ◌+◌, ap, sym, subst, ◌∙◌}
+use Rattle.cf_types.specs.declared.limits.TheConstants.{VECTOR_BITS}
 use Rattle.cf_types.specs.Forms.{IsForm}
 use Rattle.struct_cell.proofs.KeptLaws.{cell_answered}
 use Rattle.struct_cell.proofs.ToldLaws.{issued_within, vector_small}
@@ -9,7 +10,7 @@ store_words-requires-clause-len g c κs within =
     let key = c.self.inside.lock.key in
     let same : c.self.inside.vectors.len ≡ c.args.self.now.form.vector =
     ap (λ w. w.len) (sym c.self.invariant.0) ∙ ap (λ k. k.words.len) c.self.view_is ∙ c.requires.cell.len in
-    let small : c.args.self.now.form.vector ≤ 1024 =
+    let small : c.args.self.now.form.vector ≤ VECTOR_BITS =
     vector_small c.args.self.now.form (subst (λ k. IsForm k.form) c.self.view_is c.self.invariant.3) in
     omega (arith, same, small)
 

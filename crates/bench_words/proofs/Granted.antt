@@ -1,0 +1,14 @@
+-- A lock that was just granted.
+use Rattle.std.proofs.Common.{◌≡◌, ◌≢◌, ℕ, true, List, [], ◌∷◌, None, Some, refl, sym, ap, ◌∙◌, eq-eqb}
+use Rattle.std.specs.Prelude.{if◌then◌else◌}
+use Rattle.std.proofs.lemmas.Option.{none-some}
+use Rattle.lock_words.specs.declared.view.Hold.{Hold}
+use Rattle.lock_words.specs.Values.{held_as}
+use Rattle.lock_words.specs.View.{hold}
+
+pub one-held : (word : ℕ) (held : List Hold) → held ≡ hold word true ∷ [] → held_as held word ≢ None
+one-held word held is none = some_is (sym (ap (λ t. if t then Some true else None) (eq-eqb word word refl))
+    ∙ (ap (λ l. held_as l word) (sym is) ∙ none))
+  where
+    some_is : Some true ≡ None → ⊥
+    some_is e = none-some true (sym e)

@@ -1,0 +1,180 @@
+-- What the first items of a content make: what follows from the laws on it, and how it follows from laws on one item
+-- that is placed behind others.
+use Rattle.std.proofs.Common.{◌≡◌, Bool, IsTrue, List, [], ◌∷◌, ◌++◌, sym, ap, ◌∙◌, subst, append-nil, append_assoc}
+use Rattle.std.proofs.lemmas.List.Sums.{fold-append}
+use Rattle.cf_types.specs.declared.forms.Caps.{Caps}
+use Rattle.cf_types.specs.declared.forms.Kind.{Kind}
+use Rattle.engine_api.specs.declared.shapes.Shape.{Shape}
+use Rattle.engine_api.specs.Items.{Fits, IsAlone, IsNextItem, content_of_items}
+use Rattle.engine_api.specs.Meaning.{Meaning}
+
+module _ {C R I S : Type 0} (meaning : Meaning C R I S) (is_kind : Kind → Bool)
+    (IsContent : Shape → Caps → S → Type 0) where
+  abbrev made : Shape → List I → S
+  made shape front = content_of_items meaning shape front
+
+  -- what every engine promises of items
+  pub record FrontLaws : Type 0 where
+    pub made_again : (shape : Shape) (caps : Caps) (state : S) → IsContent shape caps state
+        → made shape (meaning.items shape state) ≡ meaning.forget state
+    pub items_front : (shape : Shape) (caps : Caps) (state : S) (front others : List I) → IsContent shape caps state
+        → meaning.items shape state ≡ front ++ others → meaning.items shape (made shape front) ≡ front
+    pub content_front : (shape : Shape) (caps other : Caps) (state : S) (front others : List I)
+        → IsTrue (is_kind shape.kind) → IsContent shape caps state → meaning.items shape state ≡ front ++ others
+        → Fits shape.kind (meaning.need front) other → IsContent shape other (made shape front)
+    pub unplace_front : (shape : Shape) (caps : Caps) (state : S) (front : List I) (item : I) (others : List I)
+        → IsContent shape caps state → meaning.items shape state ≡ front ++ item ∷ others
+        → meaning.unplace shape (made shape (front ++ item ∷ [])) ≡ made shape front
+
+  made_push : (shape : Shape) (front : List I) (item : I)
+      → made shape (front ++ item ∷ []) ≡ meaning.place shape (made shape front) item
+  made_push shape front item = fold-append (meaning.place shape) (meaning.empty shape) front (item ∷ [])
+
+  -- ---- what follows
+
+  module _ (laws : FrontLaws) where
+    -- the end of registrations leaves the items
+    pub items-forgotten : (shape : Shape) (caps : Caps) (state : S) → IsContent shape caps state
+        → meaning.items shape (meaning.forget state) ≡ meaning.items shape state
+    items-forgotten shape caps state is =
+        ap (meaning.items shape) (sym (laws.made_again shape caps state is))
+        ∙ laws.items_front shape caps state (meaning.items shape state) [] is
+        (sym (append-nil (meaning.items shape state)))
+
+    -- a content whose items fit another capacity is one there, without its registrations
+    pub content-moved : (shape : Shape) (caps other : Caps) (state : S) → IsTrue (is_kind shape.kind)
+        → IsContent shape caps state → Fits shape.kind (meaning.need (meaning.items shape state)) other
+        → IsContent shape other (meaning.forget state)
+    content-moved shape caps other state kind is fits =
+        subst (IsContent shape other) (laws.made_again shape caps state is)
+        (laws.content_front shape caps other state (meaning.items shape state) [] kind is
+        (sym (append-nil (meaning.items shape state))) fits)
+
+    module _ (shape : Shape) (state : S) (item : I) (next : IsNextItem meaning IsContent shape state item) where
+      placed_so : made shape (meaning.items shape state ++ item ∷ []) ≡ meaning.place shape state item
+      placed_so =
+          made_push shape (meaning.items shape state) item
+          ∙ ap (λ (s : S). meaning.place shape s item) next.alone
+
+      split : meaning.items shape next.whole ≡ (meaning.items shape state ++ item ∷ []) ++ next.others
+      split = next.first ∙ sym (append_assoc (meaning.items shape state) (item ∷ []) next.others)
+
+      -- with the next item, where that fits, there is a content
+      pub content-placed : (caps : Caps) → IsTrue (is_kind shape.kind)
+          → Fits shape.kind (meaning.need (meaning.items shape state ++ item ∷ [])) caps
+          → IsContent shape caps (meaning.place shape state item)
+      content-placed caps kind fits =
+          subst (IsContent shape caps) placed_so
+          (laws.content_front shape next.at caps next.whole (meaning.items shape state ++ item ∷ []) next.others kind
+          next.content split fits)
+
+      pub items-placed : meaning.items shape (meaning.place shape state item) ≡ meaning.items shape state ++ item ∷ []
+      items-placed =
+          ap (meaning.items shape) (sym placed_so)
+          ∙ laws.items_front shape next.at next.whole (meaning.items shape state ++ item ∷ []) next.others next.content
+          split
+
+  -- ---- from laws on one item
+
+  -- an item comes next where the items so far, followed by it, are the first of a content's
+  pub record ComesNext (shape : Shape) (caps : Caps) (state : S) (item : I) : Type 0 where
+    pub whole : S
+    pub others : List I
+    pub content : IsContent shape caps whole
+    pub first : meaning.items shape whole ≡ meaning.items shape state ++ item ∷ others
+    pub alone : IsAlone meaning shape state
+
+  pub record PlaceLaws : Type 0 where
+    pub content_empty : (shape : Shape) (caps : Caps) → IsContent shape caps (meaning.empty shape)
+    pub items_empty : (shape : Shape) → meaning.items shape (meaning.empty shape) ≡ []
+    pub made_again : (shape : Shape) (caps : Caps) (state : S) → IsContent shape caps state
+        → made shape (meaning.items shape state) ≡ meaning.forget state
+    pub content_moved : (shape : Shape) (caps other : Caps) (state : S) → IsTrue (is_kind shape.kind)
+        → IsContent shape caps state → Fits shape.kind (meaning.need (meaning.items shape state)) other
+        → IsContent shape other (meaning.forget state)
+    pub content_place : (shape : Shape) (caps : Caps) (state : S) (item : I) → IsContent shape caps state
+        → ComesNext shape caps state item → IsContent shape caps (meaning.place shape state item)
+    pub items_place : (shape : Shape) (caps : Caps) (state : S) (item : I) → IsContent shape caps state
+        → ComesNext shape caps state item
+        → meaning.items shape (meaning.place shape state item) ≡ meaning.items shape state ++ item ∷ []
+    pub unplace_place : (shape : Shape) (caps : Caps) (state : S) (item : I) → IsContent shape caps state
+        → ComesNext shape caps state item
+        → meaning.unplace shape (meaning.place shape state item) ≡ state
+
+  module _ (laws : PlaceLaws) where
+    record IsFront (shape : Shape) (caps : Caps) (front : List I) : Type 0 where
+      content : IsContent shape caps (made shape front)
+      items : meaning.items shape (made shape front) ≡ front
+
+    no_front : (shape : Shape) (caps : Caps) → IsFront shape caps []
+    no_front shape caps = record { content = laws.content_empty shape caps; items = laws.items_empty shape }
+
+    module _ (shape : Shape) (caps : Caps) (whole : S) (content : IsContent shape caps whole) where
+      next_of : (front : List I) (item : I) (others : List I) → meaning.items shape whole ≡ front ++ item ∷ others
+          → meaning.items shape (made shape front) ≡ front → ComesNext shape caps (made shape front) item
+      next_of front item others split same =
+          record {
+            whole = whole;
+            others = others;
+            content = content;
+            first = split ∙ ap (λ (l : List I). l ++ item ∷ others) (sym same);
+            alone = ap (made shape) same;
+          }
+
+      front_with : (front : List I) (item : I) (others : List I) → meaning.items shape whole ≡ front ++ item ∷ others
+          → IsFront shape caps front → IsFront shape caps (front ++ item ∷ [])
+      front_with front item others split is =
+          let next = next_of front item others split is.items in
+          let push = made_push shape front item in
+          record {
+            content = subst (IsContent shape caps) (sym push)
+                (laws.content_place shape caps (made shape front) item is.content next);
+            items = ap (meaning.items shape) push ∙ laws.items_place shape caps (made shape front) item is.content next
+                ∙ ap (λ (l : List I). l ++ item ∷ []) is.items;
+          }
+
+      front_longer : (front rest others : List I) → meaning.items shape whole ≡ front ++ (rest ++ others)
+          → IsFront shape caps front → IsFront shape caps (front ++ rest)
+      front_longer front [] others split is = subst (IsFront shape caps) (sym (append-nil front)) is
+      front_longer front (item ∷ rest) others split is =
+          subst (IsFront shape caps) (append_assoc front (item ∷ []) rest)
+          (front_longer (front ++ item ∷ []) rest others
+          (split ∙ sym (append_assoc front (item ∷ []) (rest ++ others)))
+          (front_with front item (rest ++ others) split is))
+
+      front_of : (front others : List I) → meaning.items shape whole ≡ front ++ others → IsFront shape caps front
+      front_of front others split = front_longer [] front others split (no_front shape caps)
+
+      -- what the first items make has no registrations
+      forgotten : (front : List I) → IsFront shape caps front → meaning.forget (made shape front) ≡ made shape front
+      forgotten front is =
+          sym (laws.made_again shape caps (made shape front) is.content) ∙ ap (made shape) is.items
+
+      moved_front : (other : Caps) (front others : List I) → IsTrue (is_kind shape.kind)
+          → meaning.items shape whole ≡ front ++ others → Fits shape.kind (meaning.need front) other
+          → IsContent shape other (made shape front)
+      moved_front other front others kind split fits =
+          let is = front_of front others split in
+          subst (IsContent shape other) (forgotten front is)
+          (laws.content_moved shape caps other (made shape front) kind is.content
+          (subst (λ (l : List I). Fits shape.kind (meaning.need l) other) (sym is.items) fits))
+
+      unplaced_front : (front : List I) (item : I) (others : List I)
+          → meaning.items shape whole ≡ front ++ item ∷ others
+          → meaning.unplace shape (made shape (front ++ item ∷ [])) ≡ made shape front
+      unplaced_front front item others split =
+          let is = front_of front (item ∷ others) split in
+          ap (meaning.unplace shape) (made_push shape front item)
+          ∙ laws.unplace_place shape caps (made shape front) item is.content (next_of front item others split is.items)
+
+    pub fronts : FrontLaws
+    fronts =
+        record {
+          made_again = laws.made_again;
+          items_front = λ shape caps state front others is split.
+              (front_of shape caps state is front others split).items;
+          content_front = λ shape caps other state front others kind is split fits.
+              moved_front shape caps state is other front others kind split fits;
+          unplace_front = λ shape caps state front item others is split.
+              unplaced_front shape caps state is front item others split;
+        }

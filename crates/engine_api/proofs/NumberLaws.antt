@@ -1,0 +1,178 @@
+-- The numbers of calls, where marks stand between them.
+use Rattle.std.proofs.Common.{◌≡◌, ℕ, ◌+◌, ◌*◌, ◌<◌, ◌≤◌, ◌⊎◌, inl, inr, Bool, true, false, nat_lt, List, [], ◌∷◌, ◌++◌, length, fold, filter, map, refl, sym, ap, subst, ◌∙◌, arith, append-nil, length-append}
+use Rattle.std.specs.Prelude.{Contains, if◌then◌else◌}
+use Rattle.std.proofs.lemmas.Bool.{cases_lt}
+use Rattle.std.proofs.lemmas.Bool.Decides.{nat_tests}
+use Rattle.std.proofs.lemmas.List.{map-append}
+use Rattle.std.proofs.lemmas.List.Sums.{fold_push}
+use Rattle.std.proofs.lemmas.List.Elements.{filter-append, Contains-push, Contains-push_cases}
+use Rattle.cf_types.specs.declared.numbers.CfId.{CfId}
+use Rattle.engine_api.specs.declared.histories.Entry.{Entry}
+use Rattle.engine_api.specs.LinkAsks.{links_asked, Asks, marks_of}
+use Rattle.cf_types.specs.declared.forms.StrForm.{StrForm}
+use Rattle.cf_types.specs.declared.numbers.ConnId.{ConnId}
+use Rattle.engine_api.specs.declared.asks.Ask.{Ask}
+use Rattle.engine_api.specs.Meaning.{Meaning}
+use Rattle.engine_api.specs.Machine.{Machine}
+use Rattle.engine_api.specs.History.{Call, Turn, calls, replay, with_mark, with_marks, next_entry, next_mark, marks_by, after_turn, IsLegal, numbers, IsPoint, last_number, last_call_below, IsNumbered}
+use Rattle.engine_api.proofs.AskLaws.{marks_few, two_asked}
+use Rattle.engine_api.proofs.HistoryLaws.{by_turns, calls-turn, call_added}
+
+module _ {C R : Type 0} where
+  below_push : (n : ℕ) (all : List (Call C R)) (call : Call C R) (b : Bool) → nat_lt call.no n ≡ b
+      → filter (λ (c : Call C R). nat_lt c.no n) (all ++ call ∷ []) ≡ filter (λ (c : Call C R). nat_lt c.no n) all ++
+      (if b then call ∷ [] else [])
+  below_push n all call true is = filter-append (λ (c : Call C R). nat_lt c.no n) all (call ∷ []) ∙ rw is refl
+  below_push n all call false is = filter-append (λ (c : Call C R). nat_lt c.no n) all (call ∷ []) ∙ rw is refl
+
+  pub numbered_none : IsNumbered {C = C} {R = R} []
+  numbered_none =
+      record {
+        within = λ n point. at_start n point;
+        below = λ n. omega arith;
+        ended = λ n past. refl;
+        points = λ n point. sym (no_point n point);
+      }
+    where
+      no_point : (n : ℕ) → IsPoint {C = C} {R = R} [] n → n ≡ 0
+      no_point n (inl none) = none
+      no_point n (inr there) = let less = there.1 in absurd (omega (arith, less))
+
+      at_start : (n : ℕ) → IsPoint {C = C} {R = R} [] n → n ≤ 0
+      at_start n point = let none = no_point n point in omega (arith, none)
+
+module _ {C R I S : Type 0} (meaning : Meaning C R I S) (form : StrForm) where
+  -- the number of the call that a turn adds: marks may stand before it
+  abbrev pub number_added : List (Entry C R) → Turn C → ℕ
+  number_added history turn =
+      length (with_marks meaning form history (marks_by meaning form turn.down history turn.by turn.ask)) + 1
+
+  pub length-turn : (history : List (Entry C R)) (turn : Turn C)
+      → length (after_turn meaning form history turn) ≡ number_added history turn
+  length-turn history turn =
+      let marked : List (Entry C R) = with_marks meaning form history (marks_by meaning form turn.down history turn.by turn.ask) in
+      length-append marked (next_entry meaning form marked turn.by turn.ask ∷ [])
+
+  length-marks : (marks : List CfId) (history : List (Entry C R))
+      → length (with_marks meaning form history marks) ≡ length history + length marks
+  length-marks [] history = omega arith
+  length-marks (cf ∷ marks) history =
+      let rest : length (with_marks meaning form (with_mark meaning form history cf) marks)
+      ≡ length (with_mark meaning form history cf) + length marks = length-marks marks (with_mark meaning form history cf) in
+      let here : length (with_mark meaning form history cf) ≡ length history + 1 =
+      length-append history (next_mark meaning form history cf ∷ []) in
+      omega arith
+
+  pub number_past : (history : List (Entry C R)) (turn : Turn C) → length history < number_added history turn
+  number_past history turn =
+      omega (arith, length-marks (marks_by meaning form turn.down history turn.by turn.ask) history)
+
+  pub last_below-turn : (history : List (Entry C R)) (turn : Turn C) (n : ℕ) → n ≤ number_added history turn
+      → last_call_below (after_turn meaning form history turn) n ≡ last_call_below history n
+  last_below-turn history turn n low =
+      let call : Call C R = call_added meaning form history turn in
+      let is : nat_lt call.no n ≡ false = grind (arith, nat_tests) in
+      ap (fold last_number 0)
+      (ap (filter (λ (c : Call C R). nat_lt c.no n)) (calls-turn meaning form history turn)
+      ∙ below_push n (calls history) call false is
+      ∙ append-nil (filter (λ (c : Call C R). nat_lt c.no n) (calls history)))
+
+  pub last_below-past : (history : List (Entry C R)) (turn : Turn C) (n : ℕ) → number_added history turn < n
+      → last_call_below (after_turn meaning form history turn) n ≡ number_added history turn
+  last_below-past history turn n past =
+      let call : Call C R = call_added meaning form history turn in
+      let is : nat_lt call.no n ≡ true = grind (arith, nat_tests) in
+      ap (fold last_number 0)
+      (ap (filter (λ (c : Call C R). nat_lt c.no n)) (calls-turn meaning form history turn)
+      ∙ below_push n (calls history) call true is)
+      ∙ fold_push last_number 0 (filter (λ (c : Call C R). nat_lt c.no n) (calls history)) call
+
+  pub point_cases : (history : List (Entry C R)) (turn : Turn C) (n : ℕ)
+      → IsPoint (after_turn meaning form history turn) n → IsPoint history n ⊎ (number_added history turn ≡ n)
+  point_cases history turn n (inl none) = inl (inl none)
+  point_cases history turn n (inr there) =
+      let all : numbers (after_turn meaning form history turn) ≡ numbers history ++ number_added history turn ∷ [] =
+      ap (map (λ (call : Call C R). call.no)) (calls-turn meaning form history turn)
+      ∙ map-append (λ (call : Call C R). call.no) (calls history) (call_added meaning form history turn ∷ []) in
+      elim (Contains-push_cases (numbers history) (number_added history turn) n
+      (subst (λ (ns : List ℕ). Contains ns n) all there)) [ inl old ↦ inl (inr old) | inr new ↦ inr new ]
+
+  numbered_turn : (history : List (Entry C R)) (turn : Turn C) → IsNumbered history
+      → IsNumbered (after_turn meaning form history turn)
+  numbered_turn history turn was =
+      let number = number_added history turn in
+      let past : length history < number = number_past history turn in
+      let whole : length (after_turn meaning form history turn) ≡ number = length-turn history turn in
+      record {
+        within = λ n point. subst (λ (m : ℕ). n ≤ m) (sym whole) (
+            elim (point_cases history turn n point) [
+              | inl old ↦ let few = was.within n old in omega (arith, few, past)
+              | inr new ↦ omega (arith, new)
+            ]);
+        below = λ n. subst (λ (m : ℕ). last_call_below (after_turn meaning form history turn) n ≤ m) (sym whole) (
+            elim (cases_lt number n) [
+              | inl high ↦ let here = last_below-past history turn n high in omega (arith, here)
+              | inr low ↦
+                  let same = last_below-turn history turn n low in
+                  let few = was.below n in omega (arith, same, few, past)
+            ]);
+        ended = λ n behind.
+            last_below-past history turn n (subst (λ (m : ℕ). m < n) whole behind) ∙ sym whole;
+        points = λ n point. elim (point_cases history turn n point) [
+          | inl old ↦ let few = was.within n old in last_below-turn history turn (n + 1) (omega (arith, few, past))
+              ∙ was.points n old
+          | inr new ↦ last_below-past history turn (n + 1) (omega (arith, new)) ∙ new
+        ];
+      }
+
+  -- what the cell keeps of the numbers holds of each legal history
+  pub numbered_legal : (history : List (Entry C R)) → IsLegal meaning form history → IsNumbered history
+  numbered_legal history legal =
+      by_turns meaning form IsNumbered numbered_none (λ h turn fine was. numbered_turn h turn was) history legal
+
+  -- ---- in place of "numbers are counts"
+
+  -- the end of a legal history is a point of it
+  pub end_point : (history : List (Entry C R)) → IsLegal meaning form history → IsPoint history (length history)
+  end_point history legal =
+      by_turns meaning form (λ h. IsPoint h (length h)) (inl refl) (λ h turn fine at.
+      let all : numbers (after_turn meaning form h turn) ≡ numbers h ++ number_added h turn ∷ [] =
+      ap (map (λ (call : Call C R). call.no)) (calls-turn meaning form h turn)
+      ∙ map-append (λ (call : Call C R). call.no) (calls h) (call_added meaning form h turn ∷ []) in
+      inr (rw (all, length-turn h turn) (Contains-push (numbers h) (number_added h turn)))) history legal
+
+  -- numbers rise
+  abbrev pub RisesTo : ℕ → List (Call C R) → ℕ → Type 0
+  RisesTo low [] high = low ≤ high
+  RisesTo low (call ∷ calls) high = (low < call.no) × RisesTo call.no calls high
+
+  rises_push : (low : ℕ) (some : List (Call C R)) (high : ℕ) (call : Call C R) → RisesTo low some high
+      → high < call.no → RisesTo low (some ++ call ∷ []) call.no
+  rises_push low [] high call rises above = (omega (arith, rises), omega arith)
+  rises_push low (first ∷ some) high call rises above = (rises.0, rises_push first.no some high call rises.1 above)
+
+  pub numbers_rise : (history : List (Entry C R)) → IsLegal meaning form history → RisesTo 0 (calls history) (length history)
+  numbers_rise history legal =
+      by_turns meaning form (λ h. RisesTo 0 (calls h) (length h)) (omega arith) (λ h turn fine rises.
+      rw (calls-turn meaning form h turn, length-turn h turn)
+      (rises_push 0 (calls h) (length h) (call_added meaning form h turn) rises (number_past h turn))) history legal
+
+  -- where a call asks two links at most, there are three entries a call at most
+  pub length_calls : ((state : Machine S) (by : ConnId) (ask : Ask C)
+      → (let asks = links_asked meaning form state by ask in length asks.links ≤ 2))
+      → (history : List (Entry C R)) → IsLegal meaning form history → length history ≤ 3 * length (calls history)
+  length_calls two history legal =
+      by_turns meaning form (λ h. length h ≤ 3 * length (calls h)) (omega arith) (λ h turn fine few.
+      let asks : Asks = links_asked meaning form (replay meaning form h) turn.by turn.ask in
+      let marks : List CfId = marks_of turn.down asks in
+      let pair : length asks.links ≤ 2 = two (replay meaning form h) turn.by turn.ask in
+      let all : length (with_marks meaning form h marks) ≡ length h + length marks = length-marks marks h in
+      let whole : length (after_turn meaning form h turn) ≡ length (with_marks meaning form h marks) + 1 = length-turn h turn in
+      let more : length (calls (after_turn meaning form h turn)) ≡ length (calls h) + 1 =
+      ap length (calls-turn meaning form h turn) ∙ length-append (calls h) (call_added meaning form h turn ∷ []) in
+      let fewer : length marks ≤ length asks.links = marks_few turn.down asks in
+      omega arith) history legal
+
+  pub three_each : (history : List (Entry C R)) → IsLegal meaning form history
+      → length history ≤ 3 * length (calls history)
+  three_each history legal = length_calls (λ machine by asked. two_asked meaning form machine by asked) history legal

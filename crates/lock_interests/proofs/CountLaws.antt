@@ -1,0 +1,410 @@
+-- Record data are as many as the interests that have them, where each is of an owner.
+use Rattle.std.proofs.Common.{◌≡◌, ℕ, suc, ◌+◌, Bool, true, false, not, ◌&&◌, ◌||◌, ◌==◌, cond, List, [], ◌∷◌, Option, Some, None, is_some, option_map, filter, find, map, length, refl, sym, ap, ◌∙◌, subst, arith}
+use Rattle.std.specs.List.{list_any, list_all}
+use Rattle.std.proofs.lemmas.Bool.{and_parts, and_from, false≢true}
+use Rattle.std.proofs.lemmas.List.Elements.{filter_agree}
+use Rattle.std.proofs.lemmas.List.Filters.{length-filter_both}
+use Rattle.cf_types.specs.declared.numbers.ConnId.{ConnId}
+use Rattle.cf_types.specs.declared.resources.Resource.{Resource}
+use Rattle.cf_types.specs.Resources.{Part, same_part, resource_up_to}
+use Rattle.cf_types.proofs.ResourceLaws.{same_part-eq, same_part-refl, same_part_comm}
+use Rattle.list_laws.specs.Pairwise.{pairwise}
+use Rattle.list_laws.proofs.FilterLaws.{filter_nothing, any_is_found, find-filter, list_any-map, list_all_weaker, list_all-filter}
+use Rattle.list_laws.proofs.InsertionLaws.{list_all-insertion, list_any-insertion, length-insertion}
+use Rattle.list_laws.proofs.KeyLaws.{none_later, length_without}
+use Rattle.lock_table.specs.declared.holdings.Held.{Held}
+use Rattle.lock_table.specs.Holdings.{is_interest, has_interest, owners_with, owners_without, in_state, in_retention_of, IsOwners}
+use Rattle.lock_table.proofs.HoldingLaws.{owners-with, owners-in_state}
+use Rattle.lock_queue.specs.declared.waiters.Waiter.{Waiter}
+use Rattle.lock_record.specs.declared.recorded.Record.{Record}
+use Rattle.lock_record.specs.Recorded.{is_record, is_of, record_of, has_record, records_with, records_without, records_without_conn, AreRecords}
+use Rattle.lock_record.specs.Recorded as book
+use Rattle.lock_record.proofs.RecordLaws.{records-filter, records-with}
+use Rattle.lock_model.specs.Interests as interests
+use Rattle.lock_model.specs.Interests.{Interest, interests_with, interests_changed}
+use Rattle.lock_model.specs.Contents.{records_of, records_owned}
+use Rattle.lock_model.specs.Departures.{stays}
+use Rattle.lock_model.specs.Grants.{with_alteration}
+use Rattle.lock_interests.specs.InterestsView.{with_record, interests_of, records_put, records_given, AreOwned}
+use Rattle.lock_interests.proofs.JoinLaws.{joined-with, joined-changed}
+use Rattle.lock_interests.proofs.ReadLaws.{records-joined}
+
+-- whose an interest is, and whose record data are
+abbrev part_of : Held → Part
+part_of held = (held.r, held.conn)
+
+abbrev datum_part : Record → Part
+datum_part recorded = (recorded.r, recorded.conn)
+
+-- ---- as many as those that have one
+
+either_step : {X : Type 0} (a b : Bool) (x : X) (us vs ws : List X) → (a ≡ true → b ≡ false)
+    → length us ≡ length vs + length ws
+    → length (cond (a || b) (x ∷ us) us) ≡ length (cond a (x ∷ vs) vs) + length (cond b (x ∷ ws) ws)
+either_step true true x us vs ws h e = absurd (false≢true (sym (h refl)))
+either_step true false x us vs ws h e = omega (arith, e)
+either_step false true x us vs ws h e = omega (arith, e)
+either_step false false x us vs ws h e = e
+
+count_either : {X : Type 0} (a b : X → Bool) → ((x : X) → a x ≡ true → b x ≡ false) → (xs : List X)
+    → length (filter (λ x. a x || b x) xs) ≡ length (filter a xs) + length (filter b xs)
+count_either a b h [] = refl
+count_either a b h (x ∷ xs) =
+    either_step (a x) (b x) x (filter (λ y. a y || b y) xs) (filter a xs) (filter b xs) (h x) (count_either a b h xs)
+
+some_found : {X : Type 0} (o : Option X) → is_some o ≡ true → (x : X) × (o ≡ Some x)
+some_found None e = absurd (false≢true e)
+some_found (Some x) e = (x, refl)
+
+one_owner : (p : Part) (owners : List Held) → IsOwners owners → has_interest p.0 p.1 owners ≡ true
+    → length (filter (is_interest p.0 p.1) owners) ≡ 1
+one_owner p owners are any =
+    let found = some_found (find (is_interest p.0 p.1) owners) (sym (any_is_found (is_interest p.0 p.1) owners) ∙ any)
+    in
+    let fewer = length_without part_of same_part same_part-eq same_part-refl p owners found.0 are.one_each found.1 in
+    let both = length-filter_both (is_interest p.0 p.1) (λ held. not (is_interest p.0 p.1 held)) (λ held. refl) owners
+    in
+    omega (arith, fewer, both)
+
+some_mapped : {X Y : Type 0} (f : X → Y) (o : Option X) → is_some (option_map f o) ≡ is_some o
+some_mapped f None = refl
+some_mapped f (Some x) = refl
+
+has_is_some : (records : List Record) (held : Held)
+    → is_some (record_of held.r held.conn records) ≡ has_record held.r held.conn records
+has_is_some records held =
+    some_mapped (λ (found : Record). found.rec) (find (is_record held.r held.conn) records)
+    ∙ sym (any_is_found (is_record held.r held.conn) records)
+
+counted_once : (owners : List Held) (records : List Record) → IsOwners owners → AreRecords records
+    → AreOwned owners records
+    → length (filter (λ held. has_record held.r held.conn records) owners) ≡ length records
+counted_once owners [] are kept owned = ap length (filter_nothing owners)
+counted_once owners (x ∷ xs) are kept owned =
+    let here = and_parts (has_interest x.r x.conn owners)
+    (list_all (λ (y : Record). has_interest y.r y.conn owners) xs) owned in
+    let split = count_either (λ (held : Held). same_part (datum_part x) (part_of held))
+    (λ (held : Held). has_record held.r held.conn xs)
+    (λ held e. subst (λ (p : Part). has_record p.0 p.1 xs ≡ false)
+    (same_part-eq (datum_part x) (part_of held) e)
+    (none_later datum_part same_part same_part-eq same_part-refl x xs kept.one_each)) owners in
+    let mine : length (filter (λ (held : Held). same_part (datum_part x) (part_of held)) owners) ≡ 1 =
+    ap length (filter_agree (λ (held : Held). same_part (datum_part x) (part_of held)) (is_interest x.r x.conn)
+    (λ held. same_part_comm (datum_part x) (part_of held)) owners)
+    ∙ one_owner (datum_part x) owners are here.0 in
+    let rest = counted_once owners xs are (later kept) here.1 in
+    split ∙ finish (length (filter (λ (held : Held). same_part (datum_part x) (part_of held)) owners))
+    (length (filter (λ (held : Held). has_record held.r held.conn xs) owners)) mine rest
+  where
+    finish : (m n : ℕ) → m ≡ 1 → n ≡ length xs → m + n ≡ suc (length xs)
+    finish m n e f = omega (arith, e, f)
+
+    later : AreRecords (x ∷ xs) → AreRecords xs
+    later both = record {
+      ordered = (and_parts (list_all (book.in_order x) xs) (pairwise book.in_order xs) both.ordered).1;
+      one_each = (and_parts (list_all (book.are_apart x) xs) (pairwise book.are_apart xs) both.one_each).1;
+    }
+
+pub records_counted : (owners : List Held) (records : List Record) → IsOwners owners → AreRecords records
+    → AreOwned owners records → length records ≡ records_owned (interests_of owners records)
+records_counted owners records are kept owned =
+    sym (counted_once owners records are kept owned)
+    ∙ ap length (filter_agree (λ (held : Held). has_record held.r held.conn records)
+    (λ (held : Held). is_some (record_of held.r held.conn records)) (λ held. sym (has_is_some records held)) owners)
+    ∙ records-joined owners records
+
+-- ---- each is of an owner, as owners and record data come, change and go
+
+-- what holds of the elements that a filter keeps
+filtered_step : {X : Type 0} (p : X → Bool) (b : Bool) (x : X) (xs : List X) → (b ≡ true → p x ≡ true)
+    → list_all p xs ≡ true → list_all p (cond b (x ∷ xs) xs) ≡ true
+filtered_step p true x xs h e = and_from (p x) (list_all p xs) (h refl) e
+filtered_step p false x xs h e = e
+
+all_filtered : {X : Type 0} (p r q : X → Bool) → ((x : X) → q x ≡ true → p x ≡ true → r x ≡ true) → (xs : List X)
+    → list_all p xs ≡ true → list_all r (filter q xs) ≡ true
+all_filtered p r q h [] e = refl
+all_filtered p r q h (x ∷ xs) e =
+    let parts = and_parts (p x) (list_all p xs) e in
+    filtered_step r (q x) x (filter q xs) (λ keeps. h x keeps parts.0) (all_filtered p r q h xs parts.1)
+
+-- an owner that a filter keeps is found there
+found_kept : (r : Resource) (conn : ConnId) (q : Held → Bool) (owners : List Held)
+    → ((held : Held) → is_interest r conn held ≡ true → q held ≡ true)
+    → has_interest r conn owners ≡ true → has_interest r conn (filter q owners) ≡ true
+found_kept r conn q owners keeps has =
+    any_is_found (is_interest r conn) (filter q owners)
+    ∙ ap (λ (o : Option Held). is_some o) (find-filter (is_interest r conn) q keeps owners)
+    ∙ sym (any_is_found (is_interest r conn) owners) ∙ has
+
+-- what is of another part than this one
+others_part : (r : Resource) (conn : ConnId) (x : Record) → not (is_record r conn x) ≡ true → (held : Held)
+    → is_interest x.r x.conn held ≡ true → not (is_interest r conn held) ≡ true
+others_part r conn x other held same =
+    subst (λ (p : Part). not (same_part p (r, conn)) ≡ true)
+    (sym (same_part-eq (part_of held) (datum_part x) same)) other
+
+pub owned-none : AreOwned [] []
+owned-none = refl
+
+-- fewer record data
+pub owned-unrecorded : (r : Resource) (conn : ConnId) (owners : List Held) (records : List Record)
+    → AreOwned owners records → AreOwned owners (records_without r conn records)
+owned-unrecorded r conn owners records owned =
+    list_all-filter (λ (x : Record). has_interest x.r x.conn owners) (λ x. not (is_record r conn x)) records owned
+
+-- a part goes, on both sides
+pub owned-without : (r : Resource) (conn : ConnId) (owners : List Held) (records : List Record)
+    → AreOwned owners records → AreOwned (owners_without r conn owners) (records_without r conn records)
+owned-without r conn owners records owned =
+    all_filtered (λ (x : Record). has_interest x.r x.conn owners)
+    (λ (x : Record). has_interest x.r x.conn (owners_without r conn owners)) (λ x. not (is_record r conn x))
+    (λ x other has. found_kept x.r x.conn (λ held. not (is_interest r conn held)) owners
+    (others_part r conn x other) has)
+    records owned
+
+or_right : (a b : Bool) → b ≡ true → a || b ≡ true
+or_right true b e = refl
+or_right false b e = e
+
+or_left : (a b : Bool) → a ≡ true → a || b ≡ true
+or_left true b e = refl
+or_left false b e = absurd (false≢true e)
+
+-- an owner more
+owned-added : (held : Held) (owners : List Held) (records : List Record)
+    → AreOwned (owners_without held.r held.conn owners) records → AreOwned (owners_with held owners) records
+owned-added held owners records owned =
+    list_all_weaker (λ (x : Record). has_interest x.r x.conn (owners_without held.r held.conn owners))
+    (λ (x : Record). has_interest x.r x.conn (owners_with held owners))
+    (λ x has. list_any-insertion (is_interest x.r x.conn) (λ (other : Held). resource_up_to other.r held.r) held
+    (owners_without held.r held.conn owners)
+    ∙ or_right (is_interest x.r x.conn held)
+    (list_any (is_interest x.r x.conn) (owners_without held.r held.conn owners)) has)
+    records owned
+
+-- record data more, of an owner
+owned-recorded : (new : Record) (owners : List Held) (records : List Record)
+    → has_interest new.r new.conn owners ≡ true → AreOwned owners (records_without new.r new.conn records)
+    → AreOwned owners (records_with new records)
+owned-recorded new owners records has owned =
+    list_all-insertion (λ (x : Record). has_interest x.r x.conn owners)
+    (λ (other : Record). resource_up_to other.r new.r) new (records_without new.r new.conn records)
+    ∙ and_from (has_interest new.r new.conn owners)
+    (list_all (λ (x : Record). has_interest x.r x.conn owners) (records_without new.r new.conn records)) has owned
+
+owned_put : (held : Held) (rec : Option (List ℕ)) (owners : List Held) (records : List Record)
+    → AreOwned (owners_with held owners) (records_without held.r held.conn records)
+    → AreOwned (owners_with held owners) (records_put held.r held.conn rec records)
+owned_put held None owners records owned = owned
+owned_put held (Some rec) owners records owned =
+    owned-recorded (record { r = held.r; conn = held.conn; rec = rec }) (owners_with held owners) records
+    (list_any-insertion (is_interest held.r held.conn) (λ (other : Held). resource_up_to other.r held.r) held
+    (owners_without held.r held.conn owners)
+    ∙ or_left (is_interest held.r held.conn held)
+    (list_any (is_interest held.r held.conn) (owners_without held.r held.conn owners))
+    (same_part-refl (part_of held)))
+    owned
+
+pub owned-with : (held : Held) (rec : Option (List ℕ)) (owners : List Held) (records : List Record)
+    → AreOwned owners records
+    → AreOwned (owners_with held owners) (records_put held.r held.conn rec records)
+owned-with held rec owners records owned =
+    owned_put held rec owners records
+    (owned-added held owners (records_without held.r held.conn records)
+    (owned-without held.r held.conn owners records owned))
+
+-- owners that change, and stay whose they are
+owned-changed : (f : Held → Held) → ((r : Resource) (conn : ConnId) (held : Held) → is_interest r conn (f held)
+    ≡ is_interest r conn held) → (owners : List Held) (records : List Record) → AreOwned owners records
+    → AreOwned (map f owners) records
+owned-changed f same owners records owned =
+    list_all_weaker (λ (x : Record). has_interest x.r x.conn owners)
+    (λ (x : Record). has_interest x.r x.conn (map f owners))
+    (λ x has. list_any-map (is_interest x.r x.conn) f owners
+    ∙ agree x.r x.conn owners ∙ has) records owned
+  where
+    agree : (r : Resource) (conn : ConnId) (xs : List Held)
+        → list_any (λ held. is_interest r conn (f held)) xs ≡ list_any (is_interest r conn) xs
+    agree r conn [] = refl
+    agree r conn (x ∷ xs) = either (same r conn x) (agree r conn xs)
+      where
+        either : {a b c d : Bool} → a ≡ b → c ≡ d → a || c ≡ b || d
+        either e f = λ i. e i || f i
+
+pub owned-retained : (conn : ConnId) (retained : Bool) (owners : List Held) (records : List Record)
+    → AreOwned owners records → AreOwned (map (in_retention_of conn retained) owners) records
+owned-retained conn retained owners records owned =
+    owned-changed (in_retention_of conn retained) (λ r other held. refl) owners records owned
+
+owned_given : (r : Resource) (conn : ConnId) (rec : Option (List ℕ)) (owners : List Held) (records : List Record)
+    → has_interest r conn owners ≡ true → AreOwned owners records
+    → AreOwned owners (records_given r conn rec records)
+owned_given r conn None owners records has owned = owned
+owned_given r conn (Some rec) owners records has owned =
+    owned-recorded (record { r = r; conn = conn; rec = rec }) owners records has
+    (owned-unrecorded r conn owners records owned)
+
+-- an interest takes a state, and record data where they are given
+pub owned-altered : (r : Resource) (conn : ConnId) (excl : Bool) (rec : Option (List ℕ)) (owners : List Held)
+    (records : List Record) → has_interest r conn owners ≡ true → AreOwned owners records
+    → AreOwned (map (in_state r conn excl) owners) (records_given r conn rec records)
+owned-altered r conn excl rec owners records has owned =
+    owned-changed (in_state r conn excl) (λ other by held. refl) owners (records_given r conn rec records)
+    (owned_given r conn rec owners records has owned)
+
+-- ---- a connector departs
+
+-- record data are there for whom they are
+all_have : (records : List Record)
+    → list_all (λ (x : Record). has_record x.r x.conn records) records ≡ true
+all_have [] = refl
+all_have (x ∷ xs) =
+    and_from (has_record x.r x.conn (x ∷ xs)) (list_all (λ (y : Record). has_record y.r y.conn (x ∷ xs)) xs)
+    (or_left (is_record x.r x.conn x) (list_any (is_record x.r x.conn) xs) (same_part-refl (datum_part x)))
+    (list_all_weaker (λ (y : Record). has_record y.r y.conn xs) (λ (y : Record). has_record y.r y.conn (x ∷ xs))
+    (λ y has. or_right (is_record y.r y.conn x) (list_any (is_record y.r y.conn) xs) has) xs (all_have xs))
+
+and_both : {X : Type 0} (p q r : X → Bool) → ((x : X) → p x ≡ true → q x ≡ true → r x ≡ true) → (xs : List X)
+    → list_all p xs ≡ true → list_all q xs ≡ true → list_all r xs ≡ true
+and_both p q r h [] e f = refl
+and_both p q r h (x ∷ xs) e f =
+    let left = and_parts (p x) (list_all p xs) e in
+    let right = and_parts (q x) (list_all q xs) f in
+    and_from (r x) (list_all r xs) (h x left.0 right.0) (and_both p q r h xs left.1 right.1)
+
+pub owned-kept : (conn : ConnId) (owners : List Held) (records : List Record) → AreOwned owners records
+    → AreOwned (map (in_retention_of conn true)
+    (filter (λ held. stays conn true (with_record records held)) owners)) records
+owned-kept conn owners records owned =
+    let left = filter (λ (held : Held). stays conn true (with_record records held)) owners in
+    owned-retained conn true left records
+    (and_both (λ (x : Record). has_record x.r x.conn records) (λ (x : Record). has_interest x.r x.conn owners)
+    (λ (x : Record). has_interest x.r x.conn left)
+    (λ x has owns. found_kept x.r x.conn (λ (held : Held). stays conn true (with_record records held)) owners
+    (λ held same. or_right (not (held.conn.0 == conn.0)) (is_some (record_of held.r held.conn records))
+    (has_is_some records held
+    ∙ subst (λ (p : Part). has_record p.0 p.1 records ≡ true)
+    (sym (same_part-eq (part_of held) (datum_part x) same)) has)) owns)
+    records (all_have records) owned)
+
+pub owned-gone : (conn : ConnId) (owners : List Held) (records : List Record) → AreOwned owners records
+    → AreOwned (map (in_retention_of conn true)
+    (filter (λ held. stays conn false (with_record records held)) owners)) (records_without_conn conn records)
+owned-gone conn owners records owned =
+    let left = filter (λ (held : Held). stays conn false (with_record records held)) owners in
+    owned-retained conn true left (records_without_conn conn records)
+    (all_filtered (λ (x : Record). has_interest x.r x.conn owners) (λ (x : Record). has_interest x.r x.conn left)
+    (λ x. not (is_of conn x))
+    (λ x other owns. found_kept x.r x.conn (λ (held : Held). stays conn false (with_record records held)) owners
+    (λ held same. or_left (not (held.conn.0 == conn.0)) (false && is_some (record_of held.r held.conn records))
+    (subst (λ (p : Part). not (p.1.0 == conn.0) ≡ true)
+    (sym (same_part-eq (part_of held) (datum_part x) same)) other)) owns)
+    records owned)
+
+-- ---- how many there are after a grant
+
+length_put : (r : Resource) (conn : ConnId) (rec : Option (List ℕ)) (records : List Record)
+    → length (records_put r conn rec records) ≡ length (records_without r conn records) + records_of rec
+length_put r conn None records = omega arith
+length_put r conn (Some rec) records =
+    length-insertion (λ (other : Record). resource_up_to other.r r) (record { r = r; conn = conn; rec = rec })
+    (records_without r conn records)
+
+records_put-kept : (r : Resource) (conn : ConnId) (rec : Option (List ℕ)) (records : List Record)
+    → AreRecords records → AreRecords (records_put r conn rec records)
+records_put-kept r conn None records kept = records-filter (λ x. not (is_record r conn x)) records kept
+records_put-kept r conn (Some rec) records kept =
+    records-with (record { r = r; conn = conn; rec = rec }) records kept
+
+pub counted-with : (held : Held) (rec : Option (List ℕ)) (owners : List Held) (records : List Record)
+    → IsOwners owners → AreRecords records → AreOwned owners records
+    → length (records_without held.r held.conn records) + records_of rec
+    ≡ records_owned (interests_with (record { held = held; rec = rec }) (interests_of owners records))
+counted-with held rec owners records are kept owned =
+    sym (length_put held.r held.conn rec records)
+    ∙ records_counted (owners_with held owners) (records_put held.r held.conn rec records)
+    (owners-with held owners are) (records_put-kept held.r held.conn rec records kept)
+    (owned-with held rec owners records owned)
+    ∙ ap records_owned (joined-with held rec owners records)
+
+given_kept : (r : Resource) (conn : ConnId) (rec : Option (List ℕ)) (records : List Record)
+    → AreRecords records → AreRecords (records_given r conn rec records)
+given_kept r conn None records kept = kept
+given_kept r conn (Some rec) records kept =
+    records-with (record { r = r; conn = conn; rec = rec }) records kept
+
+-- where there is the interest
+pub counted-altered : (w : Waiter) (owners : List Held) (records : List Record)
+    → IsOwners owners → AreRecords records → AreOwned owners records → has_interest w.r w.conn owners ≡ true
+    → length (records_given w.r w.conn w.rec records)
+    ≡ records_owned (interests_changed w.r w.conn (with_alteration w) (interests_of owners records))
+counted-altered w owners records are kept owned has =
+    records_counted (map (in_state w.r w.conn w.excl) owners) (records_given w.r w.conn w.rec records)
+    (owners-in_state w.r w.conn w.excl owners are) (given_kept w.r w.conn w.rec records kept)
+    (owned-altered w.r w.conn w.excl w.rec owners records has owned)
+    ∙ ap records_owned (joined-changed w owners records)
+
+-- and where there is none
+none_step : (b : Bool) (f : Interest → Interest) (x : Interest) (xs ys : List Interest) (c : Bool) → b || c ≡ false
+    → (c ≡ false → ys ≡ xs) → cond b (f x) x ∷ ys ≡ x ∷ xs
+none_step true f x xs ys c none rest = absurd (false≢true (sym none))
+none_step false f x xs ys c none rest = ap (λ (l : List Interest). x ∷ l) (rest none)
+
+pub changed_none : (r : Resource) (conn : ConnId) (f : Interest → Interest) (is : List Interest)
+    → interests.has_interest r conn is ≡ false → interests_changed r conn f is ≡ is
+changed_none r conn f [] none = refl
+changed_none r conn f (x ∷ xs) none =
+    none_step (interests.is_of r conn x) f x xs (interests_changed r conn f xs) (interests.has_interest r conn xs)
+    none (changed_none r conn f xs)
+
+-- an interest is there where its owner is
+pub has-joined : (r : Resource) (conn : ConnId) (owners : List Held) (records : List Record)
+    → has_interest r conn owners ≡ interests.has_interest r conn (interests_of owners records)
+has-joined r conn owners records = sym (list_any-map (interests.is_of r conn) (with_record records) owners)
+
+length_given : (r : Resource) (conn : ConnId) (rec : Option (List ℕ)) (records : List Record) → is_some rec ≡ true
+    → length (records_given r conn rec records) ≡ length (records_without r conn records) + 1
+length_given r conn None records given = absurd (false≢true given)
+length_given r conn (Some rec) records given =
+    length-insertion (λ (other : Record). resource_up_to other.r r) (record { r = r; conn = conn; rec = rec })
+    (records_without r conn records)
+
+none_given : (r : Resource) (conn : ConnId) (rec : Option (List ℕ)) (records : List Record) → is_some rec ≡ false
+    → records_given r conn rec records ≡ records
+none_given r conn None records none = refl
+none_given r conn (Some rec) records none = absurd (false≢true (sym none))
+
+without_right : (a b : Bool) → a && b ≡ false → b ≡ true → a ≡ false
+without_right true b none here = absurd (false≢true (sym none ∙ here))
+without_right false b none here = refl
+
+-- where an interest is given record data, and where it isn't
+pub counted-given : (w : Waiter) (owners : List Held) (records : List Record)
+    → IsOwners owners → AreRecords records → AreOwned owners records
+    → is_some w.rec && interests.has_interest w.r w.conn (interests_of owners records) ≡ true
+    → length (records_without w.r w.conn records) + 1
+    ≡ records_owned (interests_changed w.r w.conn (with_alteration w) (interests_of owners records))
+counted-given w owners records are kept owned given =
+    let parts = and_parts (is_some w.rec) (interests.has_interest w.r w.conn (interests_of owners records)) given in
+    sym (length_given w.r w.conn w.rec records parts.0)
+    ∙ counted-altered w owners records are kept owned (has-joined w.r w.conn owners records ∙ parts.1)
+
+pub counted-ungiven : (w : Waiter) (owners : List Held) (records : List Record)
+    → IsOwners owners → AreRecords records → AreOwned owners records
+    → is_some w.rec && interests.has_interest w.r w.conn (interests_of owners records) ≡ false
+    → length records
+    ≡ records_owned (interests_changed w.r w.conn (with_alteration w) (interests_of owners records))
+counted-ungiven w owners records are kept owned ungiven =
+    by_interest (interests.has_interest w.r w.conn (interests_of owners records)) refl
+  where
+    by_interest : (b : Bool) → interests.has_interest w.r w.conn (interests_of owners records) ≡ b
+        → length records
+        ≡ records_owned (interests_changed w.r w.conn (with_alteration w) (interests_of owners records))
+    by_interest true has =
+        ap length (sym (none_given w.r w.conn w.rec records
+        (without_right (is_some w.rec) (interests.has_interest w.r w.conn (interests_of owners records)) ungiven has)))
+        ∙ counted-altered w owners records are kept owned (has-joined w.r w.conn owners records ∙ has)
+    by_interest false has =
+        records_counted owners records are kept owned
+        ∙ ap records_owned (sym (changed_none w.r w.conn (with_alteration w) (interests_of owners records) has))

@@ -1,0 +1,2 @@
+pub mod OwnerReplay
+pub mod EntryLaws

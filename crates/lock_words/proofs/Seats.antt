@@ -1,0 +1,233 @@
+-- A seat is split, and a seat takes in another.
+use Rattle.std.proofs.Common.{◌≡◌, ◌≢◌, ◌+◌, ◌<◌, ◌≤◌, ◌⊎◌, ℕ, zero, suc, Bool, true, false, List, [], ◌∷◌, ◌++◌, length, set, get_or, Contains}
+use Rattle.std.proofs.Common.{refl, sym, ap, ◌∙◌, subst, inl, inr, ⊎_elim, arith, true≢false, length-append}
+use Rattle.std.proofs.lemmas.List.{length-set}
+use Rattle.std.proofs.lemmas.List.Sums.{sum_by_push}
+use Rattle.std.proofs.lemmas.List.Elements.{All-weaker, All-nil, All-cons, All-append, Contains-append_left, Contains-append_right}
+use mathlib.Core.Option.{some, some-injective, some-ne-none}
+use mathlib.Core.Logic.{dite}
+use native.Mathlib.Decide.{ℕ_discrete}
+use lib.ListN.{get_elem?}
+use Rattle.atomic_table.specs.Table.{Me, Allows, Splits, Joins}
+use Rattle.atomic_table.proofs.Lists.{at_set, set_here, set_else, at_longer}
+use Rattle.lock_words.specs.declared.view.Hold.{Hold}
+use Rattle.lock_words.specs.declared.view.Reading.{Reading}
+use Rattle.lock_words.specs.declared.view.Grant.{Grant}
+use Rattle.lock_words.specs.declared.view.View.{View}
+use Rattle.lock_words.specs.declared.view.Size.{Size}
+use Rattle.lock_words.specs.Values.{tally, says_excl}
+use Rattle.lock_words.specs.View.{grant, spent_view, without_right, next_view, joined}
+use Rattle.lock_words.specs.Rule.{total, IsSpent, IsOwn, IsAnswered, IsLive, AllFit, Kept}
+use Rattle.lock_words.proofs.Tallies.{tally-append, sum-set, value-same, value-sum}
+use Rattle.lock_words.proofs.Steps.{within, same-at, not-spent, moved, fit-set}
+
+-- the last seat of a longer list has the last place
+at-end : (vs : List View) (w u : View) (j : ℕ) → get_elem? (vs ++ w ∷ []) j ≡ some u
+    → (get_elem? vs j ≡ some u) ⊎ ((j ≡ length vs) × (w ≡ u))
+at-end [] w u zero e = inr (refl, some-injective w u e)
+at-end [] w u (suc j) e = absurd (some-ne-none u (sym e))
+at-end (x ∷ xs) w u zero e = inl e
+at-end (x ∷ xs) w u (suc j) e = ⊎_elim (λ (t : get_elem? xs j ≡ some u). inl t)
+    (λ (t : (j ≡ length xs) × (w ≡ u)). inr (ap suc t.0, t.1)) (at-end xs w u j e)
+
+one-more : (vs : List View) (w : View) → length (vs ++ w ∷ []) ≡ suc (length vs)
+one-more vs w = omega (arith, length-append vs (w ∷ []))
+
+-- the hand that has the right makes the next one
+pub splits : (size : Size) (id : ℕ) (v : View) → 0 < v.number → v.right ≡ true → v.number < size.hands
+    → Splits (Kept size) id v (without_right v) (next_view v)
+splits size id v pos has room s kept at =
+    let views = set s.views id (without_right v) in
+    let mine = live (kept.fit id v at) in
+    let count : suc id ≡ length views = mine.right has ∙ sym (length-set s.views id (without_right v)) in
+    let number : v.number ≡ suc id = mine.number in
+    record {
+      length_is = kept.length_is;
+      few = omega (arith, one-more views (next_view v), count, number, room);
+      words = λ k. value-same _ _ (get_or s.words k 0) _ _ _ (sums k false) (sums k true) refl (kept.words k);
+      fit = fit count number;
+    }
+  where
+    live : (v ≡ spent_view) ⊎ IsLive s.views id v → IsLive s.views id v
+    live f = ⊎_elim (λ (z : v ≡ spent_view). absurd (not-spent v pos (sym z))) (λ (f : IsLive s.views id v). f) f
+
+    sums : (k : ℕ) (e : Bool) → total k e s.views ≡ total k e (set s.views id (without_right v) ++ next_view v ∷ [])
+    sums k e = omega (
+      arith,
+      sum-set (λ u. tally k e u.held) s.views id v (without_right v) at,
+      sum_by_push (λ (u : View). tally k e u.held) (set s.views id (without_right v)) (next_view v),
+    )
+
+    before : AllFit (set s.views id (without_right v))
+    before = fit-set s.views id v (without_right v) at pos kept.fit (λ g h. h) (λ f. record {
+      number = f.number;
+      own = f.own;
+      right = λ r. absurd (true≢false (sym r));
+      gathered = f.gathered;
+      ever = f.ever;
+      held = f.held;
+      read = f.read;
+    })
+
+    spent : (k : ℕ) → IsSpent (set s.views id (without_right v)) k → IsSpent (set s.views id (without_right v) ++ next_view v ∷ []) k
+    spent k t = (t.0, t.1, at_longer (set s.views id (without_right v)) (next_view v ∷ []) t.0 spent_view t.2)
+
+    answered : (r : Reading) → IsAnswered (set s.views id (without_right v)) r
+        → IsAnswered (set s.views id (without_right v) ++ next_view v ∷ []) r
+    answered r answer some_value = let a = answer some_value in
+        (a.0, a.1, a.2, at_longer (set s.views id (without_right v)) (next_view v ∷ []) a.0 a.1 a.3, a.4, a.5)
+
+    fit : suc id ≡ length (set s.views id (without_right v)) → v.number ≡ suc id
+        → AllFit (set s.views id (without_right v) ++ next_view v ∷ [])
+    fit count number seat u e =
+        let views = set s.views id (without_right v) in
+        let views' = set s.views id (without_right v) ++ next_view v ∷ [] in
+        ⊎_elim
+        (λ (t : get_elem? views seat ≡ some u). ⊎_elim (λ (z : u ≡ spent_view). inl z)
+        (λ (f : IsLive views seat u). inr (moved views views' seat u spent answered
+        (λ r q. absurd (true≢false (sym r ∙ ap (λ (x : View). x.right)
+        (same-at views seat id u (without_right v) (omega arith) t (set_here s.views id (without_right v) (within s.views id v at)))))) f))
+        (before seat u t))
+        (λ (t : (seat ≡ length views) × (next_view v ≡ u)).
+        let place : seat ≡ length views = t.0 in
+        let next_number : v.number + 1 ≡ suc seat = omega (arith, count, number) in
+        inr (subst (IsLive views' seat) t.1 record {
+          number = next_number;
+          own = (0, omega arith, refl);
+          right = λ _. omega (arith, one-more views (next_view v));
+          gathered = All-cons (IsOwn views' seat) (v.number + 1) [] (inl next_number) (All-nil (IsOwn views' seat));
+          ever = All-nil (λ (g : Grant). IsOwn views' seat g.hand);
+          held = All-nil (λ (x : Hold). (hand : ℕ) × Contains [] (grant hand x.word x.excl));
+          read = All-nil (IsAnswered views');
+        }))
+        (at-end views (next_view v) u seat e)
+
+-- a hand takes in another
+pub joins : (size : Size) (id : ℕ) (v : View) (other : ℕ) (w : View) → 0 < v.number → 0 < w.number
+    → Joins (Kept size) id v other w (joined v w) spent_view
+joins size id v other w pos pos' s kept at apart there = record {
+  length_is = kept.length_is;
+  few = subst (λ l. l ≤ size.hands) (sym lengths) kept.few;
+  words = λ k. value-same _ _ (get_or s.words k 0) _ _ _ (sums k false) (sums k true) refl (kept.words k);
+  fit = fit;
+}
+  where
+    lengths : length (set (set s.views id (joined v w)) other spent_view) ≡ length s.views
+    lengths = length-set (set s.views id (joined v w)) other spent_view ∙ length-set s.views id (joined v w)
+
+    was : get_elem? s.views other ≡ some w
+    was = sym (set_else s.views id other (joined v w) apart) ∙ there
+
+    sums : (k : ℕ) (e : Bool) → total k e s.views ≡ total k e (set (set s.views id (joined v w)) other spent_view)
+    sums k e = omega (
+      arith,
+      sum-set (λ u. tally k e u.held) s.views id v (joined v w) at,
+      sum-set (λ u. tally k e u.held) (set s.views id (joined v w)) other w spent_view there,
+      tally-append k e v.held w.held,
+    )
+
+    live : (v ≡ spent_view) ⊎ IsLive s.views id v → IsLive s.views id v
+    live f = ⊎_elim (λ (z : v ≡ spent_view). absurd (not-spent v pos (sym z))) (λ (f : IsLive s.views id v). f) f
+
+    -- the other seat's place, the first seat's, and any other
+    at-other : get_elem? (set (set s.views id (joined v w)) other spent_view) other ≡ some spent_view
+    at-other = set_here (set s.views id (joined v w)) other spent_view (within (set s.views id (joined v w)) other w there)
+
+    at-first : get_elem? (set (set s.views id (joined v w)) other spent_view) id ≡ some (joined v w)
+    at-first = set_else (set s.views id (joined v w)) other id spent_view (λ e. apart (sym e))
+        ∙ set_here s.views id (joined v w) (within s.views id v at)
+
+    at-else : (j : ℕ) (u : View) → j ≢ id → j ≢ other → get_elem? s.views j ≡ some u
+        → get_elem? (set (set s.views id (joined v w)) other spent_view) j ≡ some u
+    at-else j u far off e = set_else (set s.views id (joined v w)) other j spent_view off ∙ (set_else s.views id j (joined v w) far ∙ e)
+
+    spent : (k : ℕ) → IsSpent s.views k → IsSpent (set (set s.views id (joined v w)) other spent_view) k
+    spent k t = (
+      t.0,
+      t.1,
+      dite (ℕ_discrete t.0 other)
+          (λ (e : t.0 ≡ other). ap (get_elem? (set (set s.views id (joined v w)) other spent_view)) e ∙ at-other)
+          (λ (ne : t.0 ≢ other). at-else t.0 spent_view (λ e. not-spent v pos (same-at s.views t.0 id spent_view v e t.2 at)) ne t.2),
+    )
+
+    gone : (k : ℕ) → IsOwn s.views other k → IsSpent (set (set s.views id (joined v w)) other spent_view) k
+    gone k o = ⊎_elim (λ (e : k ≡ suc other). (other, e, at-other)) (λ (t : IsSpent s.views k). spent k t) o
+
+    own : (k : ℕ) → IsOwn s.views id k → IsOwn (set (set s.views id (joined v w)) other spent_view) id k
+    own k o = ⊎_elim (λ (e : k ≡ suc id). inl e) (λ (t : IsSpent s.views k). inr (spent k t)) o
+
+    answered : (r : Reading) → IsAnswered s.views r → IsAnswered (set (set s.views id (joined v w)) other spent_view) r
+    answered r answer some_value =
+        let a = answer some_value in
+        let g = grant a.2 r.word (says_excl r.value) in
+        dite (ℕ_discrete a.0 other)
+        (λ (e : a.0 ≡ other). (
+          id,
+          joined v w,
+          a.2,
+          at-first,
+          a.4,
+          Contains-append_right v.ever w.ever g
+              (subst (λ (u : View). Contains u.ever g) (same-at s.views a.0 other a.1 w e a.3 was) a.5),
+        ))
+        (λ (off : a.0 ≢ other). dite (ℕ_discrete a.0 id)
+        (λ (e : a.0 ≡ id). (
+          id,
+          joined v w,
+          a.2,
+          at-first,
+          a.4,
+          Contains-append_left v.ever w.ever g
+              (subst (λ (u : View). Contains u.ever g) (same-at s.views a.0 id a.1 v e a.3 at) a.5),
+        ))
+        (λ (far : a.0 ≢ id). (a.0, a.1, a.2, at-else a.0 a.1 far off a.3, a.4, a.5)))
+
+    Has : Hold → Type 0
+    Has x = (hand : ℕ) × Contains (v.ever ++ w.ever) (grant hand x.word x.excl)
+
+    both : IsLive s.views id v → IsLive s.views other w
+        → IsLive (set (set s.views id (joined v w)) other spent_view) id (joined v w)
+    both f h = record {
+      number = f.number;
+      own = Contains-append_left v.gathered w.gathered v.number f.own;
+      right = λ r. f.right r ∙ sym lengths;
+      gathered = All-append (IsOwn (set (set s.views id (joined v w)) other spent_view) id) v.gathered w.gathered
+          (All-weaker (IsOwn s.views id) (IsOwn (set (set s.views id (joined v w)) other spent_view) id) own v.gathered f.gathered)
+          (All-weaker (IsOwn s.views other) (IsOwn (set (set s.views id (joined v w)) other spent_view) id) (λ k o. inr (gone k o)) w.gathered h.gathered);
+      ever = All-append (λ (g : Grant). IsOwn (set (set s.views id (joined v w)) other spent_view) id g.hand) v.ever w.ever
+          (All-weaker (λ (g : Grant). IsOwn s.views id g.hand) (λ (g : Grant). IsOwn (set (set s.views id (joined v w)) other spent_view) id g.hand) (λ g. own g.hand) v.ever f.ever)
+          (All-weaker (λ (g : Grant). IsOwn s.views other g.hand) (λ (g : Grant). IsOwn (set (set s.views id (joined v w)) other spent_view) id g.hand) (λ g o. inr (gone g.hand o)) w.ever h.ever);
+      held = All-append Has v.held w.held
+          (All-weaker (λ (x : Hold). (hand : ℕ) × Contains v.ever (grant hand x.word x.excl)) Has
+          (λ x t. (t.0, Contains-append_left v.ever w.ever (grant t.0 x.word x.excl) t.1)) v.held f.held)
+          (All-weaker (λ (x : Hold). (hand : ℕ) × Contains w.ever (grant hand x.word x.excl)) Has
+          (λ x t. (t.0, Contains-append_right v.ever w.ever (grant t.0 x.word x.excl) t.1)) w.held h.held);
+      read = All-append (IsAnswered (set (set s.views id (joined v w)) other spent_view)) v.read w.read
+          (All-weaker (IsAnswered s.views) (IsAnswered (set (set s.views id (joined v w)) other spent_view)) answered v.read f.read)
+          (All-weaker (IsAnswered s.views) (IsAnswered (set (set s.views id (joined v w)) other spent_view)) answered w.read h.read);
+    }
+
+    fit : AllFit (set (set s.views id (joined v w)) other spent_view)
+    fit seat u e =
+        let views = set s.views id (joined v w) in
+        let views' = set (set s.views id (joined v w)) other spent_view in
+        ⊎_elim (λ (t : (seat ≡ other) × (spent_view ≡ u)). inl (sym t.1))
+        (λ (t : (seat ≢ other) × (get_elem? views seat ≡ some u)). ⊎_elim
+        (λ (x : (seat ≡ id) × (joined v w ≡ u)). inr (subst (λ (p : ℕ × View). IsLive views' p.0 p.1) (λ i. (sym x.0 i, x.1 i))
+        (both (live (kept.fit id v at)) (⊎_elim (λ (z : w ≡ spent_view). absurd (not-spent w pos' (sym z)))
+        (λ (f : IsLive s.views other w). f) (kept.fit other w was)))))
+        (λ (x : (seat ≢ id) × (get_elem? s.views seat ≡ some u)). ⊎_elim (λ (z : u ≡ spent_view). inl z)
+        (λ (f : IsLive s.views seat u). inr (moved s.views views' seat u spent answered (λ r q. q ∙ sym lengths) f))
+        (kept.fit seat u x.1))
+        (at_set s.views id seat (joined v w) u t.1))
+        (at_set views other seat spent_view u e)
+
+-- no hand has two items of one word, of which one is EXCL
+pub never : (size : Size) (slots id i : ℕ) (me : Me ℕ View) → 0 < tally i true me.0.held
+    → 1 < tally i false me.0.held + tally i true me.0.held
+    → Allows (Kept size) slots id me 0 (λ n. n) (λ _ _. ⊥)
+never size slots id i me excl two s kept width at small =
+    let t = value-sum (total i false s.views) (total i true s.views) (get_or s.words i 0) (kept.words i) in
+    let shares = sum-set (λ u. tally i false u.held) s.views id me.0 spent_view at in
+    let excls = sum-set (λ u. tally i true u.held) s.views id me.0 spent_view at in
+    absurd (omega (arith, t.1, shares, excls, excl, two))

@@ -1,0 +1,76 @@
+use Rattle.std.proofs.Common.{arith, ◌≡◌, ◌<◌, ℕ, map, length, sym, ap, ◌∙◌, subst, All, List}
+use Rattle.std.proofs.lemmas.List.FromFn.{length-map-range_with_len}
+use Rattle.cf_types.specs.declared.names.Name16.{Name16}
+use Rattle.std.specs.Prelude.{AllPairs, slice_index}
+use Rattle.lock_words.specs.Values.{AreCompatible}
+use Rattle.lock_words.specs.Hands.{HandSeen, new_hand, AreAll, HasValue, all_held, IsOthers}
+use Rattle.plex_script.specs.declared.scripts.Line.{Line}
+use Rattle.plex_locks.specs.declared.told.HandTold.{HandTold}
+use Rattle.plex_locks.specs.Work.{AtLocks, AreIdle}
+use Rattle.plex_locks.specs.Told.{IsLocked, told_of}
+use Rattle.plex_locks.proofs.ToldLaws.{length-idle, all-ready, all-hands, told-right}
+use Rattle.plex_locks.proofs.locking.all_done.Goals as goal
+
+pub workers_of-requires-clause-count : goal.workers_of-requires-clause-count
+workers_of-requires-clause-count g c =
+    ap length c.in-Ok.ensures.hands
+    ∙ (length-map-range_with_len (new_hand c.in-Ok.locks) 1 c.args.callers
+    ∙ (c.requires.callers.2 ∙ ap length (sym c.items-connectors.ensures)))
+
+pub work_each-requires-clause-callers : goal.work_each-requires-clause-callers
+work_each-requires-clause-callers g c κs within =
+    let some_callers = c.requires.callers.0 in
+    let long = length-idle c.args.script.now c.in-Ok.locks c.args.callers c.in_ok-workers.workers.items c.in-Ok.hands.items
+    c.requires.callers.2 c.in-Ok.ensures.hands
+    (subst (λ (x : List Name16 × List Line). AreIdle x.0 x.1 c.in-Ok.hands.items c.in_ok-workers.workers.items)
+    (λ i. (c.items-connectors.ensures i, c.items.ensures i)) c.in_ok-workers.ensures) in omega (arith, long, some_callers)
+
+pub work_each-requires-clause-ready : goal.work_each-requires-clause-ready
+work_each-requires-clause-ready g c κs within =
+    all-ready c.args.script.now c.in-Ok.locks c.args.callers c.in_ok-workers.workers.items c.in-Ok.hands.items
+    c.requires.callers.2 c.in-Ok.ensures.hands
+    (subst (λ (x : List Name16 × List Line). AreIdle x.0 x.1 c.in-Ok.hands.items c.in_ok-workers.workers.items)
+    (λ i. (c.items-connectors.ensures i, c.items.ensures i)) c.in_ok-workers.ensures)
+
+pub close-words-requires : goal.close-words-requires
+close-words-requires g c =
+    let locks = c.in-Ok.locks in
+    let idle = c.in_ok-workers.workers.items in
+    let after = c.work_each.new.workers.items in
+    let hands : c.in_ok-hands.hands.items ≡ map (λ (w : AtLocks). w.hand) after = c.in_ok-hands.ensures.hands in
+    let idles : AreIdle c.args.script.now.connectors c.args.script.now.lines c.in-Ok.hands.items idle =
+    subst (λ (x : List Name16 × List Line). AreIdle x.0 x.1 c.in-Ok.hands.items idle)
+    (λ i. (c.items-connectors.ensures i, c.items.ensures i)) c.in_ok-workers.ensures in
+    let form = c.in-Ok.ensures.form in
+    let some_hands = c.requires.callers.0 in record {
+      hands = (
+        omega (arith, form.1, some_hands),
+        subst (AreAll locks) (sym hands)
+            (all-hands c.args.script.now locks c.args.callers idle after c.in-Ok.hands.items
+            (form.0 ∙ c.requires.entries.1) c.requires.callers.2 c.in-Ok.ensures.hands idles
+            c.work_each.ensures form.1),
+      );
+    }
+
+pub returns : goal.returns
+returns g c =
+    let locks = c.in-Ok.locks in
+    let idle = c.in_ok-workers.workers.items in
+    let after = c.work_each.new.workers.items in
+    let hands : c.in_ok-hands.hands.items ≡ map (λ (w : AtLocks). w.hand) after = c.in_ok-hands.ensures.hands in
+    let told : c.in_ok-hands.told.items ≡ map told_of after = c.in_ok-hands.ensures.told in
+    let idles : AreIdle c.args.script.now.connectors c.args.script.now.lines c.in-Ok.hands.items idle =
+    subst (λ (x : List Name16 × List Line). AreIdle x.0 x.1 c.in-Ok.hands.items idle)
+    (λ i. (c.items-connectors.ensures i, c.items.ensures i)) c.in_ok-workers.ensures in
+    let form = c.in-Ok.ensures.form in
+    let words = c.close-words.result.items in
+    subst (λ (t : List HandTold × List ℕ). IsLocked c.args.script.now (record { hands = t.0; words = t.1 }))
+    (λ i. (sym (c.from_vec.ensures ∙ told) i, sym c.from_vec-2.ensures i))
+    (told-right c.args.script.now locks c.args.callers idle after c.in-Ok.hands.items
+    (form.0 ∙ c.requires.entries.1) c.requires.callers.2 c.in-Ok.ensures.hands idles
+    c.work_each.ensures
+    words c.close-words.ensures.count
+    (subst (λ (l : List HandSeen). (word : ℕ) → word < locks.words → HasValue (all_held l) word (slice_index words word)) hands
+    c.close-words.ensures.words)
+    (subst (λ (l : List HandSeen). AllPairs AreCompatible (all_held l)) hands c.close-words.ensures.compatible)
+    (subst (λ (l : List HandSeen). All (λ (h : HandSeen). All (IsOthers l h.number) h.read) l) hands c.close-words.ensures.read))

@@ -1,0 +1,5 @@
+use Rattle.std.proofs.Common.{rules}
+use Rattle.plex_script.proofs.judging.undone.Goals as goal
+
+pub returns : goal.returns
+returns c = search rules

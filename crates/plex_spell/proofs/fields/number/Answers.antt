@@ -1,0 +1,6 @@
+use Rattle.std.proofs.Common.{rules}
+use Rattle.plex_spell.proofs.fields.number.Goals as goal
+
+-- the wrong body no_zero is refused at this goal
+pub returns : goal.returns
+returns c = search rules

@@ -1,0 +1,5 @@
+pub mod Moves
+pub mod Answered
+pub mod Keeping
+pub mod Changes
+pub mod ReplayLaws

@@ -1,9 +1,0 @@
-pub mod Fronts
-pub mod Steps
-pub mod Items
-pub mod Changes
-pub mod Callers
-pub mod Lines
-pub mod Closings
-pub mod Departures
-pub mod SerialLaw

@@ -1,0 +1,25 @@
+ghost use Rattle.std.specs.Prelude.{◌≡◌, ℕ, List, slice_get, Some};
+ghost use Rattle.plex_script.specs.declared.asks.AnyHistory.{AnyHistory};
+ghost use Rattle.plex_script.specs.declared.scripts.Line.{Line};
+ghost use Rattle.plex_script.specs.declared.scripts.Script.{Script};
+ghost use Rattle.desk_model.specs.Boards.{BoardShown};
+ghost use Rattle.desk_model.specs.Callers as alone;
+ghost use Rattle.desk_model.specs.Turns.{AtWork};
+ghost use Rattle.serve_laws.specs.Chains.{Serves};
+ghost use Rattle.serve_laws.specs.Ends.{ShowsWork, IsLeft, beginner};
+
+use cf_link::Link;
+
+/// However a caller's work ended, and whatever the others did: what it was shown are the caller's
+/// calls, each once and in their order, as far as its work came, and tests that tell what stood.
+/// Where it ended for want of memory, these are the items of its lines and departures up to a next
+/// one. A caller that has a thread to itself works so, and hears of nobody.
+pub fn serve_right<L: Link>()
+    ensures shows { (limit : ℕ) (script : Script) (board : BoardShown L)
+        (histories : List AnyHistory) (workers : List AtWork) (c : ℕ) (worker : AtWork)
+        → IsLeft limit script board histories workers → slice_get workers c ≡ Some worker
+        → Serves board script.lines (beginner board (record { 0 = c })) worker
+        → ShowsWork limit script histories (record { 0 = c }) worker.shown }
+    ensures alone { (board : BoardShown L) (lines : List Line) (before after : AtWork)
+        → alone.Serves board lines before after → Serves board lines before after }
+{}

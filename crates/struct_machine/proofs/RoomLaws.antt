@@ -1,0 +1,58 @@
+-- No call but that of a member who connects to the new instance looks at what the content needs.
+use Rattle.std.proofs.Common.{◌≡◌, refl}
+use Rattle.cf_types.specs.declared.forms.StrForm.{StrForm}
+use Rattle.cf_types.specs.declared.numbers.ConnId.{ConnId}
+use Rattle.cf_types.specs.declared.shell_commands.ShellCmd.{ShellCmd}
+use Rattle.cf_types.specs.declared.shell_commands.ShellCmd.TheVariants as cmd
+use Rattle.engine_api.specs.declared.asks.Ask.{Ask}
+use Rattle.engine_api.specs.declared.asks.Ask.TheVariants as ask
+use Rattle.engine_api.specs.declared.deeds.Room.{Room}
+use Rattle.engine_api.specs.Shell.{Shell, shell_cause, shell_done, call_cause}
+use Rattle.struct_machine.specs.Kept.{command_looks, looks_at_need, room_seen}
+
+pub cause_seen : (form : StrForm) (room : Room) (shell : Shell) (by : ConnId) (command : ShellCmd)
+    → shell_cause form (room_seen (command_looks command) room) shell by command
+    ≡ shell_cause form room shell by command
+cause_seen form room shell by (cmd.Connect keep) = refl
+cause_seen form room shell by cmd.Disconnect = refl
+cause_seen form room shell by cmd.Fail = refl
+cause_seen form room shell by cmd.Next = refl
+cause_seen form room shell by cmd.Respond = refl
+cause_seen form room shell by (cmd.RebuildStart caps) = refl
+cause_seen form room shell by cmd.RebuildStop = refl
+cause_seen form room shell by cmd.RebuildConnect = refl
+cause_seen form room shell by (cmd.Copy n) = refl
+cause_seen form room shell by cmd.RebuildComplete = refl
+cause_seen form room shell by (cmd.ForceConn other) = refl
+cause_seen form room shell by cmd.ForceStr = refl
+cause_seen form room shell by (cmd.LoseConn other cf) = refl
+cause_seen form room shell by (cmd.RestoreConn other cf) = refl
+cause_seen form room shell by (cmd.Vary cf off) = refl
+cause_seen form room shell by cmd.DuplexStart = refl
+cause_seen form room shell by cmd.DuplexStop = refl
+
+pub done_seen : (form : StrForm) (room : Room) (shell : Shell) (by : ConnId) (command : ShellCmd)
+    → shell_done form (room_seen (command_looks command) room) shell by command
+    ≡ shell_done form room shell by command
+done_seen form room shell by (cmd.Connect keep) = refl
+done_seen form room shell by cmd.Disconnect = refl
+done_seen form room shell by cmd.Fail = refl
+done_seen form room shell by cmd.Next = refl
+done_seen form room shell by cmd.Respond = refl
+done_seen form room shell by (cmd.RebuildStart caps) = refl
+done_seen form room shell by cmd.RebuildStop = refl
+done_seen form room shell by cmd.RebuildConnect = refl
+done_seen form room shell by (cmd.Copy n) = refl
+done_seen form room shell by cmd.RebuildComplete = refl
+done_seen form room shell by (cmd.ForceConn other) = refl
+done_seen form room shell by cmd.ForceStr = refl
+done_seen form room shell by (cmd.LoseConn other cf) = refl
+done_seen form room shell by (cmd.RestoreConn other cf) = refl
+done_seen form room shell by (cmd.Vary cf off) = refl
+done_seen form room shell by cmd.DuplexStart = refl
+done_seen form room shell by cmd.DuplexStop = refl
+
+pub call_seen : {C : Type 0} (form : StrForm) (room : Room) (shell : Shell) (by : ConnId) (asked : Ask C)
+    → call_cause form (room_seen (looks_at_need asked) room) shell by asked ≡ call_cause form room shell by asked
+call_seen form room shell by (ask.Shell command) = cause_seen form room shell by command
+call_seen form room shell by (ask.Content command) = refl

@@ -1,0 +1,3 @@
+mod turns;
+mod words;
+mod worlds;

@@ -1,0 +1,39 @@
+# What ./plexrun says of a script that the program refused.
+
+# What may be wrong with a line that has none of the forms.
+form_hint() {
+    set -f
+    case $2 in
+    'M-oM-;M-?'*) echo 'the text begins with a byte order mark; it has to be saved without one'; return ;;
+    '#'* | ';'* | //* | --*) echo 'a comment begins with *, on a line of its own'; return ;;
+    esac
+    set -- "$1" $2
+    case $2$3$4 in *[a-z]*) echo 'words are in capital letters'; return ;; esac
+    case $2 in FACILITY | STRUCTURE | PREF | CONNECTOR) echo 'it has none of the forms of the policy'; return ;; esac
+    if head -n "$1" /proc/self/fd/0 | grep -q "^[[:blank:]]*CONNECTOR[[:blank:]]"; then
+        echo 'it has none of the forms'
+    else
+        echo 'a call comes behind the policy: FACILITY, STRUCTURE, PREF and CONNECTOR lines'
+    fi
+}
+
+hint() {
+    case $2 in
+    SYNTAX) form_hint "$1" "$3" ;;
+    LATE) echo 'FACILITY, STRUCTURE, PREF and CONNECTOR lines come before the first call' ;;
+    LIMIT) echo 'a word or the line is too long, a number is out of its range, or there is one thing too many' ;;
+    UNKNOWN) echo 'it names a facility, structure or connector that no line before it declares' ;;
+    TWICE) echo 'it was declared before' ;;
+    SPACE) echo 'the PREF lines set more units aside than the facility has' ;;
+    NOTYET) echo 'the line is right, but this version does not run it' ;;
+    esac
+}
+
+# Shows the line that an answer `SCRIPT line WHY` names, of the script on standard input, and what may be wrong with it.
+explain() {
+    set -- $1
+    [ -f /proc/self/fd/0 ] && [ "$1" = SCRIPT ] || return 0
+    line=$(sed -n "$2{p;q;}" /proc/self/fd/0 | tr -d '\r' | cut -b 1-160 | cat -v)
+    say "line $2 is: $line"
+    say "$3: $(hint "$2" "$3" "$line") (docs/SCRIPT.md, \"What is wrong with a text\")"
+}
