@@ -25,7 +25,6 @@ hint() {
     UNKNOWN) echo 'it names a facility, structure or connector that no line before it declares' ;;
     TWICE) echo 'it was declared before' ;;
     SPACE) echo 'the PREF lines set more units aside than the facility has' ;;
-    NOTYET) echo 'the line is right, but this version does not run it' ;;
     esac
 }
 

@@ -1,1 +1,2 @@
 mod ShownLaws
+pub mod UnusedLaws

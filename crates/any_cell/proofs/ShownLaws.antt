@@ -1,11 +1,16 @@
 -- What holds of passes and calls by the type of their structure holds of them as they are shown.
-use Rattle.std.proofs.Common.{◌≡◌, ℕ, ◌<◌, ◌≤◌, ◌==◌, true, List, length, map, get_or, All, refl, sym, ap, subst, ◌∙◌, arith}
+use Rattle.std.proofs.Common.{◌≡◌, ℕ, ◌<◌, ◌≤◌, ◌==◌, Bool, true, List, length, map, get_or, All, refl, sym, ap, subst, ◌∙◌, arith}
 use Rattle.std.proofs.lemmas.Bool.Decides.{nat_tests}
 use Rattle.std.proofs.lemmas.Simd.{map-map}
 use Rattle.std.proofs.lemmas.List.{length-map, get_or-map}
+use Rattle.std.specs.Prelude.{Option}
 use Rattle.std.specs.List.{range_with_len}
 use Rattle.std.proofs.lemmas.List.FromFn.{length-range_with_len}
 use Rattle.std.proofs.lemmas.List.Elements.{All-map, All-weaker}
+use Rattle.cf_link.specs.declared.links.Links.{Links}
+use Rattle.cf_link.specs.Links.{AreAsked}
+use Rattle.cf_types.specs.declared.forms.StrForm.{StrForm}
+use Rattle.cf_types.specs.declared.numbers.CfId.{CfId}
 use Rattle.cf_types.specs.declared.numbers.ConnId.{ConnId}
 use Rattle.engine_api.specs.declared.asks.Ask.{Ask}
 use Rattle.engine_api.specs.declared.histories.Entry.{Entry}
@@ -18,6 +23,7 @@ use Rattle.vec_words.specs.declared.logged.Sight.{Sight}
 use Rattle.vec_words.specs.Tokens.{WordTable, PassSeen, new_pass}
 use Rattle.struct_cell.specs.declared.inside.CellKey.{CellKey}
 use Rattle.struct_cell.specs.Cells.{About, own_call_of}
+use Rattle.struct_cell.specs.Limits.{AreMadeBelow}
 use Rattle.struct_cell.specs.Telling.{IsTold}
 use Rattle.any_model.specs.Types.{StrType}
 use Rattle.any_cell.specs.Passes.{PassShown, call_by, heard_by, shown_as, unused_pass}
@@ -106,6 +112,16 @@ module _ {C R : Type 0} (str_type : StrType) (of : Ask C → AnyAsk) where
         (λ (test : Sight). IsTold meaning s.form history pass.owner test) pass.tests) passes)
         (sym shown_is) told)
 
-    pub shown_known : (most : ℕ) → All (λ (pass : PassSeen (About C R)). pass.known ≤ most) passes
-        → All (λ (pass : PassShown). pass.known ≤ most) list
-    shown_known most known = each_shown (λ (pass : PassShown). pass.known ≤ most) known
+    pub shown_known : (P : ℕ → Type 0) → All (λ (pass : PassSeen (About C R)). P pass.known) passes
+        → All (λ (pass : PassShown). P pass.known) list
+    shown_known P known = each_shown (λ (pass : PassShown). P pass.known) known
+
+    pub shown_room : (numbers : List ℕ) → AreMadeBelow key.limit 0 numbers → AreMadeBelow shown.limit 0 numbers
+    shown_room numbers made = subst (λ (s : CellShown L). AreMadeBelow s.limit 0 numbers) (sym shown_is) made
+
+    pub shown_links : (asks : L → Option ℕ) (downs : L → Option (List ℕ)) (faults : L → ℕ)
+        (told : StrForm → CfId → List Bool) (handed : Links L)
+        → AreAsked asks downs faults (told key.form) key.links handed
+        → AreAsked asks downs faults (told shown.form) shown.links handed
+    shown_links asks downs faults told handed are =
+        subst (λ (s : CellShown L). AreAsked asks downs faults (told s.form) s.links handed) (sym shown_is) are

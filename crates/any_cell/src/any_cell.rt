@@ -2,11 +2,13 @@
 ghost use Rattle.std.specs.Prelude.{◌≡◌, ◌≢◌, ◌+◌, ◌<◌, ◌≤◌, ◌++◌, ◌∷◌, [], IfOk, IfErr, All, map, max};
 ghost use Rattle.std.specs.List.{range_with_len};
 ghost use Rattle.cf_types.specs.declared.limits.TheConstants.{CONNECTORS};
+ghost use Rattle.cf_link.specs.Links.{AreAsked};
 ghost use Rattle.cf_types.specs.Forms.{IsForm};
 ghost use Rattle.plex_script.specs.Heard.{any_calls, any_length, own_calls};
 ghost use Rattle.struct_cell.specs.declared.refused.CallRefused.TheVariants as refused;
 ghost use Rattle.vec_words.specs.Logged.{words_of, indices_of, sight};
-ghost use Rattle.any_model.specs.Kinds.{MayAskAny, IsAnyLegal};
+ghost use Rattle.struct_cell.specs.Limits.{AreMadeBelow};
+ghost use Rattle.any_model.specs.Kinds.{MayAskAny, IsAnyLegal, IsAnyPoint, any_answers, any_numbers};
 ghost use Rattle.any_model.specs.Types.{type_of_kind, type_of_history};
 ghost use Rattle.any_cell.specs.Passes.{IsLater, pass_shown, passes_shown, type_of_passes, room_of, note_shown, note_of, unused_pass, with_call};
 ghost use Rattle.any_cell.specs.Cells.{IsPassOf, IsNoteOf, IsAskOf, IsAnyTold, cell_shown};
@@ -35,8 +37,8 @@ pub enum AnyCell<L: Link> {
 
 impl<L: Link> AnyCell<L> {
     /// A cell of a structure of this form without calls yet (what the first IXLCONN allocates),
-    /// with a pass for each caller from the operator, 0, on. Its journal has at most `limit`
-    /// entries.
+    /// with a pass for each caller from the operator, 0, on. A call is made where its journal has
+    /// fewer than `limit` entries.
     ///
     /// # Errors
     ///
@@ -85,12 +87,12 @@ impl<L: Link> AnyCell<L> {
     }
 
     /// A call of the pass's owner. It waits for its turn; then it is judged and done at once, it
-    /// stands in the journal, and the words of the vectors show what it did before its number is
-    /// published.
+    /// stands in the journal, behind what its links tell to be lost, and the words of the vectors
+    /// show what it did before its number is published.
     ///
     /// # Errors
     ///
-    /// `JournalFull` where the journal has `limit` entries; `NoMemory`, before anything was
+    /// `JournalFull` where the journal has `limit` entries or more; `NoMemory`, before anything was
     /// changed. In both cases nothing happened to the structure.
     pub fn call(
         &self,
@@ -236,23 +238,26 @@ impl<L: Link> AnyCell<L> {
         }
     }
 
-    /// Ends the cell, with its history and the links as it got them. Of the history each pass has
-    /// its owner's calls, and it says what the pass's tests answered. It may wait for a turn, and
-    /// takes no memory.
+    /// Ends the cell, with its history and its links, which were asked as the history tells. Of the
+    /// history each pass has its owner's calls, and it says what the pass's tests answered. It may
+    /// wait for a turn, and takes no memory.
     pub fn close(self, rt: &impl Wait, passes: AnyPasses) -> (AnyHistory, Links<L>)
         requires passes { All (IsPassOf (cell_shown self)) (passes_shown passes) }
         requires passes_type { type_of_passes passes ≡ (cell_shown self).str_type }
         ensures history_type { type_of_history result.0 ≡ (cell_shown self).str_type }
         ensures legal { IsAnyLegal (cell_shown self).form result.0 }
-        ensures most { any_length result.0 ≤ (cell_shown self).limit }
+        ensures most { any_length result.0 ≤ (cell_shown self).limit + 2 }
+        ensures room { AreMadeBelow (cell_shown self).limit 0 (any_numbers result.0) }
         ensures callers { All (λ call. call.by.0 ≤ (cell_shown self).callers)
             (any_calls result.0) }
         ensures mine { All (λ pass. pass.calls ≡ own_calls (any_calls result.0) pass.owner)
             (passes_shown passes) }
         ensures tests { All (λ pass. All (IsAnyTold (cell_shown self).form result.0 pass.owner)
             pass.tests) (passes_shown passes) }
-        ensures known { All (λ pass. pass.known ≤ any_length result.0) (passes_shown passes) }
-        ensures links { result.1 ≡ (cell_shown self).links }
+        ensures known { All (λ pass. IsAnyPoint result.0 pass.known
+            × (pass.known ≤ any_length result.0)) (passes_shown passes) }
+        ensures links { AreAsked L.calls L.downs L.faults
+            (any_answers (cell_shown self).form result.0) (cell_shown self).links result.1 }
     {
         match (self, passes) {
             (AnyCell::Cache(cell), AnyPasses::Cache(passes)) => {

@@ -1,7 +1,6 @@
--- What a history of whatever kind says of its calls: how many there are, their numbers, and what was told of each.
-use Rattle.std.proofs.Common.{◌≡◌, ℕ, zero, suc, ◌+◌, ◌*◌, ◌<◌, ◌≤◌, ◌==◌, Bool, true, false, List, [], ◌∷◌, ◌++◌, length, take, map, Some, refl, sym, ap, subst, ◌∙◌, arith, suc-le-suc, zero-lt-suc, append_assoc, append-nil, length-append}
+-- What a history of whatever kind says of its calls: how many there are, and that their numbers rise.
+use Rattle.std.proofs.Common.{◌≡◌, ℕ, suc, ◌*◌, ◌<◌, ◌≤◌, ◌==◌, Bool, true, false, List, [], ◌∷◌, length, map, refl, sym, ap, subst, ◌∙◌, arith, suc-le-suc, zero-lt-suc}
 use Rattle.std.specs.Prelude.{All}
-use Rattle.std.specs.List.{cons_option}
 use Rattle.std.proofs.lemmas.Bool.{eq-eqb, ne_eqb, false≢true}
 use Rattle.std.proofs.lemmas.List as lists
 use Rattle.cf_types.specs.declared.forms.StrForm.{StrForm}
@@ -9,15 +8,9 @@ use Rattle.cf_types.specs.declared.forms.Kind.{Kind}
 use Rattle.cf_types.specs.declared.forms.Kind.TheVariants as kind
 use Rattle.cf_types.specs.declared.numbers.ConnId.{ConnId}
 use Rattle.engine_api.specs.declared.asks.Ask.{Ask}
-use Rattle.engine_api.specs.declared.asks.What.{What}
-use Rattle.engine_api.specs.declared.asks.What.TheVariants as what
-use Rattle.engine_api.specs.declared.asks.Reply.{Reply}
-use Rattle.engine_api.specs.declared.asks.Reply.TheVariants as reply
 use Rattle.engine_api.specs.declared.histories.Entry.{Entry}
 use Rattle.engine_api.specs.Meaning.{Meaning}
-use Rattle.engine_api.specs.History.{Call, call_told, calls, with_call, next_reply, IsCall, IsCallAs, IsNext, IsNextAs, IsUnmarked, IsLegal, Continues}
-use Rattle.engine_api.specs.Told.{told_of}
-use Rattle.engine_api.proofs.HistoryLaws.{continues_legal}
+use Rattle.engine_api.specs.History.{Call, calls, IsLegal}
 use Rattle.engine_api.proofs.NumberLaws.{RisesTo, numbers_rise, three_each}
 use Rattle.cache_model.specs.Meaning.{cache_meaning}
 use Rattle.list_model.specs.Meaning.{list_meaning}
@@ -27,83 +20,12 @@ use Rattle.plex_script.specs.declared.scripts.AnyAsk.TheVariants as ask
 use Rattle.plex_script.specs.declared.asks.AnyHistory.{AnyHistory}
 use Rattle.plex_script.specs.declared.asks.AnyHistory.TheVariants as history
 use Rattle.plex_script.specs.Heard.{AnyCall, any_call, any_calls, any_length, own_calls}
-use Rattle.any_model.specs.Kinds.{IsOfKind, IsAnyLegal, Rising, any_take, any_next, any_told, no_calls}
-
--- ---- the entries of one kind of structure
-
-length_front : {X : Type 0} (n : ℕ) (xs : List X) → n ≤ length xs → length (take n xs) ≡ n
-length_front n xs within = omega (arith, lists.length-take n xs)
-
-number-told : {C R : Type 0} (number : ℕ) (asked : Ask C) (given : Reply R) → (told_of number asked given).no ≡ number
-number-told number asked (reply.Shell answered) = refl
-number-told number asked (reply.Content answered) = refl
-number-told number asked (reply.Refused refusal) = refl
+use Rattle.any_model.specs.Kinds.{IsOfKind, IsAnyLegal, Rising, any_take, no_calls}
 
 module _ {C R I S : Type 0} (meaning : Meaning C R I S) (of : Ask C → AnyAsk) (form : StrForm) where
   -- the calls, as their callers hear of them
-  abbrev heard_of : List (Entry C R) → List AnyCall
+  abbrev pub heard_of : List (Entry C R) → List AnyCall
   heard_of entries = map (any_call of) (calls entries)
-
-  -- the call is the next one of a history, and leaves this one
-  record IsCalled (before after : List (Entry C R)) (call : AnyCall) : Type 0 where
-    asked : Ask C
-    ask : call.ask ≡ of asked
-    no : call.no ≡ length before + 1
-    number : call.told.no ≡ call.no
-    next : after ≡ with_call meaning form before call.by asked
-    told : call.told ≡ told_of (length before + 1) asked (next_reply meaning form before call.by asked)
-
-  -- an entry that continues a history is such a call
-  abbrev TellsCall : List (Entry C R) → Entry C R → What C → Type 0
-  TellsCall before entry told =
-      (call : Call C R) × (call_told entry.no entry.by entry.reply told ≡ Some call)
-      × IsCalled before (before ++ entry ∷ []) (any_call of call)
-
-  tells_call : (before : List (Entry C R)) (entry : Entry C R) (told : What C) → IsCallAs told
-      → IsNextAs meaning form before entry told → TellsCall before entry told
-  tells_call before entry (what.Call asked) is_call e = (
-    record { no = entry.no; by = entry.by; ask = asked; reply = entry.reply },
-    refl,
-    record {
-      asked = asked;
-      ask = refl;
-      no = ap (λ (it : Entry C R). it.no) e;
-      number = number-told entry.no asked entry.reply;
-      next = ap (λ (it : Entry C R). before ++ it ∷ []) e;
-      told = ap (λ (it : Entry C R). told_of it.no asked it.reply) e;
-    },
-  )
-  tells_call before entry (what.Lost cf) is_call e = absurd is_call
-
-  abbrev IsHeard : List (Entry C R) → Entry C R → Type 0
-  IsHeard before entry =
-      (call : AnyCall) × ((more : List (Entry C R)) → heard_of (entry ∷ more) ≡ call ∷ heard_of more)
-      × IsCalled before (before ++ entry ∷ []) call
-
-  is_heard : (before : List (Entry C R)) (entry : Entry C R) → IsCall entry → IsNext meaning form before entry
-      → IsHeard before entry
-  is_heard before entry is_call e =
-      let it : TellsCall before entry entry.what = tells_call before entry entry.what is_call e in
-      (any_call of it.0, λ more. ap (λ o. map (any_call of) (cons_option o (calls more))) it.1, it.2)
-
-  -- ---- by what continues a history
-
-  length_heard : (before entries : List (Entry C R)) → IsUnmarked entries → Continues meaning form before entries
-      → length (heard_of entries) ≡ length entries
-  length_heard before [] marks goes = refl
-  length_heard before (entry ∷ entries) marks goes =
-      let it : IsHeard before entry = is_heard before entry marks.0 goes.0 in
-      ap length (it.1 entries) ∙ ap suc (length_heard (before ++ entry ∷ []) entries marks.1 goes.1)
-
-  take_heard : (before entries : List (Entry C R)) (n : ℕ) → IsUnmarked entries → Continues meaning form before entries
-      → heard_of (take n entries) ≡ take n (heard_of entries)
-  take_heard before entries zero marks goes = refl
-  take_heard before [] (suc n) marks goes = refl
-  take_heard before (entry ∷ entries) (suc n) marks goes =
-      let it : IsHeard before entry = is_heard before entry marks.0 goes.0 in
-      it.1 (take n entries) ∙ ap (λ (some : List AnyCall). it.0 ∷ some)
-      (take_heard (before ++ entry ∷ []) entries n marks.1 goes.1)
-      ∙ sym (ap (take (suc n)) (it.1 entries))
 
   rise_heard : (low : ℕ) (some : List (Call C R)) (high : ℕ) → RisesTo meaning form low some high
       → Rising low (map (any_call of) some)
@@ -117,129 +39,31 @@ module _ {C R I S : Type 0} (meaning : Meaning C R I S) (of : Ask C → AnyAsk) 
       let few : length entries ≤ 3 * length (calls entries) = three_each meaning form entries legal in
       omega (arith, same, few)
 
-  -- the call behind so many others
-  call_at : (before entries : List (Entry C R)) → IsUnmarked entries → Continues meaning form before entries
-      → (front : List AnyCall) (call : AnyCall) (more : List AnyCall) → heard_of entries ≡ front ++ call ∷ more
-      → IsCalled (before ++ take (length front) entries) (before ++ take (suc (length front)) entries) call
-  call_at before [] marks goes [] call more e = absurd cc
-  call_at before [] marks goes (first ∷ front) call more e = absurd cc
-  call_at before (entry ∷ entries) marks goes [] call more e =
-      let it : IsHeard before entry = is_heard before entry marks.0 goes.0 in
-      let both : it.0 ∷ heard_of entries ≡ call ∷ more = sym (it.1 entries) ∙ e in
-      let same : it.0 ≡ call = cc in
-      subst (λ (h : List (Entry C R)). IsCalled h (before ++ entry ∷ []) call) (sym (append-nil before))
-      (subst (IsCalled before (before ++ entry ∷ [])) same it.2)
-  call_at before (entry ∷ entries) marks goes (first ∷ front) call more e =
-      let it : IsHeard before entry = is_heard before entry marks.0 goes.0 in
-      let both : it.0 ∷ heard_of entries ≡ first ∷ (front ++ call ∷ more) = sym (it.1 entries) ∙ e in
-      let rest : heard_of entries ≡ front ++ call ∷ more = cc in
-      let later : IsCalled ((before ++ entry ∷ []) ++ take (length front) entries)
-      ((before ++ entry ∷ []) ++ take (suc (length front)) entries) call =
-      call_at (before ++ entry ∷ []) entries marks.1 goes.1 front call more rest in
-      subst (λ (h : List (Entry C R)). IsCalled h (before ++ entry ∷ take (suc (length front)) entries) call)
-      (append_assoc before (entry ∷ []) (take (length front) entries))
-      (subst (λ (h : List (Entry C R)). IsCalled ((before ++ entry ∷ []) ++ take (length front) entries) h call)
-      (append_assoc before (entry ∷ []) (take (suc (length front)) entries)) later)
-
-  call_in : (entries : List (Entry C R)) → IsLegal meaning form entries × IsUnmarked entries
-      → (front : List AnyCall) (call : AnyCall) (more : List AnyCall) → heard_of entries ≡ front ++ call ∷ more
-      → IsCalled (take (length front) entries) (take (length front + 1) entries) call
-  call_in entries legal front call more e =
-      let one : suc (length front) ≡ length front + 1 = omega arith in
-      subst (λ (n : ℕ). IsCalled (take (length front) entries) (take n entries) call) one
-      (call_at [] entries legal.1 (continues_legal meaning form entries legal.0) front call more e)
-
-  number_in : (entries : List (Entry C R)) → IsLegal meaning form entries × IsUnmarked entries
-      → (front : List AnyCall) (call : AnyCall) (more : List AnyCall) → heard_of entries ≡ front ++ call ∷ more
-      → (call.no ≡ length front + 1) × (call.told.no ≡ call.no)
-  number_in entries legal front call more e =
-      let it : IsCalled (take (length front) entries) (take (length front + 1) entries) call =
-      call_in entries legal front call more e in
-      let heard : length (heard_of entries) ≡ length entries =
-      length_heard [] entries legal.1 (continues_legal meaning form entries legal.0) in
-      let parts : length (heard_of entries) ≡ length front + length (call ∷ more) =
-      ap length e ∙ length-append front (call ∷ more) in
-      let within : length front ≤ length entries = omega (arith, heard, parts) in
-      (it.no ∙ ap (λ (n : ℕ). n + 1) (length_front (length front) entries within), it.number)
-
 -- ---- the calls of a legal history
 
 -- a call and the marks before it are three entries at most
 pub length_calls : (form : StrForm) (h : AnyHistory) → IsAnyLegal form h → any_length h ≤ 3 * length (any_calls h)
-length_calls form (history.Cache entries) legal = few_heard cache_meaning ask.Cache form entries legal.0
-length_calls form (history.List entries) legal = few_heard list_meaning ask.List form entries legal.0
-length_calls form (history.Lock entries) legal = few_heard lock_meaning ask.Lock form entries legal.0
-
--- no link is asked yet, so each entry is a call
-pub calls_length : (form : StrForm) (h : AnyHistory) → IsAnyLegal form h → length (any_calls h) ≡ any_length h
-calls_length form (history.Cache entries) legal =
-    length_heard cache_meaning ask.Cache form [] entries legal.1 (continues_legal cache_meaning form entries legal.0)
-calls_length form (history.List entries) legal =
-    length_heard list_meaning ask.List form [] entries legal.1 (continues_legal list_meaning form entries legal.0)
-calls_length form (history.Lock entries) legal =
-    length_heard lock_meaning ask.Lock form [] entries legal.1 (continues_legal lock_meaning form entries legal.0)
-
--- the calls are numbered from 1 without a gap
-pub call_number : (form : StrForm) (h : AnyHistory) → IsAnyLegal form h
-    → (before : List AnyCall) (call : AnyCall) (more : List AnyCall)
-    → any_calls h ≡ before ++ call ∷ more → (call.no ≡ length before + 1) × (call.told.no ≡ call.no)
-call_number form (history.Cache entries) legal = number_in cache_meaning ask.Cache form entries legal
-call_number form (history.List entries) legal = number_in list_meaning ask.List form entries legal
-call_number form (history.Lock entries) legal = number_in lock_meaning ask.Lock form entries legal
+length_calls form (history.Cache entries) legal = few_heard cache_meaning ask.Cache form entries legal
+length_calls form (history.List entries) legal = few_heard list_meaning ask.List form entries legal
+length_calls form (history.Lock entries) legal = few_heard lock_meaning ask.Lock form entries legal
 
 pub calls_rise : (form : StrForm) (h : AnyHistory) → IsAnyLegal form h → Rising 0 (any_calls h)
 calls_rise form (history.Cache entries) legal =
-    rise_heard cache_meaning ask.Cache form 0 (calls entries) (length entries) (numbers_rise cache_meaning form entries legal.0)
+    rise_heard cache_meaning ask.Cache form 0 (calls entries) (length entries)
+    (numbers_rise cache_meaning form entries legal)
 calls_rise form (history.List entries) legal =
-    rise_heard list_meaning ask.List form 0 (calls entries) (length entries) (numbers_rise list_meaning form entries legal.0)
+    rise_heard list_meaning ask.List form 0 (calls entries) (length entries)
+    (numbers_rise list_meaning form entries legal)
 calls_rise form (history.Lock entries) legal =
-    rise_heard lock_meaning ask.Lock form 0 (calls entries) (length entries) (numbers_rise lock_meaning form entries legal.0)
+    rise_heard lock_meaning ask.Lock form 0 (calls entries) (length entries)
+    (numbers_rise lock_meaning form entries legal)
 
 -- ---- the front of a history
-
-pub take_length : (n : ℕ) (h : AnyHistory) → n ≤ any_length h → any_length (any_take n h) ≡ n
-take_length n (history.Cache entries) within = length_front n entries within
-take_length n (history.List entries) within = length_front n entries within
-take_length n (history.Lock entries) within = length_front n entries within
 
 pub take_all : (h : AnyHistory) → any_take (any_length h) h ≡ h
 take_all (history.Cache entries) = ap history.Cache (lists.take_all (length entries) entries (omega arith))
 take_all (history.List entries) = ap history.List (lists.take_all (length entries) entries (omega arith))
 take_all (history.Lock entries) = ap history.Lock (lists.take_all (length entries) entries (omega arith))
-
-pub take_calls : (form : StrForm) (h : AnyHistory) (n : ℕ) → IsAnyLegal form h
-    → any_calls (any_take n h) ≡ take n (any_calls h)
-take_calls form (history.Cache entries) n legal =
-    take_heard cache_meaning ask.Cache form [] entries n legal.1 (continues_legal cache_meaning form entries legal.0)
-take_calls form (history.List entries) n legal =
-    take_heard list_meaning ask.List form [] entries n legal.1 (continues_legal list_meaning form entries legal.0)
-take_calls form (history.Lock entries) n legal =
-    take_heard lock_meaning ask.Lock form [] entries n legal.1 (continues_legal lock_meaning form entries legal.0)
-
--- a call of a legal history is the next one of the entries before it, and what was told of it is what is told there
-pub next_call : (form : StrForm) (h : AnyHistory) → IsAnyLegal form h
-    → (before : List AnyCall) (call : AnyCall) (more : List AnyCall)
-    → any_calls h ≡ before ++ call ∷ more
-    → (any_take (length before + 1) h ≡ any_next form (any_take (length before) h) call.by call.ask)
-    × (call.told ≡ any_told form (any_take (length before) h) call.by call.ask)
-next_call form (history.Cache entries) legal before call more e =
-    let it = call_in cache_meaning ask.Cache form entries legal before call more e in
-    let front : AnyHistory = history.Cache (take (length before) entries) in (
-      ap history.Cache it.next ∙ sym (ap (any_next form front call.by) it.ask),
-      it.told ∙ sym (ap (any_told form front call.by) it.ask),
-    )
-next_call form (history.List entries) legal before call more e =
-    let it = call_in list_meaning ask.List form entries legal before call more e in
-    let front : AnyHistory = history.List (take (length before) entries) in (
-      ap history.List it.next ∙ sym (ap (any_next form front call.by) it.ask),
-      it.told ∙ sym (ap (any_told form front call.by) it.ask),
-    )
-next_call form (history.Lock entries) legal before call more e =
-    let it = call_in lock_meaning ask.Lock form entries legal before call more e in
-    let front : AnyHistory = history.Lock (take (length before) entries) in (
-      ap history.Lock it.next ∙ sym (ap (any_next form front call.by) it.ask),
-      it.told ∙ sym (ap (any_told form front call.by) it.ask),
-    )
 
 none_taken : (kind : Kind) (h : AnyHistory) → IsOfKind kind h → any_take 0 h ≡ no_calls kind
 none_taken kind.Cache (history.Cache entries) of_kind = refl

@@ -2,3 +2,4 @@ pub mod TypeLaws
 pub mod WordLaws
 pub mod HistoryLaws
 pub mod ToldLaws
+pub mod SeamLaws

@@ -1,5 +1,5 @@
 -- Where links tell which calls are down, a history is that of the run with these.
-use Rattle.std.proofs.Common.{◌≡◌, ℕ, ◌+◌, ◌==◌, ◌≤◌, ◌⊎◌, inl, inr, Bool, true, false, List, [], ◌∷◌, ◌++◌, length, refl, sym, ap, subst, ◌∙◌, arith, append_assoc, fold, take, drop}
+use Rattle.std.proofs.Common.{◌≡◌, ℕ, ◌+◌, ◌==◌, ◌≤◌, ◌⊎◌, inl, inr, Bool, true, List, [], ◌∷◌, ◌++◌, length, refl, sym, ap, subst, ◌∙◌, arith, append_assoc, fold, take, drop}
 use Rattle.std.specs.Prelude.{Option, ◌↔◌, if◌then◌else◌}
 use Rattle.std.specs.Bool.{Decides}
 use Rattle.std.specs.List.{list_any}
@@ -13,20 +13,18 @@ use Rattle.cf_link.specs.Tells.{TellsEnough}
 use Rattle.cf_types.specs.Forms.{IsFacility}
 use Rattle.cf_link.specs.declared.links.Links.{Links}
 use Rattle.cf_types.specs.declared.numbers.CfId.{CfId}
-use Rattle.engine_api.specs.declared.asks.What.{What}
-use Rattle.engine_api.specs.declared.asks.What.TheVariants as what
 use Rattle.engine_api.specs.declared.histories.Entry.{Entry}
 use Rattle.engine_api.specs.LinkAsks.{links_asked, Asks, reached_in, marks_of, answers_to}
 use Rattle.cf_types.specs.declared.forms.StrForm.{StrForm}
 use Rattle.engine_api.specs.Meaning.{Meaning}
 use Rattle.engine_api.specs.Machine.{Machine}
-use Rattle.engine_api.specs.History.{Call, Turn, calls, replay, with_marks, with_call, after_turn, IsCallAs, IsUnmarked, IsLegal}
-use Rattle.engine_api.specs.Answers.{answers, answers_from, read_all, is_mark_as, marks_at, trues}
+use Rattle.engine_api.specs.History.{Call, Turn, calls, replay, with_marks, with_call, after_turn, IsLegal}
+use Rattle.engine_api.specs.Answers.{answers, answers_from, read_all}
 use Rattle.cf_link.specs.Links.{link_at, calls_after, Telling, IsAsTold, AreAsked, Tells}
 use Rattle.any_model.specs.Told.{is_listed, down_of, next_by, after_call}
 use Rattle.engine_api.proofs.AskLaws.{Agree, marks_agree}
 use Rattle.engine_api.proofs.HistoryLaws.{by_turns, calls-turn, call_added, legal_turn, IsMade, call_made}
-use Rattle.engine_api.proofs.AnswerLaws.{IsAtGroup, group-turn, answers-turn, answers-append, marks_counted}
+use Rattle.engine_api.proofs.AnswerLaws.{IsAtGroup, group-turn, answers-turn, answers-append}
 use Rattle.cf_link.proofs.LinkLaws.{asked_told}
 
 listed_decides : (downs : List ℕ) (count : ℕ) → Decides (is_listed downs count) (IsListed downs count)
@@ -162,41 +160,3 @@ module _ {C R I S : Type 0} (meaning : Meaning C R I S) (form : StrForm) (told :
             (link_at new cf) (enough (link_at old cf)) (tells cf here) (asked.asked cf here)
         | inr other ↦ rw (asked.others cf other) (nothing_told (told cf))
       ]
-
--- ---- histories without marks
-
--- a link that is never down
-abbrev pub never_down : Telling
-never_down = record { calls = 0; downs = [] }
-
-no_mark : {C : Type 0} (cf : CfId) (told : What C) → IsCallAs told → is_mark_as cf told ≡ false
-no_mark cf (what.Call ask) is_call = refl
-no_mark cf (what.Lost lost) is_call = absurd is_call
-
-unmarked_none : {C R : Type 0} (history : List (Entry C R)) (cf : CfId) → IsUnmarked history → marks_at history cf ≡ 0
-unmarked_none [] cf all = refl
-unmarked_none (entry ∷ entries) cf all = rw (no_mark cf entry.what all.0) (unmarked_none entries cf all.1)
-
-none_down : (front : List Bool) (answer : Bool) (more : List Bool) → trues (front ++ answer ∷ more) ≡ 0 → answer ≡ false
-none_down [] true more e = absurd cc
-none_down [] false more e = refl
-none_down (true ∷ front) answer more e = absurd cc
-none_down (false ∷ front) answer more e = none_down front answer more e
-
-module _ {C R I S : Type 0} (meaning : Meaning C R I S) (form : StrForm) where
-  -- where no mark stands, no link was down
-  pub unmarked_told : (history : List (Entry C R)) → IsLegal meaning form history → IsUnmarked history
-      → AreAsTold meaning form (λ cf. never_down) history
-  unmarked_told history legal unmarked cf front answer more e =
-      let none : answer ≡ false =
-      none_down front answer more (ap trues (sym e) ∙ sym (marks_counted meaning form history legal cf)
-      ∙ unmarked_none history cf unmarked) in (
-        λ down. absurd (let wrong : true ≡ false = sym down ∙ none in cc),
-        λ there. absurd (omega (arith, there.1)),
-      )
-
-  -- so the history is that of its calls over links that are never down
-  pub unmarked_run : (history : List (Entry C R)) → IsLegal meaning form history → IsUnmarked history
-      → history ≡ run_of meaning form (λ cf. never_down) (calls history)
-  unmarked_run history legal unmarked =
-      legal_exact meaning form (λ cf. never_down) history legal (unmarked_told history legal unmarked)

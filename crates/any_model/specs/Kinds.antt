@@ -1,13 +1,16 @@
 -- Histories of whatever kind: what a caller's next call makes of one, and what one leads to.
-use Rattle.std.specs.Prelude.{ℕ, ◌+◌, ◌*◌, ◌^◌, ◌<◌, ◌&&◌, nat_lt, Bool, false, if◌then◌else◌, List, [], ◌∷◌, length, take, sum_by}
+use Rattle.std.specs.Prelude.{ℕ, ◌+◌, ◌*◌, ◌^◌, ◌<◌, ◌&&◌, nat_lt, Bool, false, if◌then◌else◌, List, [], ◌∷◌, fold, take, sum_by}
 use Rattle.cf_types.specs.declared.forms.StrForm.{StrForm}
 use Rattle.cf_types.specs.declared.forms.Kind.{Kind}
 use Rattle.cf_types.specs.declared.forms.Kind.TheVariants as kind
+use Rattle.cf_types.specs.declared.numbers.CfId.{CfId}
 use Rattle.cf_types.specs.declared.numbers.ConnId.{ConnId}
+use Rattle.cf_link.specs.Links.{Telling, IsAsTold}
 use Rattle.engine_api.specs.declared.told.Told.{Told}
-use Rattle.engine_api.specs.Asking.{MayAsk, IsBuilt}
-use Rattle.engine_api.specs.History.{with_call, next_reply, stands_after, IsLegal, IsUnmarked, Tells}
-use Rattle.engine_api.specs.Told.{told_of, told_plainly}
+use Rattle.engine_api.specs.Asking.{MayAsk}
+use Rattle.engine_api.specs.History.{numbers, stands_after, IsLegal, IsPoint, Tells}
+use Rattle.engine_api.specs.Answers.{answers, marks_at}
+use Rattle.engine_api.specs.Told.{told_plainly}
 use Rattle.cache_model.specs.Meaning.{cache_meaning}
 use Rattle.list_model.specs.Meaning.{list_meaning}
 use Rattle.lock_model.specs.Meaning.{lock_meaning}
@@ -16,6 +19,7 @@ use Rattle.plex_script.specs.declared.scripts.AnyAsk.TheVariants as ask
 use Rattle.plex_script.specs.declared.asks.AnyHistory.{AnyHistory}
 use Rattle.plex_script.specs.declared.asks.AnyHistory.TheVariants as history
 use Rattle.plex_script.specs.Heard.{AnyCall}
+use Rattle.any_model.specs.Told.{next_by, told_by}
 
 -- the history of a structure with no calls yet
 abbrev pub no_calls : Kind → AnyHistory
@@ -58,37 +62,80 @@ IsAskOf kind.Lock (ask.Cache asked) = ⊥
 IsAskOf kind.Lock (ask.List asked) = ⊥
 IsAskOf kind.Lock (ask.Lock asked) = Unit {0}
 
--- a caller may ask this, and its command is built
+-- a caller may ask this
 abbrev pub MayAskAny : ConnId → AnyAsk → Type 0
-MayAskAny by (ask.Cache asked) = MayAsk by asked × IsBuilt asked
-MayAskAny by (ask.List asked) = MayAsk by asked × IsBuilt asked
-MayAskAny by (ask.Lock asked) = MayAsk by asked × IsBuilt asked
+MayAskAny by (ask.Cache asked) = MayAsk by asked
+MayAskAny by (ask.List asked) = MayAsk by asked
+MayAskAny by (ask.Lock asked) = MayAsk by asked
 
--- a caller's next call, and what is told of it. An ask of another kind is none
-abbrev pub any_next : StrForm → AnyHistory → ConnId → AnyAsk → AnyHistory
-any_next form (history.Cache entries) by (ask.Cache asked) = history.Cache (with_call cache_meaning form entries by asked)
-any_next form (history.Cache entries) by (ask.List asked) = history.Cache entries
-any_next form (history.Cache entries) by (ask.Lock asked) = history.Cache entries
-any_next form (history.List entries) by (ask.Cache asked) = history.List entries
-any_next form (history.List entries) by (ask.List asked) = history.List (with_call list_meaning form entries by asked)
-any_next form (history.List entries) by (ask.Lock asked) = history.List entries
-any_next form (history.Lock entries) by (ask.Cache asked) = history.Lock entries
-any_next form (history.Lock entries) by (ask.List asked) = history.Lock entries
-any_next form (history.Lock entries) by (ask.Lock asked) = history.Lock (with_call lock_meaning form entries by asked)
+-- ---- the next call
 
-abbrev pub any_told : StrForm → AnyHistory → ConnId → AnyAsk → Told
-any_told form (history.Cache entries) by (ask.Cache asked) =
-    told_of (length entries + 1) asked (next_reply cache_meaning form entries by asked)
-any_told form (history.Cache entries) by (ask.List asked) = told_plainly 0 false
-any_told form (history.Cache entries) by (ask.Lock asked) = told_plainly 0 false
-any_told form (history.List entries) by (ask.Cache asked) = told_plainly 0 false
-any_told form (history.List entries) by (ask.List asked) =
-    told_of (length entries + 1) asked (next_reply list_meaning form entries by asked)
-any_told form (history.List entries) by (ask.Lock asked) = told_plainly 0 false
-any_told form (history.Lock entries) by (ask.Cache asked) = told_plainly 0 false
-any_told form (history.Lock entries) by (ask.List asked) = told_plainly 0 false
-any_told form (history.Lock entries) by (ask.Lock asked) =
-    told_of (length entries + 1) asked (next_reply lock_meaning form entries by asked)
+-- a caller's next call over links that tell this, and what is told of it. An ask of another kind is none
+abbrev pub any_next : StrForm → (CfId → Telling) → AnyHistory → ConnId → AnyAsk → AnyHistory
+any_next form told (history.Cache entries) by (ask.Cache asked) =
+    history.Cache (next_by cache_meaning form told entries by asked)
+any_next form told (history.Cache entries) by (ask.List asked) = history.Cache entries
+any_next form told (history.Cache entries) by (ask.Lock asked) = history.Cache entries
+any_next form told (history.List entries) by (ask.Cache asked) = history.List entries
+any_next form told (history.List entries) by (ask.List asked) =
+    history.List (next_by list_meaning form told entries by asked)
+any_next form told (history.List entries) by (ask.Lock asked) = history.List entries
+any_next form told (history.Lock entries) by (ask.Cache asked) = history.Lock entries
+any_next form told (history.Lock entries) by (ask.List asked) = history.Lock entries
+any_next form told (history.Lock entries) by (ask.Lock asked) =
+    history.Lock (next_by lock_meaning form told entries by asked)
+
+abbrev pub any_told : StrForm → (CfId → Telling) → AnyHistory → ConnId → AnyAsk → Told
+any_told form told (history.Cache entries) by (ask.Cache asked) = told_by cache_meaning form told entries by asked
+any_told form told (history.Cache entries) by (ask.List asked) = told_plainly 0 false
+any_told form told (history.Cache entries) by (ask.Lock asked) = told_plainly 0 false
+any_told form told (history.List entries) by (ask.Cache asked) = told_plainly 0 false
+any_told form told (history.List entries) by (ask.List asked) = told_by list_meaning form told entries by asked
+any_told form told (history.List entries) by (ask.Lock asked) = told_plainly 0 false
+any_told form told (history.Lock entries) by (ask.Cache asked) = told_plainly 0 false
+any_told form told (history.Lock entries) by (ask.List asked) = told_plainly 0 false
+any_told form told (history.Lock entries) by (ask.Lock asked) = told_by lock_meaning form told entries by asked
+
+-- ---- links
+
+-- what the link to a facility answered, one answer for each call of which the history has that it asked the link
+abbrev pub any_answers : StrForm → AnyHistory → CfId → List Bool
+any_answers form (history.Cache entries) cf = answers cache_meaning form entries cf
+any_answers form (history.List entries) cf = answers list_meaning form entries cf
+any_answers form (history.Lock entries) cf = answers lock_meaning form entries cf
+
+-- how many marks a history has of a facility
+abbrev pub any_marks_at : AnyHistory → CfId → ℕ
+any_marks_at (history.Cache entries) cf = marks_at entries cf
+any_marks_at (history.List entries) cf = marks_at entries cf
+any_marks_at (history.Lock entries) cf = marks_at entries cf
+
+-- the links answered what they tell
+abbrev pub AreAnyAsTold : StrForm → (CfId → Telling) → AnyHistory → Type 0
+AreAnyAsTold form told entries = (cf : CfId) → IsAsTold (told cf) (any_answers form entries cf)
+
+-- ---- numbers
+
+-- the numbers of the calls
+abbrev pub any_numbers : AnyHistory → List ℕ
+any_numbers (history.Cache entries) = numbers entries
+any_numbers (history.List entries) = numbers entries
+any_numbers (history.Lock entries) = numbers entries
+
+-- the number of a call of the history, or 0
+abbrev pub IsAnyPoint : AnyHistory → ℕ → Type 0
+IsAnyPoint (history.Cache entries) n = IsPoint entries n
+IsAnyPoint (history.List entries) n = IsPoint entries n
+IsAnyPoint (history.Lock entries) n = IsPoint entries n
+
+-- the number of the last call, 0 if there is none
+abbrev pub last_number : ℕ → AnyCall → ℕ
+last_number so_far call = call.no
+
+abbrev pub end_of : List AnyCall → ℕ
+end_of calls = fold last_number 0 calls
+
+-- ---- bits
 
 -- the bit of a connector's vector
 abbrev pub any_stands : StrForm → AnyHistory → ConnId → ℕ → Bool
@@ -108,11 +155,11 @@ any_word form entries conn word =
     else 0)
     (numbers_from 0 32)
 
--- the history is legal. No link is asked yet, so that each entry tells a call
+-- the history is legal
 abbrev pub IsAnyLegal : StrForm → AnyHistory → Type 0
-IsAnyLegal form (history.Cache entries) = IsLegal cache_meaning form entries × IsUnmarked entries
-IsAnyLegal form (history.List entries) = IsLegal list_meaning form entries × IsUnmarked entries
-IsAnyLegal form (history.Lock entries) = IsLegal lock_meaning form entries × IsUnmarked entries
+IsAnyLegal form (history.Cache entries) = IsLegal cache_meaning form entries
+IsAnyLegal form (history.List entries) = IsLegal list_meaning form entries
+IsAnyLegal form (history.Lock entries) = IsLegal lock_meaning form entries
 
 -- a test that shows a bit with a number tells what stood at a numbered point, not before what the connector had seen
 -- complete

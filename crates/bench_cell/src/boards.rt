@@ -2,7 +2,7 @@
 ghost use Rattle.std.specs.Prelude.{◌≡◌, ◌<◌, ◌+◌, IfOk, IfSome, map};
 ghost use Rattle.std.specs.Vec.{vec_len};
 ghost use Rattle.std.specs.List.{range_with_len};
-ghost use Rattle.engine_api.specs.Asking.{MayAsk, IsBuilt};
+ghost use Rattle.engine_api.specs.Asking.{MayAsk};
 ghost use Rattle.desk_model.specs.Boards.{new_desk};
 ghost use Rattle.bench_cell.specs.Seats.{IsOneCache, IsCacheBoard, IsSeated};
 
@@ -62,7 +62,7 @@ fn call(
     ask: Ask<CacheCmd>,
 ) -> Result<Told, CallRefused>
     requires seated { IsSeated board.now desk.old }
-    requires may { MayAsk desk.old.owner ask × IsBuilt ask }
+    requires may { MayAsk desk.old.owner ask }
     ensures { IsSeated board.now desk.new }
 {
     board.call(rt, alloc, desk, POOL, AnyAsk::Cache(ask))

@@ -1,5 +1,5 @@
 //! What a caller does at its desk: calls and tests of the one page, and notes.
-ghost use Rattle.engine_api.specs.Asking.{MayAsk, IsBuilt};
+ghost use Rattle.engine_api.specs.Asking.{MayAsk};
 ghost use Rattle.board_trials.specs.Seats.{IsSeat};
 
 use crate::halts::Halt;
@@ -30,7 +30,7 @@ fn call(
     ask: Ask<CacheCmd>,
 ) -> Result<u32, Halt>
     requires seat { IsSeat board.now desk.old }
-    requires may { MayAsk desk.old.owner ask × IsBuilt ask }
+    requires may { MayAsk desk.old.owner ask }
     ensures { IsSeat board.now desk.new }
 {
     let told = board.call(rt, alloc, desk, CACHE, AnyAsk::Cache(ask))?;

@@ -144,24 +144,6 @@ victims-measured caps request rows =
         ≡ is_enough (room_for caps request rows) k j
     both n k m j f g = rw (f, g) refl
 
--- ---- sums of a part of the rows
-
--- a row that counts fits the sum
-pub part_bound : (p : CacheItem → Bool) (rows : List CacheItem) (i total : ℕ) (row : CacheItem) → i < length rows
-    → row ≡ get_or rows i row
-    → p row ≡ true → total + elements_in (filter p (drop i rows)) ≡ elements_in (filter p rows)
-    → elements_in rows < 2 ^ 32
-    → total + elements_of row.body < 2 ^ 32
-part_bound p rows i total row lt read passes so_far few =
-    let next : drop i rows ≡ row ∷ drop (i + 1) rows = drop_more rows i row lt
-    ∙ ap (λ (r : CacheItem). r ∷ drop (i + 1) rows) (sym read) in
-    let kept : filter p (drop i rows) ≡ row ∷ filter p (drop (i + 1) rows) = ap
-    (λ (l : List CacheItem). filter p l) next ∙ rw passes refl in
-    let sum : elements_in (filter p (drop i rows)) ≡ elements_of row.body + elements_in (filter p (drop (i + 1) rows))
-    =
-    ap (λ (l : List CacheItem). elements_in l) kept ∙ sum_by-cons size row (filter p (drop (i + 1) rows)) in
-    omega (arith, sum, so_far, few, sum_by-filter-le size p rows)
-
 -- ---- want of room by numbers
 
 pub room_refusal-measured : (caps : Caps) (request : Request) (rows : List CacheItem)

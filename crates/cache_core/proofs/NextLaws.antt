@@ -1,9 +1,12 @@
--- What stands before the next of a list.
-use Rattle.std.proofs.Common.{◌≡◌, ◌++◌, ◌∷◌, [], ◌&&◌, Bool, true, List, refl, sym, ◌∙◌}
+-- What stands before the next of a list, and what the last row leaves when it goes.
+use Rattle.std.proofs.Common.{◌≡◌, ◌++◌, ◌∷◌, [], ◌&&◌, ◌-◌, Bool, true, List, Option, None, Some, fold, length, take, slice_get, ap, refl, sym, ◌∙◌}
 use Rattle.std.specs.List.{list_all}
 use Rattle.std.proofs.lemmas.Bool.{and_parts, and_from}
 use Rattle.std.proofs.lemmas.List.Folds.{list_all-append}
 use Rattle.list_laws.specs.Pairwise.{pairwise}
+use Rattle.cache_regs.specs.declared.registrations.Registration.{Registration}
+use Rattle.cache_model.specs.declared.items.CacheItem.{CacheItem}
+use Rattle.cache_model.specs.Contents.{Content, no_content, content_with, regs_without_row, content_without_last}
 
 pub before_next : {X : Type 0} (relation : X → X → Bool) (xs : List X) (y : X) (ys : List X)
     → pairwise relation (xs ++ y ∷ ys) ≡ true
@@ -17,3 +20,24 @@ before_next relation (x ∷ xs) y ys h =
     and_from (relation x y) (list_all (λ z. relation z y) xs)
     (and_parts (relation x y) (list_all (relation x) ys) later).0
     (before_next relation xs y ys parts.1)
+
+-- rows that are placed bring no registrations
+placed-regs : (items : List CacheItem) (start : Content) → (fold content_with start items).regs ≡ start.regs
+placed-regs [] start = refl
+placed-regs (item ∷ items) start = placed-regs items (content_with start item)
+
+without-none : (row : Option CacheItem) → regs_without_row row [] ≡ []
+without-none None = refl
+without-none (Some row) = refl
+
+-- the last row of a content that has just its rows
+pub unplaced : (content : Content) (rows : List CacheItem) → fold content_with no_content content.rows ≡ content
+    → rows ≡ take (length content.rows - 1) content.rows
+    → record { rows = rows; regs = content.regs } ≡ content_without_last content
+unplaced content rows alone front =
+    let none : content.regs ≡ [] = ap (λ (k : Content). k.regs) (sym alone) ∙ placed-regs content.rows no_content in
+    let last = slice_get content.rows (length content.rows - 1) in
+    let same : content.regs ≡ regs_without_row last content.regs =
+    none ∙ sym (without-none last)
+    ∙ ap (λ (regs : List Registration). regs_without_row last regs) (sym none) in
+    (λ i. record { rows = front i; regs = same i })

@@ -1,6 +1,8 @@
 -- What a plan that isn't refused says.
-use Rattle.std.proofs.Common.{◌≡◌, ℕ, List, Option, None, Some, Result, Ok, Err, refl, sym, ap, ◌∙◌, subst}
+use Rattle.std.proofs.Common.{◌≡◌, ℕ, ◌<◌, inl, inr, List, ◌∷◌, cond, leb, Option, None, Some, Result, Ok, Err, refl, sym, ap, ◌∙◌, subst}
 use Rattle.std.specs.Prelude.{OnOk, OnErr}
+use Rattle.std.proofs.lemmas.Bool.{cases_lt, le-leb}
+use Rattle.engine_api.specs.Meaning.{first_refusal}
 use Rattle.cf_types.specs.declared.forms.Caps.{Caps}
 use Rattle.cf_types.specs.declared.numbers.ConnId.{ConnId}
 use Rattle.cf_types.specs.declared.refusals.Refusal.{Refusal}
@@ -15,7 +17,7 @@ use Rattle.cache_model.specs.Commands.Write as write
 use Rattle.cache_model.specs.Step.{cause, victims}
 use Rattle.cache_model.proofs.RoomLaws.{request_spared}
 use Rattle.cache_core.specs.declared.plans.Plan.{Plan}
-use Rattle.cache_core.specs.Plans.{body_of, plan_unless, plan_for, IsSpared}
+use Rattle.cache_core.specs.Plans.{body_of, plan_unless, plan_for, IsSpared, IsIndexed}
 
 -- the plan that is taken is the one that was wanted
 pub plan_taken : (taken kept : Option Plan) (plan wanted : Plan) → taken ≡ kept → taken ≡ Some plan
@@ -65,3 +67,32 @@ pub either_way : {X E Y : Type 0} (P : Y → Type 0) (r : Result X E) (old more 
     → P more → P old → P now
 either_way P (Ok x) old more now e f a b = subst P (sym e) a
 either_way P (Err x) old more now e f a b = subst P (sym f) b
+
+first_none : (cause : Option Refusal) (causes : List (Option Refusal)) → first_refusal (cause ∷ causes) ≡ None
+    → cause ≡ None
+first_none None causes h = refl
+first_none (Some refusal) causes h = absurd (cc)
+
+below : (vector index : ℕ) (refusal : Refusal) (other : Option Refusal)
+    → cond (leb vector index) (Some refusal) other ≡ None → index < vector
+below vector index refusal other h = elim (cases_lt index vector) [
+  | inl lt ↦ lt
+  | inr past ↦
+      absurd (let wrong : Some refusal ≡ None = rw (le-leb vector index past) at h in cc)
+]
+
+-- where a command isn't refused, its index is one of the vector's
+pub indexed : (vector : ℕ) (caps : Caps) (content : Content) (by : ConnId) (cmd : CacheCmd)
+    → cause vector caps content by cmd ≡ None → IsIndexed vector cmd
+indexed vector caps content by (Read name index old stg) h = below vector index _ _ (first_none _ _ h)
+indexed vector caps content by (Write name index body class adj old stg when_reg) h =
+    below vector index _ _ (first_none _ _ h)
+indexed vector caps content by (CrossInval name) h = tt
+indexed vector caps content by RegList h = tt
+indexed vector caps content by (Castout name) h = tt
+indexed vector caps content by (Unlock name) h = tt
+indexed vector caps content by (CoClass class) h = tt
+indexed vector caps content by CoStats h = tt
+indexed vector caps content by (DirInfo name) h = tt
+indexed vector caps content by (Delete name) h = tt
+indexed vector caps content by (StgStats stg) h = tt

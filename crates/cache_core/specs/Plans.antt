@@ -1,5 +1,5 @@
 -- What is got ready for a command: its reply, the names of the rows that are reclaimed, and a copy of its data.
-use Rattle.std.specs.Prelude.{◌≡◌, ℕ, false, List, [], Option, Some, None, Ok, Err}
+use Rattle.std.specs.Prelude.{◌≡◌, ℕ, ◌<◌, false, List, [], Option, Some, None, Ok, Err}
 use Rattle.cf_types.specs.declared.forms.Caps.{Caps}
 use Rattle.cf_types.specs.declared.names.Name16.{Name16}
 use Rattle.cf_types.specs.declared.numbers.ConnId.{ConnId}
@@ -46,3 +46,17 @@ IsSpared gone CoStats = Unit {0}
 IsSpared gone (DirInfo name) = Unit {0}
 IsSpared gone (Delete name) = Unit {0}
 IsSpared gone (StgStats stg) = Unit {0}
+
+-- the index at which a command registers the caller is one of the vector's
+abbrev pub IsIndexed : ℕ → CacheCmd → Type 0
+IsIndexed len (Read name index old stg) = index < len
+IsIndexed len (Write name index body class adj old stg when_reg) = index < len
+IsIndexed len (CrossInval name) = Unit {0}
+IsIndexed len RegList = Unit {0}
+IsIndexed len (Castout name) = Unit {0}
+IsIndexed len (Unlock name) = Unit {0}
+IsIndexed len (CoClass class) = Unit {0}
+IsIndexed len CoStats = Unit {0}
+IsIndexed len (DirInfo name) = Unit {0}
+IsIndexed len (Delete name) = Unit {0}
+IsIndexed len (StgStats stg) = Unit {0}

@@ -1,9 +1,8 @@
 //! The commands of a cache structure, a file each: why one is refused, its reply, and what it does.
-ghost use Rattle.std.specs.Prelude.{◌≡◌, ◌+◌, ◌≤◌, [], false, length};
+ghost use Rattle.std.specs.Prelude.{◌≡◌, ◌+◌, ◌≤◌, length};
 ghost use Rattle.cf_types.specs.Gains.{Gains};
-ghost use Rattle.cache_regs.specs.Registrations.{stands, regs_with};
-ghost use Rattle.cache_model.specs.Rows.{has_row, row_or_new, rows_without};
-ghost use Rattle.cache_model.specs.Contents.{is_among, regs_spared};
+ghost use Rattle.cache_regs.specs.Registrations.{stands};
+ghost use Rattle.cache_model.specs.Contents.{regs_spared};
 
 pub(crate) mod castout;
 pub(crate) mod co_class;
@@ -17,30 +16,8 @@ pub(crate) mod stg_stats;
 pub(crate) mod unlock;
 pub(crate) mod write;
 
-use cache_model::CacheItem;
 use cache_regs::Regs;
-use cache_rows::Rows;
-use cf_types::{ConnId, Effects, Name16};
-
-// Takes out the row of a name, or makes one: unchanged, without data, of this storage class.
-fn take_or_new(rows: &mut Rows, name: &Name16, stg: u32) -> CacheItem
-    ensures row { result ≡ row_or_new name.now stg rows.old.rows }
-    ensures named { result.name ≡ name.now }
-    ensures rest { rows.new.rows ≡ rows_without name.now rows.old.rows }
-    ensures room { rows.old.room ≤ rows.new.room }
-{
-    match rows.take(name) {
-        Some(row) => row,
-        None => CacheItem {
-            name: *name,
-            body: None,
-            adj: None,
-            class: None,
-            holder: None,
-            stg,
-        },
-    }
-}
+use cf_types::{Effects, Name16};
 
 // The registrations for these names end.
 fn end_regs(regs: &mut Regs, names: &[Name16], out: &mut Effects)
@@ -52,6 +29,7 @@ fn end_regs(regs: &mut Regs, names: &[Name16], out: &mut Effects)
         ≡ out.new.bits.room + length regs.old.regs }
     ensures mail { out.new.mail ≡ out.old.mail }
     ensures place { regs.old.room ≤ regs.new.room }
+    ensures len { regs.new.len ≡ regs.old.len }
 {
     for name in names {
         let _ = regs.drop_name(name, None, out);

@@ -1,7 +1,7 @@
 use crate::plans::{Plan, act, make_plan};
 use cache_model::CacheItem;
 use cache_regs::Regs;
-use cache_rows::{Rows, copy_row, elements_in};
+use cache_rows::Rows;
 use cf_types::{CacheCmd, CacheReply, Caps, ConnId, Effects, NoMemory, Refusal, StrForm};
 use engine_api::{Engine, Shape};
 use std::alloc::Global;
@@ -146,7 +146,7 @@ impl Engine for CacheEngine {
     }
 
     fn leave_ready(&mut self, _conn: ConnId, out: &mut Effects) -> Result<(), NoMemory> {
-        out.bits.reserve(self.regs.items().len())
+        out.bits.reserve(self.regs.total())
     }
 
     fn leave(&mut self, conn: ConnId, _keep: bool, out: &mut Effects) {
@@ -157,7 +157,7 @@ impl Engine for CacheEngine {
     fn back(&mut self, _conn: ConnId) {}
 
     fn forget_ready(&mut self, out: &mut Effects) -> Result<(), NoMemory> {
-        out.bits.reserve(self.regs.items().len())
+        out.bits.reserve(self.regs.total())
     }
 
     fn forget(&mut self, out: &mut Effects) {
@@ -165,11 +165,11 @@ impl Engine for CacheEngine {
     }
 
     fn count(&self) -> u32 {
-        self.rows.items().len() as u32
+        self.rows.len() as u32
     }
 
     fn item(&self, alloc: Global, k: u32) -> Result<CacheItem, NoMemory> {
-        copy_row(alloc, &self.rows.items()[k as usize])
+        self.rows.item(alloc, k)
     }
 
     fn order(&self, _alloc: Global) -> Result<(), NoMemory> {
@@ -185,17 +185,13 @@ impl Engine for CacheEngine {
     }
 
     fn unplace(&mut self) {
-        let rows = self.rows.items();
-        let name = rows[rows.len() - 1].name;
         self.rows.pop();
-        self.regs.forget_name(&name);
     }
 
     fn need(&self) -> Caps {
-        let rows = self.rows.items();
         Caps {
-            entries: rows.len() as u32,
-            elements: elements_in(rows),
+            entries: self.rows.len() as u32,
+            elements: self.rows.elements(),
         }
     }
 

@@ -1,5 +1,6 @@
 //! What is got ready for a command, and what is done then.
 ghost use Rattle.std.specs.Prelude.{◌≡◌, ◌+◌, ◌^◌, ◌<◌, ◌≤◌, IfOk, length};
+ghost use Rattle.cf_types.specs.Forms.{IsCaller};
 ghost use Rattle.cf_types.specs.Gains.{Gains};
 ghost use Rattle.cache_regs.specs.Registrations.{stands};
 ghost use Rattle.cache_model.specs.Rows.{elements_in};
@@ -10,7 +11,6 @@ use crate::commands::{
     write,
 };
 use crate::room::victims;
-use cache_model::CacheItem;
 use cache_regs::Regs;
 use cache_rows::Rows;
 use cf_types::{
@@ -32,13 +32,13 @@ pub(crate) struct Plan {
 fn refusal(
     vector: u32,
     caps: Caps,
-    rows: &[CacheItem],
+    rows: &Rows,
     regs: &Regs,
     by: ConnId,
     cmd: &CacheCmd,
 ) -> Option<Refusal>
-    requires { elements_in rows.now < 2 ^ 32 }
-    ensures { result ≡ cause vector caps (record { rows = rows.now; regs = regs.now.regs }) by
+    requires { elements_in rows.now.rows < 2 ^ 32 }
+    ensures { result ≡ cause vector caps (record { rows = rows.now.rows; regs = regs.now.regs }) by
         cmd.now }
 {
     match cmd {
@@ -85,17 +85,17 @@ fn reply(
         ≡ reply (record { rows = rows.now.rows; regs = regs.now.regs }) by cmd.now) }
 {
     match cmd {
-        CacheCmd::Read { name, stg, .. } => read::reply(alloc, rows.items(), name, *stg),
+        CacheCmd::Read { name, stg, .. } => read::reply(alloc, rows, name, *stg),
         CacheCmd::Write { .. } => Ok(CacheReply::Ok),
         CacheCmd::CrossInval { name } => Ok(cross_inval::reply(regs, by, name)),
         CacheCmd::RegList => reg_list::reply(alloc, regs, by),
-        CacheCmd::Castout { name } => castout::reply(alloc, rows.items(), name),
-        CacheCmd::Unlock { name } => Ok(unlock::reply(rows.items(), name)),
+        CacheCmd::Castout { name } => castout::reply(alloc, rows, name),
+        CacheCmd::Unlock { name } => Ok(unlock::reply(rows, name)),
         CacheCmd::CoClass { class } => co_class::reply(alloc, rows, *class),
         CacheCmd::CoStats => co_stats::reply(alloc, rows),
-        CacheCmd::DirInfo { name } => Ok(dir_info::reply(rows.items(), regs, name)),
+        CacheCmd::DirInfo { name } => Ok(dir_info::reply(rows, regs, name)),
         CacheCmd::Delete { .. } => Ok(CacheReply::Ok),
-        CacheCmd::StgStats { stg } => Ok(stg_stats::reply(rows.items(), *stg)),
+        CacheCmd::StgStats { stg } => Ok(stg_stats::reply(rows, *stg)),
     }
 }
 
@@ -154,7 +154,7 @@ fn plan_done(
 }
 
 ghost use Rattle.std.specs.Prelude.{None};
-ghost use Rattle.cache_core.specs.Plans.{plan_unless, plan_for, IsSpared};
+ghost use Rattle.cache_core.specs.Plans.{plan_unless, plan_for, IsSpared, IsIndexed};
 
 /// What is got ready for a command.
 pub(crate) fn make_plan(
@@ -171,7 +171,7 @@ pub(crate) fn make_plan(
     ensures { IfOk result (λ plan. plan ≡ plan_for vector caps
         (record { rows = rows.now.rows; regs = regs.now.regs }) by cmd.now) }
 {
-    match refusal(vector, caps, rows.items(), regs, by, cmd) {
+    match refusal(vector, caps, rows, regs, by, cmd) {
         Some(refusal) => Ok(Plan {
             reply: Err(refusal),
             gone: Listing::from_vec(Vec::new(alloc)),
@@ -192,6 +192,8 @@ pub(crate) fn act(
     cmd: &CacheCmd,
     out: &mut Effects,
 )
+    requires caller { IsCaller by }
+    requires index { IsIndexed regs.old.len cmd.now }
     requires row_room { 1 ≤ rows.old.room }
     requires reg_room { 1 ≤ regs.old.room }
     requires bit_room { length regs.old.regs + 3 ≤ out.old.bits.room }
@@ -202,6 +204,7 @@ pub(crate) fn act(
     ensures bits { Gains (stands regs.old.regs) (stands regs.new.regs) out.old.bits.items
         out.new.bits.items }
     ensures mail { out.new.mail ≡ out.old.mail }
+    ensures len { regs.new.len ≡ regs.old.len }
 {
     match cmd {
         CacheCmd::Read {

@@ -4,9 +4,9 @@ ghost use Rattle.engine_api.specs.Meaning.{first_refusal};
 ghost use Rattle.cache_model.specs.Rows.{is_held_by, row_of};
 ghost use Rattle.cache_model.specs.Refusals.{gives_up, use_refusal, index_refusal, storage_refusal, class_refusal, castout_refusal, registration_refusal, change_refusal, entry_refusal, holder_refusal, held_refusal, held_by_other_refusal, not_held_refusal, unchanged_refusal};
 
-use cache_model::{CacheItem, Holder};
+use cache_model::Holder;
 use cache_regs::Regs;
-use cache_rows::row_of;
+use cache_rows::{Row, Rows};
 use cf_types::limits::{CASTOUT_CLASSES, STORAGE_CLASSES};
 use cf_types::{ConnId, Name16, Refusal};
 
@@ -113,37 +113,32 @@ pub(crate) fn registration_refusal(
 }
 
 // Whether the row of a name is changed.
-fn is_changed_row(row: Option<&CacheItem>) -> bool
-    ensures { result ≡ is_changed_row (option_map (λ r. r.now) row.entry) }
+fn is_changed_row(row: Option<Row<'_>>) -> bool
+    ensures { result ≡ is_changed_row row.entry }
 {
     match row {
-        Some(row) => row.class.is_some(),
+        Some(row) => row.class().is_some(),
         None => false,
     }
 }
 
-ghost use Rattle.std.specs.Prelude.{option_map};
 ghost use Rattle.cache_model.specs.Refusals.{is_changed_row};
 
 /// A changed row isn't written as unchanged.
-pub(crate) fn change_refusal(
-    rows: &[CacheItem],
-    name: &Name16,
-    class: Option<u32>,
-) -> Option<Refusal>
-    ensures { result ≡ change_refusal rows.now name.now class }
+pub(crate) fn change_refusal(rows: &Rows, name: &Name16, class: Option<u32>) -> Option<Refusal>
+    ensures { result ≡ change_refusal rows.now.rows name.now class }
 {
-    if class.is_none() && is_changed_row(row_of(rows, name)) {
+    if class.is_none() && is_changed_row(rows.row(name)) {
         return Some(Refusal::IsChanged);
     }
     None
 }
 
 /// The name has no row.
-pub(crate) fn entry_refusal(rows: &[CacheItem], name: &Name16) -> Option<Refusal>
-    ensures { result ≡ entry_refusal (row_of name.now rows.now) }
+pub(crate) fn entry_refusal(rows: &Rows, name: &Name16) -> Option<Refusal>
+    ensures { result ≡ entry_refusal (row_of name.now rows.now.rows) }
 {
-    match row_of(rows, name) {
+    match rows.row(name) {
         Some(_) => None,
         None => Some(Refusal::NoEntry),
     }
@@ -170,11 +165,11 @@ fn is_held_by(conn: ConnId, holder: Option<Holder>) -> bool
 }
 
 /// The row of the name is held by anyone.
-pub(crate) fn held_refusal(rows: &[CacheItem], name: &Name16) -> Option<Refusal>
-    ensures { result ≡ held_refusal (row_of name.now rows.now) }
+pub(crate) fn held_refusal(rows: &Rows, name: &Name16) -> Option<Refusal>
+    ensures { result ≡ held_refusal (row_of name.now rows.now.rows) }
 {
-    match row_of(rows, name) {
-        Some(row) => holder_refusal(row.holder),
+    match rows.row(name) {
+        Some(row) => holder_refusal(row.holder()),
         None => None,
     }
 }
@@ -191,15 +186,11 @@ fn other_refusal(conn: ConnId, holder: Option<Holder>) -> Option<Refusal>
 }
 
 /// The row of the name is held by another than the connector.
-pub(crate) fn held_by_other_refusal(
-    rows: &[CacheItem],
-    conn: ConnId,
-    name: &Name16,
-) -> Option<Refusal>
-    ensures { result ≡ held_by_other_refusal conn (row_of name.now rows.now) }
+pub(crate) fn held_by_other_refusal(rows: &Rows, conn: ConnId, name: &Name16) -> Option<Refusal>
+    ensures { result ≡ held_by_other_refusal conn (row_of name.now rows.now.rows) }
 {
-    match row_of(rows, name) {
-        Some(row) => other_refusal(conn, row.holder),
+    match rows.row(name) {
+        Some(row) => other_refusal(conn, row.holder()),
         None => None,
     }
 }
@@ -219,22 +210,22 @@ fn no_hold_refusal(conn: ConnId, holder: Option<Holder>) -> Option<Refusal>
 }
 
 /// The row of the name isn't held by the connector.
-pub(crate) fn not_held_refusal(rows: &[CacheItem], conn: ConnId, name: &Name16) -> Option<Refusal>
-    ensures { result ≡ not_held_refusal conn (row_of name.now rows.now) }
+pub(crate) fn not_held_refusal(rows: &Rows, conn: ConnId, name: &Name16) -> Option<Refusal>
+    ensures { result ≡ not_held_refusal conn (row_of name.now rows.now.rows) }
 {
-    match row_of(rows, name) {
-        Some(row) => no_hold_refusal(conn, row.holder),
+    match rows.row(name) {
+        Some(row) => no_hold_refusal(conn, row.holder()),
         None => None,
     }
 }
 
 /// The row of the name is unchanged.
-pub(crate) fn unchanged_refusal(rows: &[CacheItem], name: &Name16) -> Option<Refusal>
-    ensures { result ≡ unchanged_refusal (row_of name.now rows.now) }
+pub(crate) fn unchanged_refusal(rows: &Rows, name: &Name16) -> Option<Refusal>
+    ensures { result ≡ unchanged_refusal (row_of name.now rows.now.rows) }
 {
-    match row_of(rows, name) {
+    match rows.row(name) {
         Some(row) => {
-            if row.class.is_some() {
+            if row.class().is_some() {
                 None
             } else {
                 Some(Refusal::NotChanged)

@@ -1,11 +1,11 @@
 //! Room for a request: which unchanged rows are reclaimed for it.
-ghost use Rattle.std.specs.Prelude.{◌≡◌, ◌^◌, ◌<◌, Some, IfOk, length, filter, option_map};
-ghost use Rattle.cache_model.specs.Rows.{elements_of, elements_in, rows_without};
-ghost use Rattle.cache_model.specs.Room.{is_reclaimable, victims, room_refusal};
+ghost use Rattle.std.specs.Prelude.{◌≡◌, ◌^◌, ◌<◌, Some, IfOk, length, option_map};
+ghost use Rattle.cache_model.specs.Rows.{elements_in};
+ghost use Rattle.cache_model.specs.Room.{victims, room_refusal};
 ghost use Rattle.cache_core.specs.Measure.{room_for, has_place, free_elements, is_enough, reclaimable_of, other_than, victim_at, reclaimable_from, front_names};
 
-use cache_model::{CacheItem, Request};
-use cache_rows::{Rows, elements_of, has_row};
+use cache_model::Request;
+use cache_rows::{Row, Rows};
 use cf_types::{Caps, Name16, NoMemory, Refusal};
 use std::alloc::Global;
 
@@ -29,59 +29,17 @@ pub(crate) struct Reclaimable {
     pub elements: u32,
 }
 
-// Whether a row may be reclaimed for a name.
-fn is_reclaimable(row: &CacheItem, name: &Name16) -> bool
-    ensures { result ≡ is_reclaimable name.now row.now }
-{
-    row.class.is_none() && row.name != *name
-}
-
-// How many elements the data of others than a name take.
-fn elements_of_others(rows: &[CacheItem], name: &Name16) -> u32
-    requires { elements_in rows.now < 2 ^ 32 }
-    ensures { result ≡ elements_in (rows_without name.now rows.now) }
-{
-    let mut total = 0;
-    for row in rows {
-        if row.name != *name {
-            total += elements_of(row);
-        }
-    }
-    total
-}
-
-// How many elements the data of the rows that may be reclaimed for a name take.
-fn reclaimable_elements(rows: &[CacheItem], name: &Name16) -> u32
-    requires { elements_in rows.now < 2 ^ 32 }
-    ensures { result ≡ elements_in (filter (is_reclaimable name.now) rows.now) }
-{
-    let mut total = 0;
-    for row in rows {
-        if is_reclaimable(row, name) {
-            total += elements_of(row);
-        }
-    }
-    total
-}
-
-// How many rows may be reclaimed for a name.
-fn reclaimable_count(rows: &[CacheItem], name: &Name16) -> usize
-    ensures { result ≡ length (filter (is_reclaimable name.now) rows.now) }
-{
-    rows.iter().filter(|row| is_reclaimable(row, name)).count()
-}
-
 impl Room {
     // What decides about a request.
-    fn measure(caps: Caps, rows: &[CacheItem], request: &Request) -> Room
-        requires { elements_in rows.now < 2 ^ 32 }
-        ensures { result ≡ room_for caps request.now rows.now }
+    fn measure(caps: Caps, rows: &Rows, request: &Request) -> Room
+        requires { elements_in rows.now.rows < 2 ^ 32 }
+        ensures { result ≡ room_for caps request.now rows.now.rows }
     {
         Room {
-            named: has_row(rows, &request.name),
+            named: rows.has(&request.name),
             rows: rows.len(),
             entries: caps.entries,
-            others: elements_of_others(rows, &request.name),
+            others: rows.elements_of_others(&request.name),
             elements: caps.elements,
             need: request.elements,
         }
@@ -111,18 +69,18 @@ impl Room {
 }
 
 /// Why there is no room for a request, even where every other unchanged row is reclaimed for it.
-pub(crate) fn room_refusal(caps: Caps, rows: &[CacheItem], request: &Request) -> Option<Refusal>
-    requires { elements_in rows.now < 2 ^ 32 }
-    ensures { result ≡ room_refusal caps request.now rows.now }
+pub(crate) fn room_refusal(caps: Caps, rows: &Rows, request: &Request) -> Option<Refusal>
+    requires { elements_in rows.now.rows < 2 ^ 32 }
+    ensures { result ≡ room_refusal caps request.now rows.now.rows }
 {
     let room = Room::measure(caps, rows, request);
-    let count = reclaimable_count(rows, &request.name);
+    let count = rows.reclaimable_count(&request.name);
     if !room.has_place(count) {
         return Some(Refusal::DirectoryFull {
             entries: caps.entries,
         });
     }
-    let free = room.free_elements(reclaimable_elements(rows, &request.name));
+    let free = room.free_elements(rows.reclaimable_elements(&request.name));
     if request.elements <= free {
         None
     } else {
@@ -140,20 +98,20 @@ fn victim_at(rows: &Rows, request: &Request, k: u32) -> Option<Reclaimable>
 {
     match rows.reclaimed(request.stg, k) {
         None => None,
-        Some(row) => reclaimable_for(row, &request.name),
+        Some(row) => reclaimable_for(&row, &request.name),
     }
 }
 
 // What a row gives if it is reclaimed, unless it is the row of this name.
-fn reclaimable_for(row: &CacheItem, name: &Name16) -> Option<Reclaimable>
+fn reclaimable_for(row: &Row<'_>, name: &Name16) -> Option<Reclaimable>
     ensures { result ≡ option_map reclaimable_of (other_than name.now (Some row.now)) }
 {
-    if row.name == *name {
+    if row.name() == *name {
         None
     } else {
         Some(Reclaimable {
-            name: row.name,
-            elements: elements_of(row),
+            name: row.name(),
+            elements: row.elements(),
         })
     }
 }
@@ -172,7 +130,7 @@ fn front(
 {
     let mut names = Vec::new(alloc);
     let mut given = 0;
-    for k in 0..rows.items().len() as u32 {
+    for k in 0..rows.len() as u32 {
         if room.is_enough(names.len(), given) {
             return Ok(names);
         }
@@ -198,6 +156,6 @@ pub(crate) fn victims(
     requires elements { elements_in rows.now.rows < 2 ^ 32 }
     ensures { IfOk result (λ names. names.items ≡ victims caps request.now rows.now.rows) }
 {
-    let room = Room::measure(caps, rows.items(), request);
+    let room = Room::measure(caps, rows, request);
     front(alloc, rows, request, &room)
 }

@@ -1,1 +1,4 @@
+pub mod NameKeys
 pub mod LastUseLaws
+pub mod MapLaws
+pub mod SlotLaws

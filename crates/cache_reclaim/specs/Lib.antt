@@ -1,2 +1,3 @@
 pub mod LastUse
+pub mod Slots
 pub mod OrderBatch

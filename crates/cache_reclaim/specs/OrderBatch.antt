@@ -1,10 +1,9 @@
 -- An order of last use with room for more.
-use Rattle.std.specs.Prelude.{ℕ, List, IsTrue, ◌-◌, ◌≤◌}
-use Rattle.std.specs.Vec.{vec_len, vec_capacity}
-use Rattle.list_laws.specs.Pairwise.{pairwise}
+use Rattle.std.specs.Prelude.{ℕ, List, ◌≤◌, reverse}
+use Rattle.indexmap.specs.IndexMap.{spare}
 use Rattle.cache_reclaim.specs.declared.used.Used.{Used}
 use Rattle.cache_reclaim.specs.declared.order.Order.TheInside.{Inside}
-use Rattle.cache_reclaim.specs.LastUse.{names_apart}
+use Rattle.cache_reclaim.specs.Slots.{used_in, IsTied}
 
 -- the names from least to most recently used, how many there may be, and for how many more there is room
 pub record OrderBatch : Type 0 where
@@ -13,9 +12,9 @@ pub record OrderBatch : Type 0 where
   pub room : ℕ
 
 abbrev pub batch_of : Inside → OrderBatch
-batch_of o = record { order = o.order.items; entries = o.entries; room = vec_capacity o.order - vec_len o.order }
+batch_of o = record { order = used_in (reverse o.slots.entries); entries = o.entries; room = spare o.names }
 
--- each name once, and no more names than there may be
+-- names and slots agree, and there are slots for as many names as there may be
 pub record IsKept (o : Inside) : Type 0 where
-  pub one_for_name : IsTrue (pairwise names_apart o.order.items)
-  pub within : vec_len o.order ≤ o.entries
+  pub tied : IsTied o.slots.entries o.names.entries o.slots.cap
+  pub within : o.entries ≤ o.slots.cap

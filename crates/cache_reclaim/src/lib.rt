@@ -2,6 +2,7 @@
 #![tactic(auto)]
 
 mod order;
+mod slots;
 mod used;
 
 pub use order::Order;

@@ -1,9 +1,11 @@
-ghost use Rattle.std.specs.Prelude.{◌≡◌, ◌+◌, ◌≤◌, ◌<◌, ◌++◌, ◌∷◌, [], false, IfOk, OnOk, length, filter, option_map, slice_get};
-ghost use Rattle.std.specs.Vec.{vec_len, vec_capacity};
-ghost use Rattle.cache_reclaim.specs.LastUse.{has_name, is_of_storage, order_without, is_in_part, order_touched, victim};
+ghost use Rattle.std.specs.Prelude.{◌≡◌, ◌+◌, ◌≤◌, ◌<◌, [], false, IfOk, OnOk, length};
+ghost use Rattle.cache_reclaim.specs.LastUse.{has_name, order_without, order_touched, victim};
 
+use crate::slots::{NameKey, all_free, copied, copied_names, remove, touch, victim};
 use crate::used::Used;
 use cf_types::{Name16, NoMemory};
+use indexmap::IndexMap;
+use lru::LruCache;
 use std::alloc::Global;
 use std::marker::Model;
 
@@ -11,7 +13,8 @@ use std::marker::Model;
 /// least to most recently used, how many there may be, and for how many more there is room.
 #[derive(Drop)]
 pub struct Order {
-    order: Vec<Used>,
+    slots: LruCache<u32, Option<Used>>,
+    names: IndexMap<NameKey, u32>,
     entries: u32,
 }
 
@@ -25,59 +28,16 @@ impl Model for Order {
     ghost invariant = { IsKept };
 }
 
-// Takes out a name, if it is there.
-fn take_out(order: &mut Vec<Used>, name: &Name16)
-    ensures items { order.new.items ≡ order_without name.now order.old.items }
-    ensures len { vec_len order.new ≤ vec_len order.old }
-    ensures capacity { vec_capacity order.new ≡ vec_capacity order.old }
-{
-    order.retain(|used| !(used.name == *name));
-}
-
-// How many names are of a storage class.
-fn count_of(order: &[Used], stg: u32) -> usize
-    ensures { result ≡ length (filter (is_of_storage stg) order.now) }
-{
-    order.iter().filter(|used| used.stg == stg).count()
-}
-
-// The name at a place (from 0) among those of a storage class, or among the others.
-fn name_at(order: &[Used], stg: u32, own: bool, k: usize) -> Option<Name16>
-    ensures { result
-        ≡ option_map (λ used. used.name) (slice_get (filter (is_in_part stg own) order.now) k) }
-{
-    let mut left = k;
-    for used in order {
-        if (used.stg == stg) == own {
-            if left == 0 {
-                return Some(used.name);
-            }
-            left -= 1;
-        }
-    }
-    None
-}
-
-// The name that is reclaimed at a place (from 0) for a storage class.
-fn victim(order: &[Used], stg: u32, k: usize) -> Option<Name16>
-    ensures { result ≡ victim stg k order.now }
-{
-    let own = count_of(order, stg);
-    if k < own {
-        name_at(order, stg, true, k)
-    } else {
-        name_at(order, stg, false, k - own)
-    }
-}
-
 impl Order {
-    /// No names, of which there may be so many. It takes no memory yet.
+    /// No names, of which there may be so many; a slot for each is there from now on.
     pub fn new(alloc: Global, entries: u32) -> Result<Order, NoMemory>
         ensures order { IfOk result (λ order. order.order ≡ []) }
         ensures entries { IfOk result (λ order. order.entries ≡ entries) }
     {
+        let slots = all_free(alloc, entries.max(1))?;
         Ok(Order {
-            order: Vec::new(alloc),
+            slots,
+            names: IndexMap::new(alloc),
             entries,
         })
     }
@@ -87,9 +47,11 @@ impl Order {
         ensures order { IfOk result (λ copy. copy.order ≡ self.now.order) }
         ensures entries { IfOk result (λ copy. copy.entries ≡ self.now.entries) }
     {
-        let order = Vec::from_slice(alloc, self.order.as_slice())?;
+        let slots = copied(alloc, &self.slots)?;
+        let names = copied_names(alloc, &self.names)?;
         Ok(Order {
-            order,
+            slots,
+            names,
             entries: self.entries,
         })
     }
@@ -100,12 +62,12 @@ impl Order {
         ensures entries { self.new.entries ≡ self.old.entries }
         ensures room { OnOk result (1 ≤ self.new.room) }
     {
-        self.order.reserve(1)?;
+        self.names.reserve(1)?;
         Ok(())
     }
 
     /// A name, of a row of this storage class (1 to 8), becomes the most recently used. It takes
-    /// room for one name at most.
+    /// room for one name at most, and no memory.
     pub fn touch(&mut self, name: Name16, stg: u32)
         requires room { 1 ≤ self.old.room }
         requires place { has_name name self.old.order ≡ false
@@ -114,8 +76,7 @@ impl Order {
         ensures entries { self.new.entries ≡ self.old.entries }
         ensures room { self.old.room ≤ self.new.room + 1 }
     {
-        take_out(&mut self.order, &name);
-        self.order.push_reserved(Used { name, stg });
+        touch(&mut self.slots, &mut self.names, name, stg);
     }
 
     /// Takes out a name, if it is there.
@@ -124,7 +85,7 @@ impl Order {
         ensures entries { self.new.entries ≡ self.old.entries }
         ensures room { self.old.room ≤ self.new.room }
     {
-        take_out(&mut self.order, name);
+        remove(&mut self.slots, &mut self.names, name);
     }
 
     /// The name that is reclaimed as the `k`-th (from 0) for a request of this storage class: first
@@ -133,6 +94,6 @@ impl Order {
     pub fn victim(&self, stg: u32, k: u32) -> Option<Name16>
         ensures { result ≡ victim stg k self.now.order }
     {
-        victim(&self.order, stg, k as usize)
+        victim(&self.slots, stg, k as usize)
     }
 }

@@ -1,9 +1,10 @@
-ghost use Rattle.std.specs.Prelude.{◌≡◌, ◌+◌, ◌≤◌, ◌<◌, ◌&&◌, ◌++◌, [], IsTrue, IfOk, OnOk, Some, length, filter, option_map, find};
+ghost use Rattle.std.specs.Prelude.{◌≡◌, ◌+◌, ◌≤◌, ◌<◌, ◌++◌, ◌∷◌, [], IfOk, OnOk, length, map, filter};
 ghost use Rattle.std.specs.List.{list_any, prefix_len, insert};
 ghost use Rattle.std.specs.Vec.{vec_len, vec_capacity};
+ghost use Rattle.cf_types.specs.Forms.{IsCaller};
 ghost use Rattle.cf_types.specs.Gains.{Gains};
 ghost use Rattle.list_laws.specs.Pairwise.{pairwise};
-ghost use Rattle.cache_regs.specs.Registrations.{is_for, is_of, registered_at, index_for, stands, stands_before, regs_for, regs_for_others, regs_with, regs_without, regs_without_name, ends_with_name, IsRegistry};
+ghost use Rattle.cache_regs.specs.Registrations.{is_for, is_of, registered_at, index_for, stands, stands_before, regs_for, regs_of, regs_with, regs_without, regs_without_name, ends_with_name};
 ghost use Rattle.cache_regs.specs.Places.{with_reg, set_changes};
 ghost use Rattle.cache_regs.specs.declared.registrations.Registration.{Registration};
 
@@ -14,10 +15,11 @@ use std::alloc::Global;
 use std::marker::Model;
 
 /// The registrations of a cache structure. Contracts see them in the order of connectors and, of
-/// one connector, of indexes, with how many more there is room for.
+/// one connector, of indexes, with how many bits a vector has, and how many more there is room for.
 #[derive(Drop)]
 pub struct Regs {
     regs: Vec<Registration>,
+    len: u32,
 }
 
 impl Model for Regs {
@@ -116,32 +118,71 @@ fn put(regs: &mut Vec<Registration>, new: Registration, out: &mut Effects)
     replace(regs, new);
 }
 
+// One registration more.
+fn push(list: &mut Vec<(u32, Name16)>, reg: &Registration) -> Result<(), NoMemory>
+    ensures { OnOk result (list.new.items ≡ list.old.items ++ (reg.now.index, reg.now.name) ∷ []) }
+{
+    list.push((reg.index, reg.name))?;
+    Ok(())
+}
+
+// The registrations of a connector, by index.
+fn indexes(
+    alloc: Global,
+    regs: &[Registration],
+    conn: ConnId,
+) -> Result<Vec<(u32, Name16)>, NoMemory>
+    ensures { IfOk result (λ list. list.items ≡ map (λ (reg : Registration). (reg.index, reg.name))
+        (regs_of conn regs.now)) }
+{
+    let mut list = Vec::new(alloc);
+    for reg in regs {
+        if reg.conn == conn {
+            push(&mut list, reg)?;
+        }
+    }
+    Ok(list)
+}
+
 impl Regs {
-    /// No registrations, for structures of so many connections and of vectors of so many bits. It
-    /// takes no memory yet.
-    pub fn new(alloc: Global, _conns: u8, _len: u32) -> Result<Regs, NoMemory>
-        ensures { IfOk result (λ regs. regs.regs ≡ []) }
+    /// No registrations, for vectors of so many bits; how many connections there may be plays no
+    /// part. It takes no memory yet.
+    pub fn new(alloc: Global, _conns: u8, len: u32) -> Result<Regs, NoMemory>
+        ensures regs { IfOk result (λ regs. regs.regs ≡ []) }
+        ensures len { IfOk result (λ regs. regs.len ≡ len) }
     {
         Ok(Regs {
             regs: Vec::new(alloc),
+            len,
         })
     }
 
     /// The same registrations once more.
     pub fn copy(&self, alloc: Global) -> Result<Regs, NoMemory>
-        ensures { IfOk result (λ regs. regs.regs ≡ self.now.regs) }
+        ensures regs { IfOk result (λ regs. regs.regs ≡ self.now.regs) }
+        ensures len { IfOk result (λ regs. regs.len ≡ self.now.len) }
     {
         let regs = Vec::from_slice(alloc, self.regs.as_slice())?;
-        Ok(Regs { regs })
+        Ok(Regs {
+            regs,
+            len: self.len,
+        })
     }
 
-    /// The registrations, by connector and index.
-    pub fn items(&self) -> &[Registration]
-        ensures items { result.now ≡ self.now.regs }
-        ensures registry { IsRegistry self.now.regs }
-        ensures few { length self.now.regs < 4294967296 }
+    /// How many registrations there are.
+    pub fn total(&self) -> usize
+        ensures { result ≡ length self.now.regs }
     {
-        self.regs.as_slice()
+        self.regs.len()
+    }
+
+    /// The indexes at which a connector is registered, in their order, with the names. Only want of
+    /// memory is refused.
+    pub fn of(&self, alloc: Global, conn: ConnId) -> Result<Vec<(u32, Name16)>, NoMemory>
+        ensures { IfOk result (λ list. list.items
+            ≡ map (λ (reg : Registration). (reg.index, reg.name)) (regs_of conn self.now.regs)) }
+    {
+        indexes(alloc, self.regs.as_slice(), conn)
     }
 
     /// The name for which a connector is registered at an index.
@@ -198,6 +239,7 @@ impl Regs {
     /// its registration, and the end of others'. Want of memory changes nothing.
     pub fn room(&mut self, out: &mut Effects) -> Result<(), NoMemory>
         ensures regs { self.new.regs ≡ self.old.regs }
+        ensures len { self.new.len ≡ self.old.len }
         ensures place { OnOk result (1 ≤ self.new.room) }
         ensures bits { OnOk result (length self.new.regs + 3 ≤ out.new.bits.room) }
         ensures told { out.new.bits.items ≡ out.old.bits.items }
@@ -214,9 +256,12 @@ impl Regs {
     /// Registers a connector for a name at an index. Its registration at that index, and its
     /// registration for that name at another one, end. At most two bits change.
     pub fn set(&mut self, conn: ConnId, index: u32, name: Name16, out: &mut Effects)
+        requires caller { IsCaller conn }
+        requires index { index < self.old.len }
         requires place { 1 ≤ self.old.room }
         requires room { 2 ≤ out.old.bits.room }
         ensures regs { self.new.regs ≡ regs_with conn index name self.old.regs }
+        ensures len { self.new.len ≡ self.old.len }
         ensures bits { Gains (stands self.old.regs) (stands self.new.regs) out.old.bits.items
             out.new.bits.items }
         ensures room { out.old.bits.room ≤ out.new.bits.room + 2 }
@@ -235,6 +280,7 @@ impl Regs {
             ≤ out.old.bits.room }
         ensures count { result ≡ length (filter (ends_with_name name.now spare) self.old.regs) }
         ensures regs { self.new.regs ≡ regs_without_name name.now spare self.old.regs }
+        ensures len { self.new.len ≡ self.old.len }
         ensures bits { Gains (stands self.old.regs) (stands self.new.regs) out.old.bits.items
             out.new.bits.items }
         ensures room { out.new.bits.room + result ≡ out.old.bits.room }
@@ -251,6 +297,7 @@ impl Regs {
     pub fn drop_conn(&mut self, conn: ConnId, out: &mut Effects)
         requires { length (filter (is_of conn) self.old.regs) ≤ out.old.bits.room }
         ensures regs { self.new.regs ≡ regs_without conn self.old.regs }
+        ensures len { self.new.len ≡ self.old.len }
         ensures bits { Gains (stands self.old.regs) (stands self.new.regs) out.old.bits.items
             out.new.bits.items }
         ensures mail { out.new.mail ≡ out.old.mail }
@@ -259,17 +306,11 @@ impl Regs {
         end(&mut self.regs, Ends::Conn { conn }, out);
     }
 
-    /// Ends the registrations for a name, and tells nothing.
-    pub fn forget_name(&mut self, name: &Name16)
-        ensures { self.new.regs ≡ regs_for_others name.now self.old.regs }
-    {
-        self.regs.retain(|reg| reg.name != *name);
-    }
-
     /// Ends all registrations. The bit of each is cleared.
     pub fn drop_all(&mut self, out: &mut Effects)
         requires { length self.old.regs ≤ out.old.bits.room }
         ensures regs { self.new.regs ≡ [] }
+        ensures len { self.new.len ≡ self.old.len }
         ensures bits { Gains (stands self.old.regs) (stands self.new.regs) out.old.bits.items
             out.new.bits.items }
         ensures mail { out.new.mail ≡ out.old.mail }

@@ -1,3 +1,4 @@
 pub mod IndexLaws
 pub mod LookupLaws
 pub mod KeptLaws
+pub mod CountLaws

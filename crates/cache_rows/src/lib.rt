@@ -1,7 +1,15 @@
 //! The rows of a cache's directory, with the two indexes that stand beside them: the castout
 //! classes of the changed rows, and the order in which the unchanged ones were last used.
+//!
+//! Nothing above this crate has rows in its hands: [`Rows`] does to them what commands do, and a
+//! [`Row`] tells of one. So only this crate knows where rows and their data lie.
 #![tactic(auto)]
 
+mod changes;
+mod counts;
+mod row;
 mod rows;
 
-pub use rows::{Rows, copy_row, elements_in, elements_of, elements_of_body, has_row, row_of};
+pub use counts::elements_of_body;
+pub use row::Row;
+pub use rows::Rows;

@@ -1,8 +1,9 @@
-ghost use Rattle.std.specs.Prelude.{◌≡◌, ◌+◌, ◌^◌, ◌<◌, ◌≤◌, ◌++◌, ◌∷◌, [], IsTrue, IfOk, IfErr, OnOk, OnErr, Some, false, option_map, position, map, filter, length, slice_get};
+ghost use Rattle.std.specs.Prelude.{◌≡◌, ◌+◌, ◌^◌, ◌<◌, ◌≤◌, ◌&&◌, ◌++◌, ◌∷◌, [], IsTrue, IfOk, IfErr, OnOk, OnErr, Some, false, position, map, filter, length, slice_get};
 ghost use Rattle.std.specs.List.{list_all, prefix_len, insert};
 ghost use Rattle.std.specs.Vec.{vec_len, vec_capacity};
 ghost use Rattle.list_laws.specs.Pairwise.{pairwise};
-ghost use Rattle.cache_model.specs.Rows.{is_row_of, elements_of, elements_in, row_of, has_row, rows_without, stands_before, rows_with, may_precede, names_apart, has_class};
+ghost use Rattle.cache_model.specs.Rows.{is_row_of, is_changed, elements_in, row_of, has_row, rows_without, stands_before, rows_with, may_precede, names_apart, has_class, has_storage};
+ghost use Rattle.cache_model.specs.Room.{is_reclaimable};
 ghost use Rattle.cache_model.specs.Commands.CoStats.{rows_of_class};
 ghost use Rattle.cache_model.specs.declared.items.CacheItem.{CacheItem};
 ghost use Rattle.cache_classes.specs.Castout.{names_set, names_without};
@@ -10,55 +11,17 @@ ghost use Rattle.cache_reclaim.specs.LastUse.{order_without};
 ghost use Rattle.cache_rows.specs.Indexes.{order_with, reclaimed_for};
 ghost use Rattle.cache_model.specs.Contents.{rows_spared, without_hold};
 
+use crate::counts::{
+    changed_of_storage, count_of_storage, elements_in, elements_of_others, reclaimable_count,
+    reclaimable_elements,
+};
+use crate::row::{Row, has_row, row_of};
 use cache_classes::Classes;
 use cache_model::CacheItem;
 use cache_reclaim::Order;
 use cf_types::{Body, ConnId, Name16, NoMemory, copy_body};
 use std::alloc::Global;
 use std::marker::Model;
-
-/// How many elements of 256 bytes a body takes; an element that is filled in part counts whole.
-pub fn elements_of_body(body: &Body) -> u32
-    ensures { result ≡ elements_of (Some body.now) }
-{
-    (body.bytes().len() as u32 + 255) / 256
-}
-
-/// How many elements of 256 bytes the data of a row take: none where the row has no data.
-pub fn elements_of(row: &CacheItem) -> u32
-    ensures { result ≡ elements_of row.now.body }
-{
-    match &row.body {
-        None => 0,
-        Some(body) => elements_of_body(body),
-    }
-}
-
-/// How many elements of 256 bytes the data of rows take together, where the sum fits 32 bits.
-pub fn elements_in(rows: &[CacheItem]) -> u32
-    requires { elements_in rows.now < 2 ^ 32 }
-    ensures { result ≡ elements_in rows.now }
-{
-    let mut total = 0;
-    for row in rows {
-        total += elements_of(row);
-    }
-    total
-}
-
-/// The row of a name, if there is one; the first where several rows have the name.
-pub fn row_of<'a>(rows: &'a [CacheItem], name: &Name16) -> Option<&'a CacheItem>
-    ensures { option_map (λ row. row.now) result ≡ row_of name.now rows.now }
-{
-    rows.iter().find(|row| row.name == *name)
-}
-
-/// Whether a name has a row.
-pub fn has_row(rows: &[CacheItem], name: &Name16) -> bool
-    ensures { result ≡ has_row name.now rows.now }
-{
-    rows.iter().any(|row| row.name == *name)
-}
 
 // A copy of data, where there are any.
 fn copy_data(alloc: Global, body: &Option<Body>) -> Result<Option<Body>, NoMemory>
@@ -70,8 +33,8 @@ fn copy_data(alloc: Global, body: &Option<Body>) -> Result<Option<Body>, NoMemor
     }
 }
 
-/// A copy of a row with its data. Only want of memory is refused.
-pub fn copy_row(alloc: Global, row: &CacheItem) -> Result<CacheItem, NoMemory>
+// A copy of a row with its data.
+fn copy_row(alloc: Global, row: &CacheItem) -> Result<CacheItem, NoMemory>
     ensures { IfOk result (λ copy. copy ≡ row.now) }
 {
     let body = copy_data(alloc, &row.body)?;
@@ -271,11 +234,81 @@ impl Rows {
         })
     }
 
-    /// The rows, in their order: the changed ones first.
-    pub fn items(&self) -> &[CacheItem]
-        ensures { result.now ≡ self.now.rows }
+    /// How many rows there are.
+    pub fn len(&self) -> usize
+        ensures { result ≡ length self.now.rows }
     {
-        self.rows.as_slice()
+        self.rows.len()
+    }
+
+    /// Whether a name has a row.
+    pub fn has(&self, name: &Name16) -> bool
+        ensures { result ≡ has_row name.now self.now.rows }
+    {
+        has_row(self.rows.as_slice(), name)
+    }
+
+    /// The row of a name, if there is one.
+    pub fn row(&self, name: &Name16) -> Option<Row<'_>>
+        ensures { result ≡ row_of name.now self.now.rows }
+    {
+        row_of(self.rows.as_slice(), name)
+    }
+
+    /// A copy of the row at a place (from 0). Only want of memory is refused.
+    pub fn item(&self, alloc: Global, k: u32) -> Result<CacheItem, NoMemory>
+        requires { k < length self.now.rows }
+        ensures { IfOk result (λ item. slice_get self.now.rows k ≡ Some item) }
+    {
+        copy_row(alloc, &self.rows[k as usize])
+    }
+
+    /// How many elements the data of all rows take, where the sum fits 32 bits.
+    pub fn elements(&self) -> u32
+        requires { elements_in self.now.rows < 2 ^ 32 }
+        ensures { result ≡ elements_in self.now.rows }
+    {
+        elements_in(self.rows.as_slice())
+    }
+
+    /// How many elements the data of others than a name take.
+    pub fn elements_of_others(&self, name: &Name16) -> u32
+        requires { elements_in self.now.rows < 2 ^ 32 }
+        ensures { result ≡ elements_in (rows_without name.now self.now.rows) }
+    {
+        elements_of_others(self.rows.as_slice(), name)
+    }
+
+    /// How many rows may be reclaimed for a name.
+    pub fn reclaimable_count(&self, name: &Name16) -> usize
+        ensures { result ≡ length (filter (is_reclaimable name.now) self.now.rows) }
+    {
+        reclaimable_count(self.rows.as_slice(), name)
+    }
+
+    /// How many elements the data of the rows that may be reclaimed for a name take.
+    pub fn reclaimable_elements(&self, name: &Name16) -> u32
+        requires { elements_in self.now.rows < 2 ^ 32 }
+        ensures { result ≡ elements_in (filter (is_reclaimable name.now) self.now.rows) }
+    {
+        reclaimable_elements(self.rows.as_slice(), name)
+    }
+
+    /// How many rows a storage class (1 to 8) has.
+    pub fn count_of_storage(&self, stg: u32) -> u32
+        requires { length self.now.rows < 2 ^ 32 }
+        ensures { result ≡ length (filter (has_storage stg) self.now.rows) }
+    {
+        count_of_storage(self.rows.as_slice(), stg)
+    }
+
+    /// How many changed rows a storage class (1 to 8) has.
+    pub fn changed_of_storage(&self, stg: u32) -> u32
+        requires { length self.now.rows < 2 ^ 32 }
+        ensures { result
+            ≡ length (filter (λ row. has_storage stg row && is_changed row) self.now.rows) }
+    {
+        changed_of_storage(self.rows.as_slice(), stg)
     }
 
     /// The names of the rows of a castout class (1 to 16), in the order of names. Only want of
@@ -297,12 +330,11 @@ impl Rows {
     /// The row that is reclaimed as the `k`-th (from 0) for a storage class (1 to 8): first the
     /// unchanged rows of that class, then the other unchanged ones, each from least recently used.
     /// None exactly where there are no more than `k` unchanged rows.
-    pub fn reclaimed(&self, stg: u32, k: u32) -> Option<&CacheItem>
-        ensures { option_map (λ row. row.now) result
-            ≡ slice_get (reclaimed_for stg self.now.rows) k }
+    pub fn reclaimed(&self, stg: u32, k: u32) -> Option<Row<'_>>
+        ensures { result ≡ slice_get (reclaimed_for stg self.now.rows) k }
     {
         match self.order.victim(stg, k) {
-            Some(name) => row_of(&self.rows, &name),
+            Some(name) => row_of(self.rows.as_slice(), &name),
             None => None,
         }
     }
@@ -324,7 +356,7 @@ impl Rows {
     }
 
     /// Takes out the row of a name, if there is one. There is as much room as before at least.
-    pub fn take(&mut self, name: &Name16) -> Option<CacheItem>
+    pub(crate) fn take(&mut self, name: &Name16) -> Option<CacheItem>
         ensures row { result ≡ row_of name.now self.old.rows }
         ensures rest { self.new.rows ≡ rows_without name.now self.old.rows }
         ensures room { self.old.room ≤ self.new.room }
@@ -336,7 +368,7 @@ impl Rows {
 
     /// Puts a row in its place, where there is room for it and no row has its name: a changed one
     /// among the changed ones by name, an unchanged one last, as the most recently used.
-    pub fn put(&mut self, row: CacheItem)
+    pub(crate) fn put(&mut self, row: CacheItem)
         requires room { 1 ≤ self.old.room }
         requires alone { has_row row.name self.old.rows ≡ false }
         ensures rows { self.new.rows ≡ rows_with row self.old.rows }

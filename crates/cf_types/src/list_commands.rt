@@ -35,11 +35,13 @@ pub enum ListCmd {
         adj: Option<Adjunct>,
         cond: Option<Cond>,
     },
-    /// WRITE, updating: replaces what is given of a record.
+    /// WRITE, updating: replaces what is given of a record, and its version rises. With a version
+    /// (from 1) only where it is the record's.
     Update {
         at: At,
         body: Option<Body>,
         adj: Option<Adjunct>,
+        version: Option<u32>,
         cond: Option<Cond>,
     },
     /// READ.
@@ -47,17 +49,20 @@ pub enum ListCmd {
         at: At,
         cond: Option<Cond>,
     },
-    /// MOVE: to the head or the tail of a header, with a new key if one is given.
+    /// MOVE: to the head or the tail of a header, with a new key if one is given. With a version
+    /// (from 1) only where it is the record's.
     Move {
         at: At,
         header: u32,
         head: bool,
         key: Option<Key16>,
+        version: Option<u32>,
         cond: Option<Cond>,
     },
-    /// DELETE.
+    /// DELETE. With a version (from 1) only where it is the record's.
     Delete {
         at: At,
+        version: Option<u32>,
         cond: Option<Cond>,
     },
     /// READ_LIST: the ids of a header's records, in order.
@@ -104,10 +109,12 @@ pub enum ListReply {
     Id {
         id: EntryId,
     },
-    /// READ: the record, and the header that it is in.
+    /// READ: the record, and the header that it is in. Its version is 1 from its WRITE on, and one
+    /// greater with each UPDATE.
     Entry {
         id: EntryId,
         header: u32,
+        version: u32,
         name: Option<Name16>,
         key: Option<Key16>,
         body: Option<Body>,

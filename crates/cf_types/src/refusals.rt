@@ -50,6 +50,8 @@ pub enum Refusal {
     HeaderInUse { header: u32 },
     /// 30: the lock isn't below the number of list locks.
     BadLock { lock: u32, locks: u32 },
+    /// 31: the list record's version is this one, and another was given.
+    VersionDiffers { found: u32 },
     /// 40: the caller owns the resource already, in the exclusive or the shared state.
     AlreadyInterested { excl: bool },
     /// 41: the caller doesn't own the resource.

@@ -1,18 +1,20 @@
 -- The structures of a script that threads share, as contracts see them, what goes with them, and what is left of them
 -- at the end.
-use Rattle.std.specs.Prelude.{◌≡◌, ℕ, ◌≤◌, List, [], ◌∷◌, ◌++◌, length, map, replicate, slice_get, slice_index_or, Option, None, Some, All}
+use Rattle.std.specs.Prelude.{◌≡◌, ℕ, ◌+◌, ◌≤◌, List, [], ◌∷◌, ◌++◌, length, map, replicate, slice_get, slice_index_or, Option, None, Some, All}
 use Rattle.std.specs.List.{flat_map}
 use Rattle.cf_types.specs.declared.limits.TheConstants.{STRUCTURES, CONNECTORS}
 use Rattle.cf_types.specs.declared.numbers.ConnId.{ConnId}
 use Rattle.cf_types.specs.declared.numbers.StrNo.{StrNo}
 use Rattle.cf_types.specs.Forms.{IsForm}
+use Rattle.cf_link.specs.Links.{AreAsked}
 use Rattle.cf_link.specs.declared.links.Links.{Links}
 use Rattle.plex_script.specs.declared.asks.AnyHistory.{AnyHistory}
 use Rattle.plex_script.specs.declared.scripts.Script.{Script}
 use Rattle.plex_script.specs.Heard.{any_calls, any_length, own_calls}
 use Rattle.any_model.specs.Types.{type_of_kind, type_of_history}
 use Rattle.any_cell.specs.Passes.{PassShown, NoteShown, unused_pass}
-use Rattle.any_model.specs.Kinds.{IsAnyLegal}
+use Rattle.struct_cell.specs.Limits.{AreMadeBelow}
+use Rattle.any_model.specs.Kinds.{IsAnyLegal, IsAnyPoint, any_numbers, any_answers}
 use Rattle.any_cell.specs.Cells.{CellShown, IsNoteOf, IsAnyTold}
 use Rattle.desk_model.specs.Desks.{DeskShown, Fixed, fixed_of, pass_at}
 
@@ -81,18 +83,21 @@ pub record IsTrayOf {L : Type 0} (board : BoardShown L) (tray : List (Option Not
 
 -- ---- how a board ends
 
--- the history of a structure: of its type, legal, not too long, and with calls of its callers alone
+-- the history of a structure: of its type, legal, not too long, and with calls of its callers alone; each came to a
+-- journal with fewer entries than the limit
 pub record IsClosed {L : Type 0} (cell : CellShown L) (entries : AnyHistory) : Type 0 where
   pub history_type : type_of_history entries ≡ cell.str_type
   pub legal : IsAnyLegal cell.form entries
-  pub most : any_length entries ≤ cell.limit
+  pub most : any_length entries ≤ cell.limit + 2
+  pub room : AreMadeBelow cell.limit 0 (any_numbers entries)
   pub callers : All (λ call. call.by.0 ≤ cell.callers) (any_calls entries)
 
--- what the history says of a caller's pass: its owner's calls, each once and in order; what its tests answered; what
--- it knows
+-- what the history says of a caller's pass: its owner's calls, each once and in order; what its tests answered; and
+-- that the number that it knows is a point of the history
 pub record IsAccount {L : Type 0} (cell : CellShown L) (entries : AnyHistory) (pass : PassShown) : Type 0 where
   pub mine : pass.calls ≡ own_calls (any_calls entries) pass.owner
   pub tests : All (IsAnyTold cell.form entries pass.owner) pass.tests
+  pub point : IsAnyPoint entries pass.known
   pub known : pass.known ≤ any_length entries
 
 -- the histories of the structures, with the desks of all callers
@@ -102,3 +107,18 @@ pub record AreClosed {L : Type 0} (board : BoardShown L) (desks : List DeskShown
   pub closed : (on : StrNo) (cell : CellShown L) (entries : AnyHistory) → cell_on board on ≡ Some cell
       → slice_get histories on.0 ≡ Some entries
       → IsClosed cell entries × All (λ desk. IsAccount cell entries (pass_at desk on)) desks
+
+-- The links of a board once it is closed: those of each structure asked as its history says, and the others as they were.
+abbrev pub AreEachAsked : {L : Type 0} → (L → Option ℕ) → (L → Option (List ℕ)) → (L → ℕ) → List (CellShown L)
+    → List AnyHistory → List L → List L → Type 0
+AreEachAsked calls downs faults [] histories spare links = links ≡ spare
+AreEachAsked calls downs faults (cell ∷ cells) [] spare links = ⊥
+AreEachAsked {L} calls downs faults (cell ∷ cells) (entries ∷ histories) spare links =
+    (asked : Links L) × (others : List L) × (links ≡ four_of asked ++ others)
+    × AreAsked calls downs faults (any_answers cell.form entries) cell.links asked
+    × AreEachAsked calls downs faults cells histories spare others
+
+abbrev pub AreLinksAsked : {L : Type 0} → (L → Option ℕ) → (L → Option (List ℕ)) → (L → ℕ) → BoardShown L
+    → List AnyHistory → List L → Type 0
+AreLinksAsked calls downs faults board histories links =
+    AreEachAsked calls downs faults board.cells histories board.spare links

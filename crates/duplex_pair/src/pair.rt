@@ -52,6 +52,20 @@ impl<E: Engine, L: Link> Model for Pair<E, L> {
 }
 
 impl<E: Engine, L: Link> Pair<E, L> {
+    /// No instance yet.
+    pub fn bare(alloc: Global, links: Links<L>) -> Pair<E, L>
+        ensures primary { result.primary ≡ None }
+        ensures secondary { result.secondary ≡ None }
+        ensures links { result.links ≡ links }
+    {
+        Pair {
+            primary: None,
+            secondary: None,
+            spare: Effects::new(alloc),
+            links,
+        }
+    }
+
     /// One instance, which stands in this facility.
     pub fn one(alloc: Global, engine: E, at: CfId, links: Links<L>) -> Pair<E, L>
         requires place { IsFacility at }
@@ -59,12 +73,19 @@ impl<E: Engine, L: Link> Pair<E, L> {
         ensures secondary { result.secondary ≡ None }
         ensures links { result.links ≡ links }
     {
-        Pair {
-            primary: Some(Placed { engine, at }),
-            secondary: None,
-            spare: Effects::new(alloc),
-            links,
-        }
+        let mut pair = Pair::bare(alloc, links);
+        pair.place(engine, at);
+        pair
+    }
+
+    /// The first instance, which stands in this facility.
+    pub fn place(&mut self, engine: E, at: CfId)
+        requires place { IsFacility at }
+        requires bare { self.old.primary ≡ None }
+        ensures { self.new
+            ≡ record self.old { primary = Some (record { engine = engine; at = at }) } }
+    {
+        self.primary = Some(Placed { engine, at });
     }
 
     /// A second instance, in another facility, with the same content and capacity.
@@ -109,6 +130,8 @@ impl<E: Engine, L: Link> Pair<E, L> {
     pub fn ask_at(&mut self, cf: CfId) -> Result<(), Down>
         requires place { IsFacility cf }
         ensures same { self.new ≡ record self.old { links = self.new.links } }
+        ensures ready { (wish : Wish E.Cmd) (out : Effects) → AreReady E.is_ready self.old wish out
+            → AreReady E.is_ready self.new wish out }
         ensures asked { IsAsked L.calls L.downs L.faults (is_err result)
             (link_at self.old.links cf) (link_at self.new.links cf) }
         ensures others { (other : CfId) → IsFacility other → other.0 ≢ cf.0
@@ -141,6 +164,8 @@ impl<E: Engine, L: Link> Pair<E, L> {
         ensures left { self.new ≡ without_at cf self.old }
         ensures other { is_some self.new.primary ≡ true
             → content_of E.held self.new ≡ content_of E.held self.old }
+        ensures ready { (wish : Wish E.Cmd) (out : Effects) → AreReady E.is_ready self.old wish out
+            → AreReady E.is_ready self.new wish out }
     {
         take_at(&mut self.primary, &mut self.secondary, cf)
     }
@@ -153,6 +178,24 @@ impl<E: Engine, L: Link> Pair<E, L> {
         let place = place_of(&self.secondary);
         self.secondary = None;
         place
+    }
+
+    /// Drops every instance.
+    pub fn drop_all(&mut self)
+        ensures { self.new ≡ record self.old { primary = None; secondary = None } }
+    {
+        self.secondary = None;
+        self.primary = None;
+    }
+
+    /// Where the primary and the secondary stand.
+    pub fn places(&self) -> (Option<CfId>, Option<CfId>)
+        ensures first { result.0 ≡ facility_of self.now.primary }
+        ensures second { result.1 ≡ facility_of self.now.secondary }
+        ensures first_at { IfSome result.0 IsFacility }
+        ensures second_at { IfSome result.1 IsFacility }
+    {
+        (place_of(&self.primary), place_of(&self.secondary))
     }
 
     /// Ends the pair: what is left of it is handed out. It takes no memory.

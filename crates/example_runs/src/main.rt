@@ -1,9 +1,16 @@
-//! Runs scripts by the word `serial`, each given by its name, and tells of each whether its report is the
-//! one that stands beside it: NAME.plex is the script, and NAME.report the report.
+//! Runs scripts, each given by its name, and tells of each whether what is written is what stands beside
+//! it: NAME.plex is the script, and NAME.report the report. They are run by the word `serial`, or NAME.locks
+//! by the word `locks`. NAME.links is run by the word `serial` over links that are down at the calls which the
+//! file of that name lists.
 #![tactic(auto)]
 
+mod listed;
+
+ghost use Rattle.std.specs.Prelude.{◌≡◌, IfOk, length};
+
 use cf_io::{MemSink, MemSource};
-use cf_link::Steady;
+use cf_link::ListLink;
+use listed::listed;
 use plex_agent::OpenGate;
 use plex_run::run;
 use std::alloc::Global;
@@ -16,15 +23,16 @@ use std::{env, fs, io};
 /// The greatest length of a report, in bytes.
 const REPORT_ROOM: usize = 1_048_576;
 
-/// How many links there are to the facilities: four for each of 16 structures.
-const LINKS: usize = 64;
-
-// What the program writes of a script, with its status.
+// What the program writes of a script by this word, over these links, with its status.
 fn report_of(
     rt: &(impl Threads + Wait + Sync),
     alloc: Global,
+    word: &str,
     script: Vec<u8>,
-) -> io::Result<(u8, Vec<u8>)> {
+    mut links: Vec<ListLink>,
+) -> io::Result<(u8, Vec<u8>)>
+    requires { length links.items ≡ 64 }
+{
     let mut source = MemSource {
         bytes: script,
         taken: 0,
@@ -36,8 +44,7 @@ fn report_of(
         |_| io::ErrorKind::OutOfMemory,
     )?;
     let mut words = Vec::new(alloc);
-    words.push(String::from_str(alloc, "serial")?)?;
-    let mut links = vec![in alloc; Steady; LINKS]?;
+    words.push(String::from_str(alloc, word)?)?;
     let status = run(
         rt,
         alloc,
@@ -50,14 +57,33 @@ fn report_of(
     Ok((status, sink.bytes))
 }
 
-// Whether the script with this name has the report beside it.
+// The links over which a story is run: those that its file lists, where it has one.
+fn links_of(rt: &(impl Files + AllocGlobal), name: &str, way: &str) -> io::Result<Vec<ListLink>>
+    ensures { IfOk result (λ links. length links.items ≡ 64) }
+{
+    if way == "links" {
+        let text = fs::read_to_string(rt, format!(in rt.alloc(); "{name}.links")?)?;
+        listed(rt.alloc(), text.as_str())
+    } else {
+        listed(rt.alloc(), "")
+    }
+}
+
+// The word by which a story is run.
+fn word_of(way: &str) -> &str {
+    if way == "locks" { way } else { "serial" }
+}
+
+// Whether the script of a story has the report beside it.
 fn has_its_report(
     rt: &(impl Threads + Wait + Sync + Files + AllocGlobal),
-    name: &str,
+    story: &str,
 ) -> io::Result<bool> {
+    let (name, way) = story.split_once('.').unwrap_or((story, ""));
     let script = fs::read(rt, format!(in rt.alloc(); "{name}.plex")?)?;
     let wanted = fs::read(rt, format!(in rt.alloc(); "{name}.report")?)?;
-    let (status, wrote) = report_of(rt, rt.alloc(), script)?;
+    let links = links_of(rt, name, way)?;
+    let (status, wrote) = report_of(rt, rt.alloc(), word_of(way), script, links)?;
     Ok(status == 0 && wrote == wanted)
 }
 

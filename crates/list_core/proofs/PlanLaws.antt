@@ -83,18 +83,18 @@ possible shape caps content by (Write header head name key body adj cond) is h =
           header none.1.1.0),
       new-alone shape caps content is,
     )
-possible shape caps content by (Update at body adj cond) is h =
-    let none = none_hold (causes shape caps content by (Update at body adj cond)) h in found content.lists at
+possible shape caps content by (Update at body adj version cond) is h =
+    let none = none_hold (causes shape caps content by (Update at body adj version cond)) h in found content.lists at
     is.one_for_id none.1.1.1.1.0
 possible shape caps content by (Read at cond) is h = tt
-possible shape caps content by (Move at header head key cond) is h =
-    let none = none_hold (causes shape caps content by (Move at header head key cond)) h in (
+possible shape caps content by (Move at header head key version cond) is h =
+    let none = none_hold (causes shape caps content by (Move at header head key version cond)) h in (
       found content.lists at is.one_for_id none.1.1.1.1.0,
       at_most header (headers_of shape.kind) (length content.lists) is.headers (header_there (headers_of shape.kind)
-          header none.1.1.1.1.1.0),
+          header none.1.1.1.1.1.1.0),
     )
-possible shape caps content by (Delete at cond) is h =
-    let none = none_hold (causes shape caps content by (Delete at cond)) h in found content.lists at is.one_for_id
+possible shape caps content by (Delete at version cond) is h =
+    let none = none_hold (causes shape caps content by (Delete at version cond)) h in found content.lists at is.one_for_id
     none.1.1.1.1.0
 possible shape caps content by (ReadList header) is h = tt
 possible shape caps content by (LockSet lock) is h =

@@ -19,10 +19,10 @@ use Rattle.list_core.specs.Found.{IsFound}
 -- the data that a command's record will have
 abbrev pub body_of : Content → ListCmd → Option (List ℕ)
 body_of content (Write header head name key body adj cond) = body
-body_of content (Update at body adj cond) = option_or body (the_record content.lists at).body
+body_of content (Update at body adj version cond) = option_or body (the_record content.lists at).body
 body_of content (Read at cond) = None
-body_of content (Move at header head key cond) = None
-body_of content (Delete at cond) = None
+body_of content (Move at header head key version cond) = None
+body_of content (Delete at version cond) = None
 body_of content (ReadList header) = None
 body_of content (LockSet lock) = None
 body_of content (LockReset lock) = None
@@ -45,11 +45,11 @@ abbrev pub IsPossible : Content → ListCmd → Type 0
 IsPossible content (Write header head name key body adj cond) =
     (header < length content.lists)
     × (list_any (is_id (write.new_id content)) (all_records content.lists) ≡ false)
-IsPossible content (Update at body adj cond) = IsFound content.lists at
+IsPossible content (Update at body adj version cond) = IsFound content.lists at
 IsPossible content (Read at cond) = Unit {0}
-IsPossible content (Move at header head key cond) =
+IsPossible content (Move at header head key version cond) =
     IsFound content.lists at × (header < length content.lists)
-IsPossible content (Delete at cond) = IsFound content.lists at
+IsPossible content (Delete at version cond) = IsFound content.lists at
 IsPossible content (ReadList header) = Unit {0}
 IsPossible content (LockSet lock) = lock < length content.locks
 IsPossible content (LockReset lock) = lock < length content.locks

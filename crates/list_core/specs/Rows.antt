@@ -18,5 +18,5 @@ told_row lists watch =
 abbrev pub IsPlaceable : Content → ListItem → Type 0
 IsPlaceable content (Controls next limits locks watches) =
     AreMonitors (map monitor_of watches)
-IsPlaceable content (Row header id name key body adj) =
+IsPlaceable content (Row header id version name key body adj) =
     (header < length content.lists) × (list_any (is_id id) (all_records content.lists) ≡ false)

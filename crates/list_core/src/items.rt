@@ -99,6 +99,7 @@ fn row(alloc: Global, header: u32, rec: &Rec) -> Result<ListItem, NoMemory>
     Ok(ListItem::Row {
         header,
         id: rec.id,
+        version: rec.version,
         name: rec.name,
         key: rec.key,
         body,
@@ -191,6 +192,7 @@ fn place_row(kept: &mut Kept, header: u32, rec: Rec) -> Result<(), ListItem>
         Err(rec) => {
             let Rec {
                 id,
+                version,
                 name,
                 key,
                 body,
@@ -199,6 +201,7 @@ fn place_row(kept: &mut Kept, header: u32, rec: Rec) -> Result<(), ListItem>
             Err(ListItem::Row {
                 header,
                 id,
+                version,
                 name,
                 key,
                 body,
@@ -239,6 +242,7 @@ pub(crate) fn place_item(alloc: Global, kept: &mut Kept, item: ListItem) -> Resu
         ListItem::Row {
             header,
             id,
+            version,
             name,
             key,
             body,
@@ -246,6 +250,7 @@ pub(crate) fn place_item(alloc: Global, kept: &mut Kept, item: ListItem) -> Resu
         } => {
             let rec = Rec {
                 id,
+                version,
                 name,
                 key,
                 body,

@@ -49,17 +49,21 @@ fn refusal(shape: Shape, caps: Caps, kept: &Kept, by: ConnId, cmd: &ListCmd) -> 
             at,
             body,
             adj: _,
+            version,
             cond,
-        } => update::refusal(shape, caps, kept, by, *at, body, *cond),
+        } => update::refusal(shape, caps, kept, by, *at, body, *version, *cond),
         ListCmd::Read { at, cond } => read::refusal(shape, kept, by, *at, *cond),
         ListCmd::Move {
             at,
             header,
             head: _,
             key,
+            version,
             cond,
-        } => move_record::refusal(shape, kept, by, *at, *header, *key, *cond),
-        ListCmd::Delete { at, cond } => read::refusal(shape, kept, by, *at, *cond),
+        } => move_record::refusal(shape, kept, by, *at, *header, *key, *version, *cond),
+        ListCmd::Delete { at, version, cond } => {
+            delete::refusal(shape, kept, by, *at, *version, *cond)
+        }
         ListCmd::ReadList { header } => read_list::refusal(shape, *header),
         ListCmd::LockSet { lock } => lock_set::refusal(shape, kept, *lock),
         ListCmd::LockReset { lock } => lock_reset::refusal(shape, kept, by, *lock),
@@ -166,9 +170,10 @@ pub(crate) fn act(kept: &mut Kept, body: Option<Body>, by: ConnId, cmd: &ListCmd
             header,
             head,
             key,
+            version: _,
             cond: _,
         } => move_record::act(kept, *at, *header, *head, *key, out),
-        ListCmd::Delete { at, cond: _ } => delete::act(kept, *at, out),
+        ListCmd::Delete { at, .. } => delete::act(kept, *at, out),
         ListCmd::ReadList { .. } => {}
         ListCmd::LockSet { lock } => lock_set::act(kept, by, *lock),
         ListCmd::LockReset { lock } => lock_reset::act(kept, *lock),

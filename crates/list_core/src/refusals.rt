@@ -5,7 +5,7 @@ ghost use Rattle.list_store.specs.Lists.{all_records, records_without};
 ghost use Rattle.list_model.specs.Records.{elements_in, is_reference};
 ghost use Rattle.list_model.specs.Lists.{record_at};
 ghost use Rattle.list_model.specs.Contents.{refs_of, locks_of, is_held_by};
-ghost use Rattle.list_model.specs.Refusals.{lock_refusal, held_refusal, not_held_refusal, cond_lock_refusal, cond_refusal, header_refusal, reference_refusal, has_names, has_keys, new_key_refusal, ref_header_refusal, ref_form_refusal, record_refusal, taken_refusal, name_refusal, full_refusal, entries_refusal, elements_refusal, index_refusal, other_refusal, in_use_refusal};
+ghost use Rattle.list_model.specs.Refusals.{lock_refusal, held_refusal, not_held_refusal, cond_lock_refusal, cond_refusal, header_refusal, reference_refusal, has_names, has_keys, new_key_refusal, ref_header_refusal, ref_form_refusal, record_refusal, version_refusal, taken_refusal, name_refusal, full_refusal, entries_refusal, elements_refusal, index_refusal, other_refusal, in_use_refusal};
 
 use cf_types::{At, Caps, Cond, ConnId, EntryId, Key16, Kind, Name16, Refs, Refusal};
 use list_kept::{Kept, count, elements_of_others, named, record_at};
@@ -217,6 +217,41 @@ pub(crate) fn record_refusal(kept: &Kept, at: At) -> Option<Refusal>
         None => Some(Refusal::NoRecordThere),
     }
 }
+
+// The version of the record that is named; 0 where none is.
+fn version_at(kept: &Kept, at: At) -> u32
+    ensures { result ≡ (the_record kept.now.content.lists at).version }
+{
+    match record_at(kept, at) {
+        Some(rec) => rec.version,
+        None => 0,
+    }
+}
+
+// A version is given, and another is found.
+fn other_version(version: Option<u32>, found: u32) -> Option<Refusal>
+    ensures { result ≡ version_refusal version found }
+{
+    match version {
+        Some(version) => {
+            if version == found {
+                None
+            } else {
+                Some(Refusal::VersionDiffers { found })
+            }
+        }
+        None => None,
+    }
+}
+
+/// The record that is named has another version than the one given.
+pub(crate) fn version_refusal(kept: &Kept, at: At, version: Option<u32>) -> Option<Refusal>
+    ensures { result ≡ version_refusal version (the_record kept.now.content.lists at).version }
+{
+    other_version(version, version_at(kept, at))
+}
+
+ghost use Rattle.list_model.specs.Lists.{the_record};
 
 // A record is there.
 fn taken_refusal(rec: Option<&Rec>) -> Option<Refusal>

@@ -185,6 +185,7 @@ fn put_again(store: &mut Store, id: EntryId, header: u32, head: bool, key: Optio
         Some(rec) => {
             let Rec {
                 id,
+                version,
                 name,
                 key: old,
                 body,
@@ -193,6 +194,7 @@ fn put_again(store: &mut Store, id: EntryId, header: u32, head: bool, key: Optio
             let key = key.or(old);
             let rec = Rec {
                 id,
+                version,
                 name,
                 key,
                 body,

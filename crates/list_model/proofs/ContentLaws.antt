@@ -31,7 +31,7 @@ use Rattle.list_store.specs.declared.records.Rec.{Rec}
 use Rattle.list_store.specs.Lists.{Lists, records_of, all_records, is_id, records_without, lists_without, replaced_by, lists_replaced, ids_apart}
 use Rattle.list_watch.specs.declared.monitors.Monitor as watched
 use Rattle.list_watch.specs.Monitors.{is_of, is_for, monitors_with, AreMonitors}
-use Rattle.list_model.specs.Records.{has_name, elements_of, is_reference, is_known, names_apart, may_precede}
+use Rattle.list_model.specs.Records.{has_name, elements_of, next_version, is_reference, is_known, names_apart, may_precede}
 use Rattle.list_model.specs.Lists.{record_at, the_record, no_record, stands_before, with_record}
 use Rattle.list_model.specs.Contents.{Content, IsContent, is_given, headers_of, locks_of, refs_of, is_within, content_without, holder_without}
 use Rattle.list_model.specs.Refusals.{header_refusal, new_key_refusal, record_refusal, taken_refusal, name_refusal, entries_refusal, elements_refusal, index_refusal}
@@ -222,6 +222,7 @@ content-write shape caps content by header head name key body adj cond is h =
 abbrev pub patched : EntryId → Option (List ℕ) → Option (List ℕ) → Rec → Rec
 patched id body adj rec =
     record rec {
+      version = cond (is_id id rec) (next_version rec.version) rec.version;
       body = cond (is_id id rec) (option_or body rec.body) rec.body;
       adj = cond (is_id id rec) (option_or adj rec.adj) rec.adj;
     }
@@ -374,11 +375,11 @@ content_patched shape caps content id body adj is fits =
 
 pub content-update : (shape : Shape) (caps : Caps) (content : Content) (by : ConnId) (at : At)
     (body adj : Option (List ℕ))
-    (cond : Option Cond) → IsContent shape caps content
-    → first_refusal (update.causes shape caps content by at body cond) ≡ None
+    (version : Option ℕ) (cond : Option Cond) → IsContent shape caps content
+    → first_refusal (update.causes shape caps content by at body version cond) ≡ None
     → IsContent shape caps (update.after content at body adj)
-content-update shape caps content by at body adj cond is h =
-    let none = none_hold (update.causes shape caps content by at body cond) h in
+content-update shape caps content by at body adj version cond is h =
+    let none = none_hold (update.causes shape caps content by at body version cond) h in
     let rec = the_record content.lists at in
     let all = all_records content.lists in
     let i = the_record-in content.lists at none.1.1.1.1.0 in
@@ -387,7 +388,7 @@ content-update shape caps content by at body adj cond is h =
     (sym (agree_lists body adj rec content.lists each))
     (content_patched shape caps content rec.id body adj is
     (patched_fits caps body adj rec all i is.one_for_id is.elements
-    (elements_fit caps (elements_of body) (records_without rec.id all) none.1.1.1.1.1.0)))
+    (elements_fit caps (elements_of body) (records_without rec.id all) none.1.1.1.1.1.1.0)))
 
 -- ---- DELETE
 
@@ -433,11 +434,11 @@ moved_known refs.Nothing (Some key) rec h known = absurd (cc)
 
 pub content-move : (shape : Shape) (caps : Caps) (content : Content) (by : ConnId) (at : At) (header : ℕ)
     (head : Bool)
-    (key : Option Key16) (cond : Option Cond) → IsContent shape caps content
-    → first_refusal (move.causes shape content by at header key cond) ≡ None
+    (key : Option Key16) (version : Option ℕ) (cond : Option Cond) → IsContent shape caps content
+    → first_refusal (move.causes shape content by at header key version cond) ≡ None
     → IsContent shape caps (move.after content at header head key)
-content-move shape caps content by at header head key cond is h =
-    let none = none_hold (move.causes shape content by at header key cond) h in
+content-move shape caps content by at header head key version cond is h =
+    let none = none_hold (move.causes shape content by at header key version cond) h in
     let old = the_record content.lists at in
     let rec = move.with_new_key key old in
     let kept = λ (other : Rec). not (is_id old.id other) in
@@ -448,7 +449,7 @@ content-move shape caps content by at header head key cond is h =
     let lists = with_record head header rec left in
     let few : length left ≡ length content.lists = length-map content.lists (records_without old.id) in
     let within : header < length left =
-    omega (arith, header_there (headers_of shape.kind) header none.1.1.1.1.1.0, is.headers, few) in
+    omega (arith, header_there (headers_of shape.kind) header none.1.1.1.1.1.1.0, is.headers, few) in
     let w = with-without old all (the_record-in content.lists at none.1.1.1.1.0) is.one_for_id in
     let v : IsWith rec rest (all_records lists) =
     subst (λ (l : List Rec). IsWith rec l (all_records lists)) (all-without old.id content.lists)
@@ -469,7 +470,7 @@ content-move shape caps content by at header head key cond is h =
           (pairwise-filter names_apart kept all is.one_for_name)
           (with-pairwise names_apart names_apart-sym old rest all w is.one_for_name);
       known = all-with (is_known (refs_of shape.kind)) rec rest (all_records lists) v
-          (moved_known (refs_of shape.kind) key old none.1.1.1.1.1.1.0 (with-all (is_known (refs_of shape.kind)) old
+          (moved_known (refs_of shape.kind) key old none.1.1.1.1.1.1.1.0 (with-all (is_known (refs_of shape.kind)) old
           rest all w is.known))
           (list_all-filter (is_known (refs_of shape.kind)) kept all is.known);
       ordered = each-records (pairwise may_precede) left header records
@@ -566,12 +567,12 @@ pub content-done : (shape : Shape) (caps : Caps) (content : Content) (by : ConnI
     → cause shape caps content by cmd ≡ None → IsContent shape caps (done content by cmd).state
 content-done shape caps content by (Write header head name key body adj cond) is h =
     content-write shape caps content by header head name key body adj cond is h
-content-done shape caps content by (Update at body adj cond) is h =
-    content-update shape caps content by at body adj cond is h
+content-done shape caps content by (Update at body adj version cond) is h =
+    content-update shape caps content by at body adj version cond is h
 content-done shape caps content by (Read at cond) is h = is
-content-done shape caps content by (Move at header head key cond) is h =
-    content-move shape caps content by at header head key cond is h
-content-done shape caps content by (Delete at cond) is h =
+content-done shape caps content by (Move at header head key version cond) is h =
+    content-move shape caps content by at header head key version cond is h
+content-done shape caps content by (Delete at version cond) is h =
     content-without shape caps content (the_record content.lists at).id is
 content-done shape caps content by (ReadList header) is h = is
 content-done shape caps content by (LockSet lock) is h = content-locks shape caps content lock (Some by) is

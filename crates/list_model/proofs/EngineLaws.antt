@@ -460,26 +460,26 @@ fits_next shape caps whole state item is next placed =
           (all_records (with_records state.lists (header_in item) records)) w apart));
     }
 
-fits : (shape : Shape) (caps : Caps) (whole state : Content) (header : ℕ) (id : EntryId) (name : Option Name16)
+fits : (shape : Shape) (caps : Caps) (whole state : Content) (header : ℕ) (id : EntryId) (version : ℕ) (name : Option Name16)
     (key : Option Key16)
     (body adj : Option (List ℕ)) → IsContent shape caps whole
-    → ComesFirst shape whole state (Row header id name key body adj) ⊎ ComesNext shape whole state
-    (Row header id name key body adj)
-    → FitsIn state (Row header id name key body adj)
-fits shape caps whole state header id name key body adj is (inl first) =
-    let same : Row header id name key body adj ≡ controls_of whole = first.controls in absurd (cc)
-fits shape caps whole state header id name key body adj is (inr next) =
-    fits_next shape caps whole state (Row header id name key body adj) is next
-    (place_content shape caps whole state (Row header id name key body adj) is (inr next))
+    → ComesFirst shape whole state (Row header id version name key body adj) ⊎ ComesNext shape whole state
+    (Row header id version name key body adj)
+    → FitsIn state (Row header id version name key body adj)
+fits shape caps whole state header id version name key body adj is (inl first) =
+    let same : Row header id version name key body adj ≡ controls_of whole = first.controls in absurd (cc)
+fits shape caps whole state header id version name key body adj is (inr next) =
+    fits_next shape caps whole state (Row header id version name key body adj) is next
+    (place_content shape caps whole state (Row header id version name key body adj) is (inr next))
 
-pub next-fits : (shape : Shape) (state : Content) (header : ℕ) (id : EntryId) (name : Option Name16)
+pub next-fits : (shape : Shape) (state : Content) (header : ℕ) (id : EntryId) (version : ℕ) (name : Option Name16)
     (key : Option Key16)
     (body adj : Option (List ℕ))
-    → IsNextItem list_meaning IsContent shape state (Row header id name key body adj)
-    → FitsIn state (Row header id name key body adj)
-next-fits shape state header id name key body adj next =
-    fits shape next.at next.whole state header id name key body adj next.content
-    (next-comes shape state (Row header id name key body adj) next)
+    → IsNextItem list_meaning IsContent shape state (Row header id version name key body adj)
+    → FitsIn state (Row header id version name key body adj)
+next-fits shape state header id version name key body adj next =
+    fits shape next.at next.whole state header id version name key body adj next.content
+    (next-comes shape state (Row header id version name key body adj) next)
 
 without_step : (shape : Shape) (caps : Caps) (content : Content) → IsContent shape caps content → (n : ℕ)
     → count_of content.lists ≡ n

@@ -126,11 +126,12 @@ first-first n m (records ∷ lists) h =
 
 abbrev pub record_in : ListItem → Rec
 record_in (Controls next limits locks watches) = no_record
-record_in (Row header id name key body adj) = record { id = id; name = name; key = key; body = body; adj = adj }
+record_in (Row header id version name key body adj) =
+    record { id = id; version = version; name = name; key = key; body = body; adj = adj }
 
 abbrev pub header_in : ListItem → ℕ
 header_in (Controls next limits locks watches) = 0
-header_in (Row header id name key body adj) = header
+header_in (Row header id version name key body adj) = header
 
 -- the n-th row is put last in its header
 pub record IsNext (header n : ℕ) (lists : Lists) (item : ListItem) : Type 0 where

@@ -36,7 +36,7 @@ controls_of content =
 
 -- the records of headers from this one on
 abbrev pub row_of : ℕ → Rec → ListItem
-row_of header rec = Row header rec.id rec.name rec.key rec.body rec.adj
+row_of header rec = Row header rec.id rec.version rec.name rec.key rec.body rec.adj
 
 abbrev pub rows_from : ℕ → Lists → List ListItem
 rows_from header [] = []
@@ -59,8 +59,10 @@ content_with content (Controls next limits locks watches) =
       monitors = map monitor_of watches;
       next = next;
     }
-content_with content (Row header id name key body adj) =
-    let rec : Rec = record { id = id; name = name; key = key; body = body; adj = adj } in
+content_with content (Row header id version name key body adj) =
+    let rec : Rec =
+    record { id = id; version = version; name = name; key = key; body = body; adj = adj }
+    in
     let records = records_of content.lists header in
     record content { lists = with_records content.lists header (records ++ rec ∷ []) }
 
@@ -74,11 +76,11 @@ content_without_last shape content =
 -- the entries and elements that items need
 abbrev pub entries_for : ListItem → ℕ
 entries_for (Controls next limits locks watches) = 0
-entries_for (Row header id name key body adj) = 1
+entries_for (Row header id version name key body adj) = 1
 
 abbrev pub elements_for : ListItem → ℕ
 elements_for (Controls next limits locks watches) = 0
-elements_for (Row header id name key body adj) = elements_of body
+elements_for (Row header id version name key body adj) = elements_of body
 
 abbrev pub need_of : List ListItem → Caps
 need_of items = record { entries = sum_by entries_for items; elements = sum_by elements_for items }

@@ -25,9 +25,10 @@ record_at lists (ref.Head header) = slice_get (records_of lists header) 0
 record_at lists (ref.Tail header) = last_record (records_of lists header)
 record_at lists (ref.Key header key) = find (has_key key) (records_of lists header)
 
--- no record has the id 0
+-- no record has the id 0, nor the version 0
 abbrev pub no_record : Rec
-no_record = record { id = record { 0 = 0 }; name = None; key = None; body = None; adj = None }
+no_record =
+    record { id = record { 0 = 0 }; version = 0; name = None; key = None; body = None; adj = None }
 
 abbrev pub the_record : Lists → At → Rec
 the_record lists at = unwrap_or (record_at lists at) no_record

@@ -1,5 +1,5 @@
 -- A record of a list structure.
-use Rattle.std.specs.Prelude.{ℕ, ◌+◌, ◌/◌, Bool, false, not, ◌&&◌, List, length, Option, Some, None, is_some, is_none, sum_by}
+use Rattle.std.specs.Prelude.{ℕ, ◌+◌, ◌/◌, Bool, false, not, ◌&&◌, nat_lt, if◌then◌else◌, List, length, Option, Some, None, is_some, is_none, sum_by}
 use Rattle.cf_types.specs.declared.forms.Refs.{Refs}
 use Rattle.cf_types.specs.declared.forms.Refs.TheVariants as refs
 use Rattle.cf_types.specs.declared.names.Key16.{Key16}
@@ -21,6 +21,10 @@ has_key key rec = is_it rec.key
     is_it : Option Key16 → Bool
     is_it None = false
     is_it (Some other) = same_key other key
+
+-- the version after an update: one greater, and 1 after the greatest
+abbrev pub next_version : ℕ → ℕ
+next_version version = if nat_lt version 4294967295 then version + 1 else 1
 
 -- data lie in elements of 256 bytes
 abbrev pub elements_of : Option (List ℕ) → ℕ

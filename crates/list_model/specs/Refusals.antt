@@ -11,7 +11,7 @@ use Rattle.cf_types.specs.declared.names.Key16.{Key16}
 use Rattle.cf_types.specs.declared.names.Name16.{Name16}
 use Rattle.cf_types.specs.declared.numbers.ConnId.{ConnId}
 use Rattle.cf_types.specs.declared.refusals.Refusal.{Refusal}
-use Rattle.cf_types.specs.declared.refusals.Refusal.TheVariants.{BadIndex, NoRecordThere, NameTaken, BadHeader, ListFull, EntriesFull, NoListElements, LockHeld, LockNotHeldBy, WrongReference, HeaderInUse, BadLock}
+use Rattle.cf_types.specs.declared.refusals.Refusal.TheVariants.{BadIndex, NoRecordThere, NameTaken, BadHeader, ListFull, EntriesFull, NoListElements, LockHeld, LockNotHeldBy, WrongReference, HeaderInUse, BadLock, VersionDiffers}
 use Rattle.list_store.specs.declared.records.Rec.{Rec}
 use Rattle.list_store.specs.Lists.{records_of}
 use Rattle.list_watch.specs.declared.monitors.Monitor.{Monitor}
@@ -89,6 +89,12 @@ ref_form_refusal refs (ref.Key header key) =
 abbrev pub record_refusal : Option Rec → Option Refusal
 record_refusal None = Some NoRecordThere
 record_refusal (Some rec) = None
+
+-- 31: the record has another version than the one given
+abbrev pub version_refusal : Option ℕ → ℕ → Option Refusal
+version_refusal None found = None
+version_refusal (Some version) found =
+    if version == found then None else Some (VersionDiffers found)
 
 -- ---- names and room
 

@@ -29,12 +29,13 @@ use Rattle.list_model.specs.Commands.Unmonitor as unmonitor
 abbrev pub causes : Shape → Caps → Content → ConnId → ListCmd → List (Option Refusal)
 causes shape caps content by (Write header head name key body adj cond) =
     write.causes shape caps content by header name key body cond
-causes shape caps content by (Update at body adj cond) =
-    update.causes shape caps content by at body cond
+causes shape caps content by (Update at body adj version cond) =
+    update.causes shape caps content by at body version cond
 causes shape caps content by (Read at cond) = read.causes shape content by at cond
-causes shape caps content by (Move at header head key cond) =
-    move.causes shape content by at header key cond
-causes shape caps content by (Delete at cond) = delete.causes shape content by at cond
+causes shape caps content by (Move at header head key version cond) =
+    move.causes shape content by at header key version cond
+causes shape caps content by (Delete at version cond) =
+    delete.causes shape content by at version cond
 causes shape caps content by (ReadList header) = read_list.causes shape header
 causes shape caps content by (LockSet lock) = lock_set.causes shape content lock
 causes shape caps content by (LockReset lock) = lock_reset.causes shape content by lock
@@ -50,10 +51,10 @@ cause shape caps content by cmd = first_refusal (causes shape caps content by cm
 
 abbrev pub reply : Content → ConnId → ListCmd → ListReply
 reply content by (Write header head name key body adj cond) = write.reply content
-reply content by (Update at body adj cond) = update.reply content at
+reply content by (Update at body adj version cond) = update.reply content at
 reply content by (Read at cond) = read.reply content at
-reply content by (Move at header head key cond) = replies.Ok
-reply content by (Delete at cond) = delete.reply content at
+reply content by (Move at header head key version cond) = replies.Ok
+reply content by (Delete at version cond) = delete.reply content at
 reply content by (ReadList header) = read_list.reply content header
 reply content by (LockSet lock) = replies.Ok
 reply content by (LockReset lock) = replies.Ok
@@ -67,10 +68,10 @@ reply content by (Unmonitor header) = unmonitor.reply content by header
 abbrev pub after : Content → ConnId → ListCmd → Content
 after content by (Write header head name key body adj cond) =
     write.after content header head name key body adj
-after content by (Update at body adj cond) = update.after content at body adj
+after content by (Update at body adj version cond) = update.after content at body adj
 after content by (Read at cond) = content
-after content by (Move at header head key cond) = move.after content at header head key
-after content by (Delete at cond) = delete.after content at
+after content by (Move at header head key version cond) = move.after content at header head key
+after content by (Delete at version cond) = delete.after content at
 after content by (ReadList header) = content
 after content by (LockSet lock) = lock_set.after content by lock
 after content by (LockReset lock) = lock_reset.after content lock

@@ -17,6 +17,7 @@ pub enum ListItem {
     Row {
         header: u32,
         id: EntryId,
+        version: u32,
         name: Option<Name16>,
         key: Option<Key16>,
         body: Option<Body>,

@@ -183,6 +183,7 @@ fn copy_record(alloc: Global, rec: &Rec) -> Result<Rec, NoMemory>
     let body = copy_data(alloc, &rec.body)?;
     Ok(Rec {
         id: rec.id,
+        version: rec.version,
         name: rec.name,
         key: rec.key,
         body,

@@ -1,10 +1,11 @@
 use cf_types::{Adjunct, Body, EntryId, Key16, Name16};
 
-/// A record of a list structure: its id, its name or key where the structure's records have one,
-/// and its data and adjunct where it has them.
+/// A record of a list structure: its id, its version (1 at first, one greater with each update), its
+/// name or key where the structure's records have one, and its data and adjunct where it has them.
 #[derive(Drop)]
 pub struct Rec {
     pub id: EntryId,
+    pub version: u32,
     pub name: Option<Name16>,
     pub key: Option<Key16>,
     pub body: Option<Body>,

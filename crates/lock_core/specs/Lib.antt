@@ -1,3 +1,4 @@
+pub mod Orders
 pub mod Stock
 pub mod Plans
 pub mod EngineView

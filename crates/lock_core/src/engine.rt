@@ -1,6 +1,6 @@
 use crate::departures::resources_of;
 use crate::grants::grant_each;
-use crate::locks::Locks;
+use crate::locks::{ItemOrder, Locks};
 use crate::plans::{Plan, act, make_plan};
 use cf_types::{
     Caps, ConnId, Effects, Listing, LockCmd, LockReply, NoMemory, Refusal, Resource, StrForm,
@@ -44,7 +44,8 @@ impl Model for LockEngine {
 }
 
 impl Engine for LockEngine {
-    ghost use Rattle.std.specs.Prelude.{refl};
+    ghost use Rattle.std.specs.Prelude.{◌≡◌, refl};
+    ghost use Rattle.lock_core.specs.Orders.{order_of};
     ghost use Rattle.cf_types.specs.Forms.{is_lock};
     ghost use Rattle.lock_core.specs.EngineView.{IsReady};
     ghost use Rattle.lock_model.specs.Contents.{IsContent};
@@ -60,7 +61,7 @@ impl Engine for LockEngine {
 
     type Item = LockItem;
 
-    type Order = ();
+    type Order = ItemOrder;
 
     type State = LockContent;
 
@@ -72,7 +73,7 @@ impl Engine for LockEngine {
 
     ghost held = { λ e. e.held };
 
-    ghost is_order = { λ order held. Unit {0} };
+    ghost is_order = { λ order held. order ≡ order_of held.state };
 
     ghost is_ready = { IsReady };
 
@@ -163,12 +164,15 @@ impl Engine for LockEngine {
         }
     }
 
-    fn order(&self, _alloc: Global) -> Result<(), NoMemory> {
-        Ok(())
+    fn order(&self, alloc: Global) -> Result<ItemOrder, NoMemory> {
+        self.locks.order(alloc)
     }
 
-    fn item_in(&self, alloc: Global, _order: &(), k: u32) -> Result<LockItem, NoMemory> {
-        self.item(alloc, k)
+    fn item_in(&self, _alloc: Global, order: &ItemOrder, k: u32) -> Result<LockItem, NoMemory> {
+        match self.locks.item_in(order, k) {
+            Some(item) => Ok(item),
+            None => unreachable!(),
+        }
     }
 
     fn place(&mut self, item: LockItem) -> Result<(), LockItem> {

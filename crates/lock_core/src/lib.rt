@@ -14,3 +14,4 @@ pub use engine::{LockContent, LockEngine};
 pub use lock_model::LockItem;
 pub use lock_queue::Waiter;
 pub use lock_table::Held;
+pub use locks::ItemOrder;

@@ -5,6 +5,7 @@ ghost use Rattle.lock_model.specs.Contents.{records_of, records_owned, records_w
 ghost use Rattle.lock_model.specs.Grants.{held_by, interests_granted, content_granted, granted_letter};
 ghost use Rattle.lock_model.specs.Requests as requests;
 ghost use Rattle.lock_core.specs.Stock.{HasRoom, next_of};
+ghost use Rattle.lock_core.specs.Orders.{order_of};
 
 use cf_types::{Adjunct, Caps, ConnId, Effects, Event, Letter, LockReply, NoMemory, Resource};
 use lock_interests::{Interests, held_by, records_of};
@@ -30,6 +31,21 @@ impl Model for Locks {
     ghost view = { stock };
 }
 
+/// The resources of all interests and of all waiters, in their order. Contracts see the two lists.
+#[derive(Drop)]
+pub struct ItemOrder {
+    owned: Vec<Resource>,
+    awaited: Vec<Resource>,
+}
+
+impl Model for ItemOrder {
+    ghost use Rattle.lock_core.specs.Orders.{OrderView, order_view};
+
+    ghost Value = { OrderView };
+
+    ghost view = { order_view };
+}
+
 // Whether a waiter may own its resource.
 fn where_grantable(interests: &Interests, first: Option<&Waiter>) -> Option<Waiter>
     ensures { result ≡ if_grantable interests.now.interests (option_map (λ w. w.now) first.entry) }
@@ -48,7 +64,7 @@ fn where_grantable(interests: &Interests, first: Option<&Waiter>) -> Option<Wait
 
 ghost use Rattle.std.specs.Prelude.{◌&&◌, Option, Some, None, true, false, not, filter, is_some, option_map};
 ghost use Rattle.cf_types.specs.declared.effects.Effects.{Effects};
-ghost use Rattle.lock_queue.specs.Waiters.{is_waiter, waiters_without_conn};
+ghost use Rattle.lock_queue.specs.Waiters.{recorded_of, waiters_without_conn};
 ghost use Rattle.lock_model.specs.Interests.{interests_without};
 ghost use Rattle.lock_model.specs.Departures.{interests_left, with_returned};
 ghost use Rattle.lock_model.specs.Commands.Decide as decide;
@@ -89,31 +105,32 @@ fn waiting_item(w: Option<&Waiter>) -> Option<LockItem>
 }
 
 // How many waiters have record data.
-fn count_waiting(waiters: &[Waiter]) -> usize
-    ensures count { result ≡ records_waiting waiters.now }
-    ensures few { result ≤ length waiters.now }
+fn count_waiting(queue: &Queue) -> usize
+    ensures count { result ≡ records_waiting queue.now.waiters }
+    ensures few { result < 4294967296 }
 {
-    waiters.iter().filter(|w| w.rec.is_some()).count()
+    queue.records() as usize
 }
 
-// How many others than a waiter have record data.
-fn count_waiting_others(waiters: &[Waiter], w: &Waiter) -> usize
-    ensures { result ≡ length (filter (λ other. not (is_waiter w.now.r w.now.conn other)
-        && is_some other.rec) waiters.now) }
+// How many record data a waiter brings, if there is one.
+fn records_brought(w: Option<&Waiter>) -> usize
+    ensures count { result ≡ recorded_of (option_map (λ w. w.now) w.entry) }
+    ensures few { result ≤ 1 }
 {
-    waiters
-        .iter()
-        .filter(|other| !(other.r == w.r && other.conn == w.conn) && other.rec.is_some())
-        .count()
+    match w {
+        Some(w) => { if w.rec.is_some() { 1 } else { 0 } }
+        None => 0,
+    }
 }
 
 // How many have record data once one more waits.
-fn count_waiting_with(waiters: &[Waiter], w: &Waiter) -> usize
-    requires { length waiters.now < 4294967296 }
-    ensures count { result ≡ records_waiting (waiters_with w.now waiters.now) }
-    ensures few { result ≤ length waiters.now + 1 }
+fn count_waiting_with(queue: &Queue, w: &Waiter) -> usize
+    ensures count { result ≡ records_waiting (waiters_with w.now queue.now.waiters) }
+    ensures few { result ≤ 4294967296 }
 {
-    count_waiting_others(waiters, w) + records_of(&w.rec)
+    let _ = queue.len();
+    let had = records_brought(queue.find(&w.r, w.conn));
+    count_waiting(queue) - had + records_of(&w.rec)
 }
 
 impl Locks {
@@ -264,9 +281,9 @@ impl Locks {
         ensures { result ≡ records_in (requests.content_asked at_once w.now self.now.content) }
     {
         if at_once {
-            self.interests.count_records_granted(w) + count_waiting(self.queue.items())
+            self.interests.count_records_granted(w) + count_waiting(&self.queue)
         } else {
-            self.interests.count_records() + count_waiting_with(self.queue.items(), w)
+            self.interests.count_records() + count_waiting_with(&self.queue, w)
         }
     }
 
@@ -290,7 +307,7 @@ impl Locks {
           elements = records_in self.now.content;
         } }
     {
-        let records = self.interests.count_records() + count_waiting(self.queue.items());
+        let records = self.interests.count_records() + count_waiting(&self.queue);
         Caps {
             entries: self.count(),
             elements: records as u32,
@@ -330,6 +347,28 @@ impl Locks {
             self.interests.at(k)
         } else {
             waiting_item(self.queue.at(k - owners))
+        }
+    }
+
+    /// The order of the items: the resources of the interests, and of the waiters.
+    pub(crate) fn order(&self, alloc: Global) -> Result<ItemOrder, NoMemory>
+        ensures { IfOk result (λ order. order ≡ order_of self.now.content) }
+    {
+        let owned = self.interests.order(alloc)?;
+        let awaited = self.queue.order(alloc)?;
+        Ok(ItemOrder { owned, awaited })
+    }
+
+    /// The item at a place, from 0, found by the order of all.
+    pub(crate) fn item_in(&self, order: &ItemOrder, k: u32) -> Option<LockItem>
+        requires { order.now ≡ order_of self.now.content }
+        ensures { result ≡ slice_get (items self.now.content) k }
+    {
+        let owners = self.interests.len();
+        if k < owners {
+            self.interests.at_in(&order.owned, k)
+        } else {
+            waiting_item(self.queue.at_in(&order.awaited, k - owners))
         }
     }
 
@@ -427,8 +466,10 @@ impl Locks {
             { waiters = without_last self.old.content.waiters } }
         ensures limit { self.new.limit ≡ self.old.limit }
     {
-        let last = self.queue.items()[self.queue.len() as usize - 1];
-        let _ = self.queue.remove(&last.r, last.conn);
+        let _ = self.queue.len();
+        if let Some(last) = self.queue.last().copied() {
+            let _ = self.queue.remove(&last.r, last.conn);
+        }
     }
 
     // The last owner goes.

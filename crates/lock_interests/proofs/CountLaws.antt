@@ -70,7 +70,7 @@ some_mapped : {X Y : Type 0} (f : X → Y) (o : Option X) → is_some (option_ma
 some_mapped f None = refl
 some_mapped f (Some x) = refl
 
-has_is_some : (records : List Record) (held : Held)
+pub has_is_some : (records : List Record) (held : Held)
     → is_some (record_of held.r held.conn records) ≡ has_record held.r held.conn records
 has_is_some records held =
     some_mapped (λ (found : Record). found.rec) (find (is_record held.r held.conn) records)

@@ -1,3 +1,4 @@
 pub mod JoinLaws
 pub mod ReadLaws
 pub mod CountLaws
+pub mod OwnerLaws

@@ -230,13 +230,17 @@ read-joined conn records (x ∷ xs) =
     (read-joined conn records xs)
 
 -- the last interest is that of the last owner
-pub last-joined : (owners : List Held) (records : List Record) (d : Held) → 0 < length (interests_of owners records)
-    → slice_get (interests_of owners records) (length (interests_of owners records) - 1) ≡ Some
-    (with_record records (get_or owners (length owners - 1) d))
-last-joined owners records d some =
-    let same : length (interests_of owners records) ≡ length owners = length-map owners (with_record records) in
-    let within : length owners - 1 < length owners = omega (arith, some, same) in
-    ap (λ (n : ℕ). slice_get (interests_of owners records) (n - 1)) same
+pub last-joined : (owners : List Held) (records : List Record) (last : Held)
+    → slice_get owners (length owners - 1) ≡ Some last
+    → slice_get (interests_of owners records) (length (interests_of owners records) - 1)
+    ≡ Some (with_record records last)
+last-joined owners records last h =
+    ap (λ (n : ℕ). slice_get (interests_of owners records) (n - 1)) (length-map owners (with_record records))
     ∙ slice_get-map (with_record records) owners (length owners - 1)
-    ∙ ap (λ (o : Option Held). option_map (with_record records) o) (slice_get-get_or owners (length owners - 1) d
-    within)
+    ∙ ap (λ (o : Option Held). option_map (with_record records) o) h
+
+pub last_there : (owners : List Held) → 0 < length owners → slice_get owners (length owners - 1) ≡ None → ⊥
+last_there [] some h = absurd (omega (arith, some))
+last_there (x ∷ xs) some h =
+    let there = slice_get-get_or (x ∷ xs) (length (x ∷ xs) - 1) x (omega arith) in
+    let gone : None ≡ Some (get_or (x ∷ xs) (length (x ∷ xs) - 1) x) = sym h ∙ there in cc

@@ -1,14 +1,14 @@
 -- Interests with their record data, from the list of owners and the list of record data.
-use Rattle.std.specs.Prelude.{ℕ, Bool, IsTrue, not, ◌&&◌, ◌==◌, List, Option, Some, None, option_map, filter, map}
+use Rattle.std.specs.Prelude.{ℕ, Bool, true, false, IsTrue, not, ◌&&◌, ◌==◌, if◌then◌else◌, List, [], ◌∷◌, Option, Some, None, option_map, filter, find, map}
 use Rattle.std.specs.List.{filter_map, list_all}
 use Rattle.cf_types.specs.declared.events.Event.TheVariants as events
 use Rattle.cf_types.specs.declared.events.Letter.{Letter}
 use Rattle.cf_types.specs.declared.numbers.ConnId.{ConnId}
 use Rattle.cf_types.specs.declared.resources.Resource.{Resource}
 use Rattle.lock_table.specs.declared.holdings.Held.{Held}
-use Rattle.lock_table.specs.Holdings.{is_on, has_interest}
+use Rattle.lock_table.specs.Holdings.{is_on, has_interest, owners_retained}
 use Rattle.lock_record.specs.declared.recorded.Record.{Record}
-use Rattle.lock_record.specs.Recorded.{record_of, records_with, records_without}
+use Rattle.lock_record.specs.Recorded.{is_of, record_of, records_with, records_without}
 use Rattle.lock_model.specs.Interests.{Interest}
 use Rattle.lock_interests.specs.declared.interests.Interests.TheInside.{Inside}
 
@@ -68,3 +68,28 @@ abbrev pub records_read : ConnId → List Record → List Held → List (Resourc
 records_read conn records owners =
     filter_map (λ held. record_read held (record_of held.r held.conn records))
     (filter (λ held. held.conn.0 == conn.0) owners)
+
+-- an interest, if there is one, is retained; what is read of it
+abbrev pub is_held_retained : Option Held → Bool
+is_held_retained None = false
+is_held_retained (Some held) = held.retained
+
+abbrev pub held_read : List Record → Option Held → Option (Resource × Bool × List ℕ)
+held_read records None = None
+held_read records (Some held) = record_read held (record_of held.r held.conn records)
+
+abbrev pub read_in : ConnId → List Record → List Held → Resource
+    → Option (Resource × Bool × List ℕ)
+read_in conn records owners r =
+    held_read records (find (λ held. held.conn.0 == conn.0) (filter (is_on r) owners))
+
+-- ---- a connector's interests are retained for which there are record data, one after another
+
+abbrev pub retained_one : ConnId → Record → List Held → List Held
+retained_one conn recorded owners =
+    if is_of conn recorded then owners_retained recorded.r conn true owners else owners
+
+abbrev pub retained_all : ConnId → List Record → List Held → List Held
+retained_all conn [] owners = owners
+retained_all conn (recorded ∷ records) owners =
+    retained_all conn records (retained_one conn recorded owners)

@@ -1,12 +1,13 @@
 //! Interests with their record data.
 ghost use Rattle.std.specs.Prelude.{◌≡◌, ◌+◌, ◌≤◌, ◌&&◌, ◌||◌, [], IfOk, OnOk, length, filter, ◌==◌, find, map, not, is_some, option_map};
 ghost use Rattle.std.specs.List.{list_any, list_all};
-ghost use Rattle.std.specs.Slice.Iter.{iter_rest};
+ghost use Rattle.lock_table.specs.EntryView.{owners_left};
 ghost use Rattle.lock_table.specs.declared.holdings.Held.{Held};
 ghost use Rattle.cf_types.specs.declared.resources.Resource.{Resource};
 ghost use Rattle.lock_record.specs.declared.recorded.Record.{Record};
-ghost use Rattle.lock_record.specs.Recorded.{record_of};
-ghost use Rattle.lock_table.specs.Holdings.{is_interest};
+ghost use Rattle.lock_record.specs.Recorded.{is_of};
+ghost use Rattle.list_laws.specs.Pairwise.{pairwise};
+ghost use Rattle.lock_table.specs.Holdings.{are_apart};
 ghost use Rattle.lock_model.specs.Interests.{Interest, are_compatible, may_own, manager_of, interest_of, has_interest, interests_with, interests_without, interests_changed};
 ghost use Rattle.lock_model.specs.Contents.{records_of, records_owned};
 ghost use Rattle.lock_model.specs.Commands.RtRead as rt_read;
@@ -17,7 +18,7 @@ ghost use Rattle.lock_interests.specs.InterestsView.{records_put, records_given}
 use cf_types::{Adjunct, ConnId, Effects, Event, Letter, Listing, NoMemory, Resource};
 use lock_model::LockItem;
 use lock_queue::Waiter;
-use lock_record::Records;
+use lock_record::{Record, Records};
 use lock_table::{Held, Owners, Table};
 use std::alloc::Global;
 use std::marker::Model;
@@ -91,11 +92,20 @@ impl Interests {
         Ok(Interests { owners, records })
     }
 
-    /// The owners without their record data, by resource and then in standing order.
-    pub fn owners(&self) -> &[Held]
-        ensures { (records : List Record) × (interests_of result.now records ≡ self.now.interests) }
+    /// The resources of all interests, in their order: what a copy of all takes once.
+    pub fn order(&self, alloc: Global) -> Result<Vec<Resource>, NoMemory>
+        ensures { IfOk result (λ order. order.items ≡ map (λ interest. interest.held.r)
+            self.now.interests) }
     {
-        self.owners.items()
+        self.owners.order(alloc)
+    }
+
+    /// The resources that a connector has an interest in, in their order.
+    pub fn of(&self, alloc: Global, conn: ConnId) -> Result<Vec<Resource>, NoMemory>
+        ensures { IfOk result (λ list. list.items ≡ map (λ interest. interest.held.r)
+            (filter (is_by conn) self.now.interests)) }
+    {
+        self.owners.of(alloc, conn)
     }
 
     /// Whether a connector may own a resource in a state beside all its owners: each of those is
@@ -120,28 +130,29 @@ impl Interests {
         ensures { option_map (λ held. held.now) result
             ≡ option_map (λ interest. interest.held) (interest_of r.now conn self.now.interests) }
     {
-        part_of(self.owners.items(), r, conn)
+        find_by(self.owners.owners(r), conn)
     }
 
     /// Whether a connector has an interest with record data, in whatever resource.
     pub fn has_records(&self, conn: ConnId) -> bool
         ensures { result ≡ list_any (rt_read.is_recorded conn) self.now.interests }
     {
-        is_any_recorded(self.owners.items(), &self.records, conn)
+        has_any_record(self.records.items(), conn)
     }
 
     /// Whether a connector has an interest in a resource, with record data.
     pub fn has_record(&self, r: &Resource, conn: ConnId) -> bool
         ensures { result ≡ list_any (rt_delete.is_recorded r.now conn) self.now.interests }
     {
-        is_part_recorded(self.owners.items(), &self.records, r, conn)
+        self.records.get(r, conn).is_some()
     }
 
     /// Whether a connector has a retained interest in a resource.
     pub fn is_retained(&self, r: &Resource, conn: ConnId) -> bool
         ensures { result ≡ rt_delete.is_retained r.now conn self.now.interests }
     {
-        is_part_retained(self.owners.items(), r, conn)
+        let _ = self.owners.len();
+        is_held_retained(find_by(self.owners.owners(r), conn))
     }
 
     /// Tells each owner of a resource that isn't retained that the connector `conn` waits for it,
@@ -155,7 +166,7 @@ impl Interests {
             (decide.notify_letters r.now conn self.now.interests) ≡ out.old.mail.room }
         ensures bits { out.new.bits ≡ out.old.bits }
     {
-        notify(self.owners.items(), r, conn, out);
+        notify(self.owners.owners(r), r, conn, out);
     }
 
     /// A connector's interests with record data, by resource: each resource, whether the connector
@@ -168,7 +179,8 @@ impl Interests {
         ensures { IfOk result (λ list. list ≡ filter_map rt_read.record_in
             (filter (is_by conn) self.now.interests)) }
     {
-        let list = read(alloc, self.owners.items(), &self.records, conn)?;
+        let _ = self.owners.len();
+        let list = read(alloc, &self.owners, &self.records, conn)?;
         Ok(Listing::from_vec(list))
     }
 
@@ -186,13 +198,28 @@ impl Interests {
         }
     }
 
+    /// The interest at a place, from 0, with its record data, found by the order of all. None past
+    /// the end.
+    pub fn at_in(&self, order: &[Resource], k: u32) -> Option<LockItem>
+        requires { order.now ≡ map (λ interest. interest.held.r) self.now.interests }
+        ensures { result ≡ option_map owner (slice_get self.now.interests k) }
+    {
+        match self.owners.at_in(order, k) {
+            Some(held) => Some(LockItem::Owner {
+                held: *held,
+                rec: self.records.get(&held.r, held.conn).copied(),
+            }),
+            None => None,
+        }
+    }
+
     /// How many interests have record data.
     pub fn count_records(&self) -> usize
         ensures count { result ≡ records_owned self.now.interests }
         ensures few { result < 4294967296 }
     {
         // Each record datum is of one owner, since no two owners are the same.
-        let _ = self.owners.items();
+        let _ = self.owners.len();
         self.records.count() as usize
     }
 
@@ -214,7 +241,7 @@ impl Interests {
             (record { held = held_by w.now; rec = w.now.rec }) self.now.interests) }
         ensures few { result ≤ 4294967296 }
     {
-        let _ = self.owners.items();
+        let _ = self.owners.len();
         self.records.count_others(&w.r, w.conn) as usize + records_of(&w.rec)
     }
 
@@ -224,7 +251,7 @@ impl Interests {
             (with_alteration w.now) self.now.interests) }
         ensures few { result ≤ 4294967296 }
     {
-        let _ = self.owners.items();
+        let _ = self.owners.len();
         if self.is_given(w) {
             self.records.count_others(&w.r, w.conn) as usize + 1
         } else {
@@ -244,7 +271,7 @@ impl Interests {
     fn has_interest(&self, r: &Resource, conn: ConnId) -> bool
         ensures { result ≡ has_interest r.now conn self.now.interests }
     {
-        is_any_part(self.owners.items(), r, conn)
+        find_by(self.owners.owners(r), conn).is_some()
     }
 
     /// How many interests there are.
@@ -336,9 +363,9 @@ impl Interests {
         ensures interests { self.new.interests ≡ without_last self.old.interests }
         ensures limit { self.new.limit ≡ self.old.limit }
     {
-        let owners = self.owners.items();
-        let last = owners[owners.len() - 1];
-        self.remove(&last.r, last.conn);
+        if let Some(last) = self.owners.last().copied() {
+            self.remove(&last.r, last.conn);
+        }
     }
 
     /// The record data of a connector's interest in a resource go, and the interest stays. Where
@@ -369,20 +396,43 @@ impl Interests {
         ensures owner_room { self.old.owner_room ≤ self.new.owner_room }
         ensures record_room { self.old.record_room ≤ self.new.record_room }
     {
-        let records = &self.records;
-        self.owners.retain(|held| stays(records, conn, keep, held));
-        self.owners.set_retained_of(conn, true);
-        if !keep {
-            self.records.drop_conn(conn);
+        if keep {
+            self.leave_recorded(conn);
+        } else {
+            self.leave_all(conn);
         }
+    }
+
+    // A connector's interests go, but those with record data, which are retained.
+    fn leave_recorded(&mut self, conn: ConnId)
+        ensures interests { self.new.interests ≡ interests_left conn true self.old.interests }
+        ensures limit { self.new.limit ≡ self.old.limit }
+        ensures owner_room { self.old.owner_room ≤ self.new.owner_room }
+        ensures record_room { self.old.record_room ≤ self.new.record_room }
+    {
+        self.owners.set_retained_of(conn, false);
+        retain_recorded(&mut self.owners, self.records.items(), conn);
+        self.owners.end_active(conn);
+    }
+
+    // A connector's interests go with their record data.
+    fn leave_all(&mut self, conn: ConnId)
+        ensures interests { self.new.interests ≡ interests_left conn false self.old.interests }
+        ensures limit { self.new.limit ≡ self.old.limit }
+        ensures owner_room { self.old.owner_room ≤ self.new.owner_room }
+        ensures record_room { self.old.record_room ≤ self.new.record_room }
+    {
+        self.owners.set_retained_of(conn, false);
+        self.owners.end_active(conn);
+        self.records.drop_conn(conn);
     }
 }
 
-ghost use Rattle.std.specs.Prelude.{false};
+ghost use Rattle.std.specs.Prelude.{true, false, IsTrue};
 ghost use Rattle.lock_model.specs.Grants.{with_alteration};
-ghost use Rattle.lock_model.specs.Departures.{stays, with_retained, interests_left};
+ghost use Rattle.lock_model.specs.Departures.{with_retained, interests_left};
 ghost use Rattle.lock_model.specs.Commands.RtDelete.{without_record};
-ghost use Rattle.lock_interests.specs.InterestsView.{with_record, interests_of, letters_told, record_read, records_read};
+ghost use Rattle.lock_interests.specs.InterestsView.{letters_told, record_read, records_read, held_read, read_in, is_held_retained, retained_one, retained_all};
 ghost use Rattle.std.specs.Prelude.{◌<◌, ◌++◌, List, option_to_list, slice_get};
 ghost use Rattle.std.specs.List.{filter_map};
 ghost use Rattle.lock_table.specs.Holdings.{is_on};
@@ -390,25 +440,11 @@ ghost use Rattle.lock_model.specs.Interests.{is_by, AreInterests};
 ghost use Rattle.lock_model.specs.Contents.{owner, without_last};
 ghost use Rattle.lock_model.specs.Commands.Decide as decide;
 
-// Whether an interest is this connector's in this resource.
-fn is_part(held: &Held, r: &Resource, conn: ConnId) -> bool
-    ensures { result ≡ is_interest r.now conn held.now }
-{
-    held.r == *r && held.conn == conn
-}
-
 // Whether two may own a resource together.
 fn are_compatible(held: &Held, other: &Held) -> bool
     ensures { result ≡ are_compatible held.now other.now }
 {
     !held.excl && !other.excl || held.conn == other.conn
-}
-
-// Whether an interest has record data.
-fn is_recorded(records: &Records, held: &Held) -> bool
-    ensures { result ≡ is_some (record_of held.now.r held.now.conn records.now.records) }
-{
-    records.get(&held.r, held.conn).is_some()
 }
 
 /// How many record data these are: 1 where they are given, else 0.
@@ -423,7 +459,7 @@ pub fn records_of(rec: &Option<Adjunct>) -> usize
 
 // Whether one may own a resource beside each of these.
 fn are_all_compatible(owners: Owners<'_>, held: &Held) -> bool
-    ensures { result ≡ list_all (are_compatible held.now) (iter_rest owners.entry) }
+    ensures { result ≡ list_all (are_compatible held.now) (owners_left owners.entry) }
 {
     let mut others = owners;
     others.all(|other| are_compatible(held, other))
@@ -432,7 +468,7 @@ fn are_all_compatible(owners: Owners<'_>, held: &Held) -> bool
 // The first of these that isn't retained.
 fn first_active<'a>(owners: Owners<'a>) -> Option<&'a Held>
     ensures { option_map (λ held. held.now) result ≡ find (λ held. not held.retained)
-        (iter_rest owners.entry) }
+        (owners_left owners.entry) }
 {
     let mut others = owners;
     others.find(|held| !held.retained)
@@ -449,45 +485,50 @@ fn conn_of(held: Option<&Held>) -> Option<ConnId>
     }
 }
 
-// A connector's interest in a resource.
-fn part_of<'a>(owners: &'a [Held], r: &Resource, conn: ConnId) -> Option<&'a Held>
-    ensures { option_map (λ held. held.now) result ≡ find (is_interest r.now conn) owners.now }
+// A connector's interest among the owners of a resource.
+fn find_by<'a>(owners: Owners<'a>, conn: ConnId) -> Option<&'a Held>
+    ensures { option_map (λ held. held.now) result ≡ find (λ held. held.conn.0 == conn.0)
+        (owners_left owners.entry) }
 {
-    owners.iter().find(|held| is_part(held, r, conn))
+    let mut others = owners;
+    others.find(|held| held.conn == conn)
 }
 
-// Whether a connector has an interest in a resource.
-fn is_any_part(owners: &[Held], r: &Resource, conn: ConnId) -> bool
-    ensures { result ≡ list_any (is_interest r.now conn) owners.now }
+// Whether an interest, if there is one, is retained.
+fn is_held_retained(held: Option<&Held>) -> bool
+    ensures { result ≡ is_held_retained (option_map (λ held. held.now) held.entry) }
 {
-    owners.iter().any(|held| is_part(held, r, conn))
+    match held {
+        Some(held) => held.retained,
+        None => false,
+    }
 }
 
-// Whether an interest of a connector has record data.
-fn is_any_recorded(owners: &[Held], records: &Records, conn: ConnId) -> bool
-    ensures { result ≡ list_any (λ held. (held.conn.0 == conn.0)
-        && is_some (record_of held.r held.conn records.now.records)) owners.now }
+// Whether a connector has record data, in whatever resource.
+fn has_any_record(records: &[Record], conn: ConnId) -> bool
+    ensures { result ≡ list_any (is_of conn) records.now }
 {
-    owners
-        .iter()
-        .any(|held| held.conn == conn && is_recorded(records, held))
+    records.iter().any(|recorded| recorded.conn == conn)
 }
 
-// Whether a connector's interest in a resource has record data.
-fn is_part_recorded(owners: &[Held], records: &Records, r: &Resource, conn: ConnId) -> bool
-    ensures { result ≡ list_any (λ held. is_interest r.now conn held
-        && is_some (record_of held.r held.conn records.now.records)) owners.now }
+// A connector's interest is retained, where these are record data of it.
+fn retain_one(owners: &mut Table, recorded: &Record, conn: ConnId)
+    ensures owners { owners.new.owners ≡ retained_one conn recorded.now owners.old.owners }
+    ensures room { owners.new.room ≡ owners.old.room }
 {
-    owners.iter().any(|held| is_part(held, r, conn) && is_recorded(records, held))
+    if recorded.conn == conn {
+        owners.set_retained(&recorded.r, conn, true);
+    }
 }
 
-// Whether a connector's interest in a resource is retained.
-fn is_part_retained(owners: &[Held], r: &Resource, conn: ConnId) -> bool
-    ensures { result ≡ list_any (λ held. is_interest r.now conn held && held.retained) owners.now }
+// A connector's interests with record data are retained.
+fn retain_recorded(owners: &mut Table, records: &[Record], conn: ConnId)
+    ensures owners { owners.new.owners ≡ retained_all conn records.now owners.old.owners }
+    ensures room { owners.new.room ≡ owners.old.room }
 {
-    owners
-        .iter()
-        .any(|held| is_part(held, r, conn) && held.retained)
+    for recorded in records {
+        retain_one(owners, recorded, conn);
+    }
 }
 
 // Whether an owner is told of a waiter.
@@ -499,11 +540,12 @@ fn is_told(held: &Held, r: &Resource, conn: ConnId) -> bool
 }
 
 // Tells the owners that aren't retained of a waiter, but not itself.
-fn notify(owners: &[Held], r: &Resource, conn: ConnId, out: &mut Effects)
-    requires { length owners.now ≤ out.old.mail.room }
-    ensures mail { out.new.mail.items ≡ out.old.mail.items ++ letters_told r.now conn owners.now }
-    ensures letters { out.new.mail.room + length (letters_told r.now conn owners.now) ≡
-        out.old.mail.room }
+fn notify(owners: Owners<'_>, r: &Resource, conn: ConnId, out: &mut Effects)
+    requires { length (owners_left owners) ≤ out.old.mail.room }
+    ensures mail { out.new.mail.items
+        ≡ out.old.mail.items ++ letters_told r.now conn (owners_left owners.entry) }
+    ensures letters { out.new.mail.room + length (letters_told r.now conn (owners_left owners.entry))
+        ≡ out.old.mail.room }
     ensures bits { out.new.bits ≡ out.old.bits }
 {
     for held in owners {
@@ -532,29 +574,52 @@ fn push_record(
     Ok(())
 }
 
-// The interests of a connector with record data.
-fn read(
+// An interest, if there is one, with its record data, behind others.
+fn push_held(
+    list: &mut Vec<(Resource, bool, Adjunct)>,
+    held: Option<&Held>,
+    records: &Records,
+) -> Result<(), NoMemory>
+    ensures { OnOk result (list.new.items ≡ list.old.items ++ option_to_list
+        (held_read records.now.records (option_map (λ held. held.now) held.entry))) }
+{
+    match held {
+        Some(held) => push_record(list, held, records.get(&held.r, held.conn)),
+        None => Ok(()),
+    }
+}
+
+// The interests of a connector with record data, in these resources.
+fn read_each(
     alloc: Global,
-    owners: &[Held],
+    owners: &Table,
     records: &Records,
     conn: ConnId,
+    resources: &[Resource],
 ) -> Result<Vec<(Resource, bool, Adjunct)>, NoMemory>
-    ensures { IfOk result (λ list. list.items ≡ records_read conn records.now.records owners.now) }
+    ensures { IfOk result (λ list. list.items
+        ≡ filter_map (read_in conn records.now.records owners.now.owners) resources.now) }
 {
     let mut list = Vec::new(alloc);
-    for held in owners {
-        if held.conn == conn {
-            push_record(&mut list, held, records.get(&held.r, held.conn))?;
-        }
+    for r in resources {
+        push_held(&mut list, find_by(owners.owners(r), conn), records)?;
     }
     Ok(list)
 }
 
-// Whether an interest stays where a connector departs.
-fn stays(records: &Records, conn: ConnId, keep: bool, held: &Held) -> bool
-    ensures { result ≡ stays conn keep (with_record records.now.records held.now) }
+// The interests of a connector with record data.
+fn read(
+    alloc: Global,
+    owners: &Table,
+    records: &Records,
+    conn: ConnId,
+) -> Result<Vec<(Resource, bool, Adjunct)>, NoMemory>
+    requires { IsTrue (pairwise are_apart owners.now.owners) }
+    ensures { IfOk result (λ list. list.items ≡ records_read conn records.now.records
+        owners.now.owners) }
 {
-    held.conn != conn || keep && records.get(&held.r, held.conn).is_some()
+    let resources = owners.of(alloc, conn)?;
+    read_each(alloc, owners, records, conn, &resources)
 }
 
 /// The interest that a waiter waits for, not retained.

@@ -3,12 +3,14 @@ use Rattle.std.proofs.Common.{◌≡◌, ◌+◌, ◌≤◌, Bool, true, false, 
 use Rattle.std.specs.declared.cmp.Ordering.{Ordering}
 use Rattle.std.specs.declared.cmp.Ordering.TheVariants.{Less, Equal, Greater}
 use Rattle.std.specs.Ordering.{is_lt, ordering_reverse}
-use Rattle.std.proofs.lemmas.Bool.{and_from, false≢true}
+use Rattle.std.proofs.lemmas.Bool.{and_from, and_parts, not-true, false≢true}
 use Rattle.cf_types.specs.declared.resources.Resource.{Resource}
-use Rattle.cf_types.specs.Resources.{resource_cmp}
-use Rattle.cf_types.proofs.ResourceLaws.{resource_cmp_total, same_part_comm}
+use Rattle.cf_types.specs.Resources.{resource_cmp, same_resource, resource_before, resource_up_to}
+use Rattle.cf_types.proofs.ResourceLaws.{resource_cmp_total, same_part_comm, same_resource-eq}
 use Rattle.list_laws.proofs.FilterLaws.{list_all_weaker, list_all-filter_same, list_all_always, length-filter-le}
 use Rattle.list_laws.proofs.PairwiseLaws.{FindsPlace, pairwise-filter, pairwise-insertion, pairwise-insertion_any}
+use Rattle.table_entries.proofs.KeyLaws.{resource_order}
+use Rattle.lock_queue.specs.Tables.{is_ahead}
 use Rattle.lock_queue.specs.declared.waiters.Waiter.{Waiter}
 use Rattle.lock_queue.specs.Waiters.{is_on, is_waiter, waiters_with, waiters_without, stands_before, place_of, are_apart, IsQueue}
 
@@ -119,3 +121,47 @@ place_within waiter waiters =
       length-filter-le (λ other. is_on waiter.r other && (other.alter || not waiter.alter)) others,
       length-filter-le (λ other. not (is_waiter waiter.r waiter.conn other)) waiters,
     )
+
+-- ---- where a waiter is put, among all and in its entry
+
+pub ahead_front : (waiter y : Waiter) → stands_before y waiter ≡ true → resource_before waiter.r y.r ≡ false
+ahead_front waiter y h =
+    not-true (resource_before waiter.r y.r)
+    (and_parts (resource_up_to y.r waiter.r) (resource_before y.r waiter.r || y.alter || not waiter.alter) h).0
+
+pub ahead_stop : (waiter y : Waiter) → stands_before y waiter ≡ false → resource_before y.r waiter.r ≡ false
+ahead_stop waiter y h = go (resource_before y.r waiter.r) refl
+  where
+    go : (b : Bool) → resource_before y.r waiter.r ≡ b → b ≡ false
+    go false e = refl
+    go true e =
+        let up_to : resource_up_to y.r waiter.r ≡ true = ap not (resource_order.asym y.r waiter.r e) in
+        absurd (false≢true (sym h ∙ rw (up_to, e) refl))
+
+ahead_step : (u b s a w : Bool) → u ≡ true → b ≡ false → s ≡ true
+    → u && (b || a || not w) ≡ not ((w && not a) && s)
+ahead_step true false true true true e f g = refl
+ahead_step true false true true false e f g = refl
+ahead_step true false true false true e f g = refl
+ahead_step true false true false false e f g = refl
+ahead_step true false false a w e f g = absurd (false≢true g)
+ahead_step true true s a w e f g = absurd (false≢true (sym f))
+ahead_step false b s a w e f g = absurd (false≢true e)
+
+pub ahead_agree : (waiter y : Waiter) → same_resource y.r waiter.r ≡ true → stands_before y waiter ≡ is_ahead y waiter
+ahead_agree waiter y h =
+    let same : y.r ≡ waiter.r = same_resource-eq y.r waiter.r h in
+    ahead_step (resource_up_to y.r waiter.r) (resource_before y.r waiter.r) (same_resource y.r waiter.r) y.alter
+    waiter.alter (rw same (ap not (resource_order.once waiter.r))) (rw same (resource_order.once waiter.r)) h
+
+others_step : (w a s : Bool) → s ≡ false → not ((w && not a) && s) ≡ true
+others_step true true false h = refl
+others_step true false false h = refl
+others_step false a false h = refl
+others_step w a true h = absurd (false≢true (sym h))
+
+pub ahead_others : (waiter y : Waiter) → same_resource y.r waiter.r ≡ false → is_ahead y waiter ≡ true
+ahead_others waiter y h = others_step waiter.alter y.alter (same_resource y.r waiter.r) h
+
+pub counts_on : (waiter y : Waiter) → is_on waiter.r y && (y.alter || not waiter.alter) ≡ true → is_on waiter.r y ≡ true
+counts_on waiter y h = (and_parts (is_on waiter.r y) (y.alter || not waiter.alter) h).0

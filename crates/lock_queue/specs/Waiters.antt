@@ -1,6 +1,6 @@
 -- Waiters: which connector waits for which resource. They stand in the order of resources; of one
 -- resource those that alter stand first.
-use Rattle.std.specs.Prelude.{ℕ, ◌+◌, Bool, IsTrue, not, ◌&&◌, ◌||◌, ◌==◌, List, Option, filter, find, length}
+use Rattle.std.specs.Prelude.{ℕ, ◌+◌, Bool, IsTrue, not, ◌&&◌, ◌||◌, ◌==◌, if◌then◌else◌, List, Option, Some, None, is_some, filter, find, length, sum_by}
 use Rattle.std.specs.List.{list_any}
 use Rattle.cf_types.specs.declared.numbers.ConnId.{ConnId}
 use Rattle.cf_types.specs.declared.resources.Resource.{Resource}
@@ -38,6 +38,17 @@ is_by conn waiter = waiter.conn.0 == conn.0
 
 abbrev pub waiters_without_conn : ConnId → List Waiter → List Waiter
 waiters_without_conn conn waiters = filter (λ waiter. not (is_by conn waiter)) waiters
+
+-- how many record data waiters bring
+abbrev pub recorded_by : Waiter → ℕ
+recorded_by waiter = if is_some waiter.rec then 1 else 0
+
+abbrev pub recorded_of : Option Waiter → ℕ
+recorded_of None = 0
+recorded_of (Some waiter) = recorded_by waiter
+
+abbrev pub recorded_in : List Waiter → ℕ
+recorded_in waiters = sum_by recorded_by waiters
 
 -- those of its resource stand before a waiter, but where it alters and they don't
 abbrev pub stands_before : Waiter → Waiter → Bool

@@ -142,6 +142,13 @@ impl Records {
         })
     }
 
+    /// The record data, by resource.
+    pub fn items(&self) -> &[Record]
+        ensures { result.now ≡ self.now.records }
+    {
+        self.records.as_slice()
+    }
+
     /// How many record data there are.
     pub fn count(&self) -> u32
         ensures count { result ≡ length self.now.records }

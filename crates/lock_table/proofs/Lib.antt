@@ -1,2 +1,4 @@
 pub mod HoldingLaws
-pub mod RunLaws
+pub mod MaskLaws
+pub mod EntryLaws
+pub mod CountLaws

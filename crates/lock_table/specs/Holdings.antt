@@ -56,6 +56,13 @@ in_retention_of conn retained held =
 abbrev pub owners_retained_of : ConnId → Bool → List Held → List Held
 owners_retained_of conn retained owners = map (in_retention_of conn retained) owners
 
+-- a connector's interests; those of them go that aren't retained
+abbrev pub is_by : ConnId → Held → Bool
+is_by conn held = held.conn.0 == conn.0
+
+abbrev pub owners_without_active : ConnId → List Held → List Held
+owners_without_active conn owners = filter (λ held. not (is_by conn held && not held.retained)) owners
+
 -- the first isn't of a later resource
 abbrev pub in_order : Held → Held → Bool
 in_order held other = resource_up_to held.r other.r

@@ -1,29 +1,36 @@
-ghost use Rattle.std.specs.Prelude.{◌≡◌, ◌+◌, ◌≤◌, ◌<◌, [], IsTrue, IfOk, OnOk, length, option_map, slice_get};
-ghost use Rattle.std.specs.List.{prefix_len, insert};
-ghost use Rattle.std.specs.List.Retain.{IsFiltered};
-ghost use Rattle.std.specs.Fn.{CalledAt};
-ghost use Rattle.std.specs.Slice.Iter.{iter_rest};
+ghost use Rattle.std.specs.Prelude.{◌≡◌, ◌+◌, ◌≤◌, ◌<◌, ◌++◌, ◌∷◌, [], filter, IfOk, OnOk, length, map, option_map, slice_get, false, slice_index_or, replicate};
+ghost use Rattle.std.specs.LinkedList.{linked_list_len};
 ghost use Rattle.std.specs.Vec.{vec_len, vec_capacity};
-ghost use Rattle.cf_types.specs.Resources.{resource_before, resource_up_to};
-ghost use Rattle.list_laws.specs.Pairwise.{pairwise};
-ghost use Rattle.lock_table.specs.Holdings.{is_on, is_interest, owners_of, has_interest, owners_without, owners_with, in_state, owners_in_state, in_retention, owners_retained, in_retention_of, owners_retained_of, in_order, IsOwners};
+ghost use Rattle.cf_types.specs.Resources.{resource_up_to};
+ghost use Rattle.list_laws.specs.Insertions.{insertion};
+ghost use Rattle.std.specs.Prelude.{Some, None, MatchOption, IsTrue, not, is_some, ◌-◌, sum_by};
+ghost use Rattle.std.specs.List.{list_all};
+ghost use Rattle.cf_types.specs.Resources.{resource_before};
+ghost use Rattle.lock_table.specs.Holdings.{is_by, owners_without_active, owners_retained_of, owners_of, has_interest, owners_without, owners_with, owners_in_state, owners_retained, IsOwners};
+ghost use Rattle.lock_table.specs.EntryView.{owners_left};
+ghost use Rattle.table_entries.specs.Bins.{joined};
+ghost use Rattle.table_entries.specs.Tables.{slot_in, placed_on, later_of, last_of};
+ghost use Rattle.lock_table.specs.Tables.{part_of, resource_of, owners_in, AreEntries, one_where};
 
+use crate::entry::{Entry, Owners, Spare};
 use crate::holdings::Held;
-use cf_types::{ConnId, NoMemory, Resource};
+use cf_types::{ConnId, Name16, NoMemory, Resource};
 use std::alloc::Global;
+use std::collections::LinkedList;
 use std::marker::Model;
-use std::slice;
-
-/// The owners of a resource, in standing order.
-pub type Owners<'a> = slice::Iter<'a, Held>;
+use table_entries::{fill, start_of};
 
 /// The interests of a lock structure. Contracts see them in the order of resources and, of one
 /// resource, in the order in which they came to stand, with how many more there is room for.
 ///
-/// They lie in one list in that order, so the number of table entries plays no part in any answer.
+/// They lie in table entries: a resource's hash value modulo the number of entries picks the entry
+/// of its owners. That number plays no part in what contracts see. No order is kept: what goes over
+/// all interests makes it once.
 #[derive(Drop)]
 pub struct Table {
-    owners: Vec<Held>,
+    entries: Vec<Entry>,
+    count: u32,
+    spare: Spare,
 }
 
 impl Model for Table {
@@ -36,150 +43,374 @@ impl Model for Table {
     ghost invariant = { IsKept };
 }
 
-// Whether an interest is this connector's in this resource.
-fn is_interest(held: &Held, r: &Resource, conn: ConnId) -> bool
-    ensures { result ≡ is_interest r.now conn held.now }
+// The entry that a resource's hash value picks.
+fn slot_of(entries: &[Entry], r: &Resource) -> usize
+    requires { 0 < length entries.now }
+    ensures slot { result ≡ slot_in (length entries.now) r.now }
+    ensures within { result < length entries.now }
 {
-    held.r == *r && held.conn == conn
+    r.hash as usize % entries.len()
 }
 
-// How many interests are in resources before one.
-fn start_of(owners: &[Held], r: &Resource) -> usize
-    ensures { result ≡ prefix_len (λ held. resource_before held.r r.now) owners.now }
+// The owners of a resource, in standing order.
+fn owners_on<'a>(entries: &'a [Entry], r: &Resource) -> Owners<'a>
+    requires { 0 < length entries.now }
+    ensures { owners_left result ≡ owners_of r.now
+        (slice_index_or entries.now (slot_in (length entries.now) r.now) []) }
 {
-    owners
-        .iter()
-        .take_while(|held| held.r.cmp(r).is_lt())
-        .count()
+    entries[slot_of(entries, r)].owners(r)
 }
 
-// How many interests in a resource stand in front.
-fn count_in_front(owners: &[Held], r: &Resource) -> usize
-    ensures { result ≡ prefix_len (is_on r.now) owners.now }
+// A connector's interest in a resource goes; answers whether there was one.
+fn take_out(entries: &mut [Entry], spare: &mut Spare, r: &Resource, conn: ConnId) -> bool
+    requires { AreEntries entries.old }
+    ensures kept { AreEntries entries.new }
+    ensures there { result ≡ has_interest r.now conn (owners_in entries.old) }
+    ensures owners { owners_in entries.new ≡ owners_without r.now conn (owners_in entries.old) }
+    ensures less { length (owners_in entries.new) + one_where result
+        ≡ length (owners_in entries.old) }
+    ensures spare { linked_list_len spare.old ≤ linked_list_len spare.new }
 {
-    owners.iter().take_while(|held| held.r == *r).count()
+    let slot = slot_of(entries, r);
+    entries[slot].take(spare, r, conn)
 }
 
-// The owners of a resource, which stand together.
-fn run_of<'a>(owners: &'a [Held], r: &Resource) -> &'a [Held]
-    requires { IsTrue (pairwise in_order owners.now) }
-    ensures { result.now ≡ owners_of r.now owners.now }
+// One interest more, as the last of its resource, where there is room for it, and where its
+// connector has none in that resource.
+fn put_new(entries: &mut [Entry], spare: &mut Spare, held: Held)
+    requires kept { AreEntries entries.old }
+    requires none { has_interest held.r held.conn (owners_in entries.old) ≡ false }
+    requires few { length (owners_in entries.old) < 4294967296 }
+    requires spare { 1 ≤ linked_list_len spare.old }
+    ensures kept { AreEntries entries.new }
+    ensures owners { owners_in entries.new ≡ insertion (λ other. resource_up_to other.r held.r) held
+        (owners_in entries.old) }
+    ensures spare { linked_list_len spare.new + 1 ≡ linked_list_len spare.old }
 {
-    let (_, rest) = owners.split_at(start_of(owners, r));
-    let (run, _) = rest.split_at(count_in_front(rest, r));
-    run
+    let slot = slot_of(entries, &held.r);
+    entries[slot].put(spare, held);
 }
 
-// Where an interest stands.
-fn place_of(owners: &[Held], new: &Held) -> usize
-    ensures { result ≡ prefix_len (λ other. resource_up_to other.r new.now.r) owners.now }
+// One interest more, as the last of its resource, in place of its connector's own in that resource;
+// answers whether there was none.
+fn put(entries: &mut [Entry], spare: &mut Spare, held: Held) -> bool
+    requires kept { AreEntries entries.old }
+    requires few { length (owners_in entries.old) < 4294967296 }
+    requires spare { 1 ≤ linked_list_len spare.old }
+    ensures kept { AreEntries entries.new }
+    ensures owners { owners_in entries.new ≡ owners_with held (owners_in entries.old) }
+    ensures more { length (owners_in entries.new)
+        ≡ length (owners_in entries.old) + one_where result }
+    ensures spare { linked_list_len spare.old ≤ linked_list_len spare.new + 1 }
 {
-    owners
-        .iter()
-        .take_while(|other| !new.r.cmp(&other.r).is_lt())
-        .count()
-}
-
-// Puts an interest at a place, where there is room for it.
-fn insert_at(owners: &mut Vec<Held>, at: usize, new: Held)
-    requires place { at ≤ vec_len owners.old }
-    requires room { vec_len owners.old < vec_capacity owners.old }
-    ensures items { owners.new.items ≡ insert owners.old.items at new }
-    ensures len { vec_len owners.new ≡ vec_len owners.old + 1 }
-    ensures capacity { vec_capacity owners.old ≤ vec_capacity owners.new }
-{
-    let _ = owners.insert(at, new);
-}
-
-// A connector's interest in a resource goes.
-fn take_out(owners: &mut Vec<Held>, r: &Resource, conn: ConnId)
-    ensures items { owners.new.items ≡ owners_without r.now conn owners.old.items }
-    ensures len { vec_len owners.new ≤ vec_len owners.old }
-    ensures capacity { vec_capacity owners.new ≡ vec_capacity owners.old }
-{
-    owners.retain(|held| !is_interest(held, r, conn));
-}
-
-// Puts an interest in its place, where there is room for it.
-fn put(owners: &mut Vec<Held>, new: Held)
-    requires { vec_len owners.old < vec_capacity owners.old }
-    ensures items { owners.new.items ≡ owners_with new owners.old.items }
-    ensures len { vec_len owners.new ≤ vec_len owners.old + 1 }
-    ensures capacity { vec_capacity owners.old ≤ vec_capacity owners.new }
-{
-    take_out(owners, &new.r, new.conn);
-    let at = place_of(owners, &new);
-    insert_at(owners, at, new);
-}
-
-// An interest takes a state, where it is this one.
-fn put_state(held: &mut Held, r: &Resource, conn: ConnId, excl: bool)
-    ensures { held.new ≡ in_state r.now conn excl held.old }
-{
-    if is_interest(held, r, conn) {
-        held.excl = excl;
-    }
-}
-
-// An interest is retained or not, where it is this one.
-fn put_retention(held: &mut Held, r: &Resource, conn: ConnId, retained: bool)
-    ensures { held.new ≡ in_retention r.now conn retained held.old }
-{
-    if is_interest(held, r, conn) {
-        held.retained = retained;
-    }
+    let there = take_out(entries, spare, &held.r, held.conn);
+    put_new(entries, spare, held);
+    !there
 }
 
 // A connector's interest in a resource takes a state.
-fn put_states(owners: &mut Vec<Held>, r: &Resource, conn: ConnId, excl: bool)
-    ensures items { owners.new.items ≡ owners_in_state r.now conn excl owners.old.items }
-    ensures len { vec_len owners.new ≡ vec_len owners.old }
-    ensures capacity { vec_capacity owners.new ≡ vec_capacity owners.old }
+fn put_state(entries: &mut [Entry], r: &Resource, conn: ConnId, excl: bool)
+    requires { AreEntries entries.old }
+    ensures kept { AreEntries entries.new }
+    ensures len { length (owners_in entries.new) ≡ length (owners_in entries.old) }
+    ensures owners { owners_in entries.new
+        ≡ owners_in_state r.now conn excl (owners_in entries.old) }
 {
-    for held in owners.iter_mut() {
-        put_state(held, r, conn, excl);
-    }
+    let slot = slot_of(entries, r);
+    entries[slot].set(r, conn, excl);
 }
 
 // A connector's interest in a resource is retained or not.
-fn put_retentions(owners: &mut Vec<Held>, r: &Resource, conn: ConnId, retained: bool)
-    ensures items { owners.new.items ≡ owners_retained r.now conn retained owners.old.items }
-    ensures len { vec_len owners.new ≡ vec_len owners.old }
-    ensures capacity { vec_capacity owners.new ≡ vec_capacity owners.old }
+fn put_retention(entries: &mut [Entry], r: &Resource, conn: ConnId, retained: bool)
+    requires { AreEntries entries.old }
+    ensures kept { AreEntries entries.new }
+    ensures len { length (owners_in entries.new) ≡ length (owners_in entries.old) }
+    ensures owners { owners_in entries.new
+        ≡ owners_retained r.now conn retained (owners_in entries.old) }
 {
-    for held in owners.iter_mut() {
-        put_retention(held, r, conn, retained);
+    let slot = slot_of(entries, r);
+    entries[slot].set_retained(r, conn, retained);
+}
+
+// All interests of a connector are retained or not.
+fn put_retentions(entries: &mut [Entry], conn: ConnId, retained: bool)
+    ensures { entries.new ≡ map (owners_retained_of conn retained) entries.old }
+{
+    for entry in entries.iter_mut() {
+        entry.set_retained_of(conn, retained);
     }
 }
 
-// An interest is retained or not, where it is this connector's.
-fn put_retention_of(held: &mut Held, conn: ConnId, retained: bool)
-    ensures { held.new ≡ in_retention_of conn retained held.old }
+// A connector's interests that aren't retained go.
+fn take_active(entries: &mut [Entry], spare: &mut Spare, conn: ConnId)
+    ensures entries { entries.new ≡ map (owners_without_active conn) entries.old }
+    ensures spare { linked_list_len spare.old ≤ linked_list_len spare.new }
 {
-    if held.conn == conn {
-        held.retained = retained;
+    for entry in entries.iter_mut() {
+        entry.take_active(spare, conn);
     }
 }
 
 // All interests of a connector are retained or not.
-fn put_retentions_of(owners: &mut Vec<Held>, conn: ConnId, retained: bool)
-    ensures items { owners.new.items ≡ owners_retained_of conn retained owners.old.items }
-    ensures len { vec_len owners.new ≡ vec_len owners.old }
-    ensures capacity { vec_capacity owners.new ≡ vec_capacity owners.old }
+fn retain_of(entries: &mut [Entry], conn: ConnId, retained: bool)
+    requires { AreEntries entries.old }
+    ensures kept { AreEntries entries.new }
+    ensures len { length (owners_in entries.new) ≡ length (owners_in entries.old) }
+    ensures owners { owners_in entries.new ≡ owners_retained_of conn retained
+        (owners_in entries.old) }
 {
-    for held in owners.iter_mut() {
-        put_retention_of(held, conn, retained);
+    put_retentions(entries, conn, retained);
+}
+
+// How many interests there are.
+fn count_all(entries: &[Entry]) -> usize
+    requires { length (joined entries.now) < 4294967296 }
+    ensures { result ≡ length (joined entries.now) }
+{
+    let mut count = 0;
+    for entry in entries {
+        count += entry.len();
     }
+    count
+}
+
+// A connector's interests that aren't retained go; answers how many there are then.
+fn end_active(entries: &mut [Entry], spare: &mut Spare, conn: ConnId) -> usize
+    requires kept { AreEntries entries.old }
+    requires few { length (owners_in entries.old) < 4294967296 }
+    ensures kept { AreEntries entries.new }
+    ensures owners { owners_in entries.new ≡ owners_without_active conn (owners_in entries.old) }
+    ensures count { result ≡ length (owners_in entries.new) }
+    ensures fits { result < 4294967296 }
+    ensures less { result ≤ length (owners_in entries.old) }
+    ensures spare { linked_list_len spare.old ≤ linked_list_len spare.new }
+{
+    take_active(entries, spare, conn);
+    count_all(entries)
+}
+
+// How many interests are in resources before one.
+fn count_before(entries: &[Entry], r: &Resource) -> usize
+    requires { length (joined entries.now) < 4294967296 }
+    ensures { result ≡ length (filter (λ held. resource_before held.r r.now) (joined entries.now)) }
+{
+    let mut count = 0;
+    for entry in entries {
+        count += entry.count_before(r);
+    }
+    count
+}
+
+// The interest at a place, where it is in this resource.
+fn at_on<'a>(entries: &'a [Entry], r: &Resource, k: usize) -> Option<&'a Held>
+    requires entries { AreEntries entries.now }
+    requires few { length (joined entries.now) < 4294967296 }
+    ensures { option_map (λ held. held.now) result
+        ≡ placed_on part_of r.now k (owners_in entries.now) }
+{
+    let before = count_before(entries, r);
+    if k < before {
+        return None;
+    }
+    owners_on(entries, r).nth(k - before)
+}
+
+// The interest at a place, where it is in a resource of this entry.
+fn at_in<'a>(entries: &'a [Entry], entry: &'a Entry, k: usize) -> Option<&'a Held>
+    requires entries { AreEntries entries.now }
+    requires few { length (joined entries.now) < 4294967296 }
+    ensures { MatchOption result
+        (IsTrue (list_all (λ held. not (is_some (placed_on part_of held.r k
+        (owners_in entries.now)))) entry.now))
+        (λ held. slice_get (owners_in entries.now) k ≡ Some held.now) }
+{
+    for held in entry.iter() {
+        if let Some(found) = at_on(entries, &held.r, k) {
+            return Some(found);
+        }
+    }
+    None
+}
+
+// The interest at a place, found without the order of all.
+fn search_at<'a>(entries: &'a [Entry], k: usize) -> Option<&'a Held>
+    requires entries { AreEntries entries.now }
+    requires few { length (joined entries.now) < 4294967296 }
+    ensures { option_map (λ held. held.now) result ≡ slice_get (owners_in entries.now) k }
+{
+    for entry in entries {
+        if let Some(found) = at_in(entries, entry, k) {
+            return Some(found);
+        }
+    }
+    None
+}
+
+// The last interest by resource and then in standing order.
+fn last_in<'a>(entries: &'a [Entry]) -> Option<&'a Held>
+    ensures { option_map (λ held. held.now) result ≡ last_of part_of (joined entries.now) }
+{
+    let mut last = None;
+    for entry in entries {
+        last = entry.last(last);
+    }
+    last
+}
+
+// The resource at a place.
+fn key_at(order: &[Resource], k: usize) -> Option<Resource>
+    ensures { result ≡ slice_get order.now k }
+{
+    order.get(k).copied()
+}
+
+// The interest at a place: its resource stands at that place of the order, and how many of these
+// stand before it there is its place among the owners.
+fn at_place<'a>(entries: &'a [Entry], order: &[Resource], k: usize) -> Option<&'a Held>
+    requires entries { AreEntries entries.now }
+    requires order { order.now ≡ map resource_of (owners_in entries.now) }
+    ensures { option_map (λ held. held.now) result ≡ slice_get (owners_in entries.now) k }
+{
+    match key_at(order, k) {
+        Some(r) => {
+            let before = start_of(order, &r);
+            owners_on(entries, &r).nth(k.saturating_sub(before))
+        }
+        None => None,
+    }
+}
+
+// What a node has that holds nothing yet.
+fn blank() -> Held {
+    Held {
+        r: Resource {
+            name: Name16([b' '; 16]),
+            hash: 0,
+        },
+        conn: ConnId(0),
+        excl: false,
+        retained: false,
+    }
+}
+
+// The resources of an entry's interests, behind others.
+fn push_keys(keys: &mut Vec<Resource>, entry: &Entry) -> Result<(), NoMemory>
+    ensures { OnOk result (keys.new.items ≡ keys.old.items ++ map resource_of entry.now) }
+{
+    for held in entry.iter() {
+        keys.push(held.r)?;
+    }
+    Ok(())
+}
+
+// The resources of all interests.
+fn keys_of(alloc: Global, entries: &[Entry]) -> Result<Vec<Resource>, NoMemory>
+    ensures { IfOk result (λ keys. keys.items ≡ map resource_of (joined entries.now)) }
+{
+    let mut keys = Vec::new(alloc);
+    for entry in entries {
+        push_keys(&mut keys, entry)?;
+    }
+    Ok(keys)
+}
+
+// The resources of all interests in their order.
+fn sorted_keys(alloc: Global, entries: &[Entry]) -> Result<Vec<Resource>, NoMemory>
+    ensures { IfOk result (λ keys. keys.items ≡ map resource_of (owners_in entries.now)) }
+{
+    let mut keys = keys_of(alloc, entries)?;
+    keys.sort()?;
+    Ok(keys)
+}
+
+// The resource of an interest, behind others, where it is this connector's.
+fn push_key_by(keys: &mut Vec<Resource>, held: &Held, conn: ConnId) -> Result<(), NoMemory>
+    ensures { OnOk result (keys.new.items
+        ≡ keys.old.items ++ map resource_of (filter (is_by conn) (held.now ∷ []))) }
+{
+    if held.conn == conn {
+        keys.push(held.r)?;
+    }
+    Ok(())
+}
+
+// The resources of a connector's interests in an entry, behind others, going over all.
+fn push_all_by(keys: &mut Vec<Resource>, entry: &Entry, conn: ConnId) -> Result<(), NoMemory>
+    ensures { OnOk result (keys.new.items
+        ≡ keys.old.items ++ map resource_of (filter (is_by conn) entry.now)) }
+{
+    for held in entry.iter() {
+        push_key_by(keys, held, conn)?;
+    }
+    Ok(())
+}
+
+// The same; an entry whose mask lacks the connector is passed by.
+fn push_keys_by(keys: &mut Vec<Resource>, entry: &Entry, conn: ConnId) -> Result<(), NoMemory>
+    ensures { OnOk result (keys.new.items
+        ≡ keys.old.items ++ map resource_of (filter (is_by conn) entry.now)) }
+{
+    if entry.lacks(conn) {
+        return Ok(());
+    }
+    push_all_by(keys, entry, conn)
+}
+
+// The resources of a connector's interests.
+fn keys_by(alloc: Global, entries: &[Entry], conn: ConnId) -> Result<Vec<Resource>, NoMemory>
+    ensures { IfOk result (λ keys. keys.items
+        ≡ map resource_of (filter (is_by conn) (joined entries.now))) }
+{
+    let mut keys = Vec::new(alloc);
+    for entry in entries {
+        push_keys_by(&mut keys, entry, conn)?;
+    }
+    Ok(keys)
+}
+
+// The resources of a connector's interests in their order.
+fn sorted_keys_by(alloc: Global, entries: &[Entry], conn: ConnId) -> Result<Vec<Resource>, NoMemory>
+    ensures { IfOk result (λ keys. keys.items
+        ≡ map resource_of (filter (is_by conn) (owners_in entries.now))) }
+{
+    let mut keys = keys_by(alloc, entries, conn)?;
+    keys.sort()?;
+    Ok(keys)
+}
+
+// The same entries once more.
+fn copy_entries(alloc: Global, entries: &[Entry]) -> Result<Vec<Entry>, NoMemory>
+    ensures { IfOk result (λ copy. copy.items ≡ entries.now) }
+{
+    let mut made = Vec::new(alloc);
+    for entry in entries {
+        made.push(entry.copy(alloc)?)?;
+    }
+    Ok(made)
+}
+
+// Entries without owners.
+fn empty_entries(alloc: Global, n: usize) -> Result<Vec<Entry>, NoMemory>
+    ensures { IfOk result (λ made. made.items ≡ replicate n []) }
+{
+    let mut made = Vec::new(alloc);
+    for _ in 0..n {
+        made.push(Entry::new(alloc))?;
+    }
+    Ok(made)
 }
 
 impl Table {
     /// No interests, for a structure of so many table entries, at least 1; their number changes no
-    /// answer. It takes no memory yet.
-    pub fn new(alloc: Global, _entries: u32) -> Result<Table, NoMemory>
+    /// answer.
+    pub fn new(alloc: Global, entries: u32) -> Result<Table, NoMemory>
         ensures { IfOk result (λ table. table.owners ≡ []) }
     {
+        let entries = empty_entries(alloc, entries.max(1) as usize)?;
         Ok(Table {
-            owners: Vec::new(alloc),
+            entries,
+            count: 0,
+            spare: LinkedList::new(alloc),
         })
     }
 
@@ -187,38 +418,68 @@ impl Table {
     pub fn copy(&self, alloc: Global) -> Result<Table, NoMemory>
         ensures { IfOk result (λ copy. copy.owners ≡ self.now.owners) }
     {
-        let owners = Vec::from_slice(alloc, self.owners.as_slice())?;
-        Ok(Table { owners })
+        let entries = copy_entries(alloc, &self.entries)?;
+        Ok(Table {
+            entries,
+            count: self.count,
+            spare: LinkedList::new(alloc),
+        })
     }
 
-    /// The interests, by resource and then in standing order.
-    pub fn items(&self) -> &[Held]
-        ensures items { result.now ≡ self.now.owners }
-        ensures owners { IsOwners self.now.owners }
-        ensures few { length self.now.owners < 4294967296 }
+    /// The resources that a connector has an interest in, in their order.
+    pub fn of(&self, alloc: Global, conn: ConnId) -> Result<Vec<Resource>, NoMemory>
+        ensures { IfOk result (λ list. list.items
+            ≡ map resource_of (filter (is_by conn) self.now.owners)) }
     {
-        self.owners.as_slice()
+        sorted_keys_by(alloc, &self.entries, conn)
     }
 
     /// How many interests there are.
     pub fn len(&self) -> u32
-        ensures { result ≡ length self.now.owners }
+        ensures len { result ≡ length self.now.owners }
+        ensures owners { IsOwners self.now.owners }
     {
-        self.owners.len() as u32
+        self.count
+    }
+
+    /// The resources of all interests, in their order: what a copy of all takes once.
+    pub fn order(&self, alloc: Global) -> Result<Vec<Resource>, NoMemory>
+        ensures { IfOk result (λ order. order.items ≡ map resource_of self.now.owners) }
+    {
+        sorted_keys(alloc, &self.entries)
     }
 
     /// The interest at a place, from 0, by resource and then in standing order. None past the end.
+    /// It is searched for among all, which is slow: what needs many goes by `order` and `at_in`.
     pub fn at(&self, k: u32) -> Option<&Held>
         ensures { option_map (λ held. held.now) result ≡ slice_get self.now.owners k }
     {
-        self.owners.get(k as usize)
+        let _ = self.len();
+        search_at(&self.entries, k as usize)
+    }
+
+    /// The last interest, by resource and then in standing order. None where there is none.
+    pub fn last(&self) -> Option<&Held>
+        ensures { option_map (λ held. held.now) result
+            ≡ slice_get self.now.owners (length self.now.owners - 1) }
+    {
+        last_in(&self.entries)
+    }
+
+    /// The interest at a place, from 0, by resource and then in standing order. None past the end.
+    /// `order` is the order of these interests.
+    pub fn at_in(&self, order: &[Resource], k: u32) -> Option<&Held>
+        requires { order.now ≡ map resource_of self.now.owners }
+        ensures { option_map (λ held. held.now) result ≡ slice_get self.now.owners k }
+    {
+        at_place(&self.entries, order, k as usize)
     }
 
     /// The owners of a resource, in standing order.
     pub fn owners(&self, r: &Resource) -> Owners<'_>
-        ensures { iter_rest result ≡ owners_of r.now self.now.owners }
+        ensures { owners_left result ≡ owners_of r.now self.now.owners }
     {
-        run_of(&self.owners, r).iter()
+        owners_on(&self.entries, r)
     }
 
     /// Takes room for so many interests more. Want of memory changes nothing.
@@ -230,8 +491,7 @@ impl Table {
         if adds > u32::MAX - self.len() {
             return Err(NoMemory);
         }
-        self.owners.reserve(adds as usize)?;
-        Ok(())
+        fill(&mut self.spare, adds as usize, &blank())
     }
 
     /// One interest more, as the last of its resource. It takes the place of the connector's own
@@ -241,7 +501,9 @@ impl Table {
         ensures owners { self.new.owners ≡ owners_with held self.old.owners }
         ensures room { self.old.room ≤ self.new.room + 1 }
     {
-        put(&mut self.owners, held);
+        if put(&mut self.entries, &mut self.spare, held) {
+            self.count += 1;
+        }
     }
 
     /// A connector's interest in a resource, if there is one, is retained from now on, or is so no
@@ -250,7 +512,7 @@ impl Table {
         ensures owners { self.new.owners ≡ owners_retained r.now conn retained self.old.owners }
         ensures room { self.new.room ≡ self.old.room }
     {
-        put_retentions(&mut self.owners, r, conn, retained);
+        put_retention(&mut self.entries, r, conn, retained);
     }
 
     /// A connector's interest in a resource, if there is one, takes a state.
@@ -258,7 +520,7 @@ impl Table {
         ensures owners { self.new.owners ≡ owners_in_state r.now conn excl self.old.owners }
         ensures room { self.new.room ≡ self.old.room }
     {
-        put_states(&mut self.owners, r, conn, excl);
+        put_state(&mut self.entries, r, conn, excl);
     }
 
     /// A connector's interest in a resource goes; answers whether there was one.
@@ -267,8 +529,10 @@ impl Table {
         ensures owners { self.new.owners ≡ owners_without r.now conn self.old.owners }
         ensures room { self.old.room ≤ self.new.room }
     {
-        let there = self.owners.iter().any(|held| is_interest(held, r, conn));
-        take_out(&mut self.owners, r, conn);
+        let there = take_out(&mut self.entries, &mut self.spare, r, conn);
+        if there {
+            self.count -= 1;
+        }
         there
     }
 
@@ -277,15 +541,15 @@ impl Table {
         ensures owners { self.new.owners ≡ owners_retained_of conn retained self.old.owners }
         ensures room { self.new.room ≡ self.old.room }
     {
-        put_retentions_of(&mut self.owners, conn, retained);
+        retain_of(&mut self.entries, conn, retained);
     }
 
-    /// The interests of which this is not true go.
-    pub fn retain<F: FnMut(&Held) -> bool>(&mut self, stays: F)
-        requires { F.IsAlwaysCallable stays }
-        ensures owners { IsFiltered (CalledAt F.FnMut) stays self.old.owners self.new.owners }
+    /// A connector's interests that aren't retained go.
+    pub fn end_active(&mut self, conn: ConnId)
+        ensures owners { self.new.owners ≡ owners_without_active conn self.old.owners }
         ensures room { self.old.room ≤ self.new.room }
     {
-        self.owners.retain(stays);
+        let count = end_active(&mut self.entries, &mut self.spare, conn);
+        self.count = count as u32;
     }
 }

@@ -1,13 +1,11 @@
 -- What the steps of a line ask may be asked.
 use Rattle.std.proofs.Common.{◌≡◌, Some, None, Option, refl, sym, subst}
-use Rattle.std.specs.Prelude.{IsTrue}
 use Rattle.cf_types.specs.declared.forms.Kind.{Kind}
 use Rattle.cf_types.specs.declared.forms.Kind.TheVariants as kind
 use Rattle.cf_types.specs.declared.numbers.ConnId.{ConnId}
 use Rattle.cf_types.specs.declared.shell_commands.ShellCmd.{ShellCmd}
 use Rattle.cf_types.specs.declared.shell_commands.ShellCmd.TheVariants as cmd
 use Rattle.engine_api.specs.Asking.{MayCommand}
-use Rattle.engine_api.specs.Shell.{is_built}
 use Rattle.plex_script.specs.declared.agents.Step.{Step}
 use Rattle.plex_script.specs.declared.agents.Step.TheVariants as step
 use Rattle.plex_script.specs.declared.scripts.AnyAsk.{AnyAsk}
@@ -25,11 +23,11 @@ common_ask cell kind.Cache command type_is = sym type_is
 common_ask cell (kind.List headers locks refs) command type_is = sym type_is
 common_ask cell kind.Lock command type_is = sym type_is
 
-pub common_may : (kind : Kind) (by : ConnId) (command : ShellCmd) → MayCommand by command → IsTrue (is_built command)
+pub common_may : (kind : Kind) (by : ConnId) (command : ShellCmd) → MayCommand by command
     → MayAskAny by (shell_ask kind command)
-common_may kind.Cache by command may built = (may, built)
-common_may (kind.List headers locks refs) by command may built = (may, built)
-common_may kind.Lock by command may built = (may, built)
+common_may kind.Cache by command may = may
+common_may (kind.List headers locks refs) by command may = may
+common_may kind.Lock by command may = may
 
 -- what a step asks, its caller may ask
 pub may_ask : {L : Type 0} (cell : CellShown L) (kind : Kind) (line : Option AnyAsk) (by : ConnId) (now : Step)
@@ -42,9 +40,9 @@ may_ask cell kind (Some call) by (step.Call asks) asked type_is may asks' =
 may_ask cell kind line by (step.Next left behind) asked type_is may asks' =
     let here : shell_ask kind cmd.Next ≡ asked = cc in
     subst (λ ask. IsAskOf cell ask × MayAskAny by ask) here
-    (common_ask cell kind cmd.Next type_is, common_may kind by cmd.Next may.caller refl)
+    (common_ask cell kind cmd.Next type_is, common_may kind by cmd.Next may.caller)
 may_ask cell kind line by (step.Respond left behind) asked type_is may asks' =
     let here : shell_ask kind cmd.Respond ≡ asked = cc in
     subst (λ ask. IsAskOf cell ask × MayAskAny by ask) here
-    (common_ask cell kind cmd.Respond type_is, common_may kind by cmd.Respond may.caller refl)
+    (common_ask cell kind cmd.Respond type_is, common_may kind by cmd.Respond may.caller)
 may_ask cell kind line by step.Rest asked type_is may asks' = absurd cc

@@ -1,12 +1,12 @@
 -- What is known when a board is closed.
-use Rattle.std.proofs.Common.{◌≡◌, ◌+◌, List, length, map, sym, ap, subst, ◌∙◌, arith}
-use Rattle.std.specs.Prelude.{All}
+use Rattle.std.proofs.Common.{◌≡◌, ℕ, ◌+◌, List, length, map, sym, ap, subst, ◌∙◌, arith}
+use Rattle.std.specs.Prelude.{All, Option}
 use Rattle.std.specs.List.{range_with_len}
 use Rattle.std.proofs.lemmas.List.{length-map}
 use Rattle.std.proofs.lemmas.List.FromFn.{length-range_with_len}
 use Rattle.plex_script.specs.declared.asks.AnyHistory.{AnyHistory}
 use Rattle.desk_model.specs.Desks.{DeskShown, no_pass}
-use Rattle.desk_model.specs.Boards.{BoardShown, IsDeskOf, AreClosed}
+use Rattle.desk_model.specs.Boards.{BoardShown, IsDeskOf, AreClosed, AreEachAsked, AreLinksAsked}
 use Rattle.plex_board.specs.declared.rest.Rest.{Rest}
 use Rattle.plex_board.specs.Rests.{HomeShown, homes_shown, AllFit, homes_gathered, AreHomes, AreEmpty, AreEnded, IsReady}
 use Rattle.plex_board.proofs.HomeLaws.{desks-fit, homes-gathered, accounts-at, count-of-homes, count-of-histories}
@@ -62,3 +62,13 @@ pub ended-seen : {L : Type 0} (board seen : BoardShown L) (homes after : List Ho
 ended-seen {L} board seen homes after histories same is are =
     subst (λ (hs : List HomeShown). AreEnded board.cells hs histories) is
     (subst (λ (b : BoardShown L). AreEnded b.cells after histories) (sym same) are)
+
+pub links-seen : {L : Type 0} (asks : L → Option ℕ) (downs : L → Option (List ℕ)) (faults : L → ℕ)
+    (board seen : BoardShown L) (rest key : Rest L) (histories : List AnyHistory) (links : List L) → board ≡ seen
+    → rest ≡ key → seen.spare ≡ key.spare.items
+    → AreEachAsked asks downs faults seen.cells histories rest.spare.items links
+    → AreLinksAsked asks downs faults board histories links
+links-seen {L} asks downs faults board seen rest key histories links same kept spare are =
+    subst (λ (b : BoardShown L). AreEachAsked asks downs faults b.cells histories b.spare links) (sym same)
+    (subst (λ (ls : List L). AreEachAsked asks downs faults seen.cells histories ls links) (sym spare)
+    (subst (λ (r : Rest L). AreEachAsked asks downs faults seen.cells histories r.spare.items links) kept are))

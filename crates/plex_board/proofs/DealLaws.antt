@@ -1,13 +1,14 @@
 -- What is known where the last pass is dealt to its desk.
-use Rattle.std.proofs.Common.{◌≡◌, ℕ, ◌+◌, ◌-◌, ◌<◌, ◌≤◌, List, [], ◌∷◌, ◌++◌, length, get_or, set, sym, ap, subst, ◌∙◌, arith, append_assoc}
+use Rattle.std.proofs.Common.{◌≡◌, ℕ, ◌+◌, ◌-◌, ◌<◌, ◌≤◌, List, [], ◌∷◌, ◌++◌, length, get_or, set, get_or-set_other, map, sym, ap, subst, ◌∙◌, arith}
 use Rattle.std.specs.Prelude.{All, Some}
-use Rattle.std.proofs.Math.Seq.{take-append_seam}
+use Rattle.std.specs.List.{range_with_len}
 use Rattle.std.proofs.lemmas.List.{length-append}
-use Rattle.std.proofs.lemmas.List.Elements.{All-pop, All-take}
+use Rattle.std.proofs.lemmas.List.FromFn.{map-range_with_len_more}
+use Rattle.std.proofs.lemmas.List.Elements.{All-pop}
 use Rattle.any_cell.specs.Passes.{PassShown}
 use Rattle.desk_model.specs.Desks.{DeskShown}
 use Rattle.plex_board.specs.Rests.{each_with}
-use Rattle.plex_board.specs.Openings.{desk_with}
+use Rattle.plex_board.specs.Openings.{bare_desk, desk_with}
 use Rattle.plex_board.proofs.RowLaws.{each_with-last}
 
 module _ (all front : List PassShown) (pass : PassShown) (owner : ℕ) (all_is : all ≡ front ++ pass ∷ [])
@@ -41,20 +42,20 @@ module _ (all front : List PassShown) (pass : PassShown) (owner : ℕ) (all_is :
       → All (λ (p : PassShown). p.calls ≡ []) front × (pass.calls ≡ [])
   deal-unused unused = All-pop (λ (p : PassShown). p.calls ≡ []) all front (Some pass) all_is unused
 
-  pub deal-left : (gone whole : List PassShown) → whole ≡ all ++ gone → whole ≡ front ++ pass ∷ gone
-  deal-left gone whole is =
-      is ∙ ap (λ (ps : List PassShown). ps ++ gone) all_is ∙ append_assoc front (pass ∷ []) gone
+-- the desks that have no pass yet have room for one
+pub few-left : (desks : List DeskShown) (owner most : ℕ) (after : DeskShown)
+    → ((k : ℕ) (desk : DeskShown) → k < owner → length (get_or desks k desk).passes < most)
+    → (k : ℕ) (desk : DeskShown) → k < owner - 1 → length (get_or (set desks (owner - 1) after) k desk).passes < most
+few-left desks owner most after few k d below =
+    let same : get_or (set desks (owner - 1) after) k d ≡ get_or desks k d =
+    get_or-set_other desks (owner - 1) k after d (λ e. omega (arith, e, below)) in
+    subst (λ (desk : DeskShown). length desk.passes < most) (sym same) (few k d (omega (arith, below)))
 
--- what holds of all holds of those that are left
-pub all-left : (P : PassShown → Type 0) (whole left gone : List PassShown) → whole ≡ left ++ gone → All P whole
-    → All P left
-all-left P whole left gone is all =
-    subst (All P) (take-append_seam left gone) (All-take P (length left) (left ++ gone) (subst (All P) is all))
-
--- a desk with a place more
-pub desk-with : (desk has : DeskShown) (pass : PassShown) (after : List PassShown) → desk ≡ has
-    → after ≡ has.passes ++ pass ∷ []
-    → (let d : DeskShown = record { owner = has.owner; passes = after } in d) ≡ desk_with pass desk
-desk-with desk has pass after same is =
-    ap (λ (ps : List PassShown). let d : DeskShown = record { owner = has.owner; passes = ps } in d) is
-    ∙ ap (desk_with pass) (sym same)
+-- one desk more
+pub desk-more : (before after : List DeskShown) (n : ℕ) (desk : DeskShown) → after ≡ before ++ desk ∷ []
+    → before ≡ map bare_desk (range_with_len 0 n) → desk ≡ bare_desk n
+    → after ≡ map bare_desk (range_with_len 0 (n + 1))
+desk-more before after n desk more are is =
+    more ∙ ap (λ (desks : List DeskShown). desks ++ desk ∷ []) are
+    ∙ ap (λ (d : DeskShown). map bare_desk (range_with_len 0 n) ++ d ∷ []) is
+    ∙ sym (map-range_with_len_more bare_desk 0 n n (omega arith))

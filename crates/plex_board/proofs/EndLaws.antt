@@ -1,7 +1,6 @@
 -- What is known as stations end one after the other.
-use Rattle.std.proofs.Common.{◌≡◌, ◌+◌, ◌≤◌, List, [], ◌∷◌, ◌++◌, length, refl, sym, ap, subst, ◌∙◌, arith, append_assoc}
+use Rattle.std.proofs.Common.{◌≡◌, ℕ, ◌+◌, ◌≤◌, List, [], ◌∷◌, ◌++◌, length, refl, sym, ap, subst, ◌∙◌, arith, append_assoc}
 use Rattle.std.specs.Prelude.{All, Option, Some, option_to_list}
-use Rattle.std.specs.List.{flat_map}
 use Rattle.std.proofs.lemmas.List.{append-nil}
 use Rattle.cf_link.specs.declared.links.Links.{Links}
 use Rattle.plex_script.specs.declared.asks.AnyHistory.{AnyHistory}
@@ -9,7 +8,9 @@ use Rattle.plex_script.specs.Heard.{any_calls, any_length, own_calls}
 use Rattle.any_cell.specs.declared.any_pass.AnyPasses.{AnyPasses}
 use Rattle.any_cell.specs.Passes.{PassShown, passes_shown}
 use Rattle.any_cell.specs.Cells.{CellShown, IsAnyTold}
-use Rattle.desk_model.specs.Boards.{IsClosed, IsAccount, four_of}
+use Rattle.cf_link.specs.Links.{AreAsked}
+use Rattle.any_model.specs.Kinds.{IsAnyPoint, any_answers}
+use Rattle.desk_model.specs.Boards.{IsClosed, IsAccount, AreEachAsked, four_of}
 use Rattle.plex_board.specs.Rests.{HomeShown, home_shown, homes_shown, IsHomeOf, AreHomes, AreEnded}
 use Rattle.plex_board.proofs.OpenLaws.{ended-step}
 
@@ -27,10 +28,15 @@ module _ {L : Type 0} where
   pub all-accounts : (cell : CellShown L) (entries : AnyHistory) (passes : List PassShown)
       → All (λ (pass : PassShown). pass.calls ≡ own_calls (any_calls entries) pass.owner) passes
       → All (λ (pass : PassShown). All (IsAnyTold cell.form entries pass.owner) pass.tests) passes
-      → All (λ (pass : PassShown). pass.known ≤ any_length entries) passes
+      → All (λ (pass : PassShown). IsAnyPoint entries pass.known × (pass.known ≤ any_length entries)) passes
       → All (IsAccount cell entries) passes
   all-accounts cell entries passes mine tests known k d below =
-      record { mine = mine k d below; tests = tests k d below; known = known k d below }
+      record {
+        mine = mine k d below;
+        tests = tests k d below;
+        point = (known k d below).0;
+        known = (known k d below).1;
+      }
 
   module _ (left rest : List (CellShown L)) (station : CellShown L) (at later : List AnyPasses) (home : AnyPasses)
       (left_is : left ≡ station ∷ rest) (at_is : at ≡ home ∷ later) where
@@ -59,15 +65,28 @@ module _ {L : Type 0} where
         (ended-step cells rest homes (homes_shown later) histories station (home_shown home) entries
         so' closed account r are)
 
-    pub end-links : (links after all : List L) (four : Links L) → after ≡ links ++ four_of four → four ≡ station.links
-        → links ++ flat_map (λ (cell : CellShown L). four_of cell.links) left ≡ all
-        → after ++ flat_map (λ (cell : CellShown L). four_of cell.links) rest ≡ all
-    end-links links after all four after_is four_is so =
-        let f : CellShown L → List L = λ (cell : CellShown L). four_of cell.links in
-        ap (λ (ls : List L). ls ++ flat_map f rest) (after_is ∙ ap (λ (fs : Links L). links ++ four_of fs) four_is)
-        ∙ append_assoc links (four_of station.links) (flat_map f rest)
-        ∙ ap (λ (cs : List (CellShown L)). links ++ flat_map f cs) (sym left_is)
-        ∙ so
+    -- its links come behind those of the stations before it
+    pub end-asked : (asks : L → Option ℕ) (downs : L → Option (List ℕ)) (faults : L → ℕ)
+        (cells : List (CellShown L)) (histories after : List AnyHistory) (entries : AnyHistory) (links more spare : List L)
+        (four : Links L)
+        → after ≡ histories ++ entries ∷ [] → more ≡ links ++ four_of four
+        → AreAsked asks downs faults (any_answers station.form entries) station.links four
+        → ((r : List AnyHistory) (others : List L) → AreEachAsked asks downs faults left r spare others
+        → AreEachAsked asks downs faults cells (histories ++ r) spare (links ++ others))
+        → (r : List AnyHistory) (others : List L) → AreEachAsked asks downs faults rest r spare others
+        → AreEachAsked asks downs faults cells (after ++ r) spare (more ++ others)
+    end-asked asks downs faults cells histories after entries links more spare four after_is more_is asked so r others
+        are =
+        let step : AreEachAsked asks downs faults left (entries ∷ r) spare (four_of four ++ others) =
+        subst (λ (cs : List (CellShown L)). AreEachAsked asks downs faults cs (entries ∷ r) spare
+        (four_of four ++ others)) (sym left_is) (four, others, refl, asked, are) in
+        let histories_are : histories ++ entries ∷ r ≡ after ++ r =
+        sym (ap (λ (hs : List AnyHistory). hs ++ r) after_is ∙ append_assoc histories (entries ∷ []) r) in
+        let links_are : links ++ (four_of four ++ others) ≡ more ++ others =
+        sym (ap (λ (ls : List L). ls ++ others) more_is ∙ append_assoc links (four_of four) others) in
+        subst (λ (hs : List AnyHistory). AreEachAsked asks downs faults cells hs spare (more ++ others)) histories_are
+        (subst (AreEachAsked asks downs faults cells (histories ++ entries ∷ r) spare) links_are
+        (so (entries ∷ r) (four_of four ++ others) step))
 
     pub end-count : length left ≡ length rest + 1
     end-count = let e : length left ≡ length (station ∷ rest) = ap length left_is in omega (arith, e)
@@ -85,3 +104,16 @@ module _ {L : Type 0} where
       no-home : (hs : List HomeShown) → AreHomes {L = L} 0 [] hs → AreEnded {L = L} [] hs []
       no-home [] is = tt
       no-home (h ∷ hs) is = absurd is
+
+  -- and all links too, the spare ones last
+  pub asked-done : (asks : L → Option ℕ) (downs : L → Option (List ℕ)) (faults : L → ℕ)
+      (cells left : List (CellShown L)) (histories : List AnyHistory) (links spare after : List L) → left ≡ []
+      → ((r : List AnyHistory) (others : List L) → AreEachAsked asks downs faults left r spare others
+      → AreEachAsked asks downs faults cells (histories ++ r) spare (links ++ others))
+      → after ≡ links ++ spare → AreEachAsked asks downs faults cells histories spare after
+  asked-done asks downs faults cells left histories links spare after none so after_is =
+      let last : AreEachAsked asks downs faults left [] spare spare =
+      subst (λ (cs : List (CellShown L)). AreEachAsked asks downs faults cs [] spare spare) (sym none) refl in
+      subst (AreEachAsked asks downs faults cells histories spare) (sym after_is)
+      (subst (λ (hs : List AnyHistory). AreEachAsked asks downs faults cells hs spare (links ++ spare))
+      (append-nil histories) (so [] spare last))

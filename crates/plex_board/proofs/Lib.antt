@@ -8,3 +8,4 @@ pub mod TrayLaws
 pub mod EndLaws
 pub mod DealLaws
 pub mod StartLaws
+pub mod UnusedLaws

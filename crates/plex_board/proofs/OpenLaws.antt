@@ -11,8 +11,6 @@ use Rattle.any_model.specs.Types.{StrType, type_of_kind}
 use Rattle.any_cell.specs.Passes.{PassShown, unused_pass, passes_shown, type_of_passes, room_of}
 use Rattle.any_cell.specs.Cells.{CellShown, IsPassOf}
 use Rattle.vec_words.specs.Tokens.{WordTable}
-use Rattle.plex_board.proofs.DealLaws.{all-left}
-use Rattle.plex_station.proofs.StationLaws.{unused-of_cell}
 use Rattle.desk_model.specs.Desks.{DeskShown}
 use Rattle.desk_model.specs.Boards.{IsClosed, IsAccount, IsStarted}
 use Rattle.plex_board.specs.Rests.{each_with, HomeShown, home_shown, homes_shown, IsHomeOf, AreHomes, AreEmpty, AreEnded}
@@ -80,13 +78,6 @@ module _ {L : Type 0} where
         conns_is = words.0;
         len_is = words.1 ∙ sym (ap (λ (f : StrForm). f.vector) form_is);
       }
-
-  -- those of a new cell's passes that are left are of the cell
-  pub left-of_cell : (cell : CellShown L) (passes left : List PassShown) (owners : List ℕ)
-      → passes ≡ map (unused_pass cell.str_type cell.words) owners
-      → (gone : List PassShown) × (passes ≡ left ++ gone) → All (IsPassOf cell) left
-  left-of_cell cell passes left owners are parts =
-      all-left (IsPassOf cell) passes left parts.0 parts.1 (unused-of_cell cell passes owners are)
 
   -- ---- one structure more
 

@@ -1,5 +1,5 @@
 -- A board as its structures are made, one after the other.
-use Rattle.std.specs.Prelude.{◌≡◌, ℕ, ◌+◌, ◌≤◌, List, [], ◌∷◌, ◌++◌, map, All}
+use Rattle.std.specs.Prelude.{◌≡◌, ℕ, ◌+◌, ◌<◌, ◌≤◌, List, [], ◌∷◌, ◌++◌, length, map, All}
 use Rattle.std.specs.List.{range_with_len}
 use Rattle.std.specs.Vec.{vec_capacity}
 use Rattle.any_cell.specs.Passes.{PassShown}
@@ -8,7 +8,7 @@ use Rattle.plex_board.specs.declared.rest.Rest.{Rest}
 use Rattle.plex_board.specs.declared.opening.Opening.{Opening}
 use Rattle.desk_model.specs.Desks.{DeskShown}
 use Rattle.desk_model.specs.Boards.{IsStarted, new_desk}
-use Rattle.plex_board.specs.Rests.{AreHomes, AreEmpty, homes_shown}
+use Rattle.plex_board.specs.Rests.{HomeShown, AreHomes, AreEmpty, homes_shown}
 
 -- the desk of a caller that has seen nothing of these structures
 abbrev pub desk_at : {L : Type 0} → List (CellShown L) → ℕ → DeskShown
@@ -38,3 +38,11 @@ pub record IsOpening {L : Type 0} (callers limit : ℕ) (opening : Opening L) : 
   pub stations_room : 16 ≤ vec_capacity opening.stations
   pub desks : opening.desks.items ≡ map (desk_at opening.stations.items) (range_with_len 0 (callers + 1))
   pub begun : IsBegun callers opening.stations.items opening.rest
+
+-- nobody has called these structures yet: there is a desk for each caller, new at each of them, and a home for its pass
+pub record IsUnused {L : Type 0} (cells : List (CellShown L)) (homes : List HomeShown) (desks : List DeskShown) :
+    Type 0 where
+  pub homes_are : AreHomes (length desks) cells homes
+  pub empty : AreEmpty homes
+  pub desks_are : desks ≡ map (desk_at cells) (range_with_len 0 (length desks))
+  pub callers : All (λ cell. cell.callers < length desks) cells

@@ -12,7 +12,7 @@ ghost use Rattle.any_cell.specs.Cells.{IsAskOf};
 ghost use Rattle.desk_model.specs.Notes.{with_note, with_any_note};
 ghost use Rattle.desk_model.specs.Desks.{pass_at, with_pass, IsLaterOn};
 ghost use Rattle.plex_board.specs.Rests.{IsReady};
-ghost use Rattle.desk_model.specs.Boards.{IsPolicy, IsStarted, IsDeskOf, IsTrayOf, AreClosed, cell_on, links_of, new_desk, no_notes, note_in};
+ghost use Rattle.desk_model.specs.Boards.{IsPolicy, IsStarted, IsDeskOf, IsTrayOf, AreClosed, AreLinksAsked, cell_on, links_of, new_desk, no_notes, note_in};
 
 use crate::desk::Desk;
 use crate::ending::{end, gather};
@@ -57,8 +57,9 @@ impl<L: Link> Model for Board<L> {
 
 impl<L: Link> Board<L> {
     /// The structures of a script without calls yet, and a desk for each caller from the operator,
-    /// 0, on. Each journal has at most `limit` entries. Structure `s`, from 0 in the order of the
-    /// script, has the links `4 * s` to `4 * s + 3`, one to each facility.
+    /// 0, on. A call is made where its structure's journal has fewer than `limit` entries.
+    /// Structure `s`, from 0 in the order of the script, has the links `4 * s` to `4 * s + 3`, one
+    /// to each facility.
     ///
     /// # Errors
     ///
@@ -92,7 +93,7 @@ impl<L: Link> Board<L> {
             let four = next_four(&mut left);
             match opening.add(rt, alloc, form, callers, limit, four) {
                 Ok(()) => {}
-                Err(four) => return Err(opening.give_up(rt, callers, four, left)),
+                Err(four) => return Err(opening.give_up(rt, callers, limit, four, left)),
             }
         }
         opening.open(rt, alloc, callers, limit, left)
@@ -141,11 +142,12 @@ impl<L: Link> Board<L> {
     }
 
     /// A call of the desk's owner to a structure. It waits for its turn; then it is judged and done
-    /// at once, it stands in the journal, and the words of the vectors show what it did.
+    /// at once, it stands in the journal, behind what its links tell to be lost, and the words of
+    /// the vectors show what it did.
     ///
     /// # Errors
     ///
-    /// `JournalFull` where the journal has `limit` entries; `NoMemory`, before anything was
+    /// `JournalFull` where the journal has `limit` entries or more; `NoMemory`, before anything was
     /// changed. In both cases nothing happened to the structure.
     pub fn call(
         &self,
@@ -300,14 +302,14 @@ impl<L: Link> Board<L> {
         )
     }
 
-    /// Ends the board: the history of each structure, and the links as they came. It may wait for
-    /// turns, and takes no memory.
+    /// Ends the board: the history of each structure, and the links in their order, those of each
+    /// structure asked as its history tells. It may wait for turns, and takes no memory.
     pub fn close(self, rt: &impl Wait, desks: Vec<Desk>) -> (Vec<AnyHistory>, Vec<L>)
         requires desks { All (IsDeskOf self) desks.items }
         requires owners { map (λ desk. desk.owner.0) desks.items
             ≡ range_with_len 0 (self.callers + 1) }
         ensures histories { AreClosed self desks.items result.0.items }
-        ensures links { result.1.items ≡ links_of self }
+        ensures links { AreLinksAsked L.calls L.downs L.faults self result.0.items result.1.items }
     {
         let Board { stations, rest, .. } = self;
         let mut rest = rest.end(rt);

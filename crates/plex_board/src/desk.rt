@@ -16,11 +16,16 @@ pub struct Desk {
 }
 
 impl Model for Desk {
+    ghost use Rattle.std.specs.Prelude.{◌≤◌};
+    ghost use Rattle.std.specs.Vec.{vec_capacity};
     ghost use Rattle.desk_model.specs.Desks.{DeskShown};
 
     ghost Value = { DeskShown };
 
     ghost view = { λ desk. record { owner = desk.owner; passes = desk.places.items } };
+
+    // a place at each structure that a board may have
+    ghost invariant = { λ desk. 16 ≤ vec_capacity desk.places };
 }
 
 impl Desk {

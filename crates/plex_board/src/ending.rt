@@ -3,7 +3,8 @@ ghost use Rattle.std.specs.Prelude.{◌≡◌, ◌+◌, ◌≤◌, ◌++◌, len
 ghost use Rattle.std.specs.List.{flat_map};
 ghost use Rattle.std.specs.Vec.{vec_len, vec_capacity};
 ghost use Rattle.std.specs.Vec.Iter.{into_iter_items, into_iter_len};
-ghost use Rattle.desk_model.specs.Boards.{four_of};
+ghost use Rattle.desk_model.specs.Boards.{four_of, AreEachAsked};
+ghost use Rattle.plex_board.specs.Openings.{IsUnused};
 ghost use Rattle.plex_board.specs.Rests.{each_with, home_with, homes_shown, Fits, AllFit, homes_gathered, AreHomes, AreEnded, IsRoomy};
 
 use crate::desk::Desk;
@@ -68,8 +69,9 @@ pub(crate) fn push_left<L: Drop>(links: &mut Vec<L>, left: IntoIter<L>)
     }
 }
 
-/// Ends the structures, whose passes are at home: their histories, and all links, those of the
-/// first structure first and the spare ones last. It may wait for turns, and takes no memory.
+/// Ends the structures, whose passes are at home: their histories, and all links, asked as these
+/// tell, those of the first structure first and the spare ones last. It may wait for turns, and
+/// takes no memory.
 pub(crate) fn end<L: Link>(
     rt: &impl Wait,
     stations: Vec<Station<L>>,
@@ -78,8 +80,8 @@ pub(crate) fn end<L: Link>(
     requires homes { AreHomes 0 stations.items (homes_shown rest.homes.items) }
     requires room { IsRoomy (length stations.items) rest }
     ensures histories { AreEnded stations.items (homes_shown rest.homes.items) result.0.items }
-    ensures links { result.1.items
-        ≡ flat_map (λ cell. four_of cell.links) stations.items ++ rest.spare.items }
+    ensures links { AreEachAsked L.calls L.downs L.faults stations.items result.0.items
+        rest.spare.items result.1.items }
 {
     let Rest {
         homes,
@@ -96,4 +98,21 @@ pub(crate) fn end<L: Link>(
     }
     push_left(&mut links, spare.into_iter());
     (histories, links)
+}
+
+/// Ends structures that nobody has called yet: all links come back, in their order.
+pub(crate) fn end_unused<L: Link>(
+    rt: &impl Wait,
+    stations: Vec<Station<L>>,
+    rest: Rest<L>,
+    desks: Vec<Desk>,
+) -> Vec<L>
+    requires unused { IsUnused stations.items (homes_shown rest.homes.items) desks.items }
+    requires room { IsRoomy (length stations.items) rest }
+    ensures { result.items
+        ≡ flat_map (λ cell. four_of cell.links) stations.items ++ rest.spare.items }
+{
+    let mut rest = rest;
+    gather(&mut rest.homes, desks);
+    end(rt, stations, rest).1
 }

@@ -1,20 +1,20 @@
 //! How a board begins.
-ghost use Rattle.std.specs.Prelude.{◌≡◌, ◌+◌, ◌*◌, ◌<◌, ◌≤◌, ◌++◌, ◌∷◌, [], ℕ, IfOk, IfErr, OnOk, OnErr, All, List, length, map};
+ghost use Rattle.std.specs.Prelude.{◌≡◌, ◌+◌, ◌*◌, ◌<◌, ◌≤◌, ◌++◌, ◌∷◌, [], ℕ, IfOk, IfErr, OnOk, OnErr, All, length, map};
 ghost use Rattle.std.specs.List.{flat_map, range_with_len};
 ghost use Rattle.std.specs.Vec.{vec_len};
 ghost use Rattle.std.specs.Vec.Iter.{into_iter_items, into_iter_len};
 ghost use Rattle.cf_types.specs.declared.limits.TheConstants.{CONNECTORS, STRUCTURES, LINKS};
 ghost use Rattle.cf_types.specs.Forms.{IsForm};
-ghost use Rattle.any_cell.specs.Passes.{PassShown, passes_shown, type_of_passes, room_of};
+ghost use Rattle.any_cell.specs.Passes.{pass_shown, passes_shown, type_of_passes, room_of};
 ghost use Rattle.desk_model.specs.Boards.{four_of};
 ghost use Rattle.plex_board.specs.Rests.{each_with};
-ghost use Rattle.plex_board.specs.Openings.{IsOpening, IsBegun, bare_desk, desk_at, desk_with};
+ghost use Rattle.plex_board.specs.Openings.{IsOpening, bare_desk, desk_at, desk_with};
 
 use crate::board::Board;
 use crate::desk::Desk;
-use crate::ending::{end, push_four, push_left};
+use crate::ending::{end_unused, push_four, push_left};
 use crate::rest::Rest;
-use any_cell::AnyPasses;
+use any_cell::{AnyPass, AnyPasses};
 use cf_link::{Link, Links};
 use cf_turn::KeyLock;
 use cf_types::limits::{LINKS, STRUCTURES};
@@ -22,7 +22,6 @@ use cf_types::{ConnId, NoMemory, StrForm};
 use plex_shell::copy_form;
 use plex_station::{Place, Station};
 use std::alloc::Global;
-use std::mem::drop;
 use std::sync::Wait;
 use std::vec::IntoIter;
 
@@ -57,7 +56,7 @@ impl<L: Link> Opening<L> {
     ///
     /// # Errors
     ///
-    /// Where there is no memory the links come back. Desks may then have places at no structure.
+    /// Where there is no memory the links come back, and nothing was done.
     pub(crate) fn add(
         &mut self,
         rt: &impl Wait,
@@ -78,25 +77,16 @@ impl<L: Link> Opening<L> {
         ensures links { OnOk result (flat_map (λ cell. four_of cell.links) self.new.stations.items
             ≡ flat_map (λ cell. four_of cell.links) self.old.stations.items ++ four_of links) }
         ensures handed_back { IfErr result (λ back. back ≡ links) }
-        ensures same { OnErr result (self.new.stations.items ≡ self.old.stations.items) }
-        ensures begun { OnErr result (IsBegun callers self.new.stations.items self.new.rest) }
+        ensures same { OnErr result (self.new ≡ self.old) }
     {
         let Ok(form) = copy_form(alloc, form) else {
             return Err(links);
         };
         let (station, mut home) = Station::start(rt, alloc, form, callers, limit, links)?;
-        match deal(&mut self.desks, &mut home) {
-            Ok(()) => {
-                self.stations.push_reserved(station);
-                self.rest.homes.push_reserved(home);
-                Ok(())
-            }
-            Err(NoMemory) => {
-                let (history, links) = station.close(rt, home);
-                drop(history);
-                Err(links)
-            }
-        }
+        deal(&mut self.desks, &mut home);
+        self.stations.push_reserved(station);
+        self.rest.homes.push_reserved(home);
+        Ok(())
     }
 
     /// Ends the structures made so far. All links come back: theirs, these four, and those left.
@@ -104,10 +94,11 @@ impl<L: Link> Opening<L> {
         self,
         rt: &impl Wait,
         callers: u8,
+        limit: u32,
         four: Links<L>,
         left: IntoIter<L>,
     ) -> Vec<L>
-        requires begun { IsBegun callers self.stations.items self.rest }
+        requires opening { IsOpening callers limit self }
         requires links { 4 * length self.stations.items + 4 + into_iter_len left ≤ LINKS }
         ensures { result.items ≡ flat_map (λ cell. four_of cell.links) self.stations.items
             ++ four_of four ++ into_iter_items left }
@@ -117,10 +108,9 @@ impl<L: Link> Opening<L> {
             mut rest,
             desks,
         } = self;
-        drop(desks);
         push_four(&mut rest.spare, four);
         push_left(&mut rest.spare, left);
-        end(rt, stations, rest).1
+        end_unused(rt, stations, rest, desks)
     }
 
     /// The board, whose spare links are those left.
@@ -159,10 +149,7 @@ impl<L: Link> Opening<L> {
         push_left(&mut rest.spare, left);
         match KeyLock::new(alloc, rest) {
             Ok(rest) => Ok((Board::of(stations, callers, rest), desks)),
-            Err(rest) => {
-                drop(desks);
-                Err(end(rt, stations, rest).1)
-            }
+            Err(rest) => Err(end_unused(rt, stations, rest, desks)),
         }
     }
 }
@@ -175,39 +162,46 @@ fn new_desks(alloc: Global, callers: u8) -> Result<Vec<Desk>, NoMemory>
 {
     let mut desks = Vec::new(alloc);
     for owner in 0..callers + 1 {
-        desks.push(bare_desk(alloc, owner))?;
+        desks.push(bare_desk(alloc, owner)?)?;
     }
     Ok(desks)
 }
 
-// A desk without places.
-fn bare_desk(alloc: Global, owner: u8) -> Desk
-    ensures { result ≡ bare_desk owner }
+// A desk without places, with room for one at each structure.
+fn bare_desk(alloc: Global, owner: u8) -> Result<Desk, NoMemory>
+    ensures { IfOk result (λ desk. desk ≡ bare_desk owner) }
 {
-    Desk {
+    Ok(Desk {
         owner: ConnId(owner),
-        places: Vec::new(alloc),
-    }
+        places: Vec::with_capacity(alloc, STRUCTURES as usize)?,
+    })
 }
 
 // Each desk gets its caller's pass, the last first.
-fn deal(desks: &mut Vec<Desk>, home: &mut AnyPasses) -> Result<(), NoMemory>
+fn deal(desks: &mut Vec<Desk>, home: &mut AnyPasses)
     requires count { length (passes_shown home.old) ≡ vec_len desks.old }
     requires unused { All (λ pass. pass.calls ≡ []) (passes_shown home.old) }
-    ensures desks { OnOk result (desks.new.items
-        ≡ each_with desk_with (passes_shown home.old) desks.old.items) }
-    ensures empty { OnOk result (passes_shown home.new ≡ []) }
-    ensures left { (gone : List PassShown) × (passes_shown home.old
-        ≡ passes_shown home.new ++ gone) }
+    requires few { All (λ desk. length desk.passes < STRUCTURES) desks.old.items }
+    ensures desks { desks.new.items
+        ≡ each_with desk_with (passes_shown home.old) desks.old.items }
+    ensures empty { passes_shown home.new ≡ [] }
     ensures str_type { type_of_passes home.new ≡ type_of_passes home.old }
     ensures room { room_of home.new ≡ room_of home.old }
 {
     let mut owner = desks.len();
     while let Some(pass) = home.pop() {
         owner -= 1;
-        desks[owner].places.push(Place::new(pass))?;
+        deal_one(&mut desks[owner], pass);
     }
-    Ok(())
+}
+
+// A desk gets a pass.
+fn deal_one(desk: &mut Desk, pass: AnyPass)
+    requires unused { (pass_shown pass).calls ≡ [] }
+    requires few { length desk.old.passes < STRUCTURES }
+    ensures { desk.new ≡ desk_with (pass_shown pass) desk.old }
+{
+    desk.places.push_reserved(Place::new(pass));
 }
 
 /// The links of the next structure.

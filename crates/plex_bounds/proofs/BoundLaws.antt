@@ -14,9 +14,9 @@ use Rattle.plex_script.specs.declared.transcripts.Shown.{Shown}
 use Rattle.plex_script.specs.declared.transcripts.Transcript.{Transcript}
 use Rattle.plex_script.specs.Heard.{AnyCall, any_calls, calls_of, calls_on, length_of, own_calls}
 use Rattle.plex_script.specs.Follows.{AgreesWith, lines_of}
-use Rattle.any_model.proofs.HistoryLaws.{calls_length}
+use Rattle.any_model.proofs.HistoryLaws.{length_calls}
 use Rattle.serial_model.specs.Headline.{EndsRight, ShowsHistories}
-use Rattle.plex_bounds.specs.Bounds.{IsWithinScript, most_of_lines, most_calls}
+use Rattle.plex_bounds.specs.Bounds.{IsWithinScript, most_of_lines, most_entries}
 use Rattle.plex_bounds.proofs.ShareLaws.{sum_below, shares_bound}
 use Rattle.plex_bounds.proofs.CountLaws.{most_on, calls_shown, most_at_end, follows_few, stops_few}
 
@@ -51,9 +51,9 @@ module _ (limit : ℕ) (script : Script) (histories : List AnyHistory) (transcri
       ap length (few.0.numbers on within) ∙ length-map own (λ (call : AnyCall). call.no) in
       omega (arith, few.1, same)
 
-  -- the calls of all callers
+  -- the calls of all callers, and the marks before them
   history_few : (found : Option AnyHistory) → slice_get histories on.0 ≡ found
-      → length_of found ≤ most_calls script on
+      → length_of found ≤ most_entries script on
   history_few None there = omega arith
   history_few (Some entries) there =
       let within : on.0 < length histories = slice_get_within histories on.0 entries there in
@@ -66,7 +66,7 @@ module _ (limit : ℕ) (script : Script) (histories : List AnyHistory) (transcri
       (suc connectors) (any_calls entries) script.lines (λ k d low. omega (arith, right.callers k d low))
       (λ c low. subst (λ (cs : List AnyCall). length (own_calls cs (record { 0 = c }))
       ≤ most_of_lines on (lines_of script (record { 0 = c })) + most_at_end c) calls (own_few c low within)) in
-      omega (arith, few, closings_sum connectors, calls_length form.0 entries right.legal)
+      omega (arith, few, closings_sum connectors, length_calls form.0 entries right.legal)
 
 pub within-script : (limit : ℕ) (script : Script) (histories : List AnyHistory) (transcripts : List Transcript)
     → ShowsHistories limit script histories transcripts → IsWithinScript script histories

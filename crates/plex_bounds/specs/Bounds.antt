@@ -1,5 +1,5 @@
--- How many calls a script can bring to a structure.
-use Rattle.std.specs.Prelude.{ℕ, ◌+◌, ◌≤◌, ◌==◌, if◌then◌else◌, List, length, sum_by}
+-- How many calls a script can bring to a structure, and how many entries they make.
+use Rattle.std.specs.Prelude.{ℕ, ◌+◌, ◌*◌, ◌≤◌, ◌==◌, if◌then◌else◌, List, length, sum_by}
 use Rattle.cf_types.specs.declared.numbers.StrNo.{StrNo}
 use Rattle.plex_script.specs.declared.asks.AnyHistory.{AnyHistory}
 use Rattle.plex_script.specs.declared.scripts.Line.{Line}
@@ -20,6 +20,10 @@ most_of_lines on lines = sum_by (λ line. if line.on.0 == on.0 then most_of_line
 abbrev pub most_calls : Script → StrNo → ℕ
 most_calls script on = most_of_lines on script.lines + length script.connectors
 
+-- and how many entries they make: marks of two links that are down may stand before each
+abbrev pub most_entries : Script → StrNo → ℕ
+most_entries script on = 3 * most_calls script on
+
 -- no history is longer than that
 abbrev pub IsWithinScript : Script → List AnyHistory → Type 0
-IsWithinScript script histories = (on : StrNo) → length_on histories on ≤ most_calls script on
+IsWithinScript script histories = (on : StrNo) → length_on histories on ≤ most_entries script on

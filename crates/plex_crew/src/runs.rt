@@ -1,9 +1,10 @@
 //! The run of a script on threads.
-ghost use Rattle.std.specs.Prelude.{◌≡◌, ◌≢◌, ◌≤◌, IfOk, OnErr, All};
+ghost use Rattle.std.specs.Prelude.{◌≡◌, ◌≢◌, ◌≤◌, IfOk, OnErr, All, length};
 ghost use Rattle.std.specs.Vec.{vec_len};
 ghost use Rattle.plex_script.specs.declared.transcripts.AgentEnd.TheVariants as ended;
 ghost use Rattle.serial_model.specs.Runnable.{IsRunnable};
 ghost use Rattle.serial_model.specs.Headline.{ShowsHistories};
+ghost use Rattle.serial_model.specs.RunLinks.{AreRunLinks};
 ghost use Rattle.desk_model.specs.Boards.{links_of};
 ghost use Rattle.plex_floor.specs.Played.{IsBoardOf};
 ghost use Rattle.plex_crew.specs.Crews.{crew_of};
@@ -22,10 +23,10 @@ use std::thread::Threads;
 
 /// Runs a script with a worker for each caller, the operator's among them, each on a thread of its
 /// own where threads can be made: it does the caller's lines in their order, and then its
-/// departures. A journal takes `limit` entries; the caller whose call comes to a full one stops.
-/// The gate is told of each line before and after it. There are 64 links: structure `s`, from 0,
-/// has the links `4 * s` to `4 * s + 3`, one to each facility. They come back as they were, also
-/// where there was no memory.
+/// departures. A journal of `limit` entries or more takes no call; the caller whose call comes to
+/// one stops. The gate is told of each line before and after it. There are 64 links: structure `s`,
+/// from 0, has the links `4 * s` to `4 * s + 3`, one to each facility. They come back in their
+/// order, also where there was no memory.
 pub fn threads<R: Threads + Wait + Sync, L: Link, G: Gate>(
     rt: &R,
     alloc: Global,
@@ -41,7 +42,10 @@ pub fn threads<R: Threads + Wait + Sync, L: Link, G: Gate>(
     // and in their order, transcripts that follow the script, and tests that tell what stood.
     ensures shows { IfOk result.0 (λ it.
         ShowsHistories limit script.now it.histories it.transcripts) }
-    ensures links { result.1.items ≡ links.items }
+    // The links of each structure were asked as its history tells.
+    ensures asked { IfOk result.0 (λ it. AreRunLinks L.calls L.downs L.faults
+        script.now.structures it.histories links.items result.1.items) }
+    ensures count { length result.1.items ≡ length links.items }
 {
     let (board, desks) = match Board::start(rt, alloc, script, limit, links) {
         Ok(begun) => begun,
@@ -72,7 +76,9 @@ fn play<R: Threads + Wait + Sync, L: Link, G: Gate>(
     requires crew { crew ≡ crew_of board }
     ensures shows { IfOk result.0 (λ it.
         ShowsHistories limit script.now it.histories it.transcripts) }
-    ensures links { result.1.items ≡ links_of board }
+    ensures asked { IfOk result.0 (λ it. AreRunLinks L.calls L.downs L.faults
+        script.now.structures it.histories (links_of board) result.1.items) }
+    ensures count { length result.1.items ≡ length (links_of board) }
 {
     crew.work(rt, alloc, script.lines.items(), &board, gate);
     let (desks, transcripts) = crew.part();

@@ -12,7 +12,10 @@ use Rattle.std.proofs.lemmas.List.Elements.{All-get_or}
 use Rattle.cf_types.specs.declared.forms.Kind.{Kind}
 use Rattle.cf_types.specs.declared.forms.Kind.TheVariants as kind
 use Rattle.cf_types.specs.declared.forms.StrForm.{StrForm}
+use Rattle.cf_types.specs.declared.numbers.CfId.{CfId}
 use Rattle.cf_types.specs.declared.numbers.ConnId.{ConnId}
+use Rattle.cf_link.specs.Links.{Telling}
+use Rattle.cf_link.specs.Tells.{TellsEnough}
 use Rattle.plex_script.specs.declared.scripts.AnyAsk.{AnyAsk}
 use Rattle.plex_script.specs.declared.scripts.AnyAsk.TheVariants as ask
 use Rattle.plex_script.specs.declared.scripts.Act.{Act}
@@ -23,17 +26,19 @@ use Rattle.plex_script.specs.declared.asks.AnyHistory.{AnyHistory}
 use Rattle.plex_script.specs.declared.transcripts.Transcript.{Transcript}
 use Rattle.any_model.specs.Kinds.{IsAskOf}
 use Rattle.serial_model.specs.Runnable.{IsRunnable, IsRunnableLine, IsRunnableAct}
+use Rattle.serial_model.specs.RunLinks.{AreTelling, AreRunLinks}
 use Rattle.serial_model.specs.Serial.{serial_run}
 use Rattle.any_model.specs.Types.{type_of_kind, type_of_ask}
 use Rattle.any_cell.specs.Passes.{unused_pass}
 use Rattle.any_cell.specs.Cells.{CellShown}
 use Rattle.desk_model.specs.Desks.{DeskShown, fixed_of}
-use Rattle.desk_model.specs.Boards.{BoardShown, IsPolicy, IsStarted, IsDeskOf, AreClosed, new_desk, fixed_at}
+use Rattle.desk_model.specs.Boards.{BoardShown, IsPolicy, IsStarted, IsDeskOf, AreClosed, AreLinksAsked, links_of, new_desk, fixed_at}
 use Rattle.desk_model.specs.Turns.{AtWork, MayAct}
 use Rattle.desk_model.specs.Floors.{Floor}
 use Rattle.plex_floor.specs.Standing.{AreDesksOf, IsFloorOf, IsPlayable}
 use Rattle.plex_floor.specs.Played.{IsBoardOf, IsPlayed}
 use Rattle.serial_exact.proofs.ExactLaw.{exact}
+use Rattle.serial_exact.proofs.LinkRuns.{run_links, run_told, links_size}
 use Rattle.serial_model.specs.Headline.{ShowsHistories}
 use Rattle.serve_laws.proofs.Schedules.{serial_shows}
 
@@ -190,45 +195,54 @@ floor_desks-are {L} board floor desks fits is = record {
               ∙ right.1,
         )
 
--- what is left of the script's work at the closed board is the script's run
-pub serial_is : {L : Type 0} (limit : ℕ) (script : Script) (board : BoardShown L) (desks : List DeskShown)
-    (shown : List Transcript) (histories : List AnyHistory)
-    → IsRunnable script → IsBoardOf limit script board → IsPlayed board script desks shown
-    → AreClosed board desks histories
-    → (histories ≡ (serial_run limit script).histories) × (shown ≡ (serial_run limit script).transcripts)
-serial_is limit script board desks shown histories may is played closed =
-    let law = exact limit script board played.floor histories may is.forms is.cells is.callers played.plays
-    played.memory
-    (subst (λ (ds : List DeskShown). AreClosed board ds histories) (sym played.desks_are) closed) in
-    (law.0, sym played.shown_are ∙ law.1)
+-- ---- what is left
 
--- the histories of a run that had memory
-pub finished_histories : {L : Type 0} (limit : ℕ) (script : Script) (board : BoardShown L)
-    (shown : Result (Vec Transcript Global) NoMemory) (desks : List DeskShown) (histories : List AnyHistory)
-    (finished : Result Finished NoMemory)
-    → IsRunnable script → IsBoardOf limit script board
-    → IfOk shown (λ some. IsPlayed board script desks some.items) → AreClosed board desks histories
-    → IfOk finished (λ it. it.histories ≡ histories) → OnOk finished (IsOk shown)
-    → IfOk finished (λ it. it.histories ≡ (serial_run limit script).histories)
-finished_histories limit script board (Ok shown) desks histories (Ok it) may is played closed same had =
-    same ∙ (serial_is limit script board desks shown.items histories may is played closed).0
-finished_histories limit script board (Err e) desks histories (Ok it) may is played closed same had = absurd
-    (false≢true had)
-finished_histories limit script board shown desks histories (Err e) may is played closed same had = tt
+module _ {L : Type 0} (calls : L → Option ℕ) (downs : L → Option (List ℕ)) (faults : L → ℕ)
+    (enough : (link : L) → TellsEnough (calls link) (downs link)) where
+  -- the links of the script's structures were asked as the histories tell
+  pub finished_asked : (limit : ℕ) (script : Script) (board : BoardShown L) (desks : List DeskShown)
+      (histories : List AnyHistory) (old new : List L) (finished : Result Finished NoMemory)
+      → IsBoardOf limit script board → links_of board ≡ old → AreClosed board desks histories
+      → AreLinksAsked calls downs faults board histories new → IfOk finished (λ it. it.histories ≡ histories)
+      → IfOk finished (λ it. AreRunLinks calls downs faults script.structures it.histories old new)
+  finished_asked limit script board desks histories old new (Ok it) is old_are closed asked same =
+      subst (λ (hs : List AnyHistory). AreRunLinks calls downs faults script.structures hs old new) (sym same)
+      (run_links calls downs faults enough board script.structures histories old new old_are is.forms asked
+      (λ x cell entries there kept.
+      (let its = (closed.closed (record { 0 = x }) cell entries there kept).0 in its.legal)))
+  finished_asked limit script board desks histories old new (Err e) is old_are closed asked same = tt
 
--- what the callers of a run that had memory were shown
-pub finished_transcripts : {L : Type 0} (limit : ℕ) (script : Script) (board : BoardShown L)
-    (shown : Result (Vec Transcript Global) NoMemory) (desks : List DeskShown) (histories : List AnyHistory)
-    (finished : Result Finished NoMemory)
-    → IsRunnable script → IsBoardOf limit script board
-    → IfOk shown (λ some. IsPlayed board script desks some.items) → AreClosed board desks histories
-    → IfOk finished (λ it. IfOk shown (λ some. it.transcripts ≡ some.items)) → OnOk finished (IsOk shown)
-    → IfOk finished (λ it. it.transcripts ≡ (serial_run limit script).transcripts)
-finished_transcripts limit script board (Ok shown) desks histories (Ok it) may is played closed same had =
-    same ∙ (serial_is limit script board desks shown.items histories may is played closed).1
-finished_transcripts limit script board (Err e) desks histories (Ok it) may is played closed same had = absurd
-    (false≢true had)
-finished_transcripts limit script board shown desks histories (Err e) may is played closed same had = tt
+  -- there are as many as there were
+  pub finished_count : (limit : ℕ) (script : Script) (board : BoardShown L) (histories : List AnyHistory)
+      (old new : List L) → IsBoardOf limit script board → links_of board ≡ old
+      → AreLinksAsked calls downs faults board histories new → length new ≡ length old
+  finished_count limit script board histories old new is old_are asked =
+      links_size calls downs faults enough board script.structures histories old new old_are is.forms asked
+
+  -- where they tell which calls are down, what is left is the script's run over such links
+  pub finished_exact : (limit : ℕ) (script : Script) (board : BoardShown L)
+      (shown : Result (Vec Transcript Global) NoMemory) (desks : List DeskShown) (histories : List AnyHistory)
+      (old new : List L) (finished : Result Finished NoMemory)
+      → IsRunnable script → IsBoardOf limit script board → links_of board ≡ old
+      → IfOk shown (λ some. IsPlayed board script desks some.items) → AreClosed board desks histories
+      → AreLinksAsked calls downs faults board histories new
+      → IfOk finished (λ it. it.histories ≡ histories)
+      → IfOk finished (λ it. IfOk shown (λ some. it.transcripts ≡ some.items)) → OnOk finished (IsOk shown)
+      → (told : ℕ → CfId → Telling) → AreTelling calls downs faults told (length script.structures) old
+      → IfOk finished (λ it. (it.histories ≡ (serial_run limit told script).histories)
+      × (it.transcripts ≡ (serial_run limit told script).transcripts))
+  finished_exact limit script board (Ok shown) desks histories old new (Ok it) may is old_are played closed asked same
+      items had told telling =
+      let law = exact limit told script board played.floor histories may is.forms is.cells is.callers played.plays
+      played.memory
+      (subst (λ (ds : List DeskShown). AreClosed board ds histories) (sym played.desks_are) closed)
+      (run_told calls downs faults enough board script.structures histories old new old_are is.forms asked told telling)
+      in
+      (same ∙ law.0, items ∙ sym played.shown_are ∙ law.1)
+  finished_exact limit script board (Err e) desks histories old new (Ok it) may is old_are played closed asked same items
+      had told telling = absurd (false≢true had)
+  finished_exact limit script board shown desks histories old new (Err e) may is old_are played closed asked same items
+      had told telling = tt
 
 -- and what they and the histories show
 pub finished_shows : {L : Type 0} (limit : ℕ) (script : Script) (board : BoardShown L)

@@ -1,11 +1,14 @@
 //! The run of a script on one thread.
-ghost use Rattle.std.specs.Prelude.{◌≡◌, ◌+◌, ◌≤◌, IfOk, OnOk, IsOk, All, length, map};
+ghost use Rattle.std.specs.Prelude.{◌≡◌, ◌+◌, ◌≤◌, ℕ, IfOk, OnOk, IsOk, All, length, map};
 ghost use Rattle.std.specs.Vec.{vec_len};
 ghost use Rattle.std.specs.List.{range_with_len};
 ghost use Rattle.cf_types.specs.declared.limits.TheConstants.{CONNECTORS};
+ghost use Rattle.cf_types.specs.declared.numbers.CfId.{CfId};
+ghost use Rattle.cf_link.specs.Links.{Telling};
 ghost use Rattle.serial_model.specs.Headline.{ShowsHistories};
 ghost use Rattle.serial_model.specs.Runnable.{IsRunnable};
 ghost use Rattle.serial_model.specs.Serial.{serial_run};
+ghost use Rattle.serial_model.specs.RunLinks.{AreTelling, AreRunLinks};
 ghost use Rattle.desk_model.specs.Boards.{new_desk};
 ghost use Rattle.plex_floor.specs.Standing.{AreDesksOf, IsPlayable};
 ghost use Rattle.plex_floor.specs.Played.{IsPlayed};
@@ -72,9 +75,9 @@ fn finish(
 }
 
 /// Runs a script on one thread: its lines in their order, then the departures of the connectors in
-/// number order. A journal takes `limit` entries; the caller whose call comes to a full one stops.
-/// There are 64 links: structure `s`, from 0, has the links `4 * s` to `4 * s + 3`, one to each
-/// facility. They come back as they were, also where there was no memory.
+/// number order. A journal of `limit` entries or more takes no call; the caller whose call comes to
+/// one stops. There are 64 links: structure `s`, from 0, has the links `4 * s` to `4 * s + 3`, one
+/// to each facility. They come back in their order, also where there was no memory.
 pub fn serial<L: Link>(
     rt: &impl Wait,
     alloc: Global,
@@ -85,16 +88,20 @@ pub fn serial<L: Link>(
     requires script { IsRunnable script.now }
     requires limit { (1 ≤ limit) × (limit ≤ 4294967000) }
     requires links { vec_len links ≡ 64 }
-    ensures histories { IfOk result.0 (λ it. it.histories
-        ≡ (serial_run limit script.now).histories) }
-    ensures transcripts { IfOk result.0 (λ it. it.transcripts
-        ≡ (serial_run limit script.now).transcripts) }
+    // Where the links tell which calls they answer Down, it is the run over links that tell so.
+    ensures exact { (told : ℕ → CfId → Telling)
+        → AreTelling L.calls L.downs L.faults told (length script.now.structures) links.items
+        → IfOk result.0 (λ it. (it.histories ≡ (serial_run limit told script.now).histories)
+        × (it.transcripts ≡ (serial_run limit told script.now).transcripts)) }
     // It is one of the schedules that the callers' law speaks of: a legal history of each
     // structure, each caller's calls in it once and in their order, transcripts that follow the
     // script, and tests that tell what stood.
     ensures shows { IfOk result.0 (λ it.
         ShowsHistories limit script.now it.histories it.transcripts) }
-    ensures links { result.1.items ≡ links.items }
+    // The links of each structure were asked as its history tells.
+    ensures asked { IfOk result.0 (λ it. AreRunLinks L.calls L.downs L.faults
+        script.now.structures it.histories links.items result.1.items) }
+    ensures count { length result.1.items ≡ length links.items }
 {
     let (board, desks) = match Board::start(rt, alloc, script, limit, links) {
         Ok(begun) => begun,

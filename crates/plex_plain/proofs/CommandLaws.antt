@@ -15,7 +15,7 @@ use Rattle.cf_types.specs.declared.list_commands.ListCmd.{ListCmd}
 use Rattle.cf_types.specs.declared.list_commands.ListCmd.TheVariants as list
 use Rattle.plex_spell.specs.Tokens.{Token, name_word}
 use Rattle.plex_spell.specs.Tokens.Token.{Literal, OnResource}
-use Rattle.plex_spell.specs.Fields.{all_tokens, disposition, references, number, end, state, option_tokens, flag_tokens, name_tokens, key_tokens, short_tokens, data_tokens, number_tokens}
+use Rattle.plex_spell.specs.Fields.{all_tokens, disposition, references, number, end, state, option_tokens, flag_tokens, name_tokens, key_tokens, short_tokens, data_tokens, number_tokens, version_tokens}
 use Rattle.cf_types.specs.declared.forms.Kind.TheVariants as kind
 use Rattle.cf_types.specs.declared.forms.Refs.{Refs}
 use Rattle.cf_types.specs.declared.forms.Refs.TheVariants as refs
@@ -122,19 +122,21 @@ words_make connectors header head name key body adj cond =
     heads head = ap (λ word. codes "WRITE" ∷ decimal header ∷ word ∷ plain_words [] connectors parts)
         (word_end connectors head)
 
-pub words_update : (connectors : List Name16) (at : At) (body adj : Option (List ℕ)) (cond : Option Cond)
-    → list_in connectors (list.Update at body adj cond)
+pub words_update : (connectors : List Name16) (at : At) (body adj : Option (List ℕ)) (version : Option ℕ)
+    (cond : Option Cond)
+    → list_in connectors (list.Update at body adj version cond)
     ≡ codes "UPDATE" ∷ (plain_words [] connectors (at_tokens at)
     ++ (told_words (codes "DATA") text_words body ++ (told_words
-    (codes "ADJ") text_words adj ++ (plain_words [] connectors (cond_tokens cond) ++ []))))
-words_update connectors at body adj cond =
+    (codes "ADJ") text_words adj ++ (told_words (codes "VERSION") number_words version ++ (plain_words [] connectors
+    (cond_tokens cond) ++ [])))))
+words_update connectors at body adj version cond =
     ap (λ words. codes "UPDATE" ∷ words)
     (words_joined connectors (at_tokens at ∷ option_tokens (codes "DATA") data_tokens body ∷ option_tokens
-    (codes "ADJ") short_tokens adj ∷ cond_tokens cond ∷ [])
+    (codes "ADJ") short_tokens adj ∷ option_tokens (codes "VERSION") version_tokens version ∷ cond_tokens cond ∷ [])
     ∙ simp (
       words_option connectors (codes "DATA") data_tokens body,
-      words_option connectors
-          (codes "ADJ") short_tokens adj,
+      words_option connectors (codes "ADJ") short_tokens adj,
+      words_option connectors (codes "VERSION") version_tokens version,
     )
     refl)
 
@@ -145,18 +147,33 @@ words_at connectors verb at cond =
     ap (λ words. verb ∷ words) (words_joined connectors (at_tokens at ∷ cond_tokens cond ∷ []))
 
 pub words_move : (connectors : List Name16) (at : At) (header : ℕ) (head : Bool) (key : Option Key16)
-    (cond : Option Cond)
-    → list_in connectors (list.Move at header head key cond)
+    (version : Option ℕ) (cond : Option Cond)
+    → list_in connectors (list.Move at header head key version cond)
     ≡ codes "MOVE" ∷ (plain_words [] connectors (at_tokens at) ++ ((decimal header ∷ end_word head ∷ [])
-    ++ (told_words (codes "KEY") key_words key ++ (plain_words [] connectors (cond_tokens cond) ++ []))))
-words_move connectors at header head key cond =
+    ++ (told_words (codes "KEY") key_words key ++ (told_words (codes "VERSION") number_words version
+    ++ (plain_words [] connectors (cond_tokens cond) ++ [])))))
+words_move connectors at header head key version cond =
     ap (λ words. codes "MOVE" ∷ words)
     (words_joined connectors (at_tokens at ∷ (number header ∷ end head ∷ []) ∷ option_tokens
-    (codes "KEY") key_tokens key ∷ cond_tokens cond ∷ [])
+    (codes "KEY") key_tokens key ∷ option_tokens (codes "VERSION") version_tokens version ∷ cond_tokens cond ∷ [])
     ∙ ap (λ word. plain_words [] connectors (at_tokens at) ++ ((decimal header ∷ word ∷ [])
     ++ (plain_words [] connectors (option_tokens (codes "KEY") key_tokens key) ++ (plain_words [] connectors
-    (cond_tokens cond) ++ [])))) (word_end connectors head)
-    ∙ simp (words_option connectors (codes "KEY") key_tokens key) refl)
+    (option_tokens (codes "VERSION") version_tokens version) ++ (plain_words [] connectors (cond_tokens cond)
+    ++ []))))) (word_end connectors head)
+    ∙ simp (
+      words_option connectors (codes "KEY") key_tokens key,
+      words_option connectors (codes "VERSION") version_tokens version,
+    ) refl)
+
+pub words_delete : (connectors : List Name16) (at : At) (version : Option ℕ) (cond : Option Cond)
+    → list_in connectors (list.Delete at version cond)
+    ≡ codes "DELETE" ∷ (plain_words [] connectors (at_tokens at) ++ (told_words (codes "VERSION") number_words version
+    ++ (plain_words [] connectors (cond_tokens cond) ++ [])))
+words_delete connectors at version cond =
+    ap (λ words. codes "DELETE" ∷ words)
+    (words_joined connectors (at_tokens at ∷ option_tokens (codes "VERSION") version_tokens version ∷ cond_tokens cond
+    ∷ [])
+    ∙ simp (words_option connectors (codes "VERSION") version_tokens version) refl)
 
 -- a request for a resource: the command's word, the resource, the state, and record data
 pub words_request : (connectors : List Name16) (verb : List ℕ) (r : Resource) (excl : Bool) (rec : Option (List ℕ))
@@ -248,16 +265,19 @@ pub list-same : (connectors : List Name16) (cmd : ListCmd) → list_words cmd �
 list-same connectors (list.Write header head name key body adj cond) =
     words_make [] header head name key body adj cond
     ∙ (sym (words_make connectors header head name key body adj cond ∙ simp (cond-same connectors cond) refl))
-list-same connectors (list.Update ref body adj cond) =
-    words_update [] ref body adj cond
-    ∙ (sym (words_update connectors ref body adj cond ∙ simp (at-same connectors ref, cond-same connectors cond)
+list-same connectors (list.Update ref body adj version cond) =
+    words_update [] ref body adj version cond
+    ∙ (sym (words_update connectors ref body adj version cond ∙ simp (at-same connectors ref, cond-same connectors cond)
     refl))
 list-same connectors (list.Read ref cond) = on-same connectors (codes "READ") ref cond
-list-same connectors (list.Move ref header head key cond) =
-    words_move [] ref header head key cond
-    ∙ (sym (words_move connectors ref header head key cond
+list-same connectors (list.Move ref header head key version cond) =
+    words_move [] ref header head key version cond
+    ∙ (sym (words_move connectors ref header head key version cond
     ∙ simp (at-same connectors ref, cond-same connectors cond) refl))
-list-same connectors (list.Delete ref cond) = on-same connectors (codes "DELETE") ref cond
+list-same connectors (list.Delete ref version cond) =
+    words_delete [] ref version cond
+    ∙ (sym (words_delete connectors ref version cond
+    ∙ simp (at-same connectors ref, cond-same connectors cond) refl))
 list-same connectors (list.ReadList header) = refl
 list-same connectors (list.LockSet lock) = refl
 list-same connectors (list.LockReset lock) = refl

@@ -18,7 +18,7 @@ use Rattle.cf_types.specs.declared.lock_commands.LockCmd.{LockCmd}
 use Rattle.cf_types.specs.declared.lock_commands.LockCmd.TheVariants as lock
 use Rattle.plex_spell.specs.Tokens.{Token}
 use Rattle.plex_spell.specs.Tokens.Token.{Literal, Term, Data, OnResource}
-use Rattle.plex_spell.specs.Fields.{number, end, state, name_tokens, key_tokens, number_tokens, short_tokens, data_tokens, option_tokens}
+use Rattle.plex_spell.specs.Fields.{number, end, state, name_tokens, key_tokens, number_tokens, version_tokens, short_tokens, data_tokens, option_tokens}
 use Rattle.plex_spell.specs.ShellWords.{shell_tokens}
 use Rattle.plex_spell.specs.CacheWords.{class_tokens, cache_tokens}
 use Rattle.plex_spell.specs.ListWords.{at_tokens, cond_tokens, list_tokens}
@@ -75,6 +75,9 @@ data-row o = row-option 4097 (codes "DATA") data_tokens o refl (λ text. record 
 
 storage-row : (o : Option ℕ) → IsRow 130 (option_tokens (codes "STG") number_tokens o)
 storage-row o = row-option 65 (codes "STG") number_tokens o refl (λ n. record { plain = refl; short = omega arith })
+
+version-row : (o : Option ℕ) → IsRow 130 (option_tokens (codes "VERSION") version_tokens o)
+version-row o = row-option 65 (codes "VERSION") version_tokens o refl (λ n. record { plain = refl; short = omega arith })
 
 old-row : (o : Option Name16) → IsRow 130 (option_tokens (codes "OLD") name_tokens o)
 old-row o = name-row (codes "OLD") o (record { plain = refl; short = omega arith })
@@ -140,26 +143,29 @@ list-row (list.Write header head name key body adj cond) =
     (row-append 130 4422 _ _ (key-row key)
     (row-append 4162 260 _ _ (data-row body)
     (row-append 130 130 _ _ (adjunct-row adj) (row-append 130 0 _ _ (cond-row cond) no_tokens))))))
-list-row (list.Update ref body adj cond) =
-    row-wider 4682 6000 _ (omega arith)
-    (row-append 65 4617 (Literal (codes "UPDATE") ∷ []) _ (record { plain = refl; short = omega arith })
-    (row-append 195 4422 _ _ (at-row ref)
-    (row-append 4162 260 _ _ (data-row body)
-    (row-append 130 130 _ _ (adjunct-row adj) (row-append 130 0 _ _ (cond-row cond) no_tokens)))))
+list-row (list.Update ref body adj version cond) =
+    row-wider 4812 6000 _ (omega arith)
+    (row-append 65 4747 (Literal (codes "UPDATE") ∷ []) _ (record { plain = refl; short = omega arith })
+    (row-append 195 4552 _ _ (at-row ref)
+    (row-append 4162 390 _ _ (data-row body)
+    (row-append 130 260 _ _ (adjunct-row adj)
+    (row-append 130 130 _ _ (version-row version) (row-append 130 0 _ _ (cond-row cond) no_tokens))))))
 list-row (list.Read ref cond) =
     row-wider 390 6000 _ (omega arith)
     (row-append 65 325 (Literal (codes "READ") ∷ []) _ (record { plain = refl; short = omega arith })
     (row-append 195 130 _ _ (at-row ref) (row-append 130 0 _ _ (cond-row cond) no_tokens)))
-list-row (list.Move ref header head key cond) =
-    row-wider 650 6000 _ (omega arith)
-    (row-append 65 585 (Literal (codes "MOVE") ∷ []) _ (record { plain = refl; short = omega arith })
-    (row-append 195 390 _ _ (at-row ref)
-    (row-append 130 260 (number header ∷ end head ∷ []) _ (place-row header head)
-    (row-append 130 130 _ _ (key-row key) (row-append 130 0 _ _ (cond-row cond) no_tokens)))))
-list-row (list.Delete ref cond) =
-    row-wider 390 6000 _ (omega arith)
-    (row-append 65 325 (Literal (codes "DELETE") ∷ []) _ (record { plain = refl; short = omega arith })
-    (row-append 195 130 _ _ (at-row ref) (row-append 130 0 _ _ (cond-row cond) no_tokens)))
+list-row (list.Move ref header head key version cond) =
+    row-wider 780 6000 _ (omega arith)
+    (row-append 65 715 (Literal (codes "MOVE") ∷ []) _ (record { plain = refl; short = omega arith })
+    (row-append 195 520 _ _ (at-row ref)
+    (row-append 130 390 (number header ∷ end head ∷ []) _ (place-row header head)
+    (row-append 130 260 _ _ (key-row key)
+    (row-append 130 130 _ _ (version-row version) (row-append 130 0 _ _ (cond-row cond) no_tokens))))))
+list-row (list.Delete ref version cond) =
+    row-wider 520 6000 _ (omega arith)
+    (row-append 65 455 (Literal (codes "DELETE") ∷ []) _ (record { plain = refl; short = omega arith })
+    (row-append 195 260 _ _ (at-row ref)
+    (row-append 130 130 _ _ (version-row version) (row-append 130 0 _ _ (cond-row cond) no_tokens))))
 list-row (list.ReadList header) = record { plain = refl; short = omega arith }
 list-row (list.LockSet lock) = record { plain = refl; short = omega arith }
 list-row (list.LockReset lock) = record { plain = refl; short = omega arith }

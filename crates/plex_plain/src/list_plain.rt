@@ -6,7 +6,7 @@ ghost use Rattle.plex_spell.specs.Words.{tail_of};
 ghost use Rattle.plex_spell.specs.Tokens.Token.{Literal};
 ghost use Rattle.plex_spell.specs.Fields.{all_tokens};
 ghost use Rattle.plex_spell.specs.ListWords.{at_tokens, cond_tokens};
-ghost use Rattle.plex_plain.specs.PlainWords.{plain_words, end_word, list_words, told_words, name_words, key_words, text_words};
+ghost use Rattle.plex_plain.specs.PlainWords.{plain_words, end_word, list_words, told_words, number_words, name_words, key_words, text_words};
 
 use crate::line_text::{end_text, put_number, put_numbers, put_of, put_record, put_word};
 use crate::values::{Worded, put_option};
@@ -81,6 +81,20 @@ fn put_place(line: &mut Vec<u8>, header: u32, head: bool) -> Result<(), NoMemory
     put_word(line, end_text(head))
 }
 
+// The version that a record must have, where one is given, and the condition on a list lock.
+fn put_guards(
+    line: &mut Vec<u8>,
+    version: &Option<u32>,
+    cond: &Option<Cond>,
+) -> Result<(), NoMemory>
+    ensures { OnOk result (line.new.items ≡ line.old.items
+        ++ tail_of (told_words (codes "VERSION") number_words version.now
+        ++ plain_words [] [] (cond_tokens cond.now))) }
+{
+    put_option(line, b"VERSION", version)?;
+    put_cond(line, cond)
+}
+
 // A command on one record, under a condition.
 #[tactic(auto, using(crate::proofs::CommandLaws::words_at))]
 fn put_on(line: &mut Vec<u8>, verb: &[u8], at: &At, cond: &Option<Cond>) -> Result<(), NoMemory>
@@ -113,7 +127,7 @@ fn put_header(line: &mut Vec<u8>, word: &[u8], header: u32, n: u32) -> Result<()
 
 /// Puts the words of a command of a list structure to a line, with a blank before each. Where there
 /// is no memory, the line is left in the middle of them.
-#[tactic(auto, using(crate::proofs::CommandLaws::words_make, crate::proofs::CommandLaws::words_update, crate::proofs::CommandLaws::words_move))]
+#[tactic(auto, using(crate::proofs::CommandLaws::words_make, crate::proofs::CommandLaws::words_update, crate::proofs::CommandLaws::words_move, crate::proofs::CommandLaws::words_delete))]
 pub fn put_list(line: &mut Vec<u8>, cmd: &ListCmd) -> Result<(), NoMemory>
     ensures { OnOk result (line.new.items ≡ line.old.items ++ tail_of (list_words cmd.now)) }
 {
@@ -137,12 +151,13 @@ pub fn put_list(line: &mut Vec<u8>, cmd: &ListCmd) -> Result<(), NoMemory>
             at,
             body,
             adj,
+            version,
             cond,
         } => {
             put_word(line, b"UPDATE")?;
             put_reference(line, at)?;
             put_content(line, body, adj)?;
-            put_cond(line, cond)
+            put_guards(line, version, cond)
         }
         ListCmd::Read { at, cond } => put_on(line, b"READ", at, cond),
         ListCmd::Move {
@@ -150,15 +165,20 @@ pub fn put_list(line: &mut Vec<u8>, cmd: &ListCmd) -> Result<(), NoMemory>
             header,
             head,
             key,
+            version,
             cond,
         } => {
             put_word(line, b"MOVE")?;
             put_reference(line, at)?;
             put_place(line, *header, *head)?;
             put_option(line, b"KEY", key)?;
-            put_cond(line, cond)
+            put_guards(line, version, cond)
         }
-        ListCmd::Delete { at, cond } => put_on(line, b"DELETE", at, cond),
+        ListCmd::Delete { at, version, cond } => {
+            put_word(line, b"DELETE")?;
+            put_reference(line, at)?;
+            put_guards(line, version, cond)
+        }
         ListCmd::ReadList { header } => put_of(line, b"READLIST", *header),
         ListCmd::LockSet { lock } => put_use(line, *lock, b"SET"),
         ListCmd::LockReset { lock } => put_use(line, *lock, b"RESET"),

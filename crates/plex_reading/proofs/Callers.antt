@@ -63,18 +63,30 @@ named_word name word named is =
     ap text_in_block is ∙ unpadded-append word _ (characters-term word (term-name word named))
 
 -- a name is no word of the script language
+unreserved : (word : List ℕ) → is_name word ≡ true → not (list_any (same_word word) reserved_words) ≡ true
+unreserved word named = (and_parts (is_capital word) (not (list_any (same_word word) reserved_words)) named).1
+
 no_operator : (word : List ℕ) → is_name word ≡ true → word ≢ codes "OP"
 no_operator word named same =
-    let free : not (list_any (same_word word) reserved_words) ≡ true =
-    (and_parts (is_capital word) (not (list_any (same_word word) reserved_words)) named).1 in
     let wrong : not (list_any (same_word (codes "OP")) reserved_words) ≡ true =
-    subst (λ (w : List ℕ). not (list_any (same_word w) reserved_words) ≡ true) same free in
+    subst (λ (w : List ℕ). not (list_any (same_word w) reserved_words) ≡ true) same (unreserved word named) in
     absurd (cc)
+
+no_system : (word : List ℕ) → is_name word ≡ true → word ≢ codes "SYS"
+no_system word named same =
+    let wrong : not (list_any (same_word (codes "SYS")) reserved_words) ≡ true =
+    subst (λ (w : List ℕ). not (list_any (same_word w) reserved_words) ≡ true) same (unreserved word named) in
+    absurd (cc)
+
+-- the word of a caller that isn't the operator, nor that of the system, which tells marks
+pub record IsOwn (word : List ℕ) : Type 0 where
+  pub operator : word ≢ codes "OP"
+  pub system : word ≢ codes "SYS"
 
 -- ---- the names that are declared
 
 pub record AreApart (names : List Name16) : Type 0 where
-  pub named : (i : ℕ) (name : Name16) → slice_get names i ≡ Some name → name_word name ≢ codes "OP"
+  pub named : (i : ℕ) (name : Name16) → slice_get names i ≡ Some name → IsOwn (name_word name)
   pub apart : (i j : ℕ) (a b : Name16) → slice_get names i ≡ Some a → slice_get names j ≡ Some b
       → name_word a ≡ name_word b → i ≡ j
 
@@ -101,13 +113,13 @@ new_word names name new i other e same =
     let wrong : true ≡ false = sym found ∙ new in
     absurd (cc)
 
-one_more : (names : List Name16) (name : Name16) → AreApart names → name_word name ≢ codes "OP"
+one_more : (names : List Name16) (name : Name16) → AreApart names → IsOwn (name_word name)
     → list_any (λ other. same_word (name_word other) (name_word name)) names ≡ false → AreApart (names ++ name ∷ [])
 one_more names name h named new =
     record {
       named = λ i other e. elim (pushed_cases names name i other e) [
         | inl old ↦ h.named i other old.1
-        | inr fresh ↦ subst (λ (n : Name16). name_word n ≢ codes "OP") (sym fresh.1) named
+        | inr fresh ↦ subst (λ (n : Name16). IsOwn (name_word n)) (sym fresh.1) named
       ];
       apart = λ i j a b e f same. elim (pushed_cases names name i a e) [
         | inl old ↦ elim (pushed_cases names name j b f) [
@@ -137,7 +149,10 @@ declared script (verb ∷ []) (declaration.Connector name) says once h = absurd 
 declared script (verb ∷ word ∷ ws) (declaration.Connector name) says once h =
     let named : is_name word ≡ true = says.spelled.1.0.0.0 in
     let is : name_word name ≡ word = named_word name word named says.spelled.1.0.1 in
-    one_more script.connectors name h (λ same. no_operator word named (sym is ∙ same)) once
+    one_more script.connectors name h (record {
+      operator = λ same. no_operator word named (sym is ∙ same);
+      system = λ same. no_system word named (sym is ∙ same);
+    }) once
 
 of_caller : (script : Script) (at : ℕ) (by : ConnId) (ws : Words) (after : Script)
     → AddsOfCaller script at by ws after
@@ -204,11 +219,19 @@ pub same_caller : (script : Script) (a b : ℕ) → AreApart script.connectors �
 same_caller script zero zero h few_a few_b e = refl
 same_caller script zero (suc k) h few_a few_b e =
     let it = connector_at script k (omega (arith, few_b)) in
-    absurd (h.named k it.name it.there (sym it.word ∙ sym e))
+    absurd ((h.named k it.name it.there).operator (sym it.word ∙ sym e))
 same_caller script (suc j) zero h few_a few_b e =
     let it = connector_at script j (omega (arith, few_a)) in
-    absurd (h.named j it.name it.there (sym it.word ∙ e))
+    absurd ((h.named j it.name it.there).operator (sym it.word ∙ e))
 same_caller script (suc j) (suc k) h few_a few_b e =
     let one = connector_at script j (omega (arith, few_a)) in
     let other = connector_at script k (omega (arith, few_b)) in
     ap suc (h.apart j k one.name other.name one.there other.there (sym one.word ∙ e ∙ other.word))
+
+-- no caller has the system's word
+pub not_system : (script : Script) (n : ℕ) → AreApart script.connectors → n ≤ length script.connectors
+    → caller_name script n ≢ codes "SYS"
+not_system script zero h few e = absurd cc
+not_system script (suc k) h few e =
+    let it = connector_at script k (omega (arith, few)) in
+    absurd ((h.named k it.name it.there).system (sym it.word ∙ e))

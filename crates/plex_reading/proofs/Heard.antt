@@ -1,19 +1,17 @@
 -- The calls of a legal history are heard under their numbers.
-use Rattle.std.proofs.Common.{◌≡◌, ℕ, zero, suc, ◌+◌, ◌≤◌, ◌<◌, ◌==◌, nat_le, Bool, true, false, List, [], ◌∷◌, ◌++◌, length, map, filter, cond, Some, None, refl, sym, ap, subst, ◌∙◌, arith, append_assoc, length-append}
-use Rattle.std.specs.Option.{option_or}
+use Rattle.std.proofs.Common.{◌≡◌, ℕ, suc, ◌≤◌, ◌<◌, ◌==◌, inr, Bool, true, false, List, [], ◌∷◌, ◌++◌, length, filter, cond, Some, refl, sym, subst, arith, append_assoc}
+use Rattle.std.specs.Prelude.{Contains, if◌then◌else◌}
 use Rattle.std.proofs.lemmas.Bool.Decides.{nat_tests}
-use Rattle.std.proofs.lemmas.List.Folds.{find-append}
-use Rattle.std.proofs.lemmas.List.{map-append}
 use Rattle.cf_types.specs.declared.forms.StrForm.{StrForm}
-use Rattle.engine_api.specs.declared.asks.Ask.{Ask}
-use Rattle.engine_api.specs.declared.asks.What.{What}
-use Rattle.engine_api.specs.declared.asks.What.TheVariants as what
-use Rattle.engine_api.specs.declared.histories.Entry.{Entry}
-use Rattle.engine_api.specs.Meaning.{Meaning}
-use Rattle.engine_api.specs.History.{calls, numbers, IsCallAs, IsNextAs, IsUnmarked, Continues}
-use Rattle.plex_script.specs.Heard.{AnyCall, call_numbered}
-use Rattle.any_model.specs.Kinds.{numbers_from}
-use Rattle.any_model.proofs.WordLaws.{numbers_from-suc}
+use Rattle.engine_api.proofs.NumberLaws.{numbered_legal}
+use Rattle.cache_model.specs.Meaning.{cache_meaning}
+use Rattle.list_model.specs.Meaning.{list_meaning}
+use Rattle.lock_model.specs.Meaning.{lock_meaning}
+use Rattle.plex_script.specs.declared.asks.AnyHistory.{AnyHistory}
+use Rattle.plex_script.specs.declared.asks.AnyHistory.TheVariants as history
+use Rattle.plex_script.specs.Heard.{AnyCall, any_calls, any_length, call_numbered}
+use Rattle.any_model.specs.Kinds.{IsAnyLegal, IsAnyPoint, Rising, any_numbers}
+use Rattle.any_model.proofs.SeamLaws.{numbers_of, numbers_any}
 
 -- each of these is the call with its number
 abbrev pub AreHeard : List AnyCall → List AnyCall → Type 0
@@ -38,90 +36,72 @@ pub heard_back : (calls xs ys : List AnyCall) → AreHeard calls (xs ++ ys) → 
 heard_back calls [] ys h = h
 heard_back calls (x ∷ xs) ys h = heard_back calls xs ys h.1
 
-unheard : (calls : List AnyCall) (first n number : ℕ) → map (λ call. call.no) calls ≡ numbers_from first n
-    → first + n ≤ number → call_numbered number calls ≡ None
-unheard [] first n number counted past = refl
-unheard (call ∷ calls) first zero number counted past = absurd cc
-unheard (call ∷ calls) first (suc n) number counted past =
-    let here : call.no ≡ first = cc in
-    let others : map (λ (c : AnyCall). c.no) calls ≡ numbers_from (first + 1) n = cc in
-    let apart : call.no == number ≡ false = grind (arith, nat_tests) in
-    rw apart (unheard calls (first + 1) n number others (omega arith))
+-- ---- numbers that rise
 
-pub heard_within : (calls : List AnyCall) (first n number : ℕ) (call : AnyCall)
-    → map (λ call. call.no) calls ≡ numbers_from first n
-    → call_numbered number calls ≡ Some call → number < first + n
-heard_within calls first n number call counted found = by_test (nat_le (first + n) number) refl
-  where
-    by_test : (b : Bool) → nat_le (first + n) number ≡ b → number < first + n
-    by_test true past =
-        let none : call_numbered number calls ≡ None = unheard calls first n number counted
-        (grind (arith, nat_tests)) in
-        let wrong : None ≡ Some call = sym none ∙ found in absurd cc
-    by_test false before = grind (arith, nat_tests)
+above_start : (low : ℕ) (before : List AnyCall) (call : AnyCall) (some : List AnyCall)
+    → Rising low (before ++ call ∷ some) → low < call.no
+above_start low [] call some rise = rise.0
+above_start low (first ∷ before) call some rise =
+    let later : first.no < call.no = above_start first.no before call some rise.1 in omega (arith, rise.0, later)
 
-heard_behind : (before some : List AnyCall) (first m n : ℕ) → map (λ call. call.no) before ≡ numbers_from first m
-    → map (λ call. call.no) some ≡ numbers_from (first + m) n → AreHeard (before ++ some) some
-heard_behind before [] first m n counted more = tt
-heard_behind before (call ∷ some) first m zero counted more = absurd cc
-heard_behind before (call ∷ some) first m (suc n) counted more = (
-  find-append (λ (c : AnyCall). c.no == call.no) before (call ∷ some) ∙ here,
+found_at : (low : ℕ) (before : List AnyCall) (call : AnyCall) (some : List AnyCall)
+    → Rising low (before ++ call ∷ some) → call_numbered call.no (before ++ call ∷ some) ≡ Some call
+found_at low [] call some rise = let itself : call.no == call.no ≡ true = grind (arith, nat_tests) in rw itself refl
+found_at low (first ∷ before) call some rise =
+    let later : first.no < call.no = above_start first.no before call some rise.1 in
+    let apart : first.no == call.no ≡ false = grind (arith, nat_tests) in
+    rw apart (found_at first.no before call some rise.1)
+
+heard_behind : (before some : List AnyCall) → Rising 0 (before ++ some) → AreHeard (before ++ some) some
+heard_behind before [] rise = tt
+heard_behind before (call ∷ some) rise = (
+  found_at 0 before call some rise,
   subst (λ (cs : List AnyCall). AreHeard cs some) (append_assoc before (call ∷ []) some)
-      (heard_behind (before ++ call ∷ []) some first (suc m) n counted' others),
+      (heard_behind (before ++ call ∷ []) some
+      (subst (Rising 0) (sym (append_assoc before (call ∷ []) some)) rise)),
 )
+
+pub heard_each : (calls : List AnyCall) → Rising 0 calls → AreHeard calls calls
+heard_each calls rise = heard_behind [] calls rise
+
+-- a call that is found under a number has it
+found_in : (number : ℕ) (calls : List AnyCall) (call : AnyCall) → call_numbered number calls ≡ Some call
+    → Contains (numbers_of calls) number
+found_in number [] call e = absurd cc
+found_in number (first ∷ calls) call e = by_test (first.no == number) refl (found_in number calls call) e
   where
-    number : call.no ≡ first + m
-    number = cc
+    by_test : (b : Bool) → first.no == number ≡ b
+        → (call_numbered number calls ≡ Some call → Contains (numbers_of calls) number)
+        → (if b then Some first else call_numbered number calls) ≡ Some call
+        → Contains (numbers_of (first ∷ calls)) number
+    by_test true same later found = (
+      0,
+      (let one : 0 < length (numbers_of (first ∷ calls)) = omega arith in one),
+      (let is : first.no ≡ number = grind (arith, nat_tests) in is),
+    )
+    by_test false apart later found =
+        let there : Contains (numbers_of calls) number = later found in (
+          suc there.0,
+          (let less : suc there.0 < length (numbers_of (first ∷ calls)) = omega (arith, there.1) in less),
+          there.2,
+        )
 
-    itself : call.no == call.no ≡ true
-    itself = grind (arith, nat_tests)
+-- the numbers of a legal history's calls are within its length
+pub any_within : (form : StrForm) (h : AnyHistory) → IsAnyLegal form h → (n : ℕ) → IsAnyPoint h n → n ≤ any_length h
+any_within form (history.Cache entries) legal n point =
+    (let numbered = numbered_legal cache_meaning form entries legal in numbered.within n point)
+any_within form (history.List entries) legal n point =
+    (let numbered = numbered_legal list_meaning form entries legal in numbered.within n point)
+any_within form (history.Lock entries) legal n point =
+    (let numbered = numbered_legal lock_meaning form entries legal in numbered.within n point)
 
-    here : option_or (call_numbered call.no before) (call_numbered call.no (call ∷ some)) ≡ Some call
-    here = rw (unheard before first m call.no counted (omega (arith, number)), itself) refl
+point_from : (h : AnyHistory) (n : ℕ) → Contains (any_numbers h) n → IsAnyPoint h n
+point_from (history.Cache entries) n there = inr there
+point_from (history.List entries) n there = inr there
+point_from (history.Lock entries) n there = inr there
 
-    counted' : map (λ (c : AnyCall). c.no) (before ++ call ∷ []) ≡ numbers_from first (suc m)
-    counted' =
-        map-append (λ (c : AnyCall). c.no) before (call ∷ [])
-        ∙ (ap (λ (ns : List ℕ). ns ++ call.no ∷ []) counted ∙ ap (λ (k : ℕ). numbers_from first m ++ k ∷ []) number)
-        ∙ sym (numbers_from-suc first m)
-
-    moved : (first + m) + 1 ≡ first + suc m
-    moved = omega arith
-
-    others : map (λ (c : AnyCall). c.no) some ≡ numbers_from (first + suc m) n
-    others = subst (λ (k : ℕ). map (λ (c : AnyCall). c.no) some ≡ numbers_from k n) moved (cc)
-
-pub heard_each : (calls : List AnyCall) (n : ℕ) → map (λ call. call.no) calls ≡ numbers_from 1 n
-    → AreHeard calls calls
-heard_each calls n counted = heard_behind [] calls 1 0 n refl counted
-
--- ---- legal histories
-
--- the call of an entry
-pub record IsCallOf {C R : Type 0} (entry : Entry C R) (told : What C) (n : ℕ) : Type 0 where
-  pub ask : Ask C
-  pub is : told ≡ what.Call ask
-  pub number : entry.no ≡ n
-
-module _ {C R I S : Type 0} (meaning : Meaning C R I S) (form : StrForm) where
-  pub next_is : (before : List (Entry C R)) (entry : Entry C R) (told : What C) → IsCallAs told
-      → IsNextAs meaning form before entry told
-      → IsCallOf entry told (length before + 1)
-  next_is before entry (what.Call ask) is_call e = record { ask = ask; is = refl; number = ap (λ (it : Entry C R). it.no) e }
-  next_is before entry (what.Lost cf) is_call e = absurd is_call
-
-  counted : (before entries : List (Entry C R)) → IsUnmarked entries → Continues meaning form before entries
-      → numbers entries ≡ numbers_from (length before + 1) (length entries)
-  counted before [] marks goes = refl
-  counted before (entry ∷ entries) marks goes =
-      let call = next_is before entry entry.what marks.0 goes.0 in
-      let longer : length (before ++ entry ∷ []) + 1 ≡ (length before + 1) + 1 = omega
-      (arith, length-append before (entry ∷ [])) in
-      let more : numbers entries ≡ numbers_from ((length before + 1) + 1) (length entries) =
-      counted (before ++ entry ∷ []) entries marks.1 goes.1 ∙ ap (λ (k : ℕ). numbers_from k (length entries)) longer in
-      rw call.is
-      (ap (λ (k : ℕ). k ∷ numbers entries) call.number ∙ ap (λ (ns : List ℕ). (length before + 1) ∷ ns) more)
-
-  pub counted_legal : (entries : List (Entry C R)) → IsUnmarked entries → Continues meaning form [] entries
-      → numbers entries ≡ numbers_from 1 (length entries)
-  counted_legal entries marks goes = counted [] entries marks goes
+pub heard_within : (form : StrForm) (h : AnyHistory) → IsAnyLegal form h → (number : ℕ) (call : AnyCall)
+    → call_numbered number (any_calls h) ≡ Some call → number ≤ any_length h
+heard_within form h legal number call found =
+    any_within form h legal number (point_from h number
+    (subst (λ (ns : List ℕ). Contains ns number) (numbers_any h) (found_in number (any_calls h) call found)))

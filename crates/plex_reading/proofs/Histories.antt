@@ -1,24 +1,23 @@
 -- The lines of legal histories, in which each caller asks what the script says, fix them.
-use Rattle.std.proofs.Common.{◌≡◌, ℕ, zero, suc, ◌+◌, ◌≤◌, ◌<◌, ◌==◌, ◌^◌, Bool, true, List, [], ◌∷◌, ◌++◌, length, map, codes, Option, Some, inl, inr, slice_get, refl, sym, ap, subst, ◌∙◌, arith, append_assoc}
-use Rattle.std.specs.List.{AllByRecursion, Contains, slice_index_or}
+use Rattle.std.proofs.Common.{◌≡◌, ℕ, ◌+◌, ◌≤◌, ◌<◌, ◌==◌, ◌^◌, Bool, true, List, [], ◌∷◌, ◌++◌, length, map, codes, Option, Some, slice_get, refl, sym, ap, subst, ◌∙◌, arith, append_assoc}
+use Rattle.std.specs.List.{AllByRecursion}
 use Rattle.std.specs.Prelude.{All}
 use Rattle.std.proofs.lemmas.Bool.Decides.{nat_tests}
 use Rattle.std.proofs.lemmas.List.{map-append}
 use Rattle.std.proofs.lemmas.List.Elements.{filter-append, recursion_from_All}
-use Rattle.std.proofs.lemmas.Simd.{map-map}
 use Rattle.cf_types.specs.declared.forms.Kind.{Kind}
 use Rattle.cf_types.specs.declared.forms.Kind.TheVariants as kind
 use Rattle.cf_types.specs.declared.forms.StrForm.{StrForm}
 use Rattle.cf_types.specs.declared.numbers.ConnId.{ConnId}
 use Rattle.cf_types.specs.declared.numbers.StrNo.{StrNo}
 use Rattle.engine_api.specs.declared.asks.Ask.{Ask}
+use Rattle.engine_api.specs.declared.asks.What.{What}
 use Rattle.engine_api.specs.declared.asks.What.TheVariants as what
 use Rattle.engine_api.specs.declared.histories.Entry.{Entry}
 use Rattle.engine_api.specs.Meaning.{Meaning}
-use Rattle.engine_api.specs.History.{Call, calls, numbers, Continues, IsLegal, IsUnmarked, IsPoint}
+use Rattle.engine_api.specs.History.{Call, calls, IsLegal}
 use Rattle.engine_api.specs.Told.{told_of}
 use Rattle.engine_api.proofs.HistoryLaws.{calls-append, continues_legal}
-use Rattle.engine_api.proofs.NumberLaws.{numbered_legal}
 use Rattle.cache_model.specs.Meaning.{cache_meaning}
 use Rattle.list_model.specs.Meaning.{list_meaning}
 use Rattle.lock_model.specs.Meaning.{lock_meaning}
@@ -33,7 +32,7 @@ use Rattle.plex_script.specs.declared.scripts.Script.{Script}
 use Rattle.plex_script.specs.Heard.{AnyCall, any_call, any_calls, any_length, own_calls}
 use Rattle.plex_script.specs.Follows.{lines_of}
 use Rattle.serial_model.specs.Headline.{IsHistoryOf}
-use Rattle.any_model.specs.Kinds.{IsOfKind, IsAnyLegal, AnyTells, numbers_from}
+use Rattle.any_model.specs.Kinds.{IsOfKind, IsAnyLegal, IsAnyPoint, AnyTells}
 use Rattle.plex_report.specs.Naming.{structure_name}
 use Rattle.plex_report.specs.CommandWords.{cache_words, list_words, lock_words}
 use Rattle.plex_report.specs.ReplyWords.{cache_reply_words, list_reply_words, lock_reply_words}
@@ -41,7 +40,8 @@ use Rattle.plex_report.specs.Lines.{entry_line, entry_lines, history_lines}
 use Rattle.plex_report.specs.Report.{lines_each}
 use Rattle.plex_reading.proofs.Cuts.{text_of, same_heading}
 use Rattle.plex_reading.proofs.Callers.{AreApart}
-use Rattle.plex_reading.proofs.Heard.{next_is, counted_legal}
+use Rattle.plex_reading.specs.Readings.{NamesFacilities, MarksFacilities}
+use Rattle.plex_reading.proofs.Heard.{any_within}
 use Rattle.plex_reading.proofs.Works.{works, next_ask, Plays, next_of}
 use Rattle.plex_reading.proofs.Played.{lines_at}
 use Rattle.plex_reading.proofs.Entries.{Asked, same_entries}
@@ -94,32 +94,42 @@ module _ {C R I S : Type 0} (meaning : Meaning C R I S) (form : StrForm) (of : A
       (answer_words : Script → R → List (List ℕ)) where
     asked_all : (whole before entries : List (Entry C R)) → IsPlayedAt script on form.kind
         (map (any_call of) (calls whole))
-        → before ++ entries ≡ whole → IsUnmarked entries → Continues meaning form before entries
+        → before ++ entries ≡ whole
         → AllByRecursion (λ call. call.by.0 ≤ length script.connectors) (map (any_call of) (calls entries))
         → Asked meaning form of one_ask cmd_words answer_words script next before entries
-    asked_all whole before [] plays is marks goes callers = tt
-    asked_all whole before (entry ∷ entries) plays is marks goes callers =
-        let call = next_is meaning form before entry entry.what marks.0 goes.0 in
-        let split : map (any_call of) (calls (entry ∷ entries)) ≡ told_call entry call.ask ∷ map (any_call of)
-        (calls entries) =
-        call_first entry entries call.ask call.is in
-        let both : AllByRecursion (λ (c : AnyCall). c.by.0 ≤ length script.connectors)
-        (told_call entry call.ask ∷ map (any_call of) (calls entries)) =
-        subst (AllByRecursion (λ (c : AnyCall). c.by.0 ≤ length script.connectors)) split callers in (
-          (λ asked same. next_of form.kind (works form.kind (lines_at on (lines_of script entry.by)))
-              (own_calls (map (any_call of) (calls whole)) entry.by) (own_calls (map (any_call of) (calls before))
-              entry.by)
-              (told_call entry asked) (own_calls (map (any_call of) (calls entries)) entry.by) (plays entry.by both.0)
-              (ap (λ (h : List (Entry C R)). own_calls (map (any_call of) (calls h)) entry.by) (sym is)
-              ∙ own_split before entry entries asked same)),
-          both.0,
-          asked_all whole (before ++ entry ∷ []) entries plays (append_assoc before (entry ∷ []) entries ∙ is)
-              marks.1 goes.1 both.1,
-        )
+    asked_all whole before [] plays is callers = tt
+    asked_all whole before (entry ∷ entries) plays is callers = (
+      λ asked same.
+          let both : AllByRecursion (λ (c : AnyCall). c.by.0 ≤ length script.connectors)
+          (told_call entry asked ∷ map (any_call of) (calls entries)) =
+          subst (AllByRecursion (λ (c : AnyCall). c.by.0 ≤ length script.connectors))
+          (call_first entry entries asked same) callers in (
+            next_of form.kind (works form.kind (lines_at on (lines_of script entry.by)))
+                (own_calls (map (any_call of) (calls whole)) entry.by) (own_calls (map (any_call of) (calls before))
+                entry.by)
+                (told_call entry asked) (own_calls (map (any_call of) (calls entries)) entry.by) (plays entry.by both.0)
+                (ap (λ (h : List (Entry C R)). own_calls (map (any_call of) (calls h)) entry.by) (sym is)
+                ∙ own_split before entry entries asked same),
+            both.0,
+          ),
+      asked_all whole (before ++ entry ∷ []) entries plays (append_assoc before (entry ∷ []) entries ∙ is)
+          (callers_behind entry entry.what refl callers),
+    )
+      where
+        callers_behind : (entry : Entry C R) (told : What C) → entry.what ≡ told
+            → AllByRecursion (λ call. call.by.0 ≤ length script.connectors) (map (any_call of) (calls (entry ∷ entries)))
+            → AllByRecursion (λ call. call.by.0 ≤ length script.connectors) (map (any_call of) (calls entries))
+        callers_behind entry (what.Call asked) same callers =
+            (subst (AllByRecursion (λ (c : AnyCall). c.by.0 ≤ length script.connectors))
+            (call_first entry entries asked same) callers).1
+        callers_behind entry (what.Lost cf) same callers =
+            subst (AllByRecursion (λ (c : AnyCall). c.by.0 ≤ length script.connectors))
+            (let none : map (any_call of) (calls (entry ∷ entries)) ≡ map (any_call of) (calls entries) = rw same refl in
+            none) callers
 
     pub same_history : (n : ℕ) (one other : List (Entry C R)) (xs ys : List (List ℕ)) → AreApart script.connectors
         → length one < 2 ^ 64 → length other < 2 ^ 64
-        → IsLegal meaning form one × IsUnmarked one → IsLegal meaning form other × IsUnmarked other
+        → IsLegal meaning form one → IsLegal meaning form other → NamesFacilities one → NamesFacilities other
         → IsPlayedAt script on form.kind (map (any_call of) (calls one)) → IsPlayedAt script on form.kind
         (map (any_call of) (calls other))
         → AllByRecursion (λ call. call.by.0 ≤ length script.connectors) (map (any_call of) (calls one))
@@ -127,16 +137,16 @@ module _ {C R I S : Type 0} (meaning : Meaning C R I S) (form : StrForm) (of : A
         → text_of (entry_lines cmd_words answer_words script n one ++ xs) ≡ text_of
         (entry_lines cmd_words answer_words script n other ++ ys)
         → (one ≡ other) × (text_of xs ≡ text_of ys)
-    same_history n one other xs ys apart small small' legal legal' plays plays' callers callers' e =
+    same_history n one other xs ys apart small small' legal legal' marks marks' plays plays' callers callers' e =
         let line : Entry C R → List ℕ = entry_line cmd_words answer_words script in
         let counts = same_heading (codes "HISTORY") (structure_name script n) (length one) (length other)
         (map line one ++ xs) (map line other ++ ys) small small' e in
-        let goes = continues_legal meaning form one legal.0 in
-        let goes' = continues_legal meaning form other legal'.0 in
-        same_entries meaning form of one_ask cmd_words answer_words script next [] one other xs ys apart counts.0 legal.1
-        legal'.1 goes goes'
-        (asked_all one [] one plays refl legal.1 goes callers)
-        (asked_all other [] other plays' refl legal'.1 goes' callers') counts.1
+        let goes = continues_legal meaning form one legal in
+        let goes' = continues_legal meaning form other legal' in
+        same_entries meaning form of one_ask cmd_words answer_words script next [] one other xs ys apart counts.0 marks
+        marks' goes goes'
+        (asked_all one [] one plays refl callers)
+        (asked_all other [] other plays' refl callers') counts.1
 
 -- ---- histories of whatever kind
 
@@ -154,6 +164,7 @@ pub record IsRight (script : Script) (n : ℕ) (entries : AnyHistory) : Type 0 w
   pub form : StrForm
   pub known : slice_get script.structures n ≡ Some form
   pub right : IsHistoryOf script form entries
+  pub marks : MarksFacilities entries
   pub plays : IsPlayedAt script (record { 0 = n }) form.kind (any_calls entries)
 
 abbrev pub AreRight : Script → ℕ → List AnyHistory → Type 0
@@ -202,43 +213,43 @@ callers_of script entries h = recursion_from_All (λ (call : AnyCall). call.by.0
 any_same : (script : Script) (n : ℕ) (form : StrForm) (one other : AnyHistory) (xs ys : List (List ℕ))
     → AreApart script.connectors
     → IsSameKind one other → any_length one < 2 ^ 64 → any_length other < 2 ^ 64
-    → IsHistoryOf script form one → IsHistoryOf script form other
+    → IsHistoryOf script form one → IsHistoryOf script form other → MarksFacilities one → MarksFacilities other
     → IsPlayedAt script (record { 0 = n }) form.kind (any_calls one) → IsPlayedAt script (record { 0 = n }) form.kind
     (any_calls other)
     → text_of (history_lines script n one ++ xs) ≡ text_of (history_lines script n other ++ ys)
     → (one ≡ other) × (text_of xs ≡ text_of ys)
-any_same script n form (history.Cache one) (history.Cache other) xs ys apart kinds small small' right right' plays
-    plays' e =
+any_same script n form (history.Cache one) (history.Cache other) xs ys apart kinds small small' right right' marks marks'
+    plays plays' e =
     let parts = same_history cache_meaning form ask.Cache script (record { 0 = n }) one_cache cache_words
     cache_reply_words
-    n one other xs ys apart small small' right.legal right'.legal plays plays'
+    n one other xs ys apart small small' right.legal right'.legal marks marks' plays plays'
     (callers_of script (history.Cache one) right.callers) (callers_of script (history.Cache other) right'.callers) e
     in
     (ap history.Cache parts.0, parts.1)
-any_same script n form (history.List one) (history.List other) xs ys apart kinds small small' right right' plays
-    plays' e =
+any_same script n form (history.List one) (history.List other) xs ys apart kinds small small' right right' marks marks'
+    plays plays' e =
     let parts = same_history list_meaning form ask.List script (record { 0 = n }) one_list list_words list_reply_words
-    n one other xs ys apart small small' right.legal right'.legal plays plays'
+    n one other xs ys apart small small' right.legal right'.legal marks marks' plays plays'
     (callers_of script (history.List one) right.callers) (callers_of script (history.List other) right'.callers) e in
     (ap history.List parts.0, parts.1)
-any_same script n form (history.Lock one) (history.Lock other) xs ys apart kinds small small' right right' plays
-    plays' e =
+any_same script n form (history.Lock one) (history.Lock other) xs ys apart kinds small small' right right' marks marks'
+    plays plays' e =
     let parts = same_history lock_meaning form ask.Lock script (record { 0 = n }) one_lock lock_words lock_reply_words
-    n one other xs ys apart small small' right.legal right'.legal plays plays'
+    n one other xs ys apart small small' right.legal right'.legal marks marks' plays plays'
     (callers_of script (history.Lock one) right.callers) (callers_of script (history.Lock other) right'.callers) e in
     (ap history.Lock parts.0, parts.1)
-any_same script n form (history.Cache one) (history.List other) xs ys apart kinds small small' right right' plays
-    plays' e = absurd kinds
-any_same script n form (history.Cache one) (history.Lock other) xs ys apart kinds small small' right right' plays
-    plays' e = absurd kinds
-any_same script n form (history.List one) (history.Cache other) xs ys apart kinds small small' right right' plays
-    plays' e = absurd kinds
-any_same script n form (history.List one) (history.Lock other) xs ys apart kinds small small' right right' plays
-    plays' e = absurd kinds
-any_same script n form (history.Lock one) (history.Cache other) xs ys apart kinds small small' right right' plays
-    plays' e = absurd kinds
-any_same script n form (history.Lock one) (history.List other) xs ys apart kinds small small' right right' plays
-    plays' e = absurd kinds
+any_same script n form (history.Cache one) (history.List other) xs ys apart kinds small small' right right' marks marks'
+    plays plays' e = absurd kinds
+any_same script n form (history.Cache one) (history.Lock other) xs ys apart kinds small small' right right' marks marks'
+    plays plays' e = absurd kinds
+any_same script n form (history.List one) (history.Cache other) xs ys apart kinds small small' right right' marks marks'
+    plays plays' e = absurd kinds
+any_same script n form (history.List one) (history.Lock other) xs ys apart kinds small small' right right' marks marks'
+    plays plays' e = absurd kinds
+any_same script n form (history.Lock one) (history.Cache other) xs ys apart kinds small small' right right' marks marks'
+    plays plays' e = absurd kinds
+any_same script n form (history.Lock one) (history.List other) xs ys apart kinds small small' right right' marks marks'
+    plays plays' e = absurd kinds
 
 -- ---- the histories of all structures
 
@@ -268,7 +279,7 @@ histories_same script n (a ∷ one) (b ∷ other) xs ys apart same short short' 
     let first = any_same script n form a b (histories_from script (n + 1) one ++ xs)
     (histories_from script (n + 1) other ++ ys) apart
     (of_other_kind form.kind a b right.0.right.kind history_right.kind) short.0 short'.0 right.0.right history_right
-    right.0.plays played
+    right.0.marks right'.0.marks right.0.plays played
     (sym (joined (history_lines script n a) (histories_from script (n + 1) one) xs) ∙ e
     ∙ joined (history_lines script n b) (histories_from script (n + 1) other) ys) in
     let more = histories_same script (n + 1) one other xs ys apart (omega (arith, same)) short.1 short'.1 right.1
@@ -280,32 +291,16 @@ histories_same script n (a ∷ one) (b ∷ other) xs ys apart same short short' 
     joined : (a b c : List (List ℕ)) → text_of ((a ++ b) ++ c) ≡ text_of (a ++ (b ++ c))
     joined a b c = ap text_of (append_assoc a b c)
 
--- ---- the numbers of calls, and points
+-- ---- points
 
-module _ {C R I S : Type 0} (meaning : Meaning C R I S) (of : Ask C → AnyAsk) (form : StrForm)
-    (entries : List (Entry C R))
-    (legal : IsLegal meaning form entries × IsUnmarked entries) where
-  numbers_legal : numbers entries ≡ numbers_from 1 (length entries)
-  numbers_legal = counted_legal meaning form entries legal.1 (continues_legal meaning form entries legal.0)
-
-  counted_of : map (λ (call : AnyCall). call.no) (map (any_call of) (calls entries)) ≡ numbers_from 1 (length entries)
-  counted_of = map-map (λ (call : AnyCall). call.no) (any_call of) (calls entries) ∙ numbers_legal
-
-  point_of : (at : ℕ) → IsPoint entries at → at ≤ length entries
-  point_of at point = let numbered = numbered_legal meaning form entries legal.0 in numbered.within at point
-
-pub any_counted : (form : StrForm) (entries : AnyHistory) → IsAnyLegal form entries
-    → map (λ call. call.no) (any_calls entries) ≡ numbers_from 1 (any_length entries)
-any_counted form (history.Cache entries) legal = counted_of cache_meaning ask.Cache form entries legal
-any_counted form (history.List entries) legal = counted_of list_meaning ask.List form entries legal
-any_counted form (history.Lock entries) legal = counted_of lock_meaning ask.Lock form entries legal
+point_told : (form : StrForm) (entries : AnyHistory) (at sure : ℕ) (conn : ConnId) (index : ℕ) (bit : Bool)
+    → AnyTells form entries at sure conn index bit → IsAnyPoint entries at
+point_told form (history.Cache entries) at sure conn index bit tells = tells.point
+point_told form (history.List entries) at sure conn index bit tells = tells.point
+point_told form (history.Lock entries) at sure conn index bit tells = tells.point
 
 pub legal_point : (form : StrForm) (entries : AnyHistory) (at sure : ℕ) (conn : ConnId) (index : ℕ) (bit : Bool)
     → IsAnyLegal form entries
     → AnyTells form entries at sure conn index bit → at ≤ any_length entries
-legal_point form (history.Cache entries) at sure conn index bit legal tells = point_of cache_meaning ask.Cache form
-    entries legal at tells.point
-legal_point form (history.List entries) at sure conn index bit legal tells = point_of list_meaning ask.List form
-    entries legal at tells.point
-legal_point form (history.Lock entries) at sure conn index bit legal tells = point_of lock_meaning ask.Lock form
-    entries legal at tells.point
+legal_point form entries at sure conn index bit legal tells =
+    any_within form entries legal at (point_told form entries at sure conn index bit tells)

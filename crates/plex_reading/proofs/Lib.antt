@@ -9,3 +9,4 @@ pub mod Histories
 pub mod Sizes
 pub mod Readings
 pub mod Tests
+pub mod MarkLaws

@@ -11,9 +11,10 @@ use Rattle.plex_script.specs.declared.transcripts.AgentEnd.TheVariants as ended
 use Rattle.plex_script.specs.declared.transcripts.Shown.{Shown}
 use Rattle.plex_script.specs.declared.transcripts.Shown.TheVariants as shown
 use Rattle.plex_script.specs.declared.transcripts.Transcript.{Transcript}
-use Rattle.plex_script.specs.Heard.{AnyCall, any_calls, call_numbered, own_calls, calls_on, length_on}
+use Rattle.plex_script.specs.Heard.{AnyCall, any_calls, call_numbered, own_calls, calls_of, calls_on, length_on}
 use Rattle.plex_script.specs.Follows.{Follows, numbers_on}
-use Rattle.any_model.specs.Kinds.{numbers_from}
+use Rattle.any_model.specs.Kinds.{Rising}
+use Rattle.any_model.proofs.HistoryLaws.{calls_rise}
 use Rattle.plex_report.specs.Naming.{caller_name}
 use Rattle.plex_plain.specs.PolicyLines.{facility_line, connector_line}
 use Rattle.plex_report.specs.Lines.{transcript_lines, shown_line}
@@ -24,7 +25,7 @@ use Rattle.plex_reading.proofs.Callers.{AreApart, names_apart}
 use Rattle.plex_reading.proofs.Heard.{AreHeard, heard_each, heard_own, heard_within}
 use Rattle.plex_reading.proofs.Played.{own_plays}
 use Rattle.plex_reading.proofs.Sizes.{short_at, small, few_at}
-use Rattle.plex_reading.proofs.Histories.{AreRight, AreShort, IsPlayedAt, histories_same, any_counted}
+use Rattle.plex_reading.proofs.Histories.{AreRight, AreShort, IsPlayedAt, histories_same}
 use Rattle.plex_reading.proofs.Items.{IsBounded, AreBounded, follows_same}
 
 -- ---- transcripts
@@ -105,23 +106,25 @@ module _ (script : Script) (reading : Reading) (is : IsReading script reading)
       form_in (form ∷ forms) zero within = (form, refl)
       form_in (form ∷ forms) (suc x) within = form_in forms x (omega (arith, within))
 
-  numbered : (on : StrNo)
-      → map (λ (call : AnyCall). call.no) (calls_on histories on) ≡ numbers_from 1 (length_on histories on)
-  numbered on = by_place (slice_get histories on.0) refl
+  rising : (on : StrNo) → Rising 0 (calls_on histories on)
+  rising on = by_place (slice_get histories on.0) refl
     where
-      by_place : (o : Option AnyHistory) → slice_get histories on.0 ≡ o
-          → map (λ (call : AnyCall). call.no) (calls_on histories on) ≡ numbers_from 1 (length_on histories on)
-      by_place None e = rw e refl
+      by_place : (o : Option AnyHistory) → slice_get histories on.0 ≡ o → Rising 0 (calls_on histories on)
+      by_place None e = rw e tt
       by_place (Some entries) e =
           let form = form_at on.0 entries e in
-          rw e (any_counted form.0 entries (is.histories_right on.0 form.0 entries form.1 e).legal)
+          rw e (calls_rise form.0 entries (is.histories_right on.0 form.0 entries form.1 e).legal)
 
   within_history : (on : StrNo) (number : ℕ) (call : AnyCall) → call_numbered number (calls_on histories on) ≡ Some call
       → number ≤ length_on histories on
-  within_history on number call found =
-      (let low : number < 1 + length_on histories on =
-      heard_within (calls_on histories on) 1 (length_on histories on) number call (numbered on) found in omega
-      (arith, low))
+  within_history on number call found = by_place (slice_get histories on.0) refl found
+    where
+      by_place : (o : Option AnyHistory) → slice_get histories on.0 ≡ o → call_numbered number (calls_of o) ≡ Some call
+          → number ≤ length_on histories on
+      by_place None e found = absurd cc
+      by_place (Some entries) e found =
+          let form = form_at on.0 entries e in
+          rw e (heard_within form.0 entries (is.histories_right on.0 form.0 entries form.1 e).legal number call found)
 
   follows_of : (c : ℕ) (transcript : Transcript) → slice_get reading.transcripts c ≡ Some transcript
       → Follows script histories (record { 0 = c }) transcript.items
@@ -145,7 +148,7 @@ module _ (script : Script) (reading : Reading) (is : IsReading script reading)
       let each : AreHeard (calls_on histories on) (own_calls (any_calls entries) by) =
       subst (λ (cs : List AnyCall). AreHeard (calls_on histories on) (own_calls cs by)) calls_there
       (heard_own (calls_on histories on) (calls_on histories on) (λ call. call.by.0 == by.0)
-      (heard_each (calls_on histories on) (length_on histories on) (numbered on))) in
+      (heard_each (calls_on histories on) (rising on))) in
       own_plays script histories by transcript.items on form
       (own_calls (any_calls entries) by) follows known numbers each
 
@@ -163,6 +166,7 @@ module _ (script : Script) (reading : Reading) (is : IsReading script reading)
           form = form.0;
           known = form.1;
           right = is.histories_right n form.0 entries form.1 there;
+          marks = is.facilities n entries there;
           plays = played_at n form.0 entries form.1 there;
         },
         are_right (n + 1) rest (λ k other e.

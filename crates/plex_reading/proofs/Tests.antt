@@ -27,7 +27,7 @@ use Rattle.plex_script.specs.Heard.{AnyCall, any_length, calls_on}
 use Rattle.plex_script.specs.Follows.{Runs, ShowsTest, ShowsWord, ShowsAct, ShowsLines, ShowsClosing, ShowsClosings, Follows, lines_of, is_linked_by}
 use Rattle.any_model.proofs.WordLaws.{word_below}
 use Rattle.serial_model.specs.Headline.{EndsRight, IsHistoryOf, ShowsHistories}
-use Rattle.plex_reading.specs.Readings.{Reading, ShowsNumbers, IsReading, report_of}
+use Rattle.plex_reading.specs.Readings.{Reading, ShowsNumbers, IsReading, report_of, MarksFacilities}
 use Rattle.plex_reading.proofs.Histories.{legal_point}
 use Rattle.plex_reading.proofs.Sizes.{short_at}
 
@@ -209,9 +209,11 @@ module _ (limit : ℕ) (script : Script) (reading : Reading)
   numbers_at c k transcript (shown.Took on sure) there e placed = tt
 
   -- what shows histories, with every caller's work done, is a reading
-  pub is_reading : IsReading script reading
-  is_reading =
+  pub is_reading : ((x : ℕ) (entries : AnyHistory) → slice_get reading.histories x ≡ Some entries
+      → MarksFacilities entries) → IsReading script reading
+  is_reading facilities =
       record {
+        facilities = facilities;
         structures = shows.structures;
         histories_right = shows.histories_right;
         callers = shows.callers;

@@ -1,7 +1,12 @@
 -- Readings of a report: the histories and transcripts that it may be a report of.
-use Rattle.std.specs.Prelude.{◌≡◌, ℕ, ◌+◌, ◌<◌, ◌^◌, List, length, slice_get, Some}
+use Rattle.std.specs.Prelude.{◌≡◌, ℕ, ◌+◌, ◌<◌, ◌^◌, List, [], ◌∷◌, length, slice_get, Some}
 use Rattle.cf_types.specs.declared.forms.StrForm.{StrForm}
+use Rattle.cf_types.specs.Forms.{IsFacility}
+use Rattle.engine_api.specs.declared.asks.What.{What}
+use Rattle.engine_api.specs.declared.asks.What.TheVariants as what
+use Rattle.engine_api.specs.declared.histories.Entry.{Entry}
 use Rattle.plex_script.specs.declared.asks.AnyHistory.{AnyHistory}
+use Rattle.plex_script.specs.declared.asks.AnyHistory.TheVariants as history
 use Rattle.plex_script.specs.declared.scripts.Script.{Script}
 use Rattle.plex_script.specs.declared.transcripts.AgentEnd.TheVariants as ended
 use Rattle.plex_script.specs.declared.transcripts.Shown.{Shown}
@@ -28,12 +33,28 @@ ShowsNumbers (shown.BadIndex place index word len) = Unit {0}
 ShowsNumbers (shown.Posted place sure) = Unit {0}
 ShowsNumbers (shown.Took place sure) = Unit {0}
 
--- each history is legal, each caller's transcript follows the script to its end, and what tests show has the width of
--- a number or a word
+-- each mark names one of the facilities
+abbrev pub NamesFacility : {C : Type 0} → What C → Type 0
+NamesFacility (what.Call ask) = Unit {0}
+NamesFacility (what.Lost cf) = IsFacility cf
+
+abbrev pub NamesFacilities : {C R : Type 0} → List (Entry C R) → Type 0
+NamesFacilities [] = Unit {0}
+NamesFacilities (entry ∷ entries) = NamesFacility entry.what × NamesFacilities entries
+
+abbrev pub MarksFacilities : AnyHistory → Type 0
+MarksFacilities (history.Cache entries) = NamesFacilities entries
+MarksFacilities (history.List entries) = NamesFacilities entries
+MarksFacilities (history.Lock entries) = NamesFacilities entries
+
+-- each history is legal, and its marks name facilities; each caller's transcript follows the script to its end, and what
+-- tests show has the width of a number or a word
 pub record IsReading (script : Script) (reading : Reading) : Type 0 where
   pub structures : length reading.histories ≡ length script.structures
   pub histories_right : (x : ℕ) (form : StrForm) (entries : AnyHistory) → slice_get script.structures x ≡ Some form
       → slice_get reading.histories x ≡ Some entries → IsHistoryOf script form entries
+  pub facilities : (x : ℕ) (entries : AnyHistory) → slice_get reading.histories x ≡ Some entries
+      → MarksFacilities entries
   pub callers : length reading.transcripts ≡ length script.connectors + 1
   pub follows : (c : ℕ) (transcript : Transcript) → slice_get reading.transcripts c ≡ Some transcript
       → (transcript.end ≡ ended.Done) × Follows script reading.histories (record { 0 = c }) transcript.items

@@ -7,7 +7,7 @@ use Rattle.cf_types.specs.declared.events.Stage.TheVariants as stage
 use Rattle.cf_types.specs.declared.refusals.StateWord.{StateWord}
 use Rattle.cf_types.specs.declared.refusals.StateWord.TheVariants.{Active, Leaving, Gone}
 use Rattle.cf_types.specs.declared.refusals.Refusal.{Refusal}
-use Rattle.cf_types.specs.declared.refusals.Refusal.TheVariants.{NotRegistered, IndexInUse, BadIndex, IsChanged, NotChanged, CastoutHeld, NotHeld, NoEntry, DirectoryFull, NoElements, BadClass, NoRecordThere, NameTaken, BadHeader, ListFull, EntriesFull, NoListElements, LockHeld, LockNotHeldBy, WrongReference, HeaderInUse, BadLock, AlreadyInterested, NotInterested, RecordsFull, NotManager, NoWaiter, NoRecord, StillPending, NotConnected, NameActive, TooManyConns, NotFailed, HasConnections, NoSpace, NothingOwed, RebuildInProgress, NoRebuild, WrongStage, ItemsLeft, TooSmall, Quiesced, LostConn, LostFacility, StructureFailed, NoFacility, AlreadyDuplexed, NoEvent, NotAllocated}
+use Rattle.cf_types.specs.declared.refusals.Refusal.TheVariants.{NotRegistered, IndexInUse, BadIndex, IsChanged, NotChanged, CastoutHeld, NotHeld, NoEntry, DirectoryFull, NoElements, BadClass, NoRecordThere, NameTaken, BadHeader, ListFull, EntriesFull, NoListElements, LockHeld, LockNotHeldBy, WrongReference, HeaderInUse, BadLock, VersionDiffers, AlreadyInterested, NotInterested, RecordsFull, NotManager, NoWaiter, NoRecord, StillPending, NotConnected, NameActive, TooManyConns, NotFailed, HasConnections, NoSpace, NothingOwed, RebuildInProgress, NoRebuild, WrongStage, ItemsLeft, TooSmall, Quiesced, LostConn, LostFacility, StructureFailed, NoFacility, AlreadyDuplexed, NoEvent, NotAllocated}
 use Rattle.plex_spell.specs.Tokens.{name_word}
 use Rattle.plex_script.specs.declared.scripts.Script.{Script}
 use Rattle.plex_plain.specs.Naming.{facility_word, record_word}
@@ -55,6 +55,7 @@ refusal_number (LockNotHeldBy holder) = 27
 refusal_number (WrongReference refs) = 28
 refusal_number (HeaderInUse header) = 29
 refusal_number (BadLock lock locks) = 30
+refusal_number (VersionDiffers found) = 31
 refusal_number (AlreadyInterested excl) = 40
 refusal_number NotInterested = 41
 refusal_number (RecordsFull limit) = 42
@@ -106,6 +107,7 @@ refusal_word (LockNotHeldBy holder) = codes "LOCKNOTHELDBY"
 refusal_word (WrongReference refs) = codes "WRONGREFERENCE"
 refusal_word (HeaderInUse header) = codes "INDEXINUSE"
 refusal_word (BadLock lock locks) = codes "BADLOCK"
+refusal_word (VersionDiffers found) = codes "VERSIONDIFFERS"
 refusal_word (AlreadyInterested excl) = codes "ALREADYINTERESTED"
 refusal_word NotInterested = codes "NOTINTERESTED"
 refusal_word (RecordsFull limit) = codes "RECORDSFULL"
@@ -157,6 +159,7 @@ refusal_fields script (LockNotHeldBy holder) = holder_word script holder ∷ []
 refusal_fields script (WrongReference refs) = refs_word refs ∷ []
 refusal_fields script (HeaderInUse header) = decimal header ∷ []
 refusal_fields script (BadLock lock locks) = decimal lock ∷ decimal locks ∷ []
+refusal_fields script (VersionDiffers found) = decimal found ∷ []
 refusal_fields script (AlreadyInterested excl) = state_word excl ∷ []
 refusal_fields script NotInterested = []
 refusal_fields script (RecordsFull limit) = decimal limit ∷ []

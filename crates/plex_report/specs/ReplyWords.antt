@@ -98,8 +98,8 @@ cache_reply_words script (cache.Stg rows changed) = codes "STG" ∷ decimal rows
 
 abbrev pub list_reply_words : Script → ListReply → List (List ℕ)
 list_reply_words script (list.Id id) = codes "ID" ∷ record_word id ∷ []
-list_reply_words script (list.Entry id header name key body adj) =
-    codes "ENTRY" ∷ record_word id ∷ decimal header
+list_reply_words script (list.Entry id header version name key body adj) =
+    codes "ENTRY" ∷ record_word id ∷ decimal header ∷ codes "VERSION" ∷ decimal version
     ∷ told_words (codes "NAME") name_words name ++ told_words (codes "KEY") key_words key
     ++ told_words (codes "DATA") text_words body ++ adjunct_words adj
 list_reply_words script list.Ok = codes "OK" ∷ []

@@ -24,14 +24,16 @@ impl Spelled for ListCmd {
     }
 }
 
-// A record's id and header.
-fn put_entry(line: &mut Vec<u8>, id: EntryId, header: u32) -> Result<(), NoMemory>
+// A record's id, header and version.
+fn put_entry(line: &mut Vec<u8>, id: EntryId, header: u32, version: u32) -> Result<(), NoMemory>
     ensures { OnOk result (line.new.items ≡ line.old.items
-        ++ tail_of (codes "ENTRY" ∷ record_word id ∷ decimal header ∷ [])) }
+        ++ tail_of (codes "ENTRY" ∷ record_word id ∷ decimal header
+        ∷ codes "VERSION" ∷ decimal version ∷ [])) }
 {
     put_word(line, b"ENTRY")?;
     put_record(line, id)?;
-    put_number(line, u64::from(header))
+    put_number(line, u64::from(header))?;
+    put_of(line, b"VERSION", version)
 }
 
 impl Spelled for ListReply {
@@ -46,12 +48,13 @@ impl Spelled for ListReply {
             ListReply::Entry {
                 id,
                 header,
+                version,
                 name,
                 key,
                 body,
                 adj,
             } => {
-                put_entry(line, *id, *header)?;
+                put_entry(line, *id, *header, *version)?;
                 put_label(line, name, key)?;
                 put_content(line, body, adj)
             }

@@ -18,7 +18,7 @@ use Rattle.plex_script.specs.declared.transcripts.Shown.{Shown}
 use Rattle.plex_script.specs.declared.transcripts.Transcript.{Transcript}
 use Rattle.plex_script.specs.Heard.{length_on}
 use Rattle.serial_model.specs.Headline.{EndsRight, ShowsHistories}
-use Rattle.plex_bounds.specs.Bounds.{IsWithinScript, most_calls}
+use Rattle.plex_bounds.specs.Bounds.{IsWithinScript, most_entries}
 use Rattle.plex_reading.specs.Readings.{Reading}
 use Rattle.plex_run.specs.Full.{ends_full_at, is_full_at}
 use Rattle.plex_run.specs.Outcome.{CanFill, ShowsRun, full_of, journal_limit}
@@ -86,6 +86,6 @@ can_fill script reading within shows =
         let on : StrNo = record { 0 = place.0 } in
         let full : journal_limit ≤ length_on reading.histories on =
         full_there journal_limit script reading.histories reading.transcripts shows place.0 it.1 in
-        let few : length_on reading.histories on ≤ most_calls script on =
+        let few : length_on reading.histories on ≤ most_entries script on =
         within journal_limit script reading.histories reading.transcripts shows on in
         (on, place.1, it.0, refl, omega (arith, full, few))

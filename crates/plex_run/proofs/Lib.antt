@@ -4,6 +4,7 @@ pub mod Found
 pub mod RunnableLaws
 pub mod FullLaws
 pub mod OutcomeLaws
+pub mod RunLaws
 pub mod ReportLaws
 pub mod ReadingLaws
 pub mod LoadRunLaws

@@ -12,11 +12,12 @@ use Rattle.plex_script.specs.declared.transcripts.AgentEnd.{AgentEnd}
 use Rattle.plex_script.specs.declared.transcripts.AgentEnd.TheVariants as ended
 use Rattle.plex_script.specs.declared.transcripts.Transcript.{Transcript}
 use Rattle.plex_script.specs.Heard.{length_on}
+use Rattle.plex_script.specs.Scripts.{IsScript}
 use Rattle.serial_model.specs.Headline.{ShowsHistories, EndsRight}
 use Rattle.plex_reading.specs.Readings.{Reading, IsReading, IsTheReading, IsOnlyReading, report_of}
 use Rattle.plex_reading.proofs.Tests.{is_reading}
 use Rattle.plex_run.specs.Full.{ends_full_at, is_full_at, full_structure}
-use Rattle.plex_run.specs.Outcome.{IsServed, ShowsRun, full_of, journal_limit}
+use Rattle.plex_run.specs.Outcome.{ShowsRun, AreMarked, full_of, journal_limit}
 use Rattle.plex_run.proofs.RunnableLaws.{none_mapped}
 
 -- a place within the list that passes is found
@@ -83,10 +84,10 @@ all_done limit script histories transcripts some shows none c transcript there =
         (ap (is_full_at transcripts) (sym place) ∙ found) nowhere)
 
 -- the report of a run can be read in one way
-pub one_reading : (text : List ℕ) (script : Script) (reading : Reading) → IsServed text script → IsOnlyReading
-    → ShowsRun script reading → full_of script reading ≡ None → length (report_of script reading) < 2 ^ 64
+pub one_reading : (text : List ℕ) (script : Script) (reading : Reading) → IsScript text script → IsOnlyReading
+    → ShowsRun script reading → AreMarked reading → full_of script reading ≡ None → length (report_of script reading) < 2 ^ 64
     → IsReading script reading × IsTheReading script reading
-one_reading text script reading served only shows none short =
+one_reading text script reading says only shows marks none short =
     let done = all_done journal_limit script reading.histories reading.transcripts (omega arith) shows none in
-    let is : IsReading script reading = is_reading journal_limit script reading shows done short in
-    (is, λ other other_is same. sym (only text script reading other served.says is other_is short (sym same)))
+    let is : IsReading script reading = is_reading journal_limit script reading shows done short marks in
+    (is, λ other other_is same. sym (only text script reading other says is other_is short (sym same)))

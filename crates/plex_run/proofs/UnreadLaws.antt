@@ -5,6 +5,7 @@ use Rattle.cf_io.specs.ReadEnd.{HasCause}
 use Rattle.cf_io.specs.declared.read_end.ReadEnd.{ReadEnd}
 use Rattle.cf_io.specs.declared.read_end.ReadEnd.TheVariants as ends
 use Rattle.plex_run.specs.declared.way.Way.{Way}
+use Rattle.plex_run.specs.Wires.{Wires}
 use Rattle.plex_run.specs.Written.{Output, Gains}
 use Rattle.plex_run.specs.StatusLines.{memory_line}
 use Rattle.plex_run.specs.Outcome.{EndsRight, read_status, script_limit}
@@ -19,12 +20,12 @@ unread_long limit left before after (ends.TooLong l) status cause is seven = cau
 unread_long limit left before after ends.NoMemory status cause is seven = absurd (omega (arith, is, seven))
 
 -- so a run ends right
-pub unread_ends : (by : Way) (left : Option (List ℕ)) (out : Output) (status : ℕ)
+pub unread_ends : (links : Wires) (by : Way) (left : Option (List ℕ)) (out : Output) (status : ℕ)
     → (status ≡ 4) ⊎ ((status ≡ 6) ⊎ (status ≡ 7))
     → (status ≡ 7 → IfSome left (λ text. script_limit < length text)) → (status ≡ 6 → Gains out memory_line)
-    → IfSome left (λ text. EndsRight by text out status)
-unread_ends by None out status statuses long memory = tt
-unread_ends by (Some text) out status (inl four) long memory = record {
+    → IfSome left (λ text. EndsRight links by text out status)
+unread_ends links by None out status statuses long memory = tt
+unread_ends links by (Some text) out status (inl four) long memory = record {
   served = λ is. absurd (omega (arith, four, is));
   full = λ is. absurd (omega (arith, four, is));
   front = λ is. absurd (omega (arith, four, is));
@@ -34,9 +35,9 @@ unread_ends by (Some text) out status (inl four) long memory = record {
   complete = λ turn read other. absurd (read four);
   whole = λ read other. absurd (read four);
 }
-unread_ends by (Some text) out status (inr (inl six)) long memory =
-    memory_ends by text out status six (inl (memory six))
-unread_ends by (Some text) out status (inr (inr seven)) long memory =
+unread_ends links by (Some text) out status (inr (inl six)) long memory =
+    memory_ends links by text out status six (inl (memory six))
+unread_ends links by (Some text) out status (inr (inr seven)) long memory =
     let longer : script_limit < length text = long seven in record {
       served = λ is. absurd (omega (arith, seven, is));
       full = λ is. absurd (omega (arith, seven, is));
@@ -47,6 +48,6 @@ unread_ends by (Some text) out status (inr (inr seven)) long memory =
         (λ is. longer, λ is. seven),
         (λ is. absurd (omega (arith, seven, is)), λ un. absurd (omega (arith, un.0, longer))),
       );
-      complete = λ turn read other script served fits. absurd (omega (arith, fits, longer));
+      complete = λ turn read other script served fits told telling. absurd (omega (arith, fits, longer));
       whole = λ read other script served fits. absurd (omega (arith, fits, longer));
     }

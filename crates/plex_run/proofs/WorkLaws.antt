@@ -4,6 +4,7 @@ use Rattle.plex_run.specs.declared.way.Way.{Way}
 use Rattle.plex_run.specs.declared.way.Way.TheVariants as ways
 use Rattle.plex_run.specs.declared.way.Work.{Work}
 use Rattle.plex_run.specs.declared.way.Work.TheVariants as works
+use Rattle.plex_run.specs.Wires.{Wires}
 use Rattle.plex_run.specs.Written.{Output}
 use Rattle.plex_run.specs.Loading.{EndsLoad}
 
@@ -14,11 +15,11 @@ number_in (Some (works.Load n)) = n
 number_in (Some works.Locks) = 0
 
 -- a load ends as that of the number that was asked for
-pub ends_as_asked : (work : Option Work) (said : Work) (n m : ℕ) (out : Output) (status : ℕ) → work ≡ Some said
-    → said ≡ works.Load n → work ≡ Some (works.Load m) → EndsLoad n out status → EndsLoad m out status
-ends_as_asked work said n m out status is load asked ends =
+pub ends_as_asked : (links : Wires) (work : Option Work) (said : Work) (n m : ℕ) (out : Output) (status : ℕ) → work ≡ Some said
+    → said ≡ works.Load n → work ≡ Some (works.Load m) → EndsLoad links n out status → EndsLoad links m out status
+ends_as_asked links work said n m out status is load asked ends =
     let same : Some (works.Load n) ≡ Some (works.Load m) = sym (is ∙ ap Some load) ∙ asked in
-    subst (λ (k : ℕ). EndsLoad k out status) (ap number_in same) ends
+    subst (λ (k : ℕ). EndsLoad links k out status) (ap number_in same) ends
 
 pub not_none : (work : Option Work) (said : Work) → work ≡ None → work ≡ Some said → ⊥
 not_none work said none some = cc

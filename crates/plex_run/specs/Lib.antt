@@ -1,5 +1,5 @@
 pub mod Written
-pub mod NotYet
+pub mod Wires
 pub mod Full
 pub mod StatusLines
 pub mod Outcome

@@ -9,6 +9,7 @@ use Rattle.plex_load.specs.Summary.{summary}
 use Rattle.plex_run.specs.declared.way.Way.TheVariants as ways
 use Rattle.plex_run.specs.Written.{Output, HasFailed, Writes, WritesFront, Gains}
 use Rattle.plex_run.specs.StatusLines.{memory_line}
+use Rattle.plex_run.specs.Wires.{Wires}
 use Rattle.plex_run.specs.Outcome.{IsRun, full_of}
 
 -- ---- words
@@ -33,23 +34,23 @@ abbrev pub summary_of : ℕ → Reading → List ℕ
 summary_of n reading = summary n reading.histories reading.transcripts
 
 -- that text says that script, and a run of it on threads left this reading; no journal got full
-abbrev pub IsLoadRun : ℕ → Reading → Type 0
-IsLoadRun n reading =
-    IsRun ways.OnThreads (load_text n) (load_script n) reading × (full_of (load_script n) reading ≡ None)
+abbrev pub IsLoadRun : Wires → ℕ → Reading → Type 0
+IsLoadRun links n reading =
+    IsRun links ways.OnThreads (load_text n) (load_script n) reading × (full_of (load_script n) reading ≡ None)
 
 -- ---- what each status says
 
 -- the summary of a run was written, whole and nothing else
-abbrev pub WritesSummary : ℕ → Output → Type 0
-WritesSummary n out = (reading : Reading) × IsLoadRun n reading × Writes out (summary_of n reading)
+abbrev pub WritesSummary : Wires → ℕ → Output → Type 0
+WritesSummary links n out = (reading : Reading) × IsLoadRun links n reading × Writes out (summary_of n reading)
 
 -- a front of the summary of a run was written
-abbrev pub WritesSummaryFront : ℕ → Output → Type 0
-WritesSummaryFront n out = (reading : Reading) × IsLoadRun n reading × WritesFront out (summary_of n reading)
+abbrev pub WritesSummaryFront : Wires → ℕ → Output → Type 0
+WritesSummaryFront links n out = (reading : Reading) × IsLoadRun links n reading × WritesFront out (summary_of n reading)
 
 -- the load of n ends so, with no other status than these three
-pub record EndsLoad (n : ℕ) (out : Output) (status : ℕ) : Type 0 where
-  pub done : status ≡ 0 → WritesSummary n out
-  pub front : status ≡ 5 → HasFailed out × WritesSummaryFront n out
+pub record EndsLoad (links : Wires) (n : ℕ) (out : Output) (status : ℕ) : Type 0 where
+  pub done : status ≡ 0 → WritesSummary links n out
+  pub front : status ≡ 5 → HasFailed out × WritesSummaryFront links n out
   pub no_memory : status ≡ 6 → Gains out memory_line
   pub statuses : (status ≡ 0) ⊎ ((status ≡ 5) ⊎ (status ≡ 6))

@@ -5,10 +5,8 @@
 mod full;
 mod loading;
 mod locks;
-mod not_yet;
 mod program;
 mod running;
-mod serving;
 mod status_lines;
 mod way;
 mod writing;

@@ -1,7 +1,8 @@
 //! Loads: the run of a script that is made from a number, and what is told of it.
-ghost use Rattle.std.specs.Prelude.{◌≡◌, ◌⊎◌, ◌≤◌, IfOk};
+ghost use Rattle.std.specs.Prelude.{◌≡◌, ◌⊎◌, ◌≤◌, IfOk, length};
 ghost use Rattle.std.specs.Vec.{vec_len};
 ghost use Rattle.cf_types.specs.declared.limits.TheConstants.{LINKS};
+ghost use Rattle.plex_run.specs.Wires.{wires};
 ghost use Rattle.plex_run.specs.StatusLines.{memory_line};
 ghost use Rattle.plex_run.specs.Written.{output, HasFailed, Writes, WritesFront, Gains};
 ghost use Rattle.plex_run.specs.Outcome.{reading_of};
@@ -31,8 +32,9 @@ fn run_load<R: Threads + Wait + Sync, L: Link, G: Gate>(
     gate: &G,
 ) -> Result<Finished, NoMemory>
     requires links { vec_len links.old ≡ LINKS }
-    ensures run { IfOk result (λ it. IsLoadRun n (reading_of it)) }
-    ensures links { links.new.items ≡ links.old.items }
+    ensures run { IfOk result (λ it. IsLoadRun (wires L.calls L.downs L.faults links.old.items
+        links.new.items) n (reading_of it)) }
+    ensures count { length links.new.items ≡ length links.old.items }
 {
     valid_is_fresh();
     within_script();
@@ -76,13 +78,14 @@ pub(crate) fn loaded<R: Threads + Wait + Sync, K: Sink, L: Link, G: Gate>(
     gate: &G,
 ) -> u8
     requires links { vec_len links.old ≡ LINKS }
-    ensures ends { EndsLoad n (output K.held K.faults sink.old sink.new) result }
+    ensures ends { EndsLoad (wires L.calls L.downs L.faults links.old.items links.new.items) n
+        (output K.held K.faults sink.old sink.new) result }
     ensures write_fault { result ≡ 5 → HasFailed (output K.held K.faults sink.old sink.new) }
     ensures no_memory { result ≡ 6 → Gains (output K.held K.faults sink.old sink.new)
         memory_line }
     ensures statuses { (result ≡ 0) ⊎ ((result ≡ 5) ⊎ (result ≡ 6)) }
     ensures faults { K.faults sink.old ≤ K.faults sink.new }
-    ensures links { links.new.items ≡ links.old.items }
+    ensures count { length links.new.items ≡ length links.old.items }
 {
     let Ok(finished) = run_load(rt, alloc, n, links, gate) else {
         say_no_memory(sink);

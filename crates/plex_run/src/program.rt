@@ -5,6 +5,7 @@ ghost use Rattle.std.specs.Vec.{vec_len};
 ghost use Rattle.cf_types.specs.declared.limits.TheConstants.{LINKS};
 ghost use Rattle.cf_io.specs.Count.{Rises};
 ghost use Rattle.plex_run.specs.declared.way.Way.{Way};
+ghost use Rattle.plex_run.specs.Wires.{wires};
 ghost use Rattle.plex_run.specs.StatusLines.{script_line, memory_line};
 ghost use Rattle.plex_run.specs.Written.{output, HasFailed, Gains};
 ghost use Rattle.plex_run.specs.Outcome.{IsSerial, IsThreads, Say, IsStatus, status_line, script_limit, EndsWith, EndsRight};
@@ -14,7 +15,6 @@ ghost use Rattle.plex_run.specs.Locks.{IsLocks, EndsLocks};
 use crate::loading::loaded;
 use crate::locks::locked_in;
 use crate::running::reported;
-use crate::serving::{Unserved, served};
 use crate::status_lines::{script_line, why_text};
 use crate::way::{Way, Work, work_of};
 use crate::writing::{say, say_no_memory, say_unread};
@@ -24,7 +24,7 @@ use cf_types::NoMemory;
 use plex_agent::Gate;
 use plex_bounds::within_script;
 use plex_reading::only_reading;
-use plex_script::{never_both, one_script, well_formed};
+use plex_script::{ReadFault, never_both, one_script, read, well_formed};
 use plex_valid::valid_is_fresh;
 use std::alloc::Global;
 use std::sync::Wait;
@@ -33,10 +33,10 @@ use std::thread::Threads;
 /// The greatest length of a script, in bytes.
 pub(crate) const SCRIPT_LIMIT: usize = 1_048_576;
 
-/// How many calls a journal takes.
+/// A journal with so many entries takes no call.
 pub(crate) const JOURNAL_LIMIT: u32 = 65_536;
 
-/// Tells the line of a text that isn't served, and why.
+/// Tells the line for which a text is refused, and why.
 pub(crate) fn refused<K: Sink>(alloc: Global, line: u32, why: &[u8], sink: &mut K) -> u8
     ensures refused { result ≡ 3 → Gains (output K.held K.faults sink.old sink.new)
         (script_line line why.now) }
@@ -69,22 +69,23 @@ fn judged<R: Threads + Wait + Sync, K: Sink, L: Link, G: Gate>(
 ) -> u8
     requires text { length text.now ≤ script_limit }
     requires links { vec_len links.old ≡ LINKS }
-    ensures ends { EndsRight way text.now (output K.held K.faults sink.old sink.new) result }
+    ensures ends { EndsRight (wires L.calls L.downs L.faults links.old.items links.new.items)
+        way text.now (output K.held K.faults sink.old sink.new) result }
     ensures write_fault { result ≡ 5 → HasFailed (output K.held K.faults sink.old sink.new) }
     ensures no_memory { result ≡ 6 → EndsWith (output K.held K.faults sink.old sink.new)
         memory_line }
     ensures statuses { (result ≡ 0) ⊎ ((result ≡ 8) ⊎ ((result ≡ 5)
         ⊎ ((result ≡ 6) ⊎ (result ≡ 3)))) }
     ensures faults { K.faults sink.old ≤ K.faults sink.new }
-    ensures links { links.new.items ≡ links.old.items }
+    ensures count { length links.new.items ≡ length links.old.items }
+    ensures unread { result ≡ 3 → links.new.items ≡ links.old.items }
 {
     one_script();
     never_both();
-    let script = match served(alloc, text) {
+    let script = match read(alloc, text) {
         Ok(script) => script,
-        Err(Unserved::Fault { line, why }) => return refused(alloc, line, why_text(why), sink),
-        Err(Unserved::NotYet { line }) => return refused(alloc, line, b"NOTYET", sink),
-        Err(Unserved::NoMemory) => {
+        Err(ReadFault::Script { line, why }) => return refused(alloc, line, why_text(why), sink),
+        Err(ReadFault::NoMemory) => {
             say_no_memory(sink);
             return 6;
         }
@@ -120,16 +121,15 @@ fn judged<R: Threads + Wait + Sync, K: Sink, L: Link, G: Gate>(
 /// |---|---|---|
 /// | 0 | the script was read and run whole, and the report written whole; or the load was run, and its summary written whole; or the locks were done, and what became of them written whole | the report; the summary; what became of the locks |
 /// | 2 | the words are none of these forms | `USAGE plexrun serial or threads or load N or locks` |
-/// | 3 | the text is no script, or not all of it is built yet, or lock words can't do all of it | `SCRIPT line why` |
+/// | 3 | the text is no script, or lock words can't do all of it | `SCRIPT line why` |
 /// | 4 | a read failed | `FAULT READ` |
 /// | 5 | a write failed while what belongs to 0 was written | a front of it |
 /// | 6 | there was no memory | `NOMEMORY`, alone or behind a front of what belongs to 0 or 8 |
 /// | 7 | more than 1,048,576 bytes came | `TOOLONG 1048576` |
-/// | 8 | a journal of 65,536 calls got full | `JOURNALFULL structure 65536`, and the report: whole unless a write failed |
+/// | 8 | a call came to a journal of 65,536 entries or more | `JOURNALFULL structure 65536`, and the report: whole unless a write failed |
 ///
 /// With 3 the line is the first faulty one, and why is LATE, SYNTAX, LIMIT, UNKNOWN, TWICE or
-/// SPACE; or else the first line that isn't built, and NOTYET, or with `locks` the first that lock
-/// words can't do, and NOTWORDS. With 8 the structure is the first in
+/// SPACE; or else, with `locks`, the first that lock words can't do, and NOTWORDS. With 8 the structure is the first in
 /// the policy whose journal got full. Lines are counted from 1. The causes are tried in the order
 /// 2, 4, 7, 3, 8, 5; want of memory may stand in place of any but 2. Memory is taken for one line
 /// of the report at a time. A load has 0, 5 or 6, and locks don't have 8; with 6 nothing stands before
@@ -146,29 +146,32 @@ pub fn run<R: Threads + Wait + Sync, S: Source, K: Sink, L: Link, G: Gate>(
     requires links { vec_len links.old ≡ LINKS }
 
     // With `serial` or `threads`, whatever bytes the source had left, the status says what they are
-    // and what was written. With 0 and 8 they are a script that is built, and the report that is
-    // written shows a legal history of each structure, each caller's calls in them once and in
+    // and what was written. With 0 and 8 they are a script, and the report that is written shows a legal history of each structure, each caller's calls in them once and in
     // their order, and tests that tell what stood at a numbered point; where a cache's test tells
-    // VALID, the connector's copy was fresh there. With `serial` it is the report of the run on one
-    // thread. With 0 every caller's work was done, and no other legal histories, with transcripts
+    // VALID, the connector's copy was fresh there. A history has at most as many marks of a
+    // facility as the faults of that structure's link to it rose by; where the link tells its
+    // calls, they rose by as many as the history has that ask it; and where it tells which are
+    // down, of those that ask it exactly those have a mark. With `serial`, and links that all tell
+    // which calls are down, it is the report of the run on one thread. With 0 every caller's work was done, and no other legal histories, with transcripts
     // that follow the script to their ends, have that report, whatever the tests in them tell: only
     // the width of what a test shows counts, a number of at most 64 bits, or a word of 32. With 8 a
     // journal got full, which is told before the report; and the script can fill it: the calls of
     // its lines on that structure, as often as each may ask again, their event rounds, and one
-    // departure of each connector come to 65,536 calls or more. With 5 and 6 a front of such a
+    // departure of each connector, with two marks for each, come to 65,536 entries or more. With 5 and 6 a front of such a
     // report may have been written.
     //
     // Where no read failed and there was memory, the text decides which status it is: 7 where it is
-    // too long, 3 where it is no script that is built, and else 0, 5 or 8; with `serial` it is 8
-    // exactly where the run on one thread meets a full journal.
+    // too long, 3 where it is no script, and else 0, 5 or 8; with `serial`, and links that tell
+    // which calls are down, it is 8 exactly where the run on one thread meets a full journal.
     ensures headline { (way : Way) → Say words.now way → IfSome (S.left source.old)
-        (λ text. EndsRight way text (output K.held K.faults sink.old sink.new) result) }
+        (λ text. EndsRight (wires L.calls L.downs L.faults links.old.items links.new.items)
+        way text (output K.held K.faults sink.old sink.new) result) }
 
     // With `load` and a number the summary of a run of the script that it makes is written: with 0
     // whole and nothing else, and with 5 a front of it. That run is one on threads, as above, whose
     // script is what its text says, and no journal got full in it. Nothing is read.
-    ensures load { (n : ℕ) → IsLoading words.now n
-        → EndsLoad n (output K.held K.faults sink.old sink.new) result }
+    ensures load { (n : ℕ) → IsLoading words.now n → EndsLoad (wires L.calls L.downs L.faults
+        links.old.items links.new.items) n (output K.held K.faults sink.old sink.new) result }
     ensures load_unread { (n : ℕ) → IsLoading words.now n → source.new ≡ source.old }
 
     // With `locks` what became of the script's locks is written: with 0 whole and nothing else, and
@@ -207,8 +210,10 @@ pub fn run<R: Threads + Wait + Sync, S: Source, K: Sink, L: Link, G: Gate>(
     ensures source_faults { S.faults source.old ≤ S.faults source.new }
     ensures sink_faults { K.faults sink.old ≤ K.faults sink.new }
 
-    // The links are put back before it returns; none is asked yet.
-    ensures links { links.new.items ≡ links.old.items }
+    // The links are put back before it returns, in their order. They are asked in runs alone.
+    ensures links { length links.new.items ≡ length links.old.items }
+    ensures unasked { (result ≡ 2) ⊎ ((result ≡ 3) ⊎ ((result ≡ 4) ⊎ (result ≡ 7)))
+        → links.new.items ≡ links.old.items }
 {
     let way = match work_of(words) {
         Some(Work::Script(way)) => way,

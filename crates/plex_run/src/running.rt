@@ -4,6 +4,7 @@ ghost use Rattle.std.specs.Vec.{vec_len};
 ghost use Rattle.cf_types.specs.declared.limits.TheConstants.{LINKS};
 ghost use Rattle.serial_model.specs.Runnable.{IsRunnable};
 ghost use Rattle.plex_reading.specs.Readings.{report_of};
+ghost use Rattle.plex_run.specs.Wires.{wires};
 ghost use Rattle.plex_run.specs.StatusLines.{memory_line};
 ghost use Rattle.plex_run.specs.Written.{output, HasFailed, Writes, WritesFront, Gains, BreaksOff};
 ghost use Rattle.plex_run.specs.Outcome.{full_of, reading_of, run_text, IsRunOf, EndsRun};
@@ -35,8 +36,9 @@ fn run_by<R: Threads + Wait + Sync, L: Link, G: Gate>(
 ) -> (Result<Finished, NoMemory>, Vec<L>)
     requires script { IsRunnable script.now }
     requires links { vec_len links ≡ LINKS }
-    ensures run { IfOk result.0 (λ it. IsRunOf way script.now (reading_of it)) }
-    ensures links { result.1.items ≡ links.items }
+    ensures run { IfOk result.0 (λ it. IsRunOf (wires L.calls L.downs L.faults links.items
+        result.1.items) way script.now (reading_of it)) }
+    ensures count { length result.1.items ≡ length links.items }
 {
     match way {
         Way::InTurn => serial(rt, alloc, JOURNAL_LIMIT, script, links),
@@ -55,8 +57,9 @@ pub(crate) fn run_over<R: Threads + Wait + Sync, L: Link, G: Gate>(
 ) -> Result<Finished, NoMemory>
     requires script { IsRunnable script.now }
     requires links { vec_len links.old ≡ LINKS }
-    ensures run { IfOk result (λ it. IsRunOf way script.now (reading_of it)) }
-    ensures links { links.new.items ≡ links.old.items }
+    ensures run { IfOk result (λ it. IsRunOf (wires L.calls L.downs L.faults links.old.items
+        links.new.items) way script.now (reading_of it)) }
+    ensures count { length links.new.items ≡ length links.old.items }
 {
     let taken = mem::replace(links, Vec::new(alloc));
     let (finished, back) = run_by(rt, alloc, way, script, taken, gate);
@@ -111,10 +114,11 @@ pub(crate) fn reported<R: Threads + Wait + Sync, K: Sink, L: Link, G: Gate>(
 ) -> u8
     requires script { IsRunnable script.now }
     requires links { vec_len links.old ≡ LINKS }
-    ensures ends { EndsRun way script.now (output K.held K.faults sink.old sink.new) result }
+    ensures ends { EndsRun (wires L.calls L.downs L.faults links.old.items links.new.items)
+        way script.now (output K.held K.faults sink.old sink.new) result }
     ensures statuses { (result ≡ 0) ⊎ ((result ≡ 8) ⊎ ((result ≡ 5) ⊎ (result ≡ 6))) }
     ensures faults { K.faults sink.old ≤ K.faults sink.new }
-    ensures links { links.new.items ≡ links.old.items }
+    ensures count { length links.new.items ≡ length links.old.items }
 {
     let Ok(finished) = run_over(rt, alloc, way, script, links, gate) else {
         say_no_memory(sink);

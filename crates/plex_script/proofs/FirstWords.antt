@@ -209,17 +209,17 @@ pub list-content : (rigour : Rigour) (declared : Declared) (ws rest : Words) (cm
 list-content rigour declared ws rest (list.Write header head name key body adj cond) h =
     at_one rigour declared (codes "WRITE") (tail_of (list_tokens (list.Write header head name key body adj cond))) ws
     rest (IsContent rigour declared) (λ us. (refl, refl)) h
-list-content rigour declared ws rest (list.Update ref body adj cond) h =
-    at_one rigour declared (codes "UPDATE") (tail_of (list_tokens (list.Update ref body adj cond))) ws rest
+list-content rigour declared ws rest (list.Update ref body adj version cond) h =
+    at_one rigour declared (codes "UPDATE") (tail_of (list_tokens (list.Update ref body adj version cond))) ws rest
     (IsContent rigour declared) (λ us. (refl, refl)) h
 list-content rigour declared ws rest (list.Read ref cond) h =
     at_one rigour declared (codes "READ") (tail_of (list_tokens (list.Read ref cond))) ws rest
     (IsContent rigour declared) (λ us. (refl, refl)) h
-list-content rigour declared ws rest (list.Move ref header head key cond) h =
-    at_one rigour declared (codes "MOVE") (tail_of (list_tokens (list.Move ref header head key cond))) ws rest
+list-content rigour declared ws rest (list.Move ref header head key version cond) h =
+    at_one rigour declared (codes "MOVE") (tail_of (list_tokens (list.Move ref header head key version cond))) ws rest
     (IsContent rigour declared) (λ us. (refl, refl)) h
-list-content rigour declared ws rest (list.Delete ref cond) h =
-    at_one rigour declared (codes "DELETE") (tail_of (list_tokens (list.Delete ref cond))) ws rest
+list-content rigour declared ws rest (list.Delete ref version cond) h =
+    at_one rigour declared (codes "DELETE") (tail_of (list_tokens (list.Delete ref version cond))) ws rest
     (IsContent rigour declared) (λ us. (refl, refl)) h
 list-content rigour declared ws rest (list.ReadList header) h =
     at_one rigour declared (codes "READLIST") (tail_of (list_tokens (list.ReadList header))) ws rest

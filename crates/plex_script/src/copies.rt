@@ -85,11 +85,13 @@ fn copy_list(alloc: Global, cmd: &ListCmd) -> Result<ListCmd, NoMemory>
             at,
             body,
             adj,
+            version,
             cond,
         } => Ok(ListCmd::Update {
             at: *at,
             body: copy_data(alloc, body)?,
             adj: *adj,
+            version: *version,
             cond: *cond,
         }),
         ListCmd::Read { at, cond } => Ok(ListCmd::Read {
@@ -101,16 +103,19 @@ fn copy_list(alloc: Global, cmd: &ListCmd) -> Result<ListCmd, NoMemory>
             header,
             head,
             key,
+            version,
             cond,
         } => Ok(ListCmd::Move {
             at: *at,
             header: *header,
             head: *head,
             key: *key,
+            version: *version,
             cond: *cond,
         }),
-        ListCmd::Delete { at, cond } => Ok(ListCmd::Delete {
+        ListCmd::Delete { at, version, cond } => Ok(ListCmd::Delete {
             at: *at,
+            version: *version,
             cond: *cond,
         }),
         ListCmd::ReadList { header } => Ok(ListCmd::ReadList { header: *header }),

@@ -1,1 +1,2 @@
 pub mod CallerSets
+pub mod LossLaws

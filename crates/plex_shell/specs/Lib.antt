@@ -1,3 +1,4 @@
 pub mod Callers
+pub mod Losses
 pub mod ShellView
 pub mod Verdicts

@@ -7,6 +7,7 @@ mod connectivity;
 mod duplex_causes;
 mod judging;
 mod letters;
+mod lost_as;
 mod places;
 mod rebuild_causes;
 mod shell;
@@ -14,5 +15,6 @@ mod varied;
 mod verdicts;
 
 pub use engine_api::{Deeds, Room};
+pub use lost_as::LostAs;
 pub use shell::{ACT_LETTERS, Shell, copy_form};
 pub use verdicts::Verdict;

@@ -7,7 +7,7 @@ use Rattle.plex_spell.specs.declared.labels.Label.{Label}
 use Rattle.plex_spell.specs.declared.labels.Label.TheVariants as label
 use Rattle.plex_spell.specs.ListWords.{list_tokens, IsListLine}
 use Rattle.plex_spell.specs.CacheReading.{number_places}
-use Rattle.plex_spell.specs.ListReading.{list_at, use_at, lock_use_at, make_places, make_of, update_places, update_of, record_places, move_places, move_of, two_places, label_name, label_key}
+use Rattle.plex_spell.specs.ListReading.{list_at, use_at, lock_use_at, make_places, make_of, update_places, update_of, record_places, move_places, move_of, delete_places, delete_of, two_places, label_name, label_key}
 use Rattle.plex_spell.proofs.CacheLaws.{are_number}
 use Rattle.plex_spell.specs.declared.rigour.Rigour.{Rigour}
 use Rattle.plex_spell.specs.Words.{same_word, begins_with, words_behind}
@@ -27,13 +27,16 @@ are_make : ArePlaces make_places
 are_make = (lit< tt, tt, (refl, tt, (tt, tt, (tt, (refl, tt), (tt, (refl, tt), (tt, tt, tt))))))
 
 are_update : ArePlaces update_places
-are_update = (tt, tt, (tt, (refl, tt), (tt, (refl, tt), (tt, tt, tt))))
+are_update = (tt, tt, (tt, (refl, tt), (tt, (refl, tt), (lit< tt, (refl, tt), (tt, tt, tt)))))
 
 are_record : ArePlaces record_places
 are_record = (tt, tt, (tt, tt, tt))
 
 are_move : ArePlaces move_places
-are_move = (tt, tt, (lit< tt, tt, (refl, tt, (tt, (refl, tt), (tt, tt, tt)))))
+are_move = (tt, tt, (lit< tt, tt, (refl, tt, (tt, (refl, tt), (lit< tt, (refl, tt), (tt, tt, tt))))))
+
+are_delete : ArePlaces delete_places
+are_delete = (tt, tt, (lit< tt, (refl, tt), (tt, tt, tt)))
 
 are_two : ArePlaces two_places
 are_two = (lit< tt, tt, (lit< tt, tt, tt))
@@ -102,8 +105,8 @@ list-sound rigour declared (verb ∷ ws) rest cmd h =
     cmd P are_record (λ vs s. record { is_line = tt; spelled = s }) e k)
     (λ _ c. pick c (λ e k. verb-sound rigour declared verb (codes "MOVE") move_places move_of ws rest cmd P are_move
     (λ vs s. record { is_line = tt; spelled = s }) e k)
-    (λ _ d. pick d (λ e k. verb-sound rigour declared verb (codes "DELETE") record_places (λ v. Delete v.0 v.1.0) ws
-    rest cmd P are_record (λ vs s. record { is_line = tt; spelled = s }) e k)
+    (λ _ d. pick d (λ e k. verb-sound rigour declared verb (codes "DELETE") delete_places delete_of ws
+    rest cmd P are_delete (λ vs s. record { is_line = tt; spelled = s }) e k)
     (λ _ f. pick f (λ e k. verb-sound rigour declared verb (codes "READLIST") number_places (λ v. ReadList v.0) ws
     rest cmd P are_number (λ vs s. record { is_line = tt; spelled = s }) e k)
     (λ _ g. pick g (λ e k. lock_use-sound rigour declared verb ws rest cmd e k)
@@ -177,18 +180,18 @@ list-complete rigour declared ws rest (Write header head (Some name) None body a
 list-complete rigour declared ws rest (Write header head None (Some key) body adj cond) tail is h =
     make-complete rigour declared ws rest header head (Some (label.Key key)) body adj cond tail h
 list-complete rigour declared ws rest (Write header head (Some name) (Some key) body adj cond) tail is h = absurd is
-list-complete rigour declared ws rest (Update ref body adj cond) tail is h =
-    command-complete rigour declared (codes "UPDATE") update_places update_of (ref, (body, (adj, (cond, tt)))) ws rest
-    are_update refl (AreFree-tail update_places rest tail refl) (list_at rigour declared) (λ us. refl) h
+list-complete rigour declared ws rest (Update ref body adj version cond) tail is h =
+    command-complete rigour declared (codes "UPDATE") update_places update_of
+    (ref, (body, (adj, (version, (cond, tt))))) ws rest are_update refl (AreFree-tail update_places rest tail refl) (list_at rigour declared) (λ us. refl) h
 list-complete rigour declared ws rest (Read ref cond) tail is h =
     command-complete rigour declared (codes "READ") record_places (λ v. Read v.0 v.1.0) (ref, (cond, tt)) ws rest
     are_record refl (AreFree-tail record_places rest tail refl) (list_at rigour declared) (λ us. refl) h
-list-complete rigour declared ws rest (Move ref header head key cond) tail is h =
-    command-complete rigour declared (codes "MOVE") move_places move_of (ref, (header, (head, (key, (cond, tt))))) ws
-    rest are_move refl (AreFree-tail move_places rest tail refl) (list_at rigour declared) (λ us. refl) h
-list-complete rigour declared ws rest (Delete ref cond) tail is h =
-    command-complete rigour declared (codes "DELETE") record_places (λ v. Delete v.0 v.1.0) (ref, (cond, tt)) ws rest
-    are_record refl (AreFree-tail record_places rest tail refl) (list_at rigour declared) (λ us. refl) h
+list-complete rigour declared ws rest (Move ref header head key version cond) tail is h =
+    command-complete rigour declared (codes "MOVE") move_places move_of
+    (ref, (header, (head, (key, (version, (cond, tt)))))) ws rest are_move refl (AreFree-tail move_places rest tail refl) (list_at rigour declared) (λ us. refl) h
+list-complete rigour declared ws rest (Delete ref version cond) tail is h =
+    command-complete rigour declared (codes "DELETE") delete_places delete_of (ref, (version, (cond, tt))) ws rest
+    are_delete refl (AreFree-tail delete_places rest tail refl) (list_at rigour declared) (λ us. refl) h
 list-complete rigour declared ws rest (ReadList header) tail is h =
     command-complete rigour declared (codes "READLIST") number_places (λ v. ReadList v.0) (header, tt) ws rest
     are_number refl (AreFree-tail number_places rest tail refl) (list_at rigour declared) (λ us. refl) h

@@ -25,6 +25,10 @@ key_tokens key = Term key.0 ∷ []
 abbrev pub number_tokens : ℕ → List Token
 number_tokens n = number n ∷ []
 
+-- the version of a list record, from 1
+abbrev pub version_tokens : ℕ → List Token
+version_tokens n = Number 1 4294967295 n ∷ []
+
 abbrev pub short_tokens : List ℕ → List Token
 short_tokens text = Short text ∷ []
 

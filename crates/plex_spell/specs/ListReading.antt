@@ -11,11 +11,15 @@ use Rattle.plex_spell.specs.Words.{same_word, begins_with, words_behind}
 use Rattle.plex_spell.specs.Tokens.{Declared}
 use Rattle.plex_spell.specs.Places.{◌>>=◌}
 use Rattle.plex_spell.specs.Patterns.{Place, Values, values_at, number_at}
-use Rattle.plex_spell.specs.Patterns.Place.{AKey, AShort, AData, Either, ARecord, ACond, ALabel, AnOption}
+use Rattle.plex_spell.specs.Patterns.Place.{Amount, AKey, AShort, AData, Either, ARecord, ACond, ALabel, AnOption}
 use Rattle.plex_spell.specs.CacheReading.{a_number, number_places}
 
 abbrev pub an_end : Place
 an_end = Either (codes "HEAD") (codes "TAIL")
+
+-- the version that a list record must have
+abbrev pub a_version : Place
+a_version = AnOption (codes "VERSION") (Amount 1 4294967295)
 
 abbrev pub label_name : Option Label → Option Name16
 label_name None = None
@@ -34,19 +38,25 @@ abbrev pub make_of : Values make_places → ListCmd
 make_of v = Write v.0 v.1.0 (label_name v.1.1.0) (label_key v.1.1.0) v.1.1.1.0 v.1.1.1.1.0 v.1.1.1.1.1.0
 
 abbrev pub update_places : List Place
-update_places = ARecord ∷ AnOption (codes "DATA") AData ∷ AnOption (codes "ADJ") AShort ∷ ACond ∷ []
+update_places = ARecord ∷ AnOption (codes "DATA") AData ∷ AnOption (codes "ADJ") AShort ∷ a_version ∷ ACond ∷ []
 
 abbrev pub update_of : Values update_places → ListCmd
-update_of v = Update v.0 v.1.0 v.1.1.0 v.1.1.1.0
+update_of v = Update v.0 v.1.0 v.1.1.0 v.1.1.1.0 v.1.1.1.1.0
 
 abbrev pub record_places : List Place
 record_places = ARecord ∷ ACond ∷ []
 
 abbrev pub move_places : List Place
-move_places = ARecord ∷ a_number ∷ an_end ∷ AnOption (codes "KEY") AKey ∷ ACond ∷ []
+move_places = ARecord ∷ a_number ∷ an_end ∷ AnOption (codes "KEY") AKey ∷ a_version ∷ ACond ∷ []
 
 abbrev pub move_of : Values move_places → ListCmd
-move_of v = Move v.0 v.1.0 v.1.1.0 v.1.1.1.0 v.1.1.1.1.0
+move_of v = Move v.0 v.1.0 v.1.1.0 v.1.1.1.0 v.1.1.1.1.0 v.1.1.1.1.1.0
+
+abbrev pub delete_places : List Place
+delete_places = ARecord ∷ a_version ∷ ACond ∷ []
+
+abbrev pub delete_of : Values delete_places → ListCmd
+delete_of v = Delete v.0 v.1.0 v.1.1.0
 
 abbrev pub two_places : List Place
 two_places = a_number ∷ a_number ∷ []
@@ -69,7 +79,7 @@ list_at rigour declared (verb ∷ words) =
     else if same_word verb (codes "UPDATE") then values_at rigour declared update_places update_of words
     else if same_word verb (codes "READ") then values_at rigour declared record_places (λ v. Read v.0 v.1.0) words
     else if same_word verb (codes "MOVE") then values_at rigour declared move_places move_of words
-    else if same_word verb (codes "DELETE") then values_at rigour declared record_places (λ v. Delete v.0 v.1.0) words
+    else if same_word verb (codes "DELETE") then values_at rigour declared delete_places delete_of words
     else if same_word verb (codes "READLIST") then values_at rigour declared number_places (λ v. ReadList v.0) words
     else if same_word verb (codes "LOCK") then lock_use_at rigour words
     else if same_word verb (codes "LCONTROLS") then values_at rigour declared number_places (λ v. LControls v.0) words

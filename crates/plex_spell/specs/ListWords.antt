@@ -10,7 +10,7 @@ use Rattle.cf_types.specs.declared.list_commands.ListCmd.{ListCmd}
 use Rattle.cf_types.specs.declared.list_commands.ListCmd.TheVariants.{Write, Update, Read, Move, Delete, ReadList, LockSet, LockReset, LockTest, LControls, SetLimit, Monitor, Unmonitor}
 use Rattle.plex_spell.specs.Tokens.{Token}
 use Rattle.plex_spell.specs.Tokens.Token.{Literal, Term, Record}
-use Rattle.plex_spell.specs.Fields.{all_tokens, number, name_tokens, key_tokens, short_tokens, data_tokens, option_tokens, end}
+use Rattle.plex_spell.specs.Fields.{all_tokens, number, name_tokens, key_tokens, version_tokens, short_tokens, data_tokens, option_tokens, end}
 
 -- which record is meant
 abbrev pub at_tokens : At → List Token
@@ -32,17 +32,19 @@ list_tokens (Write header head name key body adj cond) =
     ∷ all_tokens (option_tokens (codes "NAME") name_tokens name ∷ option_tokens (codes "KEY") key_tokens key
     ∷ option_tokens (codes "DATA") data_tokens body ∷ option_tokens (codes "ADJ") short_tokens adj ∷ cond_tokens cond
     ∷ [])
-list_tokens (Update ref body adj cond) =
+list_tokens (Update ref body adj version cond) =
     Literal (codes "UPDATE")
     ∷ all_tokens (at_tokens ref ∷ option_tokens (codes "DATA") data_tokens body
-    ∷ option_tokens (codes "ADJ") short_tokens
-    adj ∷ cond_tokens cond ∷ [])
+    ∷ option_tokens (codes "ADJ") short_tokens adj
+    ∷ option_tokens (codes "VERSION") version_tokens version ∷ cond_tokens cond ∷ [])
 list_tokens (Read ref cond) = Literal (codes "READ") ∷ all_tokens (at_tokens ref ∷ cond_tokens cond ∷ [])
-list_tokens (Move ref header head key cond) =
+list_tokens (Move ref header head key version cond) =
     Literal (codes "MOVE")
-    ∷ all_tokens (at_tokens ref ∷ (number header ∷ end head ∷ []) ∷ option_tokens (codes "KEY") key_tokens key ∷
-    cond_tokens cond ∷ [])
-list_tokens (Delete ref cond) = Literal (codes "DELETE") ∷ all_tokens (at_tokens ref ∷ cond_tokens cond ∷ [])
+    ∷ all_tokens (at_tokens ref ∷ (number header ∷ end head ∷ []) ∷ option_tokens (codes "KEY") key_tokens key
+    ∷ option_tokens (codes "VERSION") version_tokens version ∷ cond_tokens cond ∷ [])
+list_tokens (Delete ref version cond) =
+    Literal (codes "DELETE")
+    ∷ all_tokens (at_tokens ref ∷ option_tokens (codes "VERSION") version_tokens version ∷ cond_tokens cond ∷ [])
 list_tokens (ReadList header) = Literal (codes "READLIST") ∷ number header ∷ []
 list_tokens (LockSet lock) = Literal (codes "LOCK") ∷ number lock ∷ Literal (codes "SET") ∷ []
 list_tokens (LockReset lock) = Literal (codes "LOCK") ∷ number lock ∷ Literal (codes "RESET") ∷ []
@@ -60,10 +62,10 @@ IsOneLabel (Some name) (Some key) = ⊥
 
 abbrev pub IsListLine : ListCmd → Type 0
 IsListLine (Write header head name key body adj cond) = IsOneLabel name key
-IsListLine (Update ref body adj cond) = Unit {0}
+IsListLine (Update ref body adj version cond) = Unit {0}
 IsListLine (Read ref cond) = Unit {0}
-IsListLine (Move ref header head key cond) = Unit {0}
-IsListLine (Delete ref cond) = Unit {0}
+IsListLine (Move ref header head key version cond) = Unit {0}
+IsListLine (Delete ref version cond) = Unit {0}
 IsListLine (ReadList header) = Unit {0}
 IsListLine (LockSet lock) = Unit {0}
 IsListLine (LockReset lock) = Unit {0}

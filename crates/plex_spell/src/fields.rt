@@ -358,6 +358,18 @@ pub(crate) fn key_option(rigour: Rigour, words: &mut Words) -> Result<Option<Key
     }
 }
 
+/// Takes VERSION and a number from 1 on, where they are there.
+pub(crate) fn version(rigour: Rigour, words: &mut Words) -> Result<Option<u32>, Miss>
+    ensures { Gives result words.new (option_at (codes "VERSION") (on_first
+        (number_of rigour 1 4294967295)) words.old) }
+{
+    if words.skip(b"VERSION") {
+        Ok(Some(bounded(rigour, words, 1, u32::MAX)?))
+    } else {
+        Ok(None)
+    }
+}
+
 /// Takes RETRY and a number from 1 on, where they are there.
 pub fn retry(rigour: Rigour, words: &mut Words) -> Result<Option<u32>, Miss>
     ensures { Gives result words.new (option_at (codes "RETRY") (on_first

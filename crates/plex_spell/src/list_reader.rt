@@ -1,9 +1,11 @@
 ghost use Rattle.std.specs.Prelude.{◌≡◌, Option};
-ghost use Rattle.plex_spell.specs.ListReading.{list_at, use_at, lock_use_at, make_places, make_of, update_places, update_of, move_places, move_of, label_name, label_key};
+ghost use Rattle.plex_spell.specs.ListReading.{list_at, use_at, lock_use_at, make_places, make_of, update_places, update_of, move_places, move_of, delete_places, delete_of, label_name, label_key};
 ghost use Rattle.plex_spell.specs.Patterns.{values_at};
 ghost use Rattle.plex_spell.specs.Places.{Gives, names_of};
 
-use crate::fields::{cond, data_option, either, key_option, label, number, record, short_option};
+use crate::fields::{
+    cond, data_option, either, key_option, label, number, record, short_option, version,
+};
 use crate::judge::Judge;
 use crate::labels::Label;
 use crate::misses::Miss;
@@ -63,11 +65,13 @@ fn update(alloc: Global, judge: &Judge, words: &mut Words) -> Result<ListCmd, Mi
     let at = record(rigour, words)?;
     let body = data_option(alloc, rigour, words)?;
     let adj = short_option(rigour, words, b"ADJ")?;
+    let version = version(rigour, words)?;
     let cond = cond(rigour, words)?;
     Ok(ListCmd::Update {
         at,
         body,
         adj,
+        version,
         cond,
     })
 }
@@ -82,14 +86,28 @@ fn shift(judge: &Judge, words: &mut Words) -> Result<ListCmd, Miss>
     let header = number(rigour, words)?;
     let head = either(words, b"HEAD", b"TAIL")?;
     let key = key_option(rigour, words)?;
+    let version = version(rigour, words)?;
     let cond = cond(rigour, words)?;
     Ok(ListCmd::Move {
         at,
         header,
         head,
         key,
+        version,
         cond,
     })
+}
+
+// What stands behind DELETE.
+fn delete(judge: &Judge, words: &mut Words) -> Result<ListCmd, Miss>
+    ensures { Gives result words.new (values_at judge.now.rigour
+        (names_of judge.now) delete_places delete_of words.old) }
+{
+    let rigour = judge.rigour;
+    let at = record(rigour, words)?;
+    let version = version(rigour, words)?;
+    let cond = cond(rigour, words)?;
+    Ok(ListCmd::Delete { at, version, cond })
 }
 
 // What is done with a list lock.
@@ -137,9 +155,7 @@ pub fn list(alloc: Global, judge: &Judge, words: &mut Words) -> Result<ListCmd, 
         return shift(judge, words);
     }
     if is(verb, b"DELETE") {
-        let at = record(rigour, words)?;
-        let cond = cond(rigour, words)?;
-        return Ok(ListCmd::Delete { at, cond });
+        return delete(judge, words);
     }
     if is(verb, b"READLIST") {
         let header = number(rigour, words)?;

@@ -2,12 +2,14 @@
 ghost use Rattle.std.specs.Prelude.{◌≡◌, ◌≢◌, ◌+◌, ◌<◌, ◌≤◌, ◌++◌, ◌∷◌, [], IfOk, IfErr, IfSome, All, Some, map, option_map};
 ghost use Rattle.std.specs.List.{range_with_len};
 ghost use Rattle.cf_types.specs.declared.limits.TheConstants.{CONNECTORS};
+ghost use Rattle.cf_link.specs.Links.{AreAsked};
 ghost use Rattle.cf_types.specs.Forms.{IsForm};
 ghost use Rattle.plex_script.specs.Heard.{any_calls, any_length, own_calls};
 ghost use Rattle.struct_cell.specs.declared.refused.CallRefused.TheVariants as refused;
 ghost use Rattle.vec_words.specs.Logged.{words_of, indices_of, sight};
 ghost use Rattle.any_model.specs.Types.{type_of_kind, type_of_history};
-ghost use Rattle.any_model.specs.Kinds.{MayAskAny, IsAnyLegal};
+ghost use Rattle.struct_cell.specs.Limits.{AreMadeBelow};
+ghost use Rattle.any_model.specs.Kinds.{MayAskAny, IsAnyLegal, IsAnyPoint, any_answers, any_numbers};
 ghost use Rattle.any_cell.specs.Passes.{IsLater, passes_shown, type_of_passes, room_of, note_shown, note_of, unused_pass, with_call};
 ghost use Rattle.any_cell.specs.Cells.{IsPassOf, IsNoteOf, IsAskOf, IsAnyTold, cell_shown};
 ghost use Rattle.desk_model.specs.Notes.{with_note, with_any_note};
@@ -51,7 +53,7 @@ impl<L: Link> Model for Station<L> {
 
 impl<L: Link> Station<L> {
     /// A structure of this form without calls yet, with a pass for each caller from the operator,
-    /// 0, on, and nothing posted. Its journal has at most `limit` entries.
+    /// 0, on, and nothing posted. A call is made where its journal has fewer than `limit` entries.
     ///
     /// # Errors
     ///
@@ -129,7 +131,7 @@ impl<L: Link> Station<L> {
     ///
     /// # Errors
     ///
-    /// `JournalFull` where the journal has `limit` entries; `NoMemory`, before anything was
+    /// `JournalFull` where the journal has `limit` entries or more; `NoMemory`, before anything was
     /// changed.
     pub fn call(
         &self,
@@ -262,22 +264,25 @@ impl<L: Link> Station<L> {
         self.cell.told(&mut place.pass, note)
     }
 
-    /// Ends the structure, with its history and the links as it got them. Of the history each pass
-    /// has its owner's calls, and it says what the pass's tests answered. It may wait for a turn,
-    /// and takes no memory.
+    /// Ends the structure, with its history and its links, which were asked as the history tells.
+    /// Of the history each pass has its owner's calls, and it says what the pass's tests answered.
+    /// It may wait for a turn, and takes no memory.
     pub fn close(self, rt: &impl Wait, passes: AnyPasses) -> (AnyHistory, Links<L>)
         requires passes { All (IsPassOf self) (passes_shown passes) }
         requires passes_type { type_of_passes passes ≡ self.str_type }
         ensures history_type { type_of_history result.0 ≡ self.str_type }
         ensures legal { IsAnyLegal self.form result.0 }
-        ensures most { any_length result.0 ≤ self.limit }
+        ensures most { any_length result.0 ≤ self.limit + 2 }
+        ensures room { AreMadeBelow self.limit 0 (any_numbers result.0) }
         ensures callers { All (λ call. call.by.0 ≤ self.callers) (any_calls result.0) }
         ensures mine { All (λ pass. pass.calls ≡ own_calls (any_calls result.0) pass.owner)
             (passes_shown passes) }
         ensures tests { All (λ pass. All (IsAnyTold self.form result.0 pass.owner) pass.tests)
             (passes_shown passes) }
-        ensures known { All (λ pass. pass.known ≤ any_length result.0) (passes_shown passes) }
-        ensures links { result.1 ≡ self.links }
+        ensures known { All (λ pass. IsAnyPoint result.0 pass.known
+            × (pass.known ≤ any_length result.0)) (passes_shown passes) }
+        ensures links { AreAsked L.calls L.downs L.faults (any_answers self.form result.0)
+            self.links result.1 }
     {
         let Station { cell, .. } = self;
         cell.close(rt, passes)

@@ -46,5 +46,5 @@ pub valid-is-fresh : (limit : ℕ) (script : Script) (histories : List AnyHistor
 valid-is-fresh limit script histories transcripts shows c k transcript item form entries of_caller there known
     of_structure =
     item_fresh form entries (record { 0 = c }) (place_of item) (take k transcript.items) item
-    (shows.histories_right (place_of item).0 form (history.Cache entries) known of_structure).legal.0
+    (shows.histories_right (place_of item).0 form (history.Cache entries) known of_structure).legal
     (shows.tests c transcript of_caller k item form (history.Cache entries) there known of_structure)

@@ -1,11 +1,10 @@
-//! Copying the content of a structure into a new instance, item by item, as a rebuild does, and the
-//! primary with that new instance beside it.
+//! Copying the content of a structure into a new instance, item by item, as a rebuild does.
 #![tactic(auto)]
 
 mod copying;
+mod filling;
 mod moved;
-mod rebuildable;
 
 pub use copying::Copying;
+pub use filling::Filling;
 pub use moved::Moved;
-pub use rebuildable::Rebuildable;

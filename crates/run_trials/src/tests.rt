@@ -1,5 +1,6 @@
 mod gates;
 mod journals;
+mod links;
 mod loads;
 mod locks;
 mod rebuilds;

@@ -1,5 +1,5 @@
 -- Tests, posts and takes: what each keeps, and what the run by the machine alone shows for it.
-use Rattle.std.proofs.Common.{◌≡◌, ◌≢◌, ℕ, ◌*◌, ◌^◌, ◌≤◌, ◌<◌, ◌==◌, max, nat_lt, Bool, true, false, List, [], ◌∷◌, ◌++◌, length, map, slice_get, Option, None, Some, refl, sym, ap, subst, ◌∙◌, arith}
+use Rattle.std.proofs.Common.{◌+◌, ◌≡◌, ◌≢◌, ℕ, ◌*◌, ◌^◌, ◌≤◌, ◌<◌, ◌==◌, max, nat_lt, Bool, true, false, List, [], ◌∷◌, ◌++◌, map, slice_get, Option, None, Some, refl, sym, ap, subst, ◌∙◌, arith}
 use Rattle.std.specs.Prelude.{All, if◌then◌else◌}
 use Rattle.std.proofs.lemmas.Bool.Decides.{nat_tests}
 use Rattle.std.proofs.lemmas.List.Elements.{All-nil, All-cons, All-head, All-tail}
@@ -11,8 +11,8 @@ use Rattle.plex_script.specs.declared.transcripts.Shown.{Shown}
 use Rattle.plex_script.specs.declared.transcripts.Shown.TheVariants as shown
 use Rattle.plex_script.specs.declared.transcripts.Transcript.{Transcript}
 use Rattle.plex_script.specs.Heard.{any_length}
-use Rattle.any_model.specs.Kinds.{any_take, any_stands, any_word}
-use Rattle.any_model.proofs.HistoryLaws.{take_length}
+use Rattle.any_model.specs.Kinds.{IsAnyPoint, any_take, any_stands, any_word, end_of}
+use Rattle.any_model.proofs.SeamLaws.{IsFrontOf}
 use Rattle.serial_model.specs.Numbers.{shown_on, seen_on}
 use Rattle.serial_model.specs.Serial.{with_shown, test_shown, word_shown, post_made, take_made}
 use Rattle.vec_words.specs.declared.logged.Sight.{Sight}
@@ -22,9 +22,10 @@ use Rattle.any_cell.specs.Cells.{IsAnyTold}
 use Rattle.desk_model.specs.Notes.{with_any_note}
 use Rattle.desk_model.specs.Turns.{with_item}
 use Rattle.list_laws.proofs.TableLaws.{set_same}
-use Rattle.serial_exact.proofs.TestLaws.{told_bit, told_word}
-use Rattle.serial_exact.proofs.Spots.{conn, str, put, put_all, put_same, is_other, Spot, IsKnownPass, IsKnownNote, moved, noticed, posted, known_moved, known_noticed, known_posted}
-use Rattle.serial_exact.proofs.Fits.{FitsAt, events_within, fits_put}
+use Rattle.serial_exact.proofs.TestLaws.{told_bit, told_word, told_point}
+use Rattle.desk_model.proofs.SightLaws.{each_sight}
+use Rattle.serial_exact.proofs.Spots.{conn, str, put, put_all, put_same, is_other, Spot, IsKnownPass, IsKnownNote, moved, noticed, posted, known_moved, known_noticed, known_posted, put_other}
+use Rattle.serial_exact.proofs.Fits.{FitsAt, events_front, fits_put}
 use Rattle.serial_exact.proofs.Agreements.{AgreesAt, IsSeen, agrees_put, sure_in, known_in, last_is, seen_push, seen_none}
 use Rattle.serial_exact.proofs.Stages.{Stage, IsStage, State, Shows, Goes, acted, known_acted, fits_acted, fits_here, agrees_acted}
 use Rattle.serial_exact.proofs.Moves.{SaysLess, run_shows, transcript_is, knows_front, still_front}
@@ -92,10 +93,12 @@ pub goes_test : (stage : Stage) → IsStage stage
     → (state.shown by).end ≡ ended.Done
     → SaysLess shows shows' on by → ((state.spots on).passes by).known ≤ at → ShowsNumber on at item
     → IsItemAt stage on by tests ((state.spots on).passes by).sure at item_of item
+    → (All (IsAnyTold (stage.form on) (stage.entries on) (conn by)) tests → IsAnyPoint (stage.entries on) at)
     → Goes stage shows shows' state (tested_state on by (tested_pass at tests ((state.spots on).passes by)) item
     state)
     (λ run. with_shown (conn by) (slice_get run.histories on) item_of run)
-goes_test stage is shows shows' on by at tests item item_of state within caller last works less later number item_is =
+goes_test stage is shows shows' on by at tests item item_of state within caller last works less later number item_is
+    pointed =
     let spot : Spot = state.spots on in
     let pass : PassShown = tested_pass at tests (spot.passes by) in
     let transcript : Transcript = with_item item (state.shown by) in
@@ -112,38 +115,39 @@ goes_test stage is shows shows' on by at tests item item_of state within caller 
           (omega (arith, knows_front stage.callers by spot (known on within) last, later))
           (λ told. all_front (IsAnyTold (stage.form on) (stage.entries on) (conn by)) (spot.passes by).tests tests
           told) fits)
-          (λ is. is) fits;
+          (λ c apart. put_other by pass spot.passes c apart) works fits;
       agrees = λ known fits run agrees.
           let here : FitsAt (stage.form on) (stage.entries on) stage.callers (moved by pass spot) =
           fits_here stage on by (moved by pass spot) transcript state within fits in
           let before : AgreesAt stage.callers (stage.entries on) on (shows on) spot state.shown
           (slice_get run.histories on) (slice_get run.posted on) = agrees.at on within in
-          let still : (at ≡ length spot.events) × (at ≡ spot.front) =
-          still_front stage on by pass transcript state within last later known fits in
-          let sure : (spot.passes by).sure ≡ spot.front = before.lasts (conn by) last in
-          let complete : pass.sure ≡ pass.known = sure ∙ sym still.1 in
           let told : All (IsAnyTold (stage.form on) (stage.entries on) (conn by)) tests =
           all_behind (IsAnyTold (stage.form on) (stage.entries on) (conn by)) (spot.passes by).tests tests
           (subst (λ (p : PassShown). All (IsAnyTold (stage.form on) (stage.entries on) (conn by)) p.tests)
           (put_same by pass spot.passes) (here.tests by caller)) in
-          let inside : length spot.events ≤ any_length (stage.entries on) =
-          events_within (stage.form on) (stage.entries on) stage.callers (moved by pass spot) (is.legal on within)
+          let still : (at ≡ end_of spot.events) × (at ≡ spot.front) =
+          still_front stage is on by pass transcript state within last later known fits (pointed told) before.front_is in
+          let sure : (spot.passes by).sure ≡ spot.front = before.lasts (conn by) last in
+          let complete : pass.sure ≡ pass.known = sure ∙ sym still.1 in
+          let front : IsFrontOf (stage.entries on) spot.events =
+          events_front (stage.form on) (stage.entries on) stage.callers (moved by pass spot) (is.legal on within)
           here in
-          let shown_is : item_of (any_take (length spot.events) (stage.entries on)) ≡ item =
+          let shown_is : item_of (any_take (end_of spot.events) (stage.entries on)) ≡ item =
           ap (λ (n : ℕ). item_of (any_take n (stage.entries on))) (sym still.0)
-          ∙ item_is (omega (arith, complete)) (take_length at (stage.entries on) (omega (arith, still.0))) told in
+          ∙ item_is (omega (arith, complete)) (ap (λ (n : ℕ). any_length (any_take n (stage.entries on))) still.0
+          ∙ front.size ∙ sym still.0) told in
           let seen_before : IsSeen (str on) (spot.passes by) (state.shown by).items (shows on by) =
           before.seen by caller works in
           let seen_now : seen_on (str on) transcript.items ≡ max (seen_on (str on) (state.shown by).items) at =
           seen_push (str on) (state.shown by).items item at number.here in
           agrees_acted stage shows shows' on by (moved by pass spot) transcript state
-          (any_take (length spot.events) (stage.entries on)) (sure_in spot.note) run _ within caller agrees
+          (any_take (end_of spot.events) (stage.entries on)) (sure_in spot.note) run _ within caller agrees
           (rw (before.history_is, shown_is, transcript_is stage shows by state run caller agrees)
           (run_shows stage shows on by state transcript run within agrees))
           (agrees_put stage.callers (stage.entries on) on (shows on) (shows' on) by spot state.shown _ _ _ _ pass
           (Some (conn by))
           spot.events pass.known transcript
-          before refl refl
+          before refl refl still.0
           (λ working. record {
             complete = complete;
             most = omega (arith, seen_now, seen_before.most, complete);
@@ -181,6 +185,8 @@ goes_bit stage is shows shows' on by index bit at state within caller last works
     told_bit (stage.form on) (stage.entries on) (conn by) seen
     (All-head (IsAnyTold (stage.form on) (stage.entries on) (conn by)) seen [] told) least inside in
     rw (test, size, ← bit_is) refl)
+    (λ told. told_point (stage.form on) (stage.entries on) (conn by) seen
+    (All-head (IsAnyTold (stage.form on) (stage.entries on) (conn by)) seen [] told))
 
 word_chosen : (on : StrNo) (word bits at : ℕ) (b : Bool) (sum size : ℕ) (other : Shown) → b ≡ true → sum ≡ bits
     → size ≡ at
@@ -212,6 +218,8 @@ goes_word stage is shows shows' on by word bits at state within caller last work
     (any_length (any_take at (stage.entries on)))
     (shown.BadIndex (str on) word true (stage.form on).vector) test
     (told_word (stage.form on) (stage.entries on) (conn by) word bits at sure told least small) size)
+    (λ told. told_point (stage.form on) (stage.entries on) (conn by) (sight bits at sure (32 * word + 0))
+    (each_sight (IsAnyTold (stage.form on) (stage.entries on) (conn by)) word bits at sure 0 told (omega arith)))
 
 -- ---- an item alone
 
@@ -239,7 +247,7 @@ goes_bad stage shows on by item item_of state within caller works none item_is =
           fits_acted stage on by (noticed by pass spot) transcript state
           (λ inside fits. fits_put (stage.form on) (stage.entries on) stage.callers by spot pass spot.last spot.front
           (omega arith) (λ told. told) fits)
-          (λ is. is) fits;
+          (λ c apart. put_other by pass spot.passes c apart) works fits;
       agrees = λ known fits run agrees.
           let before : AgreesAt stage.callers (stage.entries on) on (shows on) spot state.shown
           (slice_get run.histories on) (slice_get run.posted on) = agrees.at on within in
@@ -247,10 +255,10 @@ goes_bad stage shows on by item item_of state within caller works none item_is =
           let seen_now : seen_on (str on) transcript.items ≡ seen_on (str on) (state.shown by).items =
           seen_none (str on) (state.shown by).items item (none on) in
           agrees_acted stage shows shows on by (noticed by pass spot) transcript state
-          (any_take (length spot.events) (stage.entries on)) (sure_in spot.note) run _ within caller agrees
+          (any_take (end_of spot.events) (stage.entries on)) (sure_in spot.note) run _ within caller agrees
           (rw (
             before.history_is,
-            item_is (any_take (length spot.events) (stage.entries on)),
+            item_is (any_take (end_of spot.events) (stage.entries on)),
             transcript_is stage
                 shows by state run caller agrees,
           )
@@ -258,7 +266,7 @@ goes_bad stage shows on by item item_of state within caller works none item_is =
           (agrees_put stage.callers (stage.entries on) on (shows on) (shows on) by spot state.shown _ _ _ _ pass
           spot.last
           spot.events spot.front transcript
-          before refl refl
+          before refl refl before.front_is
           (λ working. record {
             complete = seen_before.complete;
             most = omega (arith, seen_now, seen_before.most);
@@ -339,7 +347,7 @@ goes_take stage shows on by state within caller works said =
           (λ inside fits. fits_put (stage.form on) (stage.entries on) stage.callers by spot pass spot.last spot.front
           (omega arith) (λ told. subst (All (IsAnyTold (stage.form on) (stage.entries on) (conn by))) noted.tests
           told) fits)
-          (λ is. is) fits;
+          (λ c apart. put_other by pass spot.passes c apart) works fits;
       agrees = λ known fits run agrees.
           let mine : IsKnownPass spot.events spot.front by (spot.passes by) = (known on within).pass by caller in
           let noted : IsNoted spot.front spot.note (spot.passes by) pass =
@@ -356,7 +364,7 @@ goes_take stage shows on by state within caller works said =
           let number : max (seen_on (str on) (state.shown by).items) (sure_in spot.note) ≡ pass.sure =
           omega (arith, noted.sure, seen_before.seen said) in
           agrees_acted stage shows shows on by (noticed by pass spot) transcript state
-          (any_take (length spot.events) (stage.entries on)) (sure_in spot.note) run _ within caller agrees
+          (any_take (end_of spot.events) (stage.entries on)) (sure_in spot.note) run _ within caller agrees
           (rw (
             transcript_is stage shows by state run caller agrees,
             get_or_from_slice_get run.posted on
@@ -367,7 +375,7 @@ goes_take stage shows on by state within caller works said =
           (agrees_put stage.callers (stage.entries on) on (shows on) (shows on) by spot state.shown _ _ _ _ pass
           spot.last
           spot.events spot.front transcript
-          before refl refl
+          before refl refl before.front_is
           (λ working. record {
             complete = complete;
             most = omega (arith, seen_now, seen_before.most, noted.sure);
@@ -417,8 +425,8 @@ goes_post stage shows on by state within caller works said =
           fits_put (stage.form on) (stage.entries on) stage.callers by (posted (Some note) spot) pass spot.last
           spot.front
           (omega arith) (λ told. told) fits in
-          record { more = before.more; calls = before.calls; front = before.front; tests = before.tests })
-          (λ is. is) fits;
+          record { more = before.more; calls = before.calls; before = before.before; tests = before.tests })
+          (λ c apart. put_other by pass spot.passes c apart) works fits;
       agrees = λ known fits run agrees.
           let before : AgreesAt stage.callers (stage.entries on) on (shows on) spot state.shown
           (slice_get run.histories on) (slice_get run.posted on) = agrees.at on within in
@@ -428,16 +436,17 @@ goes_post stage shows on by state within caller works said =
           (post_number on pass.sure).here in
           let number : seen_on (str on) (state.shown by).items ≡ pass.sure = seen_before.seen said in
           let noted : AgreesAt stage.callers (stage.entries on) on (shows on) (posted (Some note) spot) state.shown
-          (Some (any_take (length spot.events) (stage.entries on))) (Some pass.sure) =
+          (Some (any_take (end_of spot.events) (stage.entries on))) (Some pass.sure) =
           record {
             history_is = refl;
+            front_is = before.front_is;
             seen = before.seen;
             lasts = before.lasts;
             number_is = refl;
             noted = sym seen_before.complete;
           } in
           agrees_acted stage shows shows on by (posted_spot by spot) transcript state
-          (any_take (length spot.events) (stage.entries on)) pass.sure run _ within caller agrees
+          (any_take (end_of spot.events) (stage.entries on)) pass.sure run _ within caller agrees
           (rw (transcript_is stage shows by state run caller agrees, number)
           (record {
             histories = sym (set_same run.histories on _ before.history_is);
@@ -446,7 +455,7 @@ goes_post stage shows on by state within caller works said =
           }))
           (agrees_put stage.callers (stage.entries on) on (shows on) (shows on) by (posted (Some note) spot)
           state.shown _ _ _ _ pass spot.last
-          spot.events spot.front transcript noted refl refl
+          spot.events spot.front transcript noted refl refl before.front_is
           (λ working. record {
             complete = seen_before.complete;
             most = omega (arith, seen_now, seen_before.most);

@@ -1,5 +1,5 @@
 -- What the run by the machine alone has to do with what was done at a structure.
-use Rattle.std.proofs.Common.{◌≡◌, ◌≢◌, ℕ, ◌≤◌, ◌==◌, max, fold, Bool, true, false, cond, List, [], ◌∷◌, ◌++◌, length, Option, None, Some, refl, sym, ap, subst, ◌∙◌, arith}
+use Rattle.std.proofs.Common.{◌≡◌, ◌≢◌, ℕ, ◌≤◌, ◌==◌, max, fold, Bool, true, false, cond, List, [], ◌∷◌, ◌++◌, Option, None, Some, refl, sym, ap, subst, ◌∙◌, arith}
 use Rattle.std.specs.Prelude.{unwrap_or}
 use Rattle.std.specs.List.{filter_map, cons_option}
 use Rattle.std.proofs.lemmas.List.Elements.{filter_map-append}
@@ -11,7 +11,7 @@ use Rattle.plex_script.specs.declared.transcripts.AgentEnd.TheVariants as ended
 use Rattle.plex_script.specs.declared.transcripts.Shown.{Shown}
 use Rattle.plex_script.specs.declared.transcripts.Transcript.{Transcript}
 use Rattle.plex_script.specs.Heard.{AnyCall}
-use Rattle.any_model.specs.Kinds.{any_take}
+use Rattle.any_model.specs.Kinds.{any_take, end_of}
 use Rattle.serial_model.specs.Numbers.{shown_on, seen_on}
 use Rattle.any_cell.specs.Passes.{PassShown, NoteShown}
 use Rattle.serial_exact.proofs.Spots.{conn, str, put, put_all, same_number, other_number, Spot}
@@ -52,7 +52,8 @@ known_in (Some note) = note.known
 pub record AgreesAt (callers : ℕ) (entries : AnyHistory) (x : ℕ) (shows : ℕ → Type 0) (spot : Spot)
     (transcripts : ℕ → Transcript)
     (history : Option AnyHistory) (number : Option ℕ) : Type 0 where
-  pub history_is : history ≡ Some (any_take (length spot.events) entries)
+  pub history_is : history ≡ Some (any_take (end_of spot.events) entries)
+  pub front_is : spot.front ≡ end_of spot.events
   pub seen : (c : ℕ) → c ≤ callers → (transcripts c).end ≡ ended.Done
       → IsSeen (str x) (spot.passes c) (transcripts c).items (shows c)
   pub lasts : (c : ConnId) → spot.last ≡ Some c → (spot.passes c.0).sure ≡ spot.front
@@ -73,8 +74,9 @@ pub agrees_put : (callers : ℕ) (entries : AnyHistory) (x : ℕ) (shows shows' 
     (transcripts : ℕ → Transcript) (history history' : Option AnyHistory) (number number' : Option ℕ)
     (pass : PassShown) (last : Option ConnId) (events : List AnyCall) (front : ℕ) (transcript : Transcript)
     → AgreesAt callers entries x shows spot transcripts history number
-    → history' ≡ Some (any_take (length events) entries)
+    → history' ≡ Some (any_take (end_of events) entries)
     → number' ≡ Some (sure_in spot.note)
+    → front ≡ end_of events
     → (transcript.end ≡ ended.Done → IsSeen (str x) pass transcript.items (shows' by))
     → ((c : ℕ) → c ≢ by → shows' c → shows c)
     → ((c : ConnId) → last ≡ Some c → (put by pass spot.passes c.0).sure ≡ front)
@@ -83,9 +85,10 @@ pub agrees_put : (callers : ℕ) (entries : AnyHistory) (x : ℕ) (shows shows' 
     (put by transcript transcripts) history' number'
 agrees_put callers entries x shows shows' by spot transcripts history history' number number' pass last events front
     transcript
-    agrees history_is number_is seen less lasts =
+    agrees history_is number_is front_is seen less lasts =
     record {
       history_is = history_is;
+      front_is = front_is;
       seen = put_both (λ c pass' transcript'. c ≤ callers → transcript'.end ≡ ended.Done
           → IsSeen (str x) pass' transcript'.items (shows' c)) by pass spot.passes transcript transcripts
           (λ within works. seen works)
@@ -109,6 +112,7 @@ agrees_elsewhere callers entries x shows shows' by spot transcripts history numb
     less =
     record {
       history_is = agrees.history_is;
+      front_is = agrees.front_is;
       seen = λ c. put_all (λ c transcript'. c ≤ callers → transcript'.end ≡ ended.Done
           → IsSeen (str x) (spot.passes c) transcript'.items (shows' c)) by transcript transcripts
           (λ within working.

@@ -9,13 +9,16 @@ use Rattle.list_laws.proofs.TableLaws.{get_within}
 use Rattle.cf_types.specs.declared.forms.StrForm.{StrForm}
 use Rattle.cf_types.specs.declared.forms.Kind.{Kind}
 use Rattle.cf_types.specs.declared.forms.Kind.TheVariants as kind
+use Rattle.cf_types.specs.declared.numbers.CfId.{CfId}
 use Rattle.cf_types.specs.declared.numbers.ConnId.{ConnId}
+use Rattle.cf_link.specs.Links.{Telling}
+use Rattle.struct_cell.specs.Limits.{AreMadeBelow}
 use Rattle.plex_script.specs.declared.asks.AnyHistory.{AnyHistory}
 use Rattle.plex_script.specs.declared.asks.AnyHistory.TheVariants as history
 use Rattle.plex_script.specs.declared.scripts.Line.{Line}
 use Rattle.plex_script.specs.declared.scripts.Script.{Script}
 use Rattle.plex_script.specs.Heard.{AnyCall}
-use Rattle.any_model.specs.Kinds.{IsOfKind, no_calls, numbers_from, any_take}
+use Rattle.any_model.specs.Kinds.{IsOfKind, AreAnyAsTold, no_calls, numbers_from, any_take, any_numbers}
 use Rattle.any_model.proofs.HistoryLaws.{take_none}
 use Rattle.serial_model.specs.Serial.{start, connectors}
 use Rattle.serial_model.specs.Runnable.{IsRunnable, IsRunnableLine}
@@ -73,11 +76,12 @@ abbrev pub entries_at : Option AnyHistory → AnyHistory
 entries_at None = history.Lock []
 entries_at (Some entries) = entries
 
-abbrev pub stage_of : {L : Type 0} → ℕ → BoardShown L → List AnyHistory → Stage
-stage_of limit board histories = record {
+abbrev pub stage_of : {L : Type 0} → ℕ → (ℕ → CfId → Telling) → BoardShown L → List AnyHistory → Stage
+stage_of limit told board histories = record {
   cells = length board.cells;
   callers = board.callers;
   limit = limit;
+  told = told;
   form = λ x. form_at (slice_get board.cells x);
   entries = λ x. entries_at (slice_get histories x);
 }
@@ -96,8 +100,8 @@ kind_is kind.Lock (history.Lock entries) e = tt
 
 -- ---- what is given
 
-pub record IsGiven {L : Type 0} (limit : ℕ) (script : Script) (board : BoardShown L) (histories : List AnyHistory) :
-    Type 0 where
+pub record IsGiven {L : Type 0} (limit : ℕ) (told : ℕ → CfId → Telling) (script : Script) (board : BoardShown L)
+    (histories : List AnyHistory) : Type 0 where
   pub runnable : IsRunnable script
   pub forms : map (λ cell. cell.form) board.cells ≡ script.structures
   pub started : All (IsStarted (length script.connectors) limit) board.cells
@@ -105,9 +109,11 @@ pub record IsGiven {L : Type 0} (limit : ℕ) (script : Script) (board : BoardSh
   pub structures : length histories ≡ length board.cells
   pub closed : (x : ℕ) (cell : CellShown L) (entries : AnyHistory) → slice_get board.cells x ≡ Some cell
       → slice_get histories x ≡ Some entries → IsClosed cell entries
+  pub as_told : (x : ℕ) (cell : CellShown L) (entries : AnyHistory) → slice_get board.cells x ≡ Some cell
+      → slice_get histories x ≡ Some entries → AreAnyAsTold cell.form (told x) entries
 
-module _ {L : Type 0} (limit : ℕ) (script : Script) (board : BoardShown L) (histories : List AnyHistory)
-    (given : IsGiven limit script board histories) where
+module _ {L : Type 0} (limit : ℕ) (told : ℕ → CfId → Telling) (script : Script) (board : BoardShown L)
+    (histories : List AnyHistory) (given : IsGiven limit told script board histories) where
   -- a structure's cell and history
   pub record IsPlace (x : ℕ) : Type 0 where
     pub cell : CellShown L
@@ -131,23 +137,27 @@ module _ {L : Type 0} (limit : ℕ) (script : Script) (board : BoardShown L) (hi
         closed = given.closed x cell.0 kept.0 cell.1 kept.1;
       }
 
-  pub form_of : (x : ℕ) (place : IsPlace x) → (stage_of limit board histories).form x ≡ place.cell.form
+  pub form_of : (x : ℕ) (place : IsPlace x) → (stage_of limit told board histories).form x ≡ place.cell.form
   form_of x place = ap form_at place.there
 
-  pub entries_of : (x : ℕ) (place : IsPlace x) → (stage_of limit board histories).entries x ≡ place.entries
+  pub entries_of : (x : ℕ) (place : IsPlace x) → (stage_of limit told board histories).entries x ≡ place.entries
   entries_of x place = ap entries_at place.kept
 
-  pub is_stage : IsStage (stage_of limit board histories)
+  pub is_stage : IsStage (stage_of limit told board histories)
   is_stage = record {
     legal = λ x within.
         let place : IsPlace x = place_at x within in
         rw (form_of x place, entries_of x place) place.closed.legal;
-    most = λ x within.
+    as_told = λ x within.
         let place : IsPlace x = place_at x within in
-        rw (entries_of x place) (omega (arith, place.closed.most, place.started.limit_is));
+        rw (form_of x place, entries_of x place) (given.as_told x place.cell place.entries place.there place.kept);
+    made = λ x within.
+        let place : IsPlace x = place_at x within in
+        rw (entries_of x place)
+        (subst (λ (n : ℕ). AreMadeBelow n 0 (any_numbers place.entries)) place.started.limit_is place.closed.room);
   }
 
-  pub stage_is : IsStageOf board script (stage_of limit board histories)
+  pub stage_is : IsStageOf board script (stage_of limit told board histories)
   stage_is = record {
     cells = refl;
     structures = sym (ap length given.forms) ∙ length-map board.cells (λ (cell : CellShown L). cell.form);
@@ -189,7 +199,7 @@ module _ {L : Type 0} (limit : ℕ) (script : Script) (board : BoardShown L) (hi
       (slice_get-map (λ (cell : CellShown L). unused_pass cell.str_type cell.words c) board.cells x
       ∙ ap (option_map (λ (cell : CellShown L). unused_pass cell.str_type cell.words c)) place.there)
 
-  pub known_new : Known (stage_of limit board histories) new_state
+  pub known_new : Known (stage_of limit told board histories) new_state
   known_new x within =
       let place : IsPlace x = place_at x within in
       record {
@@ -203,7 +213,7 @@ module _ {L : Type 0} (limit : ℕ) (script : Script) (board : BoardShown L) (hi
         noted = tt;
       }
 
-  pub floor_new : IsFloor (stage_of limit board histories) (new_floor board) new_state
+  pub floor_new : IsFloor (stage_of limit told board histories) (new_floor board) new_state
   floor_new = record {
     workers = length-map-range_with_len new_worker 0 (board.callers + 1);
     tray = length-replicate (length board.cells) None;
@@ -224,7 +234,7 @@ module _ {L : Type 0} (limit : ℕ) (script : Script) (board : BoardShown L) (hi
       new_worker : ℕ → AtWork
       new_worker owner = record { desk = new_desk board owner; shown = no_items }
 
-  pub agrees_new : Agrees (stage_of limit board histories) of_all new_state (start script)
+  pub agrees_new : Agrees (stage_of limit told board histories) of_all new_state (start script)
   agrees_new = record {
     histories = length-map script.structures (λ (form : StrForm). no_calls form.kind) ∙ stage_is.structures;
     transcripts = length-replicate (length script.connectors + 1) no_items ∙ ap (λ (n : ℕ). n + 1)
@@ -242,6 +252,7 @@ module _ {L : Type 0} (limit : ℕ) (script : Script) (board : BoardShown L) (hi
               (stage_is.policy x place.cell place.there ∙ ap Some (form_of x place))
               ∙ ap Some (sym (take_none place.cell.form place.entries kind_of))
               ∙ ap (λ (h : AnyHistory). Some (any_take 0 h)) (sym (entries_of x place));
+          front_is = refl;
           seen = λ c inside works.
               let pass : pass_at (new_desk board c) (str x) ≡ unused_pass place.cell.str_type place.cell.words c =
               new_pass x c place in

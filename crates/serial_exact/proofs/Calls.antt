@@ -1,9 +1,11 @@
 -- The calls of one line: what they keep, and the steps of the run by the machine alone that go with them.
-use Rattle.std.proofs.Common.{◌≡◌, ◌≢◌, ℕ, zero, suc, ◌≤◌, ◌<◌, nat_le, true, false, List, [], ◌∷◌, ◌++◌, length, map, slice_get, Option, Some, refl, sym, ap, subst, ◌∙◌, arith, append-nil, append_assoc}
+use Rattle.std.proofs.Common.{◌≡◌, ◌≢◌, ℕ, zero, suc, ◌≤◌, ◌<◌, nat_le, true, false, List, [], ◌∷◌, ◌++◌, map, slice_get, Option, Some, refl, sym, ap, subst, ◌∙◌, arith, append-nil, append_assoc}
 use Rattle.std.proofs.lemmas.Bool.Decides.{nat_tests}
 use Rattle.cf_types.specs.declared.forms.StrForm.{StrForm}
 use Rattle.cf_types.specs.declared.forms.Kind.{Kind}
+use Rattle.cf_types.specs.declared.numbers.CfId.{CfId}
 use Rattle.cf_types.specs.declared.numbers.ConnId.{ConnId}
+use Rattle.cf_link.specs.Links.{Telling}
 use Rattle.cf_types.specs.declared.numbers.StrNo.{StrNo}
 use Rattle.engine_api.specs.declared.told.Told.{Told}
 use Rattle.plex_script.specs.declared.agents.Step.{Step}
@@ -18,22 +20,22 @@ use Rattle.plex_script.specs.declared.transcripts.Transcript.{Transcript}
 use Rattle.plex_script.specs.Agent.{step_after, most_asks, asked_by}
 use Rattle.plex_script.proofs.StepLaws.{rests, fewer_asks, some_goes}
 use Rattle.plex_script.specs.Heard.{any_length}
-use Rattle.any_model.specs.Kinds.{any_take, any_told}
+use Rattle.any_model.specs.Kinds.{any_take, any_told, end_of}
 use Rattle.serial_model.specs.Serial.{Run, stopped_at, steps_made}
 use Rattle.any_cell.specs.Passes.{PassShown, IsLater, with_call}
 use Rattle.desk_model.specs.Turns.{Steps, call_item}
 use Rattle.serial_exact.proofs.Spots.{conn, str, put, put_same, put_other, Spot, moved, called}
 use Rattle.serial_exact.proofs.Fits.{IsNextCall}
 use Rattle.serial_exact.proofs.Stages.{Stage, IsStage, State, Known, Fits, Shows, Agrees, Goes, goes_not, goes_same}
-use Rattle.serial_exact.proofs.Moves.{SaysLess, called_state, known_call, back_call, run_called, next_here, agrees_call, stopped_state, known_stop, back_stop, full_here, agrees_stop}
+use Rattle.serial_exact.proofs.Moves.{SaysLess, called_state, known_call, back_call, run_called, next_here, agrees_call, stopped_state, known_stop, back_stop, stop_point, full_here, agrees_stop}
 
 -- ---- how many calls
 
 -- a step that rests asks nothing more
-resting : (limit most : ℕ) (form : StrForm) (line : Option AnyAsk) (by : ConnId) (on : StrNo) (run : Run)
-    → steps_made limit most form line by on step.Rest run ≡ run
-resting limit zero form line by on run = refl
-resting limit (suc most) form line by on run = resting limit most form line by on run
+resting : (limit : ℕ) (told : ℕ → CfId → Telling) (most : ℕ) (form : StrForm) (line : Option AnyAsk) (by : ConnId) (on : StrNo) (run : Run)
+    → steps_made limit told most form line by on step.Rest run ≡ run
+resting limit told zero form line by on run = refl
+resting limit told (suc most) form line by on run = resting limit told most form line by on run
 
 some_left : (kind : Kind) (line : Option AnyAsk) (now : Step) (asked : AnyAsk) (most : ℕ)
     → asked_by kind line now ≡ Some asked
@@ -75,14 +77,14 @@ module _ (stage : Stage) (is : IsStage stage) (line : Option AnyAsk) (on by : �
   kind_here = (stage.form on).kind
 
   abbrev steps_here : ℕ → Step → Run → Run
-  steps_here most now = steps_made stage.limit most (stage.form on) line (conn by) (str on) now
+  steps_here most now = steps_made stage.limit stage.told most (stage.form on) line (conn by) (str on) now
 
   pub record StepsGo (shows shows' : Shows) (most : ℕ) (now : Step) (pass : PassShown) (transcript : Transcript)
       (before : State) : Type 1 where
     pub after : State
     pub is_moved : IsMoved on by pass transcript before after
     pub goes : Goes stage shows shows' before after
-        (steps_made stage.limit most (stage.form on) line (conn by) (str on) now)
+        (steps_made stage.limit stage.told most (stage.form on) line (conn by) (str on) now)
 
   -- the next call isn't made
   full_made : (less : ℕ) (now : Step) (asked : AnyAsk) (entries : AnyHistory) (run : Run)
@@ -91,7 +93,7 @@ module _ (stage : Stage) (is : IsStage stage) (line : Option AnyAsk) (on by : �
       → steps_here (suc less) now run ≡ stopped_at (conn by) (str on) run
   full_made less now asked entries run asks there full =
       let test : nat_le stage.limit (any_length entries) ≡ true = grind (arith, nat_tests) in
-      rw (asks, there, test) (resting stage.limit less (stage.form on) line (conn by) (str on)
+      rw (asks, there, test) (resting stage.limit stage.told less (stage.form on) line (conn by) (str on)
       (stopped_at (conn by) (str on) run))
 
   stop_moved : (pass : PassShown) (end : AgentEnd) (before : State) → (before.spots on).last ≡ Some (conn by)
@@ -132,11 +134,13 @@ module _ (stage : Stage) (is : IsStage stage) (line : Option AnyAsk) (on by : �
               let transcript : Transcript = record (before.shown by) { end = end } in
               subst (Agrees stage shows' (stopped_state on by pass end before))
               (sym (ap (λ (m : ℕ). steps_here m now run) left.1
-              ∙ full_made left.0 now halted.asked (any_take (length (before.spots on).events) (stage.entries on)) run
+              ∙ full_made left.0 now halted.asked (any_take (end_of (before.spots on).events) (stage.entries on)) run
               halted.next
               (agrees.at on within).history_is
-              (full_here stage is on by pass transcript before within last halted.later.known full known fits)))
-              (agrees_stop stage shows shows' on by pass before run within caller last halted.later halted.ordered
+              (full_here stage is on by pass transcript before within last halted.later.known full known fits
+              (stop_point stage on by pass end before within caller (λ ends. absurd cc) fits)
+              (agrees.at on within).front_is)))
+              (agrees_stop stage is shows shows' on by pass before run within caller last halted.later halted.ordered
               works less known fits agrees);
         };
       }
@@ -182,7 +186,7 @@ module _ (stage : Stage) (is : IsStage stage) (line : Option AnyAsk) (on by : �
         };
         goes = goes_same stage shows shows before before (λ run. run) (steps_here most now)
             (λ run. sym (ap (λ (s : Step). steps_here most s run) rest
-            ∙ resting stage.limit most (stage.form on) line (conn by) (str on) run))
+            ∙ resting stage.limit stage.told most (stage.form on) line (conn by) (str on) run))
             (goes_not stage shows before);
       }
 
@@ -225,9 +229,9 @@ module _ (stage : Stage) (is : IsStage stage) (line : Option AnyAsk) (on by : �
   call_made_here : (less : ℕ) (now : Step) (asked : AnyAsk) (told : Told) (entries : AnyHistory) (run : Run)
       → asked_by kind_here line now ≡ Some asked → slice_get run.histories on ≡ Some entries
       → any_length entries < stage.limit
-      → told ≡ any_told (stage.form on) entries (conn by) asked
+      → told ≡ any_told (stage.form on) (stage.told on) entries (conn by) asked
       → steps_here (suc less) now run ≡ steps_here less (step_after now told)
-      (run_called (stage.form on) on by asked entries run)
+      (run_called (stage.form on) (stage.told on) on by asked entries run)
   call_made_here less now asked told entries run asks there room answer =
       let test : nat_le stage.limit (any_length entries) ≡ false = grind (arith, nat_tests) in
       rw (asks, there, test, answer) refl
@@ -263,20 +267,20 @@ module _ (stage : Stage) (is : IsStage stage) (line : Option AnyAsk) (on by : �
           back = λ known fits.
               let known' : Known stage between =
               known_call stage on by asked told before within caller last above known in
-              back_call stage is on by asked told before within caller last above known (then.goes.back known' fits);
+              back_call stage is on by asked told before within caller last works above known (then.goes.back known' fits);
           agrees = λ known fits run agrees.
               let known' : Known stage between =
               known_call stage on by asked told before within caller last above known in
               let fits' : Fits stage between = then.goes.back known' fits in
-              let entries : AnyHistory = any_take (length (before.spots on).events) (stage.entries on) in
-              let next : IsNextCall stage.limit (stage.form on) (stage.entries on) by
-              (length (before.spots on).events) asked told =
+              let entries : AnyHistory = any_take (end_of (before.spots on).events) (stage.entries on) in
+              let next : IsNextCall stage.limit (stage.form on) (stage.told on) (stage.entries on) by
+              (end_of (before.spots on).events) asked told =
               next_here stage is on by asked told before within fits' in
               subst (Agrees stage shows' then.after)
               (sym (ap (λ (m : ℕ). steps_here m now run) left.1
               ∙ call_made_here left.0 now asked told entries run asks (agrees.at on within).history_is
               (omega (arith, next.size, next.room)) next.answer))
-              (then.goes.agrees known' fits (run_called (stage.form on) on by asked entries run)
+              (then.goes.agrees known' fits (run_called (stage.form on) (stage.told on) on by asked entries run)
               (agrees_call stage is shows shows' on by asked told before run within caller last above works says known
               fits' agrees));
         };

@@ -1,5 +1,5 @@
 -- The closings of a script at a board, against the run by the machine alone.
-use Rattle.std.proofs.Common.{◌≡◌, ◌≢◌, ℕ, zero, suc, ◌+◌, ◌≤◌, ◌<◌, Bool, true, false, List, [], ◌∷◌, ◌++◌, length, map, take, fold, slice_get, replicate, Option, None, Some, MatchBool, refl, sym, ap, subst, ◌∙◌, arith, length-set, append_assoc, length-append, take_at}
+use Rattle.std.proofs.Common.{inl, inr, ◌≡◌, ◌≢◌, ℕ, zero, suc, ◌+◌, ◌≤◌, ◌<◌, Bool, true, false, List, [], ◌∷◌, ◌++◌, length, map, fold, slice_get, replicate, Option, None, Some, MatchBool, refl, sym, ap, subst, ◌∙◌, arith, length-set, append_assoc, length-append}
 use Rattle.std.specs.Prelude.{All, slice_index_or}
 use Rattle.std.specs.List.{range_with_len, enumerate_from}
 use Rattle.std.proofs.lemmas.List.{get_or-replicate, length-replicate}
@@ -15,8 +15,9 @@ use Rattle.plex_script.specs.declared.transcripts.AgentEnd.TheVariants as ended
 use Rattle.plex_script.specs.declared.transcripts.Transcript.{Transcript}
 use Rattle.plex_script.specs.Agent.{shell_ask}
 use Rattle.plex_script.specs.Heard.{AnyCall, any_calls, own_calls, is_linked}
-use Rattle.any_model.specs.Kinds.{any_take}
-use Rattle.any_model.proofs.HistoryLaws.{take_calls}
+use Rattle.std.proofs.lemmas.Bool.{cases_eq}
+use Rattle.any_model.specs.Kinds.{IsAnyPoint, any_take, end_of}
+use Rattle.any_model.proofs.SeamLaws.{IsFrontOf}
 use Rattle.serial_model.specs.Serial as serial
 use Rattle.serial_model.specs.Serial.{Run, is_done, after_departure, after_closing, all_steps_made}
 use Rattle.any_cell.specs.Passes.{PassShown}
@@ -27,7 +28,7 @@ use Rattle.desk_model.specs.Turns.{AtWork, Asks, Departs, is_done_as}
 use Rattle.desk_model.specs.Callers.{DepartsEach}
 use Rattle.desk_model.specs.Floors.{Floor, worker_of, with_worker, heard_from_last, heard_all, ClosesAll}
 use Rattle.serial_exact.proofs.Spots.{conn, str, put, put_all, put_same, put_other, Spot, moved, known_moved}
-use Rattle.serial_exact.proofs.Fits.{put_back, FitsAt, fits_put, heard_pass, IsHeardPass, heard_is, heard_complete}
+use Rattle.serial_exact.proofs.Fits.{put_back, FitsAt, events_front, fits_put, heard_pass, IsHeardPass, heard_is, heard_complete}
 use Rattle.serial_exact.proofs.Agreements.{AgreesAt, agrees_put, last_is}
 use Rattle.serial_exact.proofs.Stages.{Stage, IsStage, State, Known, Fits, Shows, Agrees, Goes, goes_then, goes_not}
 use Rattle.serial_exact.proofs.Moves.{transcript_is}
@@ -58,9 +59,9 @@ heard_state_all by state = record {
   shown = put by (state.shown by) state.shown;
 }
 
-pub goes_heard_all : (stage : Stage) (by : ℕ) (state : State) → by ≤ stage.callers
+pub goes_heard_all : (stage : Stage) (by : ℕ) (state : State) → by ≤ stage.callers → (state.shown by).end ≡ ended.Done
     → Goes stage of_none of_none state (heard_state_all by state) (λ run. run)
-goes_heard_all stage by state caller =
+goes_heard_all stage by state caller works =
     record {
       known = λ known x within.
           let heeded : IsHeardPass by (state.spots x) (heard_pass by (state.spots x)) =
@@ -82,6 +83,14 @@ goes_heard_all stage by state caller =
             put_back (λ c transcript'. c ≤ stage.callers → transcript'.end ≢ ended.NoMemory) by (state.shown by)
             state.shown
             (λ is. is) c (fits.memory c);
+        stopped = λ x c within inside stops. elim (cases_eq c by) [
+          | inl mine ↦ absurd (stops (ap (λ (n : ℕ). (state.shown n).end) mine ∙ works))
+          | inr other ↦
+              subst (λ (p : PassShown). IsAnyPoint (stage.entries x) p.known)
+              (put_other by (heard_pass by (state.spots x)) (state.spots x).passes c other)
+              (fits.stopped x c within inside (λ ends. stops (ap (λ (t : Transcript). t.end)
+              (sym (put_other by (state.shown by) state.shown c other)) ∙ ends)))
+        ];
       };
       agrees = λ known fits run agrees. record {
         histories = agrees.histories;
@@ -101,7 +110,7 @@ goes_heard_all stage by state caller =
             agrees_put stage.callers (stage.entries x) x (of_none x) (of_none x) by spot state.shown
             (slice_get run.histories x) (slice_get run.histories x) (slice_get run.posted x) (slice_get run.posted x)
             pass (Some (conn by))
-            spot.events pass.known (state.shown by) at at.history_is at.number_is
+            spot.events pass.known (state.shown by) at at.history_is at.number_is (heeded.known ∙ at.front_is)
             (λ works. record {
               complete = complete;
               most = omega (arith, (at.seen by caller works).most, heeded.more);
@@ -214,15 +223,14 @@ departs_not stage by worker worker' before goes at same still =
 linked_is : (stage : Stage) (is : IsStage stage) (on by : ℕ) (worker : AtWork) (before : State) → on < stage.cells
     → by ≤ stage.callers
     → IsWorker stage.cells by worker before → Known stage before → Fits stage before
-    → is_linked (own_calls (any_calls (any_take (length (before.spots on).events) (stage.entries on))) (conn by))
+    → is_linked (own_calls (any_calls (any_take (end_of (before.spots on).events) (stage.entries on))) (conn by))
     ≡ is_linked (pass_at worker.desk (str on)).calls
 linked_is stage is on by worker before within caller at known fits =
     let spot : Spot = before.spots on in
     let here : FitsAt (stage.form on) (stage.entries on) stage.callers spot = fits.at on within in
-    let calls : any_calls (any_take (length spot.events) (stage.entries on)) ≡ spot.events =
-    take_calls (stage.form on) (stage.entries on) (length spot.events) (is.legal on within)
-    ∙ ap (take (length spot.events)) here.calls ∙ take_at spot.events here.more (length spot.events) refl in
-    ap (λ (t : List AnyCall). is_linked (own_calls t (conn by))) calls
+    let front : IsFrontOf (stage.entries on) spot.events =
+    events_front (stage.form on) (stage.entries on) stage.callers spot (is.legal on within) here in
+    ap (λ (t : List AnyCall). is_linked (own_calls t (conn by))) front.calls_are
     ∙ sym (ap is_linked ((known on within).pass by caller).calls)
     ∙ sym (ap (λ (p : PassShown). is_linked p.calls) (at.passes on within))
 
@@ -240,7 +248,7 @@ module _ (stage : Stage) (is : IsStage stage) (on by : ℕ) (worker worker' : At
       → MatchBool b (Asks stage.limit (stage.form on).kind (Some (shell_ask (stage.form on).kind cmd.Disconnect))
       (str on) (step.Call 0) worker worker')
       (worker' ≡ worker)
-      → DepartsGo stage by worker' before (λ run. after_departure stage.limit (conn by) run (on, stage.form on))
+      → DepartsGo stage by worker' before (λ run. after_departure stage.limit stage.told (conn by) run (on, stage.form on))
   departs_case true linked works last asks =
       let line : Option AnyAsk = Some (shell_ask (stage.form on).kind cmd.Disconnect) in
       let go : AsksGo stage of_none of_none line on by (step.Call 0) worker' before =
@@ -254,8 +262,8 @@ module _ (stage : Stage) (is : IsStage stage) (on by : ℕ) (worker worker' : At
         notes = go.notes;
         lasts = go.lasts;
         goes_on = goes_where stage of_none of_none before go.after
-            (all_steps_made stage.limit (stage.form on) line (conn by) (str on) (step.Call 0))
-            (λ run. after_departure stage.limit (conn by) run (on, stage.form on))
+            (all_steps_made stage.limit stage.told (stage.form on) line (conn by) (str on) (step.Call 0))
+            (λ run. after_departure stage.limit stage.told (conn by) run (on, stage.form on))
             (λ known fits run agrees.
             rw (
               done_run ended.Done works run agrees,
@@ -266,7 +274,7 @@ module _ (stage : Stage) (is : IsStage stage) (on by : ℕ) (worker worker' : At
       }
   departs_case false linked works last same =
       departs_not stage by worker worker' before
-      (λ run. after_departure stage.limit (conn by) run (on, stage.form on)) at same
+      (λ run. after_departure stage.limit stage.told (conn by) run (on, stage.form on)) at same
       (λ known fits run agrees.
       rw (
         done_run ended.Done works run agrees,
@@ -282,21 +290,21 @@ module _ (stage : Stage) (is : IsStage stage) (on by : ℕ) (worker worker' : At
       (step.Call 0) worker worker')
       (worker' ≡ worker))
       (worker' ≡ worker)
-      → DepartsGo stage by worker' before (λ run. after_departure stage.limit (conn by) run (on, stage.form on))
+      → DepartsGo stage by worker' before (λ run. after_departure stage.limit stage.told (conn by) run (on, stage.form on))
   departs_end ended.Done ends last departs =
       departs_case (is_linked (pass_at worker.desk (str on)).calls) refl ends last departs
   departs_end (ended.JournalFull place) ends last same =
       departs_not stage by worker worker' before
-      (λ run. after_departure stage.limit (conn by) run (on, stage.form on)) at same
+      (λ run. after_departure stage.limit stage.told (conn by) run (on, stage.form on)) at same
       (λ known fits run agrees. rw (done_run (ended.JournalFull place) ends run agrees) refl)
   departs_end ended.NoMemory ends last same =
       departs_not stage by worker worker' before
-      (λ run. after_departure stage.limit (conn by) run (on, stage.form on)) at same
+      (λ run. after_departure stage.limit stage.told (conn by) run (on, stage.form on)) at same
       (λ known fits run agrees. rw (done_run ended.NoMemory ends run agrees) refl)
 
   pub departs_go : (before.spots on).last ≡ Some (conn by) → Departs stage.limit (stage.form on) (str on) worker
       worker'
-      → DepartsGo stage by worker' before (λ run. after_departure stage.limit (conn by) run (on, stage.form on))
+      → DepartsGo stage by worker' before (λ run. after_departure stage.limit stage.told (conn by) run (on, stage.form on))
   departs_go last departs =
       departs_end (before.shown by).end refl last
       (subst (λ (t : Transcript). MatchBool (is_done_as t.end)
@@ -329,16 +337,16 @@ module _ {L : Type 0} (board : BoardShown L) (script : Script) (stage : Stage) (
   departs_then : (by : ℕ) (cell : CellShown L) (left : List (CellShown L)) (n : ℕ) (worker worker' : AtWork)
       (before : State)
       → slice_get board.cells n ≡ Some cell
-      → (one : DepartsGo stage by worker before (λ run. after_departure stage.limit (conn by) run (n, stage.form n)))
+      → (one : DepartsGo stage by worker before (λ run. after_departure stage.limit stage.told (conn by) run (n, stage.form n)))
       → DepartsGo stage by worker' one.after
-      (λ run. fold (after_departure stage.limit (conn by)) run
+      (λ run. fold (after_departure stage.limit stage.told (conn by)) run
       (enumerate_from (n + 1) (map (λ cell. cell.form) left)))
       → DepartsGo stage by worker' before
-      (λ run. fold (after_departure stage.limit (conn by)) run
+      (λ run. fold (after_departure stage.limit stage.told (conn by)) run
       (enumerate_from n (map (λ cell. cell.form) (cell ∷ left))))
   departs_then by cell left n worker worker' before there one rest =
       let behind : Run → Run =
-      λ run. fold (after_departure stage.limit (conn by)) run (enumerate_from (n + 1) (map (λ cell. cell.form) left))
+      λ run. fold (after_departure stage.limit stage.told (conn by)) run (enumerate_from (n + 1) (map (λ cell. cell.form) left))
       in
       record {
         after = rest.after;
@@ -347,12 +355,12 @@ module _ {L : Type 0} (board : BoardShown L) (script : Script) (stage : Stage) (
         notes = λ x. rest.notes x ∙ one.notes x;
         lasts = λ x. rest.lasts x ∙ one.lasts x;
         goes_on = goes_where stage of_none of_none before rest.after
-            (λ run. behind (after_departure stage.limit (conn by) run (n, stage.form n)))
-            (λ run. behind (after_departure stage.limit (conn by) run (n, cell.form)))
+            (λ run. behind (after_departure stage.limit stage.told (conn by) run (n, stage.form n)))
+            (λ run. behind (after_departure stage.limit stage.told (conn by) run (n, cell.form)))
             (λ known fits run agrees.
-            ap (λ (f : StrForm). behind (after_departure stage.limit (conn by) run (n, f))) (of.form n cell there))
+            ap (λ (f : StrForm). behind (after_departure stage.limit stage.told (conn by) run (n, f))) (of.form n cell there))
             (goes_then stage of_none of_none of_none before one.after rest.after
-            (λ run. after_departure stage.limit (conn by) run (n, stage.form n)) behind one.goes_on rest.goes_on);
+            (λ run. after_departure stage.limit stage.told (conn by) run (n, stage.form n)) behind one.goes_on rest.goes_on);
       }
 
   -- the structures that are left, one after another
@@ -362,7 +370,7 @@ module _ {L : Type 0} (board : BoardShown L) (script : Script) (stage : Stage) (
       → ((x : ℕ) → x < stage.cells → (before.spots x).last ≡ Some (conn by))
       → DepartsEach n left worker worker'
       → DepartsGo stage by worker' before
-      (λ run. fold (after_departure stage.limit (conn by)) run (enumerate_from n (map (λ cell. cell.form) left)))
+      (λ run. fold (after_departure stage.limit stage.told (conn by)) run (enumerate_from n (map (λ cell. cell.form) left)))
   departs_each by front [] n worker worker' before place split caller at last departs =
       departs_not stage by worker worker' before (λ run. run) at departs (λ known fits run agrees. refl)
   departs_each by front (cell ∷ left) n worker worker' before place split caller at last departs =
@@ -370,12 +378,12 @@ module _ {L : Type 0} (board : BoardShown L) (script : Script) (stage : Stage) (
       let within : n < stage.cells =
       omega (arith, of.cells, place, ap length split, length-append front (cell ∷ left)) in
       let one : DepartsGo stage by departs.0 before
-      (λ run. after_departure stage.limit (conn by) run (n, stage.form n)) =
+      (λ run. after_departure stage.limit stage.told (conn by) run (n, stage.form n)) =
       departs_go stage is n by worker departs.0 before within caller at (last n within)
       (subst (λ (f : StrForm). Departs stage.limit f (str n) worker departs.0) (of.form n cell there)
       (subst (λ (m : ℕ). Departs m cell.form (str n) worker departs.0) (of.limit n cell there) departs.1)) in
       let rest : DepartsGo stage by worker' one.after
-      (λ run. fold (after_departure stage.limit (conn by)) run
+      (λ run. fold (after_departure stage.limit stage.told (conn by)) run
       (enumerate_from (n + 1) (map (λ cell. cell.form) left))) =
       departs_each by (front ++ cell ∷ []) left (n + 1) departs.0 worker' one.after
       (next_place front cell n place) (split_next board.cells front left cell split) caller one.is_worker
@@ -384,11 +392,11 @@ module _ {L : Type 0} (board : BoardShown L) (script : Script) (stage : Stage) (
 
   -- a caller that stopped doesn't depart
   idle_places : (conn : ConnId) (places : List (ℕ × StrForm)) (run : Run) → is_done run conn ≡ false
-      → fold (after_departure stage.limit conn) run places ≡ run
+      → fold (after_departure stage.limit stage.told conn) run places ≡ run
   idle_places conn [] run stopped = refl
   idle_places conn (place ∷ places) run stopped =
-      ap (λ (r : Run). fold (after_departure stage.limit conn) r places)
-      (let still : after_departure stage.limit conn run place ≡ run = rw stopped refl in still)
+      ap (λ (r : Run). fold (after_departure stage.limit stage.told conn) r places)
+      (let still : after_departure stage.limit stage.told conn run place ≡ run = rw stopped refl in still)
       ∙ idle_places conn places run stopped
 
   closes_case : (by : ℕ) (floor floor' : Floor) (before : State) → by ≤ stage.callers → IsFloor stage floor before
@@ -400,11 +408,11 @@ module _ {L : Type 0} (board : BoardShown L) (script : Script) (stage : Stage) (
       × (floor' ≡ record (with_worker (conn by) worker floor)
       { last = replicate (length board.cells) (Some (conn by)) }))
       (floor' ≡ floor)
-      → TurnGoes stage of_none of_none before floor' (λ run. after_closing stage.limit script run (conn by))
+      → TurnGoes stage of_none of_none before floor' (λ run. after_closing stage.limit stage.told script run (conn by))
   closes_case by floor floor' before caller at known forms ended.Done ends closes =
       let heard_now : State = heard_state_all by before in
       let go : DepartsGo stage by closes.0 heard_now
-      (λ run. fold (after_departure stage.limit (conn by)) run
+      (λ run. fold (after_departure stage.limit stage.told (conn by)) run
       (enumerate_from 0 (map (λ cell. cell.form) board.cells))) =
       departs_each by [] board.cells 0 (heard_all board floor (conn by)) closes.0 heard_now refl refl caller
       (heard_all_worker board stage by floor before of.cells caller at known) (λ x inside. refl) closes.1 in
@@ -422,21 +430,21 @@ module _ {L : Type 0} (board : BoardShown L) (script : Script) (stage : Stage) (
             go.is_worker
             (others_then by before heard_now go.after (heard_others by before) go.others);
         goes_on = goes_as stage of_none of_none before go.after
-            (λ run. fold (after_departure stage.limit (conn by)) run
+            (λ run. fold (after_departure stage.limit stage.told (conn by)) run
             (enumerate_from 0 (map (λ cell. cell.form) board.cells)))
-            (λ run. after_closing stage.limit script run (conn by))
-            (λ run agrees. ap (λ (f : List StrForm). fold (after_departure stage.limit (conn by)) run
+            (λ run. after_closing stage.limit stage.told script run (conn by))
+            (λ run agrees. ap (λ (f : List StrForm). fold (after_departure stage.limit stage.told (conn by)) run
             (enumerate_from 0 f)) (sym forms))
             (goes_then stage of_none of_none of_none before heard_now go.after (λ run. run)
-            (λ run. fold (after_departure stage.limit (conn by)) run
+            (λ run. fold (after_departure stage.limit stage.told (conn by)) run
             (enumerate_from 0 (map (λ cell. cell.form) board.cells)))
-            (goes_heard_all stage by before caller) go.goes_on);
+            (goes_heard_all stage by before caller ends) go.goes_on);
       }
   closes_case by floor floor' before caller at known forms (ended.JournalFull place) ends same = record {
     after = before;
     is_floor = subst (λ (f : Floor). IsFloor stage f before) (sym same) at;
     goes_on = goes_as stage of_none of_none before before (λ run. run)
-        (λ run. after_closing stage.limit script run (conn by))
+        (λ run. after_closing stage.limit stage.told script run (conn by))
         (λ run agrees. idle_places (conn by) (enumerate_from 0 script.structures) run
         (ap (λ (t : Transcript). serial.is_done_as t.end) (transcript_is stage of_none by before run caller agrees)
         ∙ ap serial.is_done_as ends))
@@ -446,7 +454,7 @@ module _ {L : Type 0} (board : BoardShown L) (script : Script) (stage : Stage) (
     after = before;
     is_floor = subst (λ (f : Floor). IsFloor stage f before) (sym same) at;
     goes_on = goes_as stage of_none of_none before before (λ run. run)
-        (λ run. after_closing stage.limit script run (conn by))
+        (λ run. after_closing stage.limit stage.told script run (conn by))
         (λ run agrees. idle_places (conn by) (enumerate_from 0 script.structures) run
         (ap (λ (t : Transcript). serial.is_done_as t.end) (transcript_is stage of_none by before run caller agrees)
         ∙ ap serial.is_done_as ends))
@@ -457,7 +465,7 @@ module _ {L : Type 0} (board : BoardShown L) (script : Script) (stage : Stage) (
       → map (λ cell. cell.form) board.cells ≡ script.structures
       → (floor floor' : Floor) (before : State) → IsFloor stage floor before → Known stage before
       → ClosesAll board conns floor floor'
-      → TurnGoes stage of_none of_none before floor' (λ run. fold (after_closing stage.limit script) run conns)
+      → TurnGoes stage of_none of_none before floor' (λ run. fold (after_closing stage.limit stage.told script) run conns)
   closes_all [] callers forms floor floor' before at known closes =
       record {
         after = before;
@@ -466,7 +474,7 @@ module _ {L : Type 0} (board : BoardShown L) (script : Script) (stage : Stage) (
       }
   closes_all (conn ∷ conns) callers forms floor floor' before at known closes =
       let caller : conn.0 ≤ stage.callers = All-head (λ (conn : ConnId). conn.0 ≤ stage.callers) conn conns callers in
-      let first : TurnGoes stage of_none of_none before closes.0 (λ run. after_closing stage.limit script run conn) =
+      let first : TurnGoes stage of_none of_none before closes.0 (λ run. after_closing stage.limit stage.told script run conn) =
       closes_case conn.0 floor closes.0 before caller at known forms (before.shown conn.0).end refl
       (subst (λ (t : Transcript). MatchBool (is_done_as t.end)
       ((worker : AtWork) × DepartsEach 0 board.cells (heard_all board floor conn) worker
@@ -479,6 +487,6 @@ module _ {L : Type 0} (board : BoardShown L) (script : Script) (stage : Stage) (
         after = rest.after;
         is_floor = rest.is_floor;
         goes_on = goes_then stage of_none of_none of_none before first.after rest.after
-            (λ run. after_closing stage.limit script run conn)
-            (λ run. fold (after_closing stage.limit script) run conns) first.goes_on rest.goes_on;
+            (λ run. after_closing stage.limit stage.told script run conn)
+            (λ run. fold (after_closing stage.limit stage.told script) run conns) first.goes_on rest.goes_on;
       }

@@ -1,14 +1,17 @@
 -- What the histories that are left at the end have to do with what was done at a structure so far.
-use Rattle.std.proofs.Common.{◌≡◌, ℕ, ◌+◌, ◌≤◌, ◌<◌, ◌==◌, Bool, true, false, cond, List, [], ◌∷◌, ◌++◌, length, Option, None, Some, refl, sym, ap, subst, ◌∙◌, arith, append_assoc, length-append}
+use Rattle.std.proofs.Common.{◌≡◌, ℕ, ◌≤◌, ◌<◌, ◌==◌, Bool, true, false, cond, List, [], ◌∷◌, ◌++◌, fold, Option, None, Some, refl, sym, ap, subst, ◌∙◌, arith, append_assoc}
 use Rattle.std.specs.Prelude.{All, if◌then◌else◌}
 use Rattle.cf_types.specs.declared.forms.StrForm.{StrForm}
 use Rattle.cf_types.specs.declared.numbers.ConnId.{ConnId}
+use Rattle.cf_types.specs.declared.numbers.CfId.{CfId}
+use Rattle.cf_link.specs.Links.{Telling}
 use Rattle.engine_api.specs.declared.told.Told.{Told}
 use Rattle.plex_script.specs.declared.scripts.AnyAsk.{AnyAsk}
 use Rattle.plex_script.specs.declared.asks.AnyHistory.{AnyHistory}
 use Rattle.plex_script.specs.Heard.{AnyCall, any_calls, any_length}
-use Rattle.any_model.specs.Kinds.{IsAnyLegal, any_take, any_next, any_told}
-use Rattle.any_model.proofs.HistoryLaws.{calls_length, call_number, next_call, take_length}
+use Rattle.any_model.specs.Kinds.{IsAnyLegal, AreAnyAsTold, any_take, any_next, any_told, any_numbers, end_of, last_number}
+use Rattle.any_model.proofs.SeamLaws.{IsNextOf, next_call, IsFrontOf, front_of, numbers_of, numbers_any, IsBefore}
+use Rattle.struct_cell.specs.Limits.{AreMadeBelow}
 use Rattle.any_cell.specs.Passes.{PassShown, with_call, note_of}
 use Rattle.any_cell.specs.Cells.{IsAnyTold}
 use Rattle.desk_model.specs.Notes.{with_note}
@@ -24,18 +27,22 @@ put_back {X} P at x xs back other is = go (other == at) refl is
         subst (λ n. P n (xs n)) (sym e) (back (subst (λ n. P n x) e is))
     go false apart is = is
 
--- the calls so far are a beginning of the history's, no pass knows a number beyond them, and the history
--- tells all tests
+-- the calls so far are a beginning of the history's, no pass knows the number of a later one, and the history tells
+-- all tests
 pub record FitsAt (form : StrForm) (entries : AnyHistory) (callers : ℕ) (spot : Spot) : Type 0 where
   pub more : List AnyCall
   pub calls : any_calls entries ≡ spot.events ++ more
-  pub front : spot.front ≤ length spot.events
+  pub before : IsBefore spot.front more
   pub tests : (c : ℕ) → c ≤ callers → All (IsAnyTold form entries (conn c)) (spot.passes c).tests
 
-pub events_within : (form : StrForm) (entries : AnyHistory) (callers : ℕ) (spot : Spot) → IsAnyLegal form entries
-    → FitsAt form entries callers spot → length spot.events ≤ any_length entries
-events_within form entries callers spot legal fits =
-    omega (arith, calls_length form entries legal, ap length fits.calls, length-append spot.events fits.more)
+-- the entries of those calls
+pub events_front : (form : StrForm) (entries : AnyHistory) (callers : ℕ) (spot : Spot) → IsAnyLegal form entries
+    → FitsAt form entries callers spot → IsFrontOf entries spot.events
+events_front form entries callers spot legal fits = front_of form entries legal spot.events fits.more fits.calls
+
+before_less : (low high : ℕ) (more : List AnyCall) → low ≤ high → IsBefore high more → IsBefore low more
+before_less low high [] least before = tt
+before_less low high (call ∷ more) least before = omega (arith, before)
 
 -- a pass changed, and the front didn't fall
 pub fits_put : (form : StrForm) (entries : AnyHistory) (callers by : ℕ) (spot : Spot) (pass : PassShown)
@@ -50,66 +57,63 @@ fits_put form entries callers by spot pass last front later tests fits =
     record {
       more = fits.more;
       calls = fits.calls;
-      front = omega (arith, fits.front);
+      before = before_less spot.front front fits.more later fits.before;
       tests = λ c within.
           put_back (λ c pass. All (IsAnyTold form entries (conn c)) pass.tests) by pass spot.passes tests c
           (fits.tests c within);
     }
 
-pub called_number : (form : StrForm) (entries : AnyHistory) (callers by : ℕ) (spot : Spot) (asked : AnyAsk)
-    (told : Told)
-    → IsAnyLegal form entries → FitsAt form entries callers (called by asked told spot)
-    → told.no ≡ length spot.events + 1
-called_number form entries callers by spot asked told legal fits =
-    (call_number form entries legal spot.events (event by asked told) fits.more
-    (fits.calls ∙ append_assoc spot.events (event by asked told ∷ []) fits.more)).0
-
 pub fits_called : (form : StrForm) (entries : AnyHistory) (callers by : ℕ) (spot : Spot) (asked : AnyAsk)
     (told : Told)
-    → IsAnyLegal form entries → spot.front < told.no → FitsAt form entries callers (called by asked told spot)
+    → spot.front < told.no → FitsAt form entries callers (called by asked told spot)
     → FitsAt form entries callers spot
-fits_called form entries callers by spot asked told legal above fits =
+fits_called form entries callers by spot asked told above fits =
     record {
       more = event by asked told ∷ fits.more;
       calls = fits.calls ∙ append_assoc spot.events (event by asked told ∷ []) fits.more;
-      front = omega (arith, called_number form entries callers by spot asked told legal fits);
+      before = above;
       tests = λ c within.
           put_back (λ c pass. All (IsAnyTold form entries (conn c)) pass.tests) by
           (with_call asked told (spot.passes by))
           spot.passes (λ is. is) c (fits.tests c within);
     }
 
--- a call of the history is its machine's next, told as it tells it; and the journal had room
-pub record IsNextCall (limit : ℕ) (form : StrForm) (entries : AnyHistory) (by : ℕ) (n : ℕ) (asked : AnyAsk)
-    (told : Told) : Type 0 where
-  pub number : told.no ≡ n + 1
+-- a call came to a journal with room
+made_at : (limit last : ℕ) (front : List AnyCall) (call : AnyCall) (more : List AnyCall)
+    → AreMadeBelow limit last (numbers_of (front ++ call ∷ more)) → fold last_number last front < limit
+made_at limit last [] call more made = made.0
+made_at limit last (first ∷ front) call more made = made_at limit first.no front call more made.1
+
+-- a call of the history is its machine's next behind the entries up to n, told as it tells it; and the journal had room
+pub record IsNextCall (limit : ℕ) (form : StrForm) (tells : CfId → Telling) (entries : AnyHistory) (by : ℕ) (n : ℕ)
+    (asked : AnyAsk) (told : Told) : Type 0 where
   pub size : any_length (any_take n entries) ≡ n
   pub room : n < limit
-  pub next : any_take (n + 1) entries ≡ any_next form (any_take n entries) (conn by) asked
-  pub answer : told ≡ any_told form (any_take n entries) (conn by) asked
+  pub next : any_take told.no entries ≡ any_next form tells (any_take n entries) (conn by) asked
+  pub number : told.no ≡ any_length (any_next form tells (any_take n entries) (conn by) asked)
+  pub answer : told ≡ any_told form tells (any_take n entries) (conn by) asked
 
-pub is_next_call : (limit : ℕ) (form : StrForm) (entries : AnyHistory) (callers by : ℕ) (spot : Spot) (asked : AnyAsk)
-    (told : Told)
-    → IsAnyLegal form entries → any_length entries ≤ limit → FitsAt form entries callers (called by asked told spot)
-    → IsNextCall limit form entries by (length spot.events) asked told
-is_next_call limit form entries callers by spot asked told legal most fits =
+pub is_next_call : (limit : ℕ) (form : StrForm) (tells : CfId → Telling) (entries : AnyHistory) (callers by : ℕ)
+    (spot : Spot) (asked : AnyAsk) (told : Told)
+    → IsAnyLegal form entries → AreAnyAsTold form tells entries → AreMadeBelow limit 0 (any_numbers entries)
+    → FitsAt form entries callers (called by asked told spot)
+    → IsNextCall limit form tells entries by (end_of spot.events) asked told
+is_next_call limit form tells entries callers by spot asked told legal as_told made fits =
     let calls : any_calls entries ≡ spot.events ++ event by asked told ∷ fits.more =
     fits.calls ∙ append_assoc spot.events (event by asked told ∷ []) fits.more in
-    let all : length spot.events + 1 ≤ any_length entries =
-    omega (
-      arith,
-      calls_length form entries legal,
-      ap length calls,
-      length-append spot.events
-          (event by asked told ∷ fits.more),
-    ) in
-    let next = next_call form entries legal spot.events (event by asked told) fits.more calls in
+    let next : IsNextOf form tells entries (any_take (end_of spot.events) entries) (event by asked told) =
+    next_call form tells entries legal as_told spot.events (event by asked told) fits.more calls in
+    let numbers : any_numbers entries ≡ numbers_of (spot.events ++ event by asked told ∷ fits.more) =
+    sym (numbers_any entries) ∙ ap numbers_of calls in
+    let front : IsFrontOf entries spot.events =
+    front_of form entries legal spot.events (event by asked told ∷ fits.more) calls in
     record {
-      number = called_number form entries callers by spot asked told legal fits;
-      size = take_length (length spot.events) entries (omega arith);
-      room = omega arith;
-      next = next.0;
-      answer = next.1;
+      size = front.size;
+      room = made_at limit 0 spot.events (event by asked told) fits.more
+          (subst (AreMadeBelow limit 0) numbers made);
+      next = next.next;
+      number = next.number;
+      answer = next.answer;
     }
 
 -- ---- hearings

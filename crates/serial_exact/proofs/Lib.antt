@@ -13,3 +13,4 @@ pub mod LineRuns
 pub mod Closings
 pub mod Beginnings
 pub mod ExactLaw
+pub mod LinkRuns

@@ -127,7 +127,7 @@ module _ {L : Type 0} (board : BoardShown L) (script : Script) (stage : Stage) (
         worker)
         → floor' ≡ record (with_worker line.by worker floor)
         { last = if b then set floor.last line.on.0 (Some line.by) else floor.last }
-        → Turn (act_made stage.limit (stage.form line.on.0) line (act.Test index))
+        → Turn (act_made stage.limit stage.told (stage.form line.on.0) line (act.Test index))
     test_turn index true inside worker acts floor_is =
         elim (if_done (heard_from_last floor line.by (worker_of floor line.by) line.on) worker _ works_heard acts) [
           | inl tests ↦ bit_turn stage is line.on.0 line.by.0 within caller floor floor' before at known works index
@@ -164,7 +164,7 @@ module _ {L : Type 0} (board : BoardShown L) (script : Script) (stage : Stage) (
         worker)
         → floor' ≡ record (with_worker line.by worker floor)
         { last = if b then set floor.last line.on.0 (Some line.by) else floor.last }
-        → Turn (act_made stage.limit (stage.form line.on.0) line (act.TestWord word))
+        → Turn (act_made stage.limit stage.told (stage.form line.on.0) line (act.TestWord word))
     tests_word word true inside worker acts floor_is =
         elim (if_done (heard_from_last floor line.by (worker_of floor line.by) line.on) worker _ works_heard acts) [
           | inl tests ↦ word_turn stage is line.on.0 line.by.0 within caller floor floor' before at known works word
@@ -185,7 +185,7 @@ module _ {L : Type 0} (board : BoardShown L) (script : Script) (stage : Stage) (
         ]
 
     act_turn : (done : Act) → line.act ≡ done → PlaysAct cell line done floor floor'
-        → Turn (act_made stage.limit (stage.form line.on.0) line done)
+        → Turn (act_made stage.limit stage.told (stage.form line.on.0) line done)
     act_turn (act.Call asked) act_is played =
         let here = played_here (act.Call asked) act_is played in
         calls_turn stage is line.on.0 line.by.0 within caller floor floor' before at known works (Some asked)
@@ -228,13 +228,13 @@ module _ {L : Type 0} (board : BoardShown L) (script : Script) (stage : Stage) (
     idle : (cell : CellShown L) → cell_on board line.on ≡ Some cell → (end : AgentEnd)
         → (before.shown line.by.0).end ≡ end
         → serial.is_done_as end ≡ false → floor' ≡ floor
-        → TurnGoes stage of_all of_all before floor' (λ run. after_line stage.limit script run line)
+        → TurnGoes stage of_all of_all before floor' (λ run. after_line stage.limit stage.told script run line)
     idle cell there end ends stopped floor_is =
         record {
           after = before;
           is_floor = subst (λ (f : Floor). IsFloor stage f before) (sym floor_is) at;
           goes_on = goes_as stage of_all of_all before before (λ run. run)
-              (λ run. after_line stage.limit script run line)
+              (λ run. after_line stage.limit stage.told script run line)
               (λ run agrees. rw (of.policy line.on.0 cell there, done_is end ends run agrees, stopped) refl)
               (goes_not stage of_all before);
         }
@@ -242,15 +242,15 @@ module _ {L : Type 0} (board : BoardShown L) (script : Script) (stage : Stage) (
     line_case : (cell : CellShown L) → cell_on board line.on ≡ Some cell → (end : AgentEnd)
         → (before.shown line.by.0).end ≡ end
         → MatchBool (is_done_as end) (PlaysAct cell line line.act floor floor') (floor' ≡ floor)
-        → TurnGoes stage of_all of_all before floor' (λ run. after_line stage.limit script run line)
+        → TurnGoes stage of_all of_all before floor' (λ run. after_line stage.limit stage.told script run line)
     line_case cell there ended.Done ends played =
         let turn = act_turn line cell there caller floor floor' before at known ends line.act refl played in
         record {
           after = turn.after;
           is_floor = turn.is_floor;
           goes_on = goes_as stage of_all of_all before turn.after
-              (act_made stage.limit (stage.form line.on.0) line line.act)
-              (λ run. after_line stage.limit script run line)
+              (act_made stage.limit stage.told (stage.form line.on.0) line line.act)
+              (λ run. after_line stage.limit stage.told script run line)
               (λ run agrees. rw (of.policy line.on.0 cell there, done_is ended.Done ends run agrees) refl)
               turn.goes_on;
         }
@@ -259,7 +259,7 @@ module _ {L : Type 0} (board : BoardShown L) (script : Script) (stage : Stage) (
     line_case cell there ended.NoMemory ends same = idle cell there ended.NoMemory ends refl same
 
     pub line_goes : PlaysLine board line floor floor'
-        → TurnGoes stage of_all of_all before floor' (λ run. after_line stage.limit script run line)
+        → TurnGoes stage of_all of_all before floor' (λ run. after_line stage.limit stage.told script run line)
     line_goes plays =
         line_case plays.0 plays.1 (before.shown line.by.0).end refl
         (subst (λ (b : Bool). MatchBool b (PlaysAct plays.0 line line.act floor floor') (floor' ≡ floor))
@@ -270,7 +270,7 @@ module _ {L : Type 0} (board : BoardShown L) (script : Script) (stage : Stage) (
   pub lines_go : (lines : List Line) → All (λ line. line.by.0 ≤ stage.callers) lines
       → (floor floor' : Floor) (before : State)
       → IsFloor stage floor before → Known stage before → PlaysLines board lines floor floor'
-      → TurnGoes stage of_all of_all before floor' (λ run. fold (after_line stage.limit script) run lines)
+      → TurnGoes stage of_all of_all before floor' (λ run. fold (after_line stage.limit stage.told script) run lines)
   lines_go [] callers floor floor' before at known plays =
       record {
         after = before;
@@ -287,6 +287,6 @@ module _ {L : Type 0} (board : BoardShown L) (script : Script) (stage : Stage) (
         after = rest.after;
         is_floor = rest.is_floor;
         goes_on = goes_then stage of_all of_all of_all before first.after rest.after
-            (λ run. after_line stage.limit script run line)
-            (λ run. fold (after_line stage.limit script) run lines) first.goes_on rest.goes_on;
+            (λ run. after_line stage.limit stage.told script run line)
+            (λ run. fold (after_line stage.limit stage.told script) run lines) first.goes_on rest.goes_on;
       }

@@ -81,7 +81,7 @@ module _ (stage : Stage) (is : IsStage stage) (on by : ℕ) (within : on < stage
   mine_heard = heard_worker stage on by floor before within caller at known
 
   hears : Goes stage of_all (of_others on by) before heard_now (λ run. run)
-  hears = goes_heard stage of_all (of_others on by) on by before within caller (less_heard on by) (silent on by)
+  hears = goes_heard stage of_all (of_others on by) on by before within caller works (less_heard on by) (silent on by)
 
   heard_works : (heard_now.shown by).end ≡ ended.Done
   heard_works = ap (λ (t : Transcript). t.end) (put_same by (before.shown by) before.shown) ∙ works
@@ -125,7 +125,7 @@ module _ (stage : Stage) (is : IsStage stage) (on by : ℕ) (within : on < stage
   pub calls_turn : (line : Option AnyAsk) (first : Step) (worker : AtWork) → first ≢ step.Rest
       → Asks stage.limit (stage.form on).kind line (str on) first ready_self worker → floor' ≡ counted_floor worker
       → TurnGoes stage of_all of_all before floor'
-      (all_steps_made stage.limit (stage.form on) line (conn by) (str on) first)
+      (all_steps_made stage.limit stage.told (stage.form on) line (conn by) (str on) first)
   calls_turn line first worker goes asks floor_is =
       let go : AsksGo stage (of_others on by) of_all line on by first worker heard_now =
       asks_go stage is (of_others on by) of_all line on by first ready_self worker heard_now within caller goes
@@ -135,7 +135,7 @@ module _ (stage : Stage) (is : IsStage stage) (on by : ℕ) (within : on < stage
         after = go.after;
         is_floor = heard_floor worker go.after floor_is go.is_worker go.others go.notes go.lasts;
         goes_on = goes_then stage of_all (of_others on by) of_all before heard_now go.after (λ run. run)
-            (all_steps_made stage.limit (stage.form on) line (conn by) (str on) first) hears go.goes;
+            (all_steps_made stage.limit stage.told (stage.form on) line (conn by) (str on) first) hears go.goes;
       }
 
   -- a heard turn at the structure that leaves this pass and transcript
@@ -219,7 +219,7 @@ module _ (stage : Stage) (is : IsStage stage) (on by : ℕ) (within : on < stage
   pub bit_turn : (index : ℕ) (worker : AtWork) → nat_lt index (stage.form on).vector ≡ true
       → Tests (str on) index ready_self worker → floor' ≡ counted_floor worker
       → TurnGoes stage of_all of_all before floor'
-      (act_made stage.limit (stage.form on)
+      (act_made stage.limit stage.told (stage.form on)
       (record { at = 0; by = conn by; on = str on; act = act.Test index; retry = 0 }) (act.Test index))
   bit_turn index worker inside tests floor_is =
       let pass_is : pass_at ready_self.desk (str on) ≡ (heard_now.spots on).passes by = mine_heard.passes on within in
@@ -237,7 +237,7 @@ module _ (stage : Stage) (is : IsStage stage) (on by : ℕ) (within : on < stage
   pub word_turn : (word : ℕ) (worker : AtWork) → nat_lt (32 * word) (stage.form on).vector ≡ true
       → TestsWord (str on) word ready_self worker → floor' ≡ counted_floor worker
       → TurnGoes stage of_all of_all before floor'
-      (act_made stage.limit (stage.form on)
+      (act_made stage.limit stage.told (stage.form on)
       (record { at = 0; by = conn by; on = str on; act = act.TestWord word; retry = 0 }) (act.TestWord word))
   word_turn word worker inside tests floor_is =
       let pass_is : pass_at ready_self.desk (str on) ≡ (heard_now.spots on).passes by = mine_heard.passes on within in

@@ -1,9 +1,12 @@
 -- What one step of a caller at a structure keeps, and the run that goes with it: a hearing, a call, and a
 -- next call that wasn't made.
-use Rattle.std.proofs.Common.{◌≡◌, ◌≢◌, ℕ, ◌+◌, ◌≤◌, ◌<◌, ◌==◌, max, true, false, [], ◌∷◌, ◌++◌, length, set, slice_get, None, Some, refl, sym, ap, subst, ◌∙◌, arith, length-append}
+use Rattle.std.proofs.Common.{◌≡◌, ◌≢◌, ℕ, ◌≤◌, ◌<◌, ◌==◌, max, true, false, [], ◌∷◌, ◌++◌, set, slice_get, None, Some, refl, sym, ap, subst, ◌∙◌, arith}
 use Rattle.std.specs.Prelude.{All}
 use Rattle.std.proofs.lemmas.Bool.Decides.{nat_tests}
+use Rattle.std.proofs.lemmas.List.Sums.{fold_push}
 use Rattle.cf_types.specs.declared.forms.StrForm.{StrForm}
+use Rattle.cf_types.specs.declared.numbers.CfId.{CfId}
+use Rattle.cf_link.specs.Links.{Telling}
 use Rattle.engine_api.specs.declared.told.Told.{Told}
 use Rattle.plex_script.specs.declared.scripts.AnyAsk.{AnyAsk}
 use Rattle.plex_script.specs.declared.asks.AnyHistory.{AnyHistory}
@@ -12,15 +15,16 @@ use Rattle.plex_script.specs.declared.transcripts.AgentEnd.TheVariants as ended
 use Rattle.plex_script.specs.declared.transcripts.Shown.TheVariants as shown
 use Rattle.plex_script.specs.declared.transcripts.Transcript.{Transcript}
 use Rattle.plex_script.specs.Heard.{any_length}
-use Rattle.any_model.specs.Kinds.{any_take, any_next}
-use Rattle.any_model.proofs.HistoryLaws.{take_length}
+use Rattle.any_model.specs.Kinds.{IsAnyPoint, any_take, any_next, end_of, last_number}
+use Rattle.any_model.proofs.HistoryLaws.{calls_rise}
+use Rattle.any_model.proofs.SeamLaws.{IsFrontOf, point_end}
 use Rattle.serial_model.specs.Numbers.{shown_on, seen_on}
 use Rattle.serial_model.specs.Serial.{Run, shown_to, stopped_at, transcript_of, transcript_at}
 use Rattle.any_cell.specs.Passes.{PassShown, with_call, IsLater}
 use Rattle.any_cell.specs.Cells.{IsAnyTold}
 use Rattle.list_laws.proofs.TableLaws.{set_same}
-use Rattle.serial_exact.proofs.Spots.{conn, str, put, put_same, is_other, rising_length, Spot, IsKnown, LastKnows, event, moved, called, known_moved, known_called}
-use Rattle.serial_exact.proofs.Fits.{FitsAt, events_within, fits_put, fits_called, IsNextCall, is_next_call, heard_pass, IsHeardPass, heard_is, heard_complete}
+use Rattle.serial_exact.proofs.Spots.{conn, str, put, put_same, put_other, is_other, Spot, IsKnown, LastKnows, event, moved, called, known_moved, known_called}
+use Rattle.serial_exact.proofs.Fits.{FitsAt, events_front, fits_put, fits_called, IsNextCall, is_next_call, heard_pass, IsHeardPass, heard_is, heard_complete}
 use Rattle.serial_exact.proofs.Agreements.{AgreesAt, IsSeen, agrees_put, sure_in, last_is, seen_push, seen_none}
 use Rattle.serial_exact.proofs.Stages.{Stage, IsStage, State, Known, Fits, Shows, Agrees, Goes, acted, known_acted, fits_acted, fits_here, RunGoes, agrees_acted}
 
@@ -29,7 +33,7 @@ use Rattle.serial_exact.proofs.Stages.{Stage, IsStage, State, Known, Fits, Shows
 -- more transcripts, and nothing else
 pub run_shows : (stage : Stage) (shows : Shows) (on by : ℕ) (state : State) (transcript : Transcript) (run : Run)
     → on < stage.cells → Agrees stage shows state run
-    → RunGoes on by (any_take (length (state.spots on).events) (stage.entries on)) (sure_in (state.spots on).note)
+    → RunGoes on by (any_take (end_of (state.spots on).events) (stage.entries on)) (sure_in (state.spots on).note)
     transcript run
     (record run { transcripts = set run.transcripts by transcript })
 run_shows stage shows on by state transcript run within agrees =
@@ -41,7 +45,7 @@ run_shows stage shows on by state transcript run within agrees =
 
 pub run_same : (stage : Stage) (shows : Shows) (on by : ℕ) (state : State) (run : Run)
     → on < stage.cells → by ≤ stage.callers → Agrees stage shows state run
-    → RunGoes on by (any_take (length (state.spots on).events) (stage.entries on)) (sure_in (state.spots on).note)
+    → RunGoes on by (any_take (end_of (state.spots on).events) (stage.entries on)) (sure_in (state.spots on).note)
     (state.shown by) run
     run
 run_same stage shows on by state run within caller agrees =
@@ -74,10 +78,10 @@ heard_state on by state =
     acted on by (moved by (heard_pass by (state.spots on)) (state.spots on)) (state.shown by) state
 
 pub goes_heard : (stage : Stage) (shows shows' : Shows) (on by : ℕ) (state : State) → on < stage.cells
-    → by ≤ stage.callers
+    → by ≤ stage.callers → (state.shown by).end ≡ ended.Done
     → SaysLess shows shows' on by → (shows' on by → ⊥)
     → Goes stage shows shows' state (heard_state on by state) (λ run. run)
-goes_heard stage shows shows' on by state within caller less silent =
+goes_heard stage shows shows' on by state within caller works less silent =
     let spot : Spot = state.spots on in
     let pass : PassShown = heard_pass by spot in
     record {
@@ -94,7 +98,7 @@ goes_heard stage shows shows' on by state within caller less silent =
           pass.known
           (omega (arith, heard.known))
           (λ told. subst (All (IsAnyTold (stage.form on) (stage.entries on) (conn by))) heard.tests told) fits)
-          (λ is. is) fits;
+          (λ c apart. put_other by pass spot.passes c apart) works fits;
       agrees = λ known fits run agrees.
           let heard : IsHeardPass by spot pass = heard_is stage.callers by spot caller (known on within) in
           let at : AgreesAt stage.callers (stage.entries on) on (shows on) spot state.shown
@@ -102,12 +106,12 @@ goes_heard stage shows shows' on by state within caller less silent =
           let complete : pass.sure ≡ pass.known =
           heard_complete stage.callers by spot caller (known on within) at.lasts in
           agrees_acted stage shows shows' on by (moved by pass spot) (state.shown by) state
-          (any_take (length spot.events) (stage.entries on)) (sure_in spot.note) run run within caller agrees
+          (any_take (end_of spot.events) (stage.entries on)) (sure_in spot.note) run run within caller agrees
           (run_same stage shows on by state run within caller agrees)
           (agrees_put stage.callers (stage.entries on) on (shows on) (shows' on) by spot state.shown _ _ _ _ pass
           (Some (conn by))
           spot.events pass.known (state.shown by)
-          at refl refl
+          at refl refl (heard.known ∙ at.front_is)
           (λ works. record {
             complete = complete;
             most = omega (arith, (at.seen by caller works).most, heard.more);
@@ -138,30 +142,33 @@ known_call stage on by asked told state within caller last above known =
 
 pub back_call : (stage : Stage) → IsStage stage → (on by : ℕ) (asked : AnyAsk) (told : Told) (state : State)
     → on < stage.cells
-    → by ≤ stage.callers → (state.spots on).last ≡ Some (conn by) → ((state.spots on).passes by).known < told.no
+    → by ≤ stage.callers → (state.spots on).last ≡ Some (conn by) → (state.shown by).end ≡ ended.Done
+    → ((state.spots on).passes by).known < told.no
     → Known stage state → Fits stage (called_state on by asked told state) → Fits stage state
-back_call stage is on by asked told state within caller last above known fits =
+back_call stage is on by asked told state within caller last works above known fits =
     let front : ((state.spots on).passes by).known ≡ (state.spots on).front =
     knows_front stage.callers by (state.spots on) (known on within) last in
     fits_acted stage on by (called by asked told (state.spots on)) _ state
     (λ inside fits. fits_called (stage.form on) (stage.entries on) stage.callers by (state.spots on) asked told
-    (is.legal on within) (omega arith) fits)
-    (λ is. is) fits
+    (omega arith) fits)
+    (λ c apart. put_other by (with_call asked told ((state.spots on).passes by)) (state.spots on).passes c apart) works
+    fits
 
 -- what the run by the machine alone makes of the call
-abbrev pub run_called : StrForm → ℕ → ℕ → AnyAsk → AnyHistory → Run → Run
-run_called form on by asked entries run =
-    shown_to (conn by) (shown.Call (str on) (any_length entries + 1))
-    (record run { histories = set run.histories on (any_next form entries (conn by) asked) })
+abbrev pub run_called : StrForm → (CfId → Telling) → ℕ → ℕ → AnyAsk → AnyHistory → Run → Run
+run_called form tells on by asked entries run =
+    shown_to (conn by) (shown.Call (str on) (any_length (any_next form tells entries (conn by) asked)))
+    (record run { histories = set run.histories on (any_next form tells entries (conn by) asked) })
 
 pub next_here : (stage : Stage) → IsStage stage → (on by : ℕ) (asked : AnyAsk) (told : Told) (state : State)
     → on < stage.cells
     → Fits stage (called_state on by asked told state)
-    → IsNextCall stage.limit (stage.form on) (stage.entries on) by (length (state.spots on).events) asked told
+    → IsNextCall stage.limit (stage.form on) (stage.told on) (stage.entries on) by (end_of (state.spots on).events)
+    asked told
 next_here stage is on by asked told state within fits =
-    is_next_call stage.limit (stage.form on) (stage.entries on) stage.callers by (state.spots on) asked told
-    (is.legal on within)
-    (is.most on within) (fits_here stage on by (called by asked told (state.spots on)) _ state within fits)
+    is_next_call stage.limit (stage.form on) (stage.told on) (stage.entries on) stage.callers by (state.spots on) asked
+    told (is.legal on within) (is.as_told on within)
+    (is.made on within) (fits_here stage on by (called by asked told (state.spots on)) _ state within fits)
 
 call_shown : (on x n : ℕ) → x ≢ on → shown_on (str x) (shown.Call (str on) n) ≡ None
 call_shown on x n apart =
@@ -176,26 +183,27 @@ pub agrees_call : (stage : Stage) → IsStage stage
     → ((state.spots on).passes by).known < told.no → (state.shown by).end ≡ ended.Done → SaysLess shows shows' on by
     → Known stage state → Fits stage (called_state on by asked told state) → Agrees stage shows state run
     → Agrees stage shows' (called_state on by asked told state)
-    (run_called (stage.form on) on by asked (any_take (length (state.spots on).events) (stage.entries on)) run)
+    (run_called (stage.form on) (stage.told on) on by asked (any_take (end_of (state.spots on).events) (stage.entries on)) run)
 agrees_call stage is shows shows' on by asked told state run within caller last above works less known fits agrees =
     let spot : Spot = state.spots on in
-    let n : ℕ = length spot.events in
+    let n : ℕ = end_of spot.events in
     let entries : AnyHistory = any_take n (stage.entries on) in
     let transcript : Transcript =
     record (state.shown by) { items = (state.shown by).items ++ shown.Call (str on) told.no ∷ [] } in
-    let next : IsNextCall stage.limit (stage.form on) (stage.entries on) by n asked told =
+    let next : IsNextCall stage.limit (stage.form on) (stage.told on) (stage.entries on) by n asked told =
     next_here stage is on by asked told state within fits in
     let at : AgreesAt stage.callers (stage.entries on) on (shows on) spot state.shown
     (slice_get run.histories on) (slice_get run.posted on) = agrees.at on within in
-    let number : any_length entries + 1 ≡ told.no = omega (arith, next.number, next.size) in
+    let number : any_length (any_next (stage.form on) (stage.told on) entries (conn by) asked) ≡ told.no =
+    sym next.number in
     let seen_now : seen_on (str on) transcript.items ≡ max (seen_on (str on) (state.shown by).items) told.no =
     seen_push (str on) (state.shown by).items (shown.Call (str on) told.no) told.no (call_shown_here on told.no) in
     let pass : PassShown = with_call asked told (spot.passes by) in
     let before : IsSeen (str on) (spot.passes by) (state.shown by).items (shows on by) = at.seen by caller works in
-    let longer : length (spot.events ++ event by asked told ∷ []) ≡ n + 1 =
-    omega (arith, length-append spot.events (event by asked told ∷ [])) in
+    let ends : end_of (spot.events ++ event by asked told ∷ []) ≡ told.no =
+    fold_push last_number 0 spot.events (event by asked told) in
     agrees_acted stage shows shows' on by (called by asked told spot) transcript state
-    (any_next (stage.form on) entries (conn by) asked) (sure_in spot.note) run _ within caller agrees
+    (any_next (stage.form on) (stage.told on) entries (conn by) asked) (sure_in spot.note) run _ within caller agrees
     (record {
       histories = refl;
       transcripts = rw (transcript_is stage shows by state run caller agrees, number) refl;
@@ -204,8 +212,8 @@ agrees_call stage is shows shows' on by asked told state run within caller last 
     (agrees_put stage.callers (stage.entries on) on (shows on) (shows' on) by spot state.shown _ _ _ _ pass spot.last
     (spot.events ++ event by asked told ∷ []) told.no transcript
     at
-    (ap Some (sym next.next ∙ ap (λ (n : ℕ). any_take n (stage.entries on)) (sym longer)))
-    refl
+    (ap Some (sym next.next ∙ ap (λ (n : ℕ). any_take n (stage.entries on)) (sym ends)))
+    refl (sym ends)
     (λ working. record {
       complete = refl;
       most = omega (arith, seen_now, before.most, before.complete);
@@ -250,69 +258,84 @@ back_stop stage on by pass end state within caller last later works known fits =
     (λ told. subst (All (IsAnyTold (stage.form on) (stage.entries on) (conn by)))
     (ap (λ (p : PassShown). p.tests) later.same) told)
     fits)
-    (λ is none. let bad : ended.Done ≡ ended.NoMemory = sym works ∙ none in absurd cc) fits
+    (λ c apart. put_other by pass (state.spots on).passes c apart) works fits
+
+-- what a caller that stopped knows is a point of the history
+pub stop_point : (stage : Stage) (on by : ℕ) (pass : PassShown) (end : AgentEnd) (state : State) → on < stage.cells
+    → by ≤ stage.callers → end ≢ ended.Done → Fits stage (stopped_state on by pass end state)
+    → IsAnyPoint (stage.entries on) pass.known
+stop_point stage on by pass end state within caller stops fits =
+    let spot : Spot = moved by pass (state.spots on) in
+    let transcript : Transcript = record (state.shown by) { end = end } in
+    let mine : (put on spot state.spots on).passes by ≡ pass =
+    ap (λ (s : Spot). s.passes by) (put_same on spot state.spots) ∙ put_same by pass (state.spots on).passes in
+    subst (λ (p : PassShown). IsAnyPoint (stage.entries on) p.known) mine
+    (fits.stopped on by within caller
+    (λ ends. stops (ap (λ (t : Transcript). t.end) (sym (put_same by transcript state.shown)) ∙ ends)))
 
 -- the front is the number of the last call, so nothing was in flight
-pub still_front : (stage : Stage) (on by : ℕ) (pass : PassShown) (transcript : Transcript) (state : State)
-    → on < stage.cells
+pub still_front : (stage : Stage) → IsStage stage → (on by : ℕ) (pass : PassShown) (transcript : Transcript)
+    (state : State) → on < stage.cells
     → (state.spots on).last ≡ Some (conn by) → ((state.spots on).passes by).known ≤ pass.known → Known stage state
     → Fits stage (acted on by (moved by pass (state.spots on)) transcript state)
-    → (pass.known ≡ length (state.spots on).events) × (pass.known ≡ (state.spots on).front)
-still_front stage on by pass transcript state within last later known fits =
+    → IsAnyPoint (stage.entries on) pass.known → (state.spots on).front ≡ end_of (state.spots on).events
+    → (pass.known ≡ end_of (state.spots on).events) × (pass.known ≡ (state.spots on).front)
+still_front stage is on by pass transcript state within last later known fits point front_is =
     let front : ((state.spots on).passes by).known ≡ (state.spots on).front =
     knows_front stage.callers by (state.spots on) (known on within) last in
     let here : FitsAt (stage.form on) (stage.entries on) stage.callers (moved by pass (state.spots on)) =
     fits_here stage on by (moved by pass (state.spots on)) transcript state within fits in
-    let least : length (state.spots on).events ≤ (state.spots on).front =
-    omega (
-      arith,
-      rising_length 0 (state.spots on).front (state.spots on).events (omega arith)
-          (known on within).rising (known on within).below,
-    ) in
-    (omega (arith, here.front), omega (arith, here.front))
+    let at : pass.known ≡ end_of (state.spots on).events =
+    point_end (stage.entries on) pass.known (state.spots on).events here.more
+    (calls_rise (stage.form on) (stage.entries on) (is.legal on within)) point here.calls
+    (omega (arith, front, front_is, later)) here.before in
+    (at, at ∙ sym front_is)
 
 pub full_here : (stage : Stage) → IsStage stage
     → (on by : ℕ) (pass : PassShown) (transcript : Transcript) (state : State)
     → on < stage.cells → (state.spots on).last ≡ Some (conn by) → ((state.spots on).passes by).known ≤ pass.known
     → stage.limit ≤ pass.known → Known stage state
     → Fits stage (acted on by (moved by pass (state.spots on)) transcript state)
-    → stage.limit ≤ any_length (any_take (length (state.spots on).events) (stage.entries on))
-full_here stage is on by pass transcript state within last later full known fits =
+    → IsAnyPoint (stage.entries on) pass.known → (state.spots on).front ≡ end_of (state.spots on).events
+    → stage.limit ≤ any_length (any_take (end_of (state.spots on).events) (stage.entries on))
+full_here stage is on by pass transcript state within last later full known fits point front_is =
     let here : FitsAt (stage.form on) (stage.entries on) stage.callers (moved by pass (state.spots on)) =
     fits_here stage on by (moved by pass (state.spots on)) transcript state within fits in
-    let inside : length (state.spots on).events ≤ any_length (stage.entries on) =
-    events_within (stage.form on) (stage.entries on) stage.callers (moved by pass (state.spots on))
+    let size : IsFrontOf (stage.entries on) (state.spots on).events =
+    events_front (stage.form on) (stage.entries on) stage.callers (moved by pass (state.spots on))
     (is.legal on within) here in
     omega (
       arith,
-      take_length (length (state.spots on).events) (stage.entries on) inside,
-      (still_front stage on by pass transcript state within last later known fits).0,
+      size.size,
+      (still_front stage is on by pass transcript state within last later known fits point front_is).0,
     )
 
-pub agrees_stop : (stage : Stage) → (shows shows' : Shows) (on by : ℕ) (pass : PassShown) (state : State)
+pub agrees_stop : (stage : Stage) → IsStage stage → (shows shows' : Shows) (on by : ℕ) (pass : PassShown) (state : State)
     (run : Run) → on < stage.cells → by ≤ stage.callers → (state.spots on).last ≡ Some (conn by)
     → IsLater ((state.spots on).passes by) pass → pass.sure ≤ pass.known → (state.shown by).end ≡ ended.Done
     → SaysLess shows shows' on by → Known stage state
     → Fits stage (stopped_state on by pass (ended.JournalFull (str on)) state) → Agrees stage shows state run
     → Agrees stage shows' (stopped_state on by pass (ended.JournalFull (str on)) state)
     (stopped_at (conn by) (str on) run)
-agrees_stop stage shows shows' on by pass state run within caller last later ordered works less known fits agrees =
+agrees_stop stage is shows shows' on by pass state run within caller last later ordered works less known fits agrees =
     let spot : Spot = state.spots on in
     let transcript : Transcript = record (state.shown by) { end = ended.JournalFull (str on) } in
     let at : AgreesAt stage.callers (stage.entries on) on (shows on) spot state.shown
     (slice_get run.histories on) (slice_get run.posted on) = agrees.at on within in
-    let still : (pass.known ≡ length spot.events) × (pass.known ≡ spot.front) =
-    still_front stage on by pass transcript state within last later.known known fits in
+    let point : IsAnyPoint (stage.entries on) pass.known =
+    stop_point stage on by pass (ended.JournalFull (str on)) state within caller (λ ends. absurd cc) fits in
+    let still : (pass.known ≡ end_of spot.events) × (pass.known ≡ spot.front) =
+    still_front stage is on by pass transcript state within last later.known known fits point at.front_is in
     let sure : (spot.passes by).sure ≡ spot.front = at.lasts (conn by) last in
     let complete : pass.sure ≡ pass.known = omega (arith, later.sure, still.1) in
     agrees_acted stage shows shows' on by (moved by pass spot) transcript state
-    (any_take (length spot.events) (stage.entries on)) (sure_in spot.note) run _ within caller agrees
+    (any_take (end_of spot.events) (stage.entries on)) (sure_in spot.note) run _ within caller agrees
     (rw (transcript_is stage shows by state run caller agrees)
     (run_shows stage shows on by state transcript run within agrees))
     (agrees_put stage.callers (stage.entries on) on (shows on) (shows' on) by spot state.shown _ _ _ _ pass
     (Some (conn by))
     spot.events pass.known transcript
-    at refl refl
+    at refl refl still.0
     (λ working. absurd cc)
     less.others
     (λ c lasted. ap (λ (n : ℕ). (put by pass spot.passes n).sure) (last_is by c lasted)

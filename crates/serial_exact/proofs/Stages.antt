@@ -1,33 +1,39 @@
 -- What has been done at all structures, and the steps of it: what each keeps, what it says of what was done before,
 -- and that the run by the machine alone goes with it.
-use Rattle.std.proofs.Common.{◌≡◌, ◌≢◌, ℕ, ◌+◌, ◌≤◌, ◌<◌, List, length, set, slice_get, Some, ap, subst, ◌∙◌, length-set}
+use Rattle.std.proofs.Common.{◌≡◌, ◌≢◌, ℕ, ◌+◌, ◌≤◌, ◌<◌, inl, inr, List, length, set, slice_get, Some, sym, ap, subst, ◌∙◌, length-set}
 use Rattle.cf_types.specs.declared.forms.StrForm.{StrForm}
+use Rattle.cf_types.specs.declared.numbers.CfId.{CfId}
+use Rattle.cf_link.specs.Links.{Telling}
+use Rattle.std.proofs.lemmas.Bool.{cases_eq}
 use Rattle.plex_script.specs.declared.asks.AnyHistory.{AnyHistory}
 use Rattle.plex_script.specs.declared.transcripts.AgentEnd.TheVariants as ended
 use Rattle.plex_script.specs.declared.transcripts.Transcript.{Transcript}
-use Rattle.plex_script.specs.Heard.{any_length}
-use Rattle.any_model.specs.Kinds.{IsAnyLegal, any_take}
+use Rattle.any_model.specs.Kinds.{IsAnyLegal, AreAnyAsTold, IsAnyPoint, any_take, any_numbers, end_of}
+use Rattle.struct_cell.specs.Limits.{AreMadeBelow}
 use Rattle.serial_model.specs.Numbers.{seen_on}
 use Rattle.serial_model.specs.Serial.{Run}
 use Rattle.list_laws.proofs.TableLaws.{get-set_same, get-set_other}
-use Rattle.serial_exact.proofs.Spots.{str, put, put_all, put_same, Spot, IsKnown}
+use Rattle.any_cell.specs.Passes.{PassShown}
+use Rattle.serial_exact.proofs.Spots.{str, put, put_all, put_same, put_other, Spot, IsKnown}
 use Rattle.serial_exact.proofs.Fits.{put_back, FitsAt}
 use Rattle.serial_exact.proofs.Agreements.{AgreesAt, agrees_elsewhere, sure_in}
 
 -- ---- what stays
 
--- the number of structures, the greatest number of a caller, the length of a journal; each structure's
--- form, and its history at the end
+-- the number of structures, the greatest number of a caller, the length of a journal; what each structure's links tell,
+-- its form, and its history at the end
 pub record Stage : Type 0 where
   pub cells : ℕ
   pub callers : ℕ
   pub limit : ℕ
+  pub told : ℕ → CfId → Telling
   pub form : ℕ → StrForm
   pub entries : ℕ → AnyHistory
 
 pub record IsStage (stage : Stage) : Type 0 where
   pub legal : (x : ℕ) → x < stage.cells → IsAnyLegal (stage.form x) (stage.entries x)
-  pub most : (x : ℕ) → x < stage.cells → any_length (stage.entries x) ≤ stage.limit
+  pub as_told : (x : ℕ) → x < stage.cells → AreAnyAsTold (stage.form x) (stage.told x) (stage.entries x)
+  pub made : (x : ℕ) → x < stage.cells → AreMadeBelow stage.limit 0 (any_numbers (stage.entries x))
 
 -- ---- what has been done
 
@@ -38,9 +44,12 @@ pub record State : Type 0 where
 abbrev pub Known : Stage → State → Type 0
 Known stage state = (x : ℕ) → x < stage.cells → IsKnown stage.callers (state.spots x)
 
+-- what a caller that stopped knows stays as it is, and is a point of the history
 pub record Fits (stage : Stage) (state : State) : Type 0 where
   pub at : (x : ℕ) → x < stage.cells → FitsAt (stage.form x) (stage.entries x) stage.callers (state.spots x)
   pub memory : (c : ℕ) → c ≤ stage.callers → (state.shown c).end ≢ ended.NoMemory
+  pub stopped : (x c : ℕ) → x < stage.cells → c ≤ stage.callers → (state.shown c).end ≢ ended.Done
+      → IsAnyPoint (stage.entries x) ((state.spots x).passes c).known
 
 -- of which callers it is said, at which structures, that they were shown all that they have seen complete
 abbrev pub Shows : Type 1
@@ -105,9 +114,9 @@ known_acted stage on by spot transcript state here known =
 pub fits_acted : (stage : Stage) (on by : ℕ) (spot : Spot) (transcript : Transcript) (state : State)
     → (on < stage.cells → FitsAt (stage.form on) (stage.entries on) stage.callers spot
     → FitsAt (stage.form on) (stage.entries on) stage.callers (state.spots on))
-    → (transcript.end ≢ ended.NoMemory → (state.shown by).end ≢ ended.NoMemory)
+    → ((c : ℕ) → c ≢ by → spot.passes c ≡ (state.spots on).passes c) → (state.shown by).end ≡ ended.Done
     → Fits stage (acted on by spot transcript state) → Fits stage state
-fits_acted stage on by spot transcript state here memory fits =
+fits_acted stage on by spot transcript state here others works fits =
     record {
       at = λ x.
           put_back (λ x spot'. x < stage.cells → FitsAt (stage.form x) (stage.entries x) stage.callers spot') on spot
@@ -115,8 +124,29 @@ fits_acted stage on by spot transcript state here memory fits =
           (λ is within. here within (is within)) x (fits.at x);
       memory = λ c.
           put_back (λ c transcript'. c ≤ stage.callers → transcript'.end ≢ ended.NoMemory) by transcript state.shown
-          (λ is within. memory (is within)) c (fits.memory c);
+          (λ is within. works_has_memory works) c (fits.memory c);
+      stopped = λ x c within inside stops. elim (cases_eq c by) [
+        | inl mine ↦ absurd (stops (ap (λ (n : ℕ). (state.shown n).end) mine ∙ works))
+        | inr other ↦
+            let still : put by transcript state.shown c ≡ state.shown c = put_other by transcript state.shown c other in
+            let point : IsAnyPoint (stage.entries x) ((put on spot state.spots x).passes c).known =
+            fits.stopped x c within inside (λ ends. stops (ap (λ (t : Transcript). t.end) (sym still) ∙ ends)) in
+            elim (cases_eq x on) [
+              | inl here ↦
+                  let same : (put on spot state.spots x).passes c ≡ (state.spots x).passes c =
+                  ap (λ (n : ℕ). (put on spot state.spots n).passes c) here
+                  ∙ ap (λ (s : Spot). s.passes c) (put_same on spot state.spots) ∙ others c other
+                  ∙ ap (λ (n : ℕ). (state.spots n).passes c) (sym here) in
+                  subst (λ (p : PassShown). IsAnyPoint (stage.entries x) p.known) same point
+              | inr elsewhere ↦
+                  subst (λ (s : Spot). IsAnyPoint (stage.entries x) (s.passes c).known)
+                  (put_other on spot state.spots x elsewhere) point
+            ]
+      ];
     }
+  where
+    works_has_memory : (state.shown by).end ≡ ended.Done → (state.shown by).end ≢ ended.NoMemory
+    works_has_memory works none = let bad : ended.Done ≡ ended.NoMemory = sym works ∙ none in absurd cc
 
 -- what stands at the structure after the step
 pub fits_here : (stage : Stage) (on by : ℕ) (spot : Spot) (transcript : Transcript) (state : State) → on < stage.cells
@@ -161,7 +191,7 @@ agrees_acted stage shows shows' on by spot transcript state history number run r
           (λ inside.
           let history_at : slice_get run'.histories on ≡ Some history =
           ap (λ (t : List AnyHistory). slice_get t on) goes.histories
-          ∙ get-set_same run.histories on (any_take (length (state.spots on).events) (stage.entries on)) history
+          ∙ get-set_same run.histories on (any_take (end_of (state.spots on).events) (stage.entries on)) history
           at.history_is in
           let number_at : slice_get run'.posted on ≡ Some number =
           ap (λ (t : List ℕ). slice_get t on) goes.numbers

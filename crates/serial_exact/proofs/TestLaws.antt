@@ -18,7 +18,7 @@ use Rattle.vec_words.specs.Logged.{bit_in, sight, indices_of}
 use Rattle.struct_cell.specs.Telling.{IsTold}
 use Rattle.any_cell.specs.Cells.{IsAnyTold}
 use Rattle.desk_model.proofs.SightLaws.{told_past, each_sight, bit_in_word}
-use Rattle.any_model.specs.Kinds.{any_take, any_stands, any_word}
+use Rattle.any_model.specs.Kinds.{IsAnyPoint, any_take, any_stands, any_word}
 use Rattle.any_model.proofs.WordLaws.{all_bits}
 
 -- ---- one bit
@@ -70,3 +70,10 @@ told_word form h conn word bits at sure told least small =
     all_bits bits 32 (λ k. bit_of form (any_take at h) conn (32 * word + k)) small
     (λ k within. bit_shown form h conn word bits at sure k
     (each_sight (IsAnyTold form h conn) word bits at sure k told within) least within)
+
+-- a test is at a point of the history
+pub told_point : (form : StrForm) (h : AnyHistory) (conn : ConnId) (test : Sight) → IsAnyTold form h conn test
+    → IsAnyPoint h test.at
+told_point form (history.Cache entries) conn test told = told.point
+told_point form (history.List entries) conn test told = told.point
+told_point form (history.Lock entries) conn test told = told.point

@@ -201,7 +201,7 @@ goes_out stage shows shows' on by goes state within caller works =
           fits_acted stage on by (noticed by pass spot) transcript state
           (λ inside fits. fits_put (stage.form on) (stage.entries on) stage.callers by spot pass spot.last spot.front
           (omega arith) (λ told. told) fits)
-          (λ is none. let bad : ended.Done ≡ ended.NoMemory = sym works ∙ none in absurd cc) fits;
+          (λ c apart. put_other by pass spot.passes c apart) works fits;
       agrees = λ known fits run agrees.
           absurd (fits.memory by caller (ap (λ (t : Transcript). t.end) (put_same by transcript state.shown)));
     }

@@ -160,7 +160,7 @@ pub record AsksGo (stage : Stage) (shows shows' : Shows) (line : Option AnyAsk) 
   pub notes : NotesSame before after
   pub lasts : LastsSame before after
   pub goes : Goes stage shows shows' before after
-      (all_steps_made stage.limit (stage.form on) line (conn by) (str on) first)
+      (all_steps_made stage.limit stage.told (stage.form on) line (conn by) (str on) first)
 
 pub asks_go : (stage : Stage) (is : IsStage stage) (shows shows' : Shows) (line : Option AnyAsk) (on by : ℕ)
     (first : Step)

@@ -2,3 +2,4 @@ pub mod Numbers
 pub mod Serial
 pub mod Headline
 pub mod Runnable
+pub mod RunLinks

@@ -1,10 +1,13 @@
--- The run of a script on one thread: its lines in their order, then the closings of the connectors in number order.
+-- The run of a script on one thread, over links that tell which calls they answer Down: its lines in their order, then
+-- the closings of the connectors in number order.
 use Rattle.std.specs.Prelude.{ℕ, zero, suc, ◌+◌, ◌*◌, nat_le, nat_lt, Bool, true, false, if◌then◌else◌, List, [], ◌∷◌, ◌++◌, length, fold, map, replicate, max, slice_get, slice_index, slice_set, Option, None, Some}
 use Rattle.std.specs.List.{enumerate_from}
 use Rattle.cf_types.specs.declared.forms.StrForm.{StrForm}
+use Rattle.cf_types.specs.declared.numbers.CfId.{CfId}
 use Rattle.cf_types.specs.declared.numbers.ConnId.{ConnId}
 use Rattle.cf_types.specs.declared.numbers.StrNo.{StrNo}
 use Rattle.cf_types.specs.declared.shell_commands.ShellCmd.TheVariants as cmd
+use Rattle.cf_link.specs.Links.{Telling}
 use Rattle.plex_script.specs.declared.agents.Step.{Step}
 use Rattle.plex_script.specs.declared.agents.Step.TheVariants as step
 use Rattle.plex_script.specs.declared.scripts.AnyAsk.{AnyAsk}
@@ -125,17 +128,18 @@ pub record Progress : Type 0 where
   pub run : Run
   pub now : Step
 
-module _ (limit : ℕ) where
-  -- a call is numbered, answered and journalled at once, and its caller is shown the number; a full journal takes no
-  -- call
+-- told: what the links of each structure tell, by its number from 0
+module _ (limit : ℕ) (told : ℕ → CfId → Telling) where
+  -- a call is numbered, answered and journalled at once, behind the marks of the links that it found down, and its
+  -- caller is shown the number; a full journal takes no call
   abbrev pub call_made : StrForm → ConnId → StrNo → Step → AnyAsk → AnyHistory → Run → Progress
   call_made form by on now asked entries run =
       if nat_le limit (any_length entries)
       then record { run = stopped_at by on run; now = step.Rest }
       else record {
-        run = shown_to by (shown.Call on (any_length entries + 1))
-            (record run { histories = slice_set run.histories on.0 (any_next form entries by asked) });
-        now = step_after now (any_told form entries by asked);
+        run = shown_to by (shown.Call on (any_length (any_next form (told on.0) entries by asked)))
+            (record run { histories = slice_set run.histories on.0 (any_next form (told on.0) entries by asked) });
+        now = step_after now (any_told form (told on.0) entries by asked);
       }
 
   abbrev pub ask_made : StrForm → ConnId → StrNo → Step → Option AnyAsk → Option AnyHistory → Run → Progress

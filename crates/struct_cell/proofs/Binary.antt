@@ -44,16 +44,23 @@ word_bits f n k most less =
     subst (λ j. (bit_at (word_from f n) j == 1) ≡ f k) (sym is)
     (tells (f k) (bit_at (word_from f n) k) (bit-word f n k less))
 
-pub word-fits : (f : ℕ → Bool) (k found : ℕ) → k < 32 → found ≡ word_from f k
-    → Fits w32 (found + 1 * 2 ^ k % 4294967296)
-word-fits f k found less is =
-    let low : found < 2 ^ k = subst (λ w. w < 2 ^ k) (sym is) (word-small f k) in
+pub sum-fits : (k found : ℕ) → k < 32 → found < 2 ^ k → Fits w32 (found + 1 * 2 ^ k % 4294967296)
+sum-fits k found less low =
     let most : 2 ^ k ≤ 2147483648 = pow_mono {i = k} {j = 31} (omega arith) in
     fits (2 ^ k) found low most
   where
     fits : (p found : ℕ) → found < p → p ≤ 2147483648 → Fits w32 (found + 1 * p % 4294967296)
     fits p found low most = let same : 1 * p % 4294967296 ≡ p = omega arith in let sum : found + 1 * p % 4294967296 <
         4294967296 = omega (arith, same, low, most) in search rules
+
+-- a word with one bit more
+pub next_bit : (f : ℕ → Bool) (k found after : ℕ) (b : Bool) → b ≡ f k → found ≡ word_from f k
+    → after ≡ (if b then 1 else 0) * 2 ^ k + found → after ≡ word_from f (k + 1)
+next_bit f k found after b here was is =
+    let next : suc k ≡ k + 1 = omega arith in
+    subst (λ n. after ≡ word_from f n) next
+    (is ∙ ap (λ (c : Bool). (if c then 1 else 0) * 2 ^ k + found) here
+    ∙ ap (λ (n : ℕ). (if f k then 1 else 0) * 2 ^ k + n) was)
 
 -- the word that a loop over its 32 bits ends with
 pub whole : (f : ℕ → Bool) (k found : ℕ) → k ≡ 32 → found ≡ word_from f k → found ≡ whole_word f

@@ -1,24 +1,28 @@
 -- What a cell keeps: at its start, and from one call to the next.
 use Rattle.std.proofs.Common.{◌≡◌, ℕ, ◌+◌, ◌/◌, ◌<◌, ◌≤◌, ◌&&◌, Bool, true, false, nat_lt, List, [], ◌∷◌, ◌++◌, length, map, All, refl, sym, ap, subst, ◌∙◌, arith}
+use Rattle.std.specs.Prelude.{Option}
 use Rattle.std.proofs.lemmas.Bool.Decides.{nat_tests}
 use Rattle.std.proofs.lemmas.List.{map-append}
 use Rattle.std.proofs.lemmas.List.Elements.{All-nil, All-push}
 use Rattle.cf_types.specs.declared.forms.StrForm.{StrForm}
 use Rattle.cf_types.specs.declared.numbers.ConnId.{ConnId}
 use Rattle.cf_link.specs.declared.links.Links.{Links}
+use Rattle.cf_link.specs.Links.{AreAsked}
 use Rattle.engine_api.specs.declared.asks.Ask.{Ask}
 use Rattle.engine_api.specs.declared.asks.Reply.{Reply}
 use Rattle.engine_api.specs.declared.asks.What.TheVariants as what
 use Rattle.engine_api.specs.declared.histories.Entry.{Entry}
 use Rattle.engine_api.specs.Meaning.{Meaning}
-use Rattle.engine_api.specs.Machine.{Machine, CallOutcome, opening, step}
-use Rattle.engine_api.specs.History.{Call, Turn, calls, next_reply, replay, next_entry, with_call, with_marks, marks_by, after_turn, IsUnmarked}
-use Rattle.engine_api.specs.LinkAsks.{links_asked}
+use Rattle.engine_api.specs.Machine.{Machine, opening}
+use Rattle.engine_api.specs.Answers.{answers}
+use Rattle.engine_api.specs.History.{Call, Turn, calls, replay, next_entry, with_marks, marks_by, after_turn}
+use Rattle.engine_api.specs.LinkAsks.{links_asked, answers_to}
 use Rattle.engine_api.specs.Shapes.{shape_of}
-use Rattle.engine_api.proofs.AskLaws.{no_marks}
-use Rattle.engine_api.proofs.HistoryLaws.{calls-turn, call_added, quiet_turn, turn-quiet, legal_none, legal_turn, replay-push, unmarked_push}
+use Rattle.engine_api.proofs.HistoryLaws.{calls-turn, call_added, legal_none, legal_turn}
 use Rattle.engine_api.proofs.NumberLaws.{number_added, numbered_legal, length-turn}
+use Rattle.struct_machine.specs.declared.marks.Mark.{Mark}
 use Rattle.struct_machine.specs.StructureView.{StructureView, stands_at}
+use Rattle.struct_machine.specs.Turns.{IsTurn}
 use Rattle.vec_words.specs.declared.logged.Logged.{Logged}
 use Rattle.vec_words.specs.declared.logged.Logged.TheVariants.{Committed}
 use Rattle.vec_words.specs.declared.stores.Place.{Place}
@@ -30,9 +34,11 @@ use Rattle.vec_words.proofs.Logs.{count-push}
 use Rattle.vec_words.proofs.StoreLaws.{stores-commits}
 use Rattle.struct_cell.specs.declared.inside.CellKey.{CellKey}
 use Rattle.struct_cell.specs.Cells.{About, commit_of, IsCell, Shows}
+use Rattle.struct_cell.specs.Marks.{entered}
 use Rattle.struct_cell.specs.Touches.{TouchedWords, IsOfTable}
 use Rattle.struct_cell.specs.Words.{words_in}
 use Rattle.struct_cell.proofs.ShownLaws.{shows_next}
+use Rattle.struct_cell.proofs.TurnLaws.{length-entered, IsTaken, few_marks, turn_at, taken, links_more, links_none, room_more}
 
 zero_bit : (index : ℕ) → bit_in 0 index ≡ false
 zero_bit index = grind (arith, nat_tests)
@@ -41,32 +47,30 @@ none_shown : (b : Bool) → false ≡ (b && false)
 none_shown true = refl
 none_shown false = refl
 
--- the journal with a call
-abbrev pub entered : {C R : Type 0} → List (Entry C R) → ConnId → Ask C → Reply R → List (Entry C R)
-entered journal by ask reply = journal ++ record
-    { no = length journal + 1; by = by; what = what.Call ask; reply = reply } ∷ []
-
-module _ {C R I S L : Type 0} (meaning : Meaning C R I S) where
+module _ {C R I S L : Type 0} (asks : L → Option ℕ) (downs : L → Option (List ℕ)) (faults : L → ℕ)
+    (meaning : Meaning C R I S) where
   -- a cell begins so
-  pub cell_start : (key : CellKey C R L) (standing : StructureView S) (touched : TouchedWords) (links : Links L)
+  pub cell_start : (key : CellKey C R L) (standing : StructureView S L) (touched : TouchedWords)
       (seat : SeatSeen (About C R)) (journal : List (Entry C R))
       → key ≡ record
-      { form = standing.form; callers = seat.table.conns; limit = key.limit; words = seat.table; links = links }
+      { form = standing.form; callers = seat.table.conns; limit = key.limit; words = seat.table; links = standing.links }
       → standing.machine ≡ opening meaning standing.form
       → ((conn : ConnId) (index : ℕ) → meaning.stands (meaning.empty (shape_of standing.form)) conn index ≡ false)
       → (touched.conns ≡ seat.table.conns) × (touched.len ≡ seat.table.len)
       → seat.table.len ≡ standing.form.vector → seat.number ≡ 0 → seat.log ≡ [] → journal ≡ []
-      → IsCell meaning key key.limit standing touched journal links seat
-  cell_start key standing touched links seat journal key_is machine_is clear touches len idle log none =
+      → IsCell asks downs faults meaning key key.limit standing touched journal seat
+  cell_start key standing touched seat journal key_is machine_is clear touches len idle log none =
       let form_is : key.form ≡ standing.form = ap (λ (k : CellKey C R L). k.form) key_is in
       let callers_are : key.callers ≡ seat.table.conns = ap (λ (k : CellKey C R L). k.callers) key_is in
       let words_are : key.words ≡ seat.table = ap (λ (k : CellKey C R L). k.words) key_is in
-      let links_are : key.links ≡ links = ap (λ (k : CellKey C R L). k.links) key_is in
-      subst (λ (j : List (Entry C R)). IsCell meaning key key.limit standing touched j links seat) (sym none)
+      let links_are : key.links ≡ standing.links = ap (λ (k : CellKey C R L). k.links) key_is in
+      subst (λ (j : List (Entry C R)). IsCell asks downs faults meaning key key.limit standing touched j seat) (sym none)
       (record {
         form = sym form_is;
         limit_is = refl;
-        links_are = sym links_are;
+        links =
+            subst (λ (start : Links L). AreAsked asks downs faults (answers {C = C} {R = R} meaning key.form []) start standing.links)
+            (sym links_are) (links_none asks downs faults meaning key.form standing.links);
         table = sym words_are;
         touches = (touches.0 ∙ sym callers_are, touches.1 ∙ len ∙ ap (λ (f : StrForm). f.vector) (sym form_is));
         conns = ap (λ (w : WordTable). w.conns) words_are ∙ sym callers_are;
@@ -76,7 +80,8 @@ module _ {C R I S L : Type 0} (meaning : Meaning C R I S) where
         count = ap count_of log;
         callers = All-nil (λ (call : Call C R). call.by.0 ≤ key.callers);
         most = omega arith;
-        legal = (legal_none meaning key.form, tt);
+        room = tt;
+        legal = legal_none meaning key.form;
         machine = machine_is ∙ ap (opening meaning) (sym form_is);
         bits = λ n index conn some most below.
             subst (λ (l : List (Logged (About C R))). Shows meaning key.form key.callers l []) (sym log)
@@ -88,16 +93,19 @@ module _ {C R I S L : Type 0} (meaning : Meaning C R I S) where
       })
 
   -- a turn keeps it, where its words are stored and its call is committed
-  pub cell_turned : (key : CellKey C R L) (limit : ℕ) (standing standing' : StructureView S)
+  pub cell_turned : (key : CellKey C R L) (limit : ℕ) (standing standing' : StructureView S L)
       (touched touched' : TouchedWords) (journal : List (Entry C R))
-      (links : Links L) (seat begun stored seat' : SeatSeen (About C R)) (bits : ℕ → ℕ → ℕ) (turn : Turn C)
+      (seat begun stored seat' : SeatSeen (About C R)) (bits : ℕ → ℕ → ℕ) (turn : Turn C)
       (number : ℕ) (reply : Reply R)
-      → IsCell meaning key limit standing touched journal links seat
+      → IsCell asks downs faults meaning key limit standing touched journal seat
       → number ≡ number_added meaning key.form journal turn
       → reply ≡ (let call = call_added meaning key.form journal turn in call.reply)
       → standing'.machine ≡ replay meaning key.form (after_turn meaning key.form journal turn)
-      → IsUnmarked (after_turn meaning key.form journal turn)
-      → standing'.form ≡ standing.form → IsOfTable touched touched' → turn.by.0 ≤ key.callers → number ≤ limit
+      → standing'.form ≡ standing.form → IsOfTable touched touched' → turn.by.0 ≤ key.callers → number ≤ limit + 2
+      → length journal < limit
+      → AreAsked asks downs faults
+      (answers_to turn.down (links_asked meaning key.form (replay meaning key.form journal) turn.by turn.ask))
+      standing.links standing'.links
       → ((conn : ConnId) (index : ℕ) → 0 < conn.0 → conn.0 ≤ touched'.conns → index < touched'.len
       → IsSpared touched'.places conn.0 (index / 32)
       → stands_at meaning standing'.machine conn index ≡ stands_at meaning standing.machine conn index)
@@ -106,9 +114,9 @@ module _ {C R I S L : Type 0} (meaning : Meaning C R I S) where
       → ((conn word : ℕ) → bits conn word ≡ words_in meaning standing'.form standing'.machine conn word)
       → seat'
       ≡ record stored { number = 0; log = stored.log ++ Committed stored.number turn.by.0 (turn.ask, reply) ∷ [] }
-      → IsCell meaning key limit standing' touched' (after_turn meaning key.form journal turn) links seat'
-  cell_turned key limit standing standing' touched touched' journal links seat begun stored seat' bits turn number reply
-      cell number_is replies machine_is unmarked form_is same_table within few kept begun_is each are seat_is =
+      → IsCell asks downs faults meaning key limit standing' touched' (after_turn meaning key.form journal turn) seat'
+  cell_turned key limit standing standing' touched touched' journal seat begun stored seat' bits turn number reply
+      cell number_is replies machine_is form_is same_table within few below asked kept begun_is each are seat_is =
       let form = key.form in
       let history = after_turn meaning form journal turn in
       let about : About C R = (turn.ask, reply) in
@@ -135,7 +143,9 @@ module _ {C R I S L : Type 0} (meaning : Meaning C R I S) where
       record {
         form = form_is ∙ cell.form;
         limit_is = cell.limit_is;
-        links_are = cell.links_are;
+        links =
+            links_more asks downs faults meaning form journal turn key.links standing.links standing'.links cell.legal
+            cell.links asked;
         table = ap (λ (s : SeatSeen (About C R)). s.table) seat_is ∙ stored_table ∙ cell.table;
         touches = (same_table.0 ∙ cell.touches.0, same_table.1 ∙ cell.touches.1);
         conns = cell.conns;
@@ -156,12 +166,15 @@ module _ {C R I S L : Type 0} (meaning : Meaning C R I S) where
             let all : length history ≡ number_added meaning form journal turn = length-turn meaning form journal turn in
             let limit_is : limit ≡ key.limit = cell.limit_is in
             omega (arith, all, few, limit_is, number_is));
-        legal = (legal_turn meaning form journal turn cell.legal.0, unmarked);
+        room =
+            room_more meaning form key.limit journal turn cell.legal cell.room
+            (subst (λ (n : ℕ). length journal < n) cell.limit_is below);
+        legal = legal_turn meaning form journal turn cell.legal;
         machine = machine_is;
         bits = subst (λ (l : List (Logged (About C R))). Shows meaning form key.callers l history) (sym log_is)
             (shows_next meaning form key.callers journal turn number standing'.machine touched'.places bits seat begun
             stored turn.by.0 about
-            cell.bits (numbered_legal meaning form journal cell.legal.0) begun_log begun_number number_is
+            cell.bits (numbered_legal meaning form journal cell.legal) begun_log begun_number number_is
             (subst (λ (n : ℕ). StoresEach n form.vector bits touched'.places begun stored) cell.conns
             (subst (λ (n : ℕ). StoresEach key.words.conns n bits touched'.places begun stored) cell.len each))
             (λ conn word. are conn word
@@ -173,102 +186,78 @@ module _ {C R I S L : Type 0} (meaning : Meaning C R I S) where
             ∙ ap (λ (m : Machine S). meaning.stands m.content conn index) cell.machine));
       }
 
-  -- a call before which no mark stands keeps it
-  pub cell_called : (key : CellKey C R L) (limit : ℕ) (standing standing' : StructureView S)
-      (touched touched' : TouchedWords) (journal : List (Entry C R))
-      (links : Links L) (seat begun stored seat' : SeatSeen (About C R)) (bits : ℕ → ℕ → ℕ) (by : ConnId)
-      (ask : Ask C) (reply : Reply R)
-      → IsCell meaning key limit standing touched journal links seat
-      → record { reply = reply; machine = standing'.machine } ≡ step meaning standing.form standing.machine by ask
-      → standing'.form ≡ standing.form → IsOfTable touched touched' → by.0 ≤ key.callers → length journal < limit
-      → ((conn : ConnId) (index : ℕ) → 0 < conn.0 → conn.0 ≤ touched'.conns → index < touched'.len
-      → IsSpared touched'.places conn.0 (index / 32)
-      → stands_at meaning standing'.machine conn index ≡ stands_at meaning standing.machine conn index)
-      → begun ≡ record seat { number = length journal + 1 }
-      → StoresEach key.words.conns key.words.len bits touched'.places begun stored
-      → ((conn word : ℕ) → bits conn word ≡ words_in meaning standing'.form standing'.machine conn word)
-      → seat' ≡ record stored { number = 0; log = stored.log ++ Committed stored.number by.0 (ask, reply) ∷ [] }
-      → IsCell meaning key limit standing' touched' (entered journal by ask reply) links seat'
-  cell_called key limit standing standing' touched touched' journal links seat begun stored seat' bits by ask reply
-      cell steps form_is same_table within few kept begun_is each are seat_is =
-      let form = key.form in
-      let turn : Turn C = quiet_turn meaning form by ask in
-      let quiet : after_turn meaning form journal turn ≡ with_call meaning form journal by ask =
-      turn-quiet meaning form journal by ask in
-      let none : with_marks meaning form journal (marks_by meaning form turn.down journal by ask) ≡ journal =
-      ap (with_marks meaning form journal) (no_marks (links_asked meaning form (replay meaning form journal) by ask)) in
-      let at_journal : step meaning standing.form standing.machine by ask ≡ step meaning form
-      (replay meaning form journal) by ask =
-      ap (λ (f : StrForm). step meaning f standing.machine by ask) cell.form
-      ∙ ap (λ (m : Machine S). step meaning form m by ask) cell.machine in
-      let replies : reply ≡ next_reply meaning form journal by ask = ap (λ (a : CallOutcome R S). a.reply)
-      (steps ∙ at_journal) in
-      let machine_is : standing'.machine ≡ replay meaning form (with_call meaning form journal by ask) =
-      ap (λ (a : CallOutcome R S). a.machine) (steps ∙ at_journal)
-      ∙ sym (replay-push meaning form journal (next_entry meaning form journal by ask)) in
-      let journal_is : after_turn meaning form journal turn ≡ entered journal by ask reply =
-      quiet ∙ ap (λ (r : Reply R). entered journal by ask r) (sym replies) in
-      subst (λ (j : List (Entry C R)). IsCell meaning key limit standing' touched' j links seat') journal_is
-      (cell_turned key limit standing standing' touched touched' journal links seat begun stored seat' bits turn
-      (length journal + 1) reply cell
-      (ap (λ (h : List (Entry C R)). length h + 1) (sym none))
-      (replies ∙ ap (λ (h : List (Entry C R)). next_reply meaning form h by ask) (sym none))
-      (machine_is ∙ ap (replay meaning form) (sym quiet))
-      (subst IsUnmarked (sym quiet)
-      (unmarked_push journal (next_entry meaning form journal by ask) cell.legal.1 tt))
-      form_is same_table within (omega (arith, few)) kept begun_is each are seat_is)
-
   -- so does a step that leaves the seat as it was
-  pub cell_same : (key : CellKey C R L) (limit : ℕ) (standing : StructureView S) (touched : TouchedWords)
-      (journal : List (Entry C R)) (links : Links L)
-      (seat seat' : SeatSeen (About C R)) → IsCell meaning key limit standing touched journal links seat
-      → seat' ≡ seat
-      → IsCell meaning key limit standing touched journal links seat'
-  cell_same key limit standing touched journal links seat seat' cell same =
-      subst (IsCell meaning key limit standing touched journal links) (sym same) cell
+  pub cell_same : (key : CellKey C R L) (limit : ℕ) (standing : StructureView S L) (touched : TouchedWords)
+      (journal : List (Entry C R)) (seat seat' : SeatSeen (About C R))
+      → IsCell asks downs faults meaning key limit standing touched journal seat → seat' ≡ seat
+      → IsCell asks downs faults meaning key limit standing touched journal seat'
+  cell_same key limit standing touched journal seat seat' cell same =
+      subst (IsCell asks downs faults meaning key limit standing touched journal) (sym same) cell
 
-  -- the same, by other names for what is the same
-  pub cell_answered : (key : CellKey C R L) (limit : ℕ) (standing standing' : StructureView S)
-      (touched touched' : TouchedWords) (journal journal' : List (Entry C R))
-      (links : Links L) (seat learned begun stored seat' : SeatSeen (About C R)) (vectors : WordTable)
-      (named : List Place) (count owner : ℕ)
-      (by : ConnId) (ask : Ask C) (reply : Reply R)
-      → IsCell meaning key limit standing touched journal links seat
-      → record { reply = reply; machine = standing'.machine } ≡ step meaning standing.form standing.machine by ask
+  -- so does a turn of the machine, where its marks are entered, its words stored, and its call committed and entered
+  pub cell_answered : (key : CellKey C R L) (limit : ℕ) (standing standing' : StructureView S L)
+      (touched touched' : TouchedWords) (journal marked journal' : List (Entry C R)) (marks : List Mark)
+      (seat learned begun stored seat' : SeatSeen (About C R)) (vectors : WordTable)
+      (named : List Place) (count owner : ℕ) (by : ConnId) (ask : Ask C) (reply : Reply R)
+      → IsCell asks downs faults meaning key limit standing touched journal seat
+      → IsTurn asks downs faults meaning standing standing' by ask marks reply
       → standing'.form ≡ standing.form → IsOfTable touched touched' → length journal < limit
       → ((conn : ConnId) (index : ℕ) → 0 < conn.0 → conn.0 ≤ touched'.conns → index < touched'.len
       → IsSpared touched'.places conn.0 (index / 32)
       → stands_at meaning standing'.machine conn index ≡ stands_at meaning standing.machine conn index)
-      → vectors ≡ key.words → named ≡ touched'.places → learned ≡ seat → count ≡ length journal + 1 → by.0 ≡ owner
-      → owner ≤ vectors.conns
-      → begun ≡ record learned { number = count }
+      → vectors ≡ key.words → named ≡ touched'.places → learned ≡ seat
+      → marked ≡ entered journal marks → count ≡ length marked + 1
+      → by.0 ≡ owner → owner ≤ vectors.conns → begun ≡ record learned { number = count }
       → StoresEach vectors.conns vectors.len (words_in meaning standing'.form standing'.machine) named begun stored
       → seat' ≡ record stored { number = 0; log = stored.log ++ Committed stored.number owner (ask, reply) ∷ [] }
-      → journal' ≡ journal ++ record { no = count; by = by; what = what.Call ask; reply = reply } ∷ []
-      → IsCell meaning key limit standing' touched' journal' links seat'
-  cell_answered key limit standing standing' touched touched' journal journal' links seat learned begun stored seat'
-      vectors named count owner by ask reply
-      cell steps form_is same_table few kept vectors_are named_are learned_is count_is by_is most begun_is each
+      → journal' ≡ marked ++ record { no = count; by = by; what = what.Call ask; reply = reply } ∷ []
+      → IsCell asks downs faults meaning key limit standing' touched' journal' seat'
+  cell_answered key limit standing standing' touched touched' journal marked journal' marks seat learned begun stored
+      seat' vectors named count owner by ask reply
+      cell done form_is same_table few kept vectors_are named_are learned_is marked_is count_is by_is most begun_is each
       seat_is journal_is =
+      let form = key.form in
+      let it = turn_at asks downs faults meaning form (replay meaning form journal) standing standing' by ask marks reply
+      cell.form cell.machine done in
+      let turn : Turn C = record { by = by; ask = ask; down = it.down } in
+      let taken_so : IsTaken meaning form journal turn standing'.machine marks reply =
+      taken asks downs faults meaning form journal standing.links standing' by ask marks reply it in
+      let marked_so : marked ≡ with_marks meaning form journal (marks_by meaning form it.down journal by ask) =
+      marked_is ∙ taken_so.marked in
+      let number_is : count ≡ number_added meaning form journal turn =
+      count_is ∙ ap (λ (h : List (Entry C R)). length h + 1) marked_so in
+      let call_is : journal' ≡ after_turn meaning form journal turn =
+      journal_is
+      ∙ ap (λ (n : ℕ). (let added : Entry C R = record { no = n; by = by; what = what.Call ask; reply = reply } in
+      marked ++ added ∷ [])) number_is
+      ∙ ap (λ (r : Reply R). (let added : Entry C R = record {
+        no = number_added meaning form journal turn;
+        by = by;
+        what = what.Call ask;
+        reply = r;
+      } in marked ++ added ∷ [])) taken_so.reply_is
+      ∙ ap (λ (h : List (Entry C R)). h ++ next_entry meaning form
+      (with_marks meaning form journal (marks_by meaning form it.down journal by ask)) by ask ∷ []) marked_so in
       let within : by.0 ≤ key.callers =
       subst (λ (n : ℕ). n ≤ key.callers) (sym by_is)
       (subst (λ (n : ℕ). owner ≤ n) (ap (λ (w : WordTable). w.conns) vectors_are ∙ cell.conns) most) in
-      let begun_seat : begun ≡ record seat { number = length journal + 1 } =
-      begun_is ∙ ap (λ (n : ℕ). record learned { number = n }) count_is
-      ∙ ap (λ (s : SeatSeen (About C R)). record s { number = length journal + 1 }) learned_is in
+      let begun_seat : begun ≡ record seat { number = count } =
+      begun_is ∙ ap (λ (s : SeatSeen (About C R)). record s { number = count }) learned_is in
       let stores : StoresEach key.words.conns key.words.len
       (words_in meaning standing'.form standing'.machine) touched'.places begun stored =
       subst (λ (w : WordTable). StoresEach w.conns w.len
       (words_in meaning standing'.form standing'.machine) touched'.places begun stored) vectors_are
       (subst (λ (ps : List Place). StoresEach vectors.conns vectors.len
       (words_in meaning standing'.form standing'.machine) ps begun stored) named_are each) in
-      subst (λ (j : List (Entry C R)). IsCell meaning key limit standing' touched' j links seat')
-      (ap (λ (n : ℕ).
-      (let added : Entry C R = record { no = n; by = by; what = what.Call ask; reply = reply } in journal ++ added ∷
-      [])) (sym count_is) ∙ sym journal_is)
-      (cell_called key limit standing standing' touched touched' journal links seat begun stored seat'
-      (words_in meaning standing'.form standing'.machine)
-      by ask reply cell steps form_is same_table within few kept begun_seat stores (λ conn word. refl)
+      let two : length marks ≤ 2 = few_marks asks downs faults meaning standing standing' by ask marks reply done in
+      let all : length marked ≡ length journal + length marks =
+      ap length marked_is ∙ length-entered journal marks in
+      subst (λ (j : List (Entry C R)). IsCell asks downs faults meaning key limit standing' touched' j seat')
+      (sym call_is)
+      (cell_turned key limit standing standing' touched touched' journal seat begun stored seat'
+      (words_in meaning standing'.form standing'.machine) turn count reply cell number_is taken_so.reply_is
+      taken_so.machine_is form_is same_table within (omega (arith, few, two, all, count_is)) few it.asked kept begun_seat
+      stores (λ conn word. refl)
       (seat_is
       ∙ ap (λ (n : ℕ). record stored { number = 0; log = stored.log ++ Committed stored.number n (ask, reply) ∷ [] })
       (sym by_is)))

@@ -5,11 +5,10 @@ use Rattle.std.proofs.lemmas.Bool.Decides.{nat_tests}
 use Rattle.std.proofs.lemmas.List.{take-append-le}
 use Rattle.cf_types.specs.declared.forms.StrForm.{StrForm}
 use Rattle.cf_types.specs.declared.numbers.ConnId.{ConnId}
-use Rattle.engine_api.specs.declared.asks.Ask.{Ask}
 use Rattle.engine_api.specs.declared.histories.Entry.{Entry}
 use Rattle.engine_api.specs.Meaning.{Meaning}
 use Rattle.engine_api.specs.Machine.{Machine}
-use Rattle.engine_api.specs.History.{Turn, replay, next_entry, with_marks, marks_by, after_turn, last_call_below, IsNumbered}
+use Rattle.engine_api.specs.History.{Turn, replay, after_turn, last_call_below, IsNumbered}
 use Rattle.engine_api.proofs.HistoryLaws.{added_turn}
 use Rattle.engine_api.proofs.NumberLaws.{number_added, number_past, last_below-turn, last_below-past, length-turn}
 use Rattle.vec_world.specs.Log.{bits_at}

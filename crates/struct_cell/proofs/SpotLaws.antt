@@ -1,13 +1,13 @@
 -- Places that are found by their numbers, and places in order.
-use Rattle.std.proofs.Common.{◌≡◌, ℕ, ◌+◌, ◌*◌, ◌<◌, ◌≤◌, List, [], ◌∷◌, ◌++◌, length, get_or, set, Some, refl, sym, ap, subst, ◌∙◌, arith, inl, inr}
+use Rattle.std.proofs.Common.{◌≡◌, ℕ, ◌+◌, ◌*◌, ◌<◌, List, [], ◌∷◌, ◌++◌, length, get_or, set, Some, refl, sym, ap, subst, ◌∙◌, arith, inl, inr}
 use Rattle.std.proofs.lemmas.Bool.{cases_lt}
-use Rattle.std.specs.Prelude.{All, Contains, ◌⊎◌, ◌≢◌, slice_get}
-use Rattle.std.proofs.lemmas.List.{get_or_default, get_or_append_left, get_or_push, get_or-set_same, get_or-set_other, length_push, length-set}
+use Rattle.std.specs.Prelude.{Contains, ◌⊎◌, ◌≢◌, slice_get}
+use Rattle.std.proofs.lemmas.List.{get_or_append_left, get_or_push, get_or-set_same, get_or-set_other, length_push, length-set}
 use Rattle.std.proofs.lemmas.List.Elements.{All-push, All-weaker, All-contains}
 use Rattle.std.proofs.lemmas.Option.{slice_get-get_or}
 use Rattle.vec_words.specs.declared.stores.Place.{Place}
 use Rattle.vec_words.specs.Logged.{words_of, word_number}
-use Rattle.vec_words.specs.Stores.{IsAt, IsWithin, IsSpared, AreDistinct}
+use Rattle.vec_words.specs.Stores.{IsWithin, AreDistinct}
 use Rattle.vec_words.proofs.Places.{word_number-same}
 use Rattle.struct_cell.specs.Touches.{AreSpotted, ComeBefore}
 

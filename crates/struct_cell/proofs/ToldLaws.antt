@@ -1,6 +1,6 @@
 -- What a cell's history tells of passes: their tests, and their calls.
 use Rattle.std.proofs.Common.{◌≡◌, ℕ, ◌+◌, ◌-◌, ◌/◌, ◌<◌, ◌≤◌, ◌==◌, inl, inr, Bool, true, false, nat_lt, List, [], ◌∷◌, length, get_or, take, map, filter, All, refl, sym, ap, subst, ◌∙◌, arith}
-use Rattle.std.specs.Prelude.{Contains}
+use Rattle.std.specs.Prelude.{Contains, Option}
 use Rattle.std.proofs.lemmas.Bool.Decides.{nat_tests}
 use Rattle.std.proofs.lemmas.List.{length-map, get_or-map}
 use Rattle.std.proofs.lemmas.List.Elements.{All-map, All-weaker}
@@ -11,8 +11,10 @@ use Rattle.cf_types.specs.declared.forms.Kind.TheVariants as kind
 use Rattle.cf_types.specs.Forms.{IsForm, IsVectorOf}
 use Rattle.cf_types.specs.declared.numbers.ConnId.{ConnId}
 use Rattle.cf_link.specs.declared.links.Links.{Links}
+use Rattle.cf_link.specs.Links.{AreAsked}
 use Rattle.engine_api.specs.declared.histories.Entry.{Entry}
 use Rattle.engine_api.specs.Meaning.{Meaning}
+use Rattle.engine_api.specs.Answers.{answers}
 use Rattle.engine_api.specs.History.{Call, calls, numbers, own, IsPoint, stands_after, last_call_below}
 use Rattle.struct_machine.specs.StructureView.{StructureView}
 use Rattle.vec_world.specs.Log.{bits_at}
@@ -49,10 +51,11 @@ module _ {C R : Type 0} where
       by_owner true is rest = rw is (ap (λ (more : List (ℕ × About C R)). own_call_of call ∷ more) rest)
       by_owner false is rest = rw is rest
 
-module _ {C R I S L : Type 0} (meaning : Meaning C R I S) (key : CellKey C R L) (limit : ℕ) (standing : StructureView S)
+module _ {C R I S L : Type 0} (asks : L → Option ℕ) (downs : L → Option (List ℕ)) (faults : L → ℕ)
+    (meaning : Meaning C R I S) (key : CellKey C R L) (limit : ℕ) (standing : StructureView S L)
     (touched : TouchedWords)
-    (journal : List (Entry C R)) (links : Links L) (seat : SeatSeen (About C R))
-    (cell : IsCell meaning key limit standing touched journal links seat) where
+    (journal : List (Entry C R)) (seat : SeatSeen (About C R))
+    (cell : IsCell asks downs faults meaning key limit standing touched journal seat) where
   -- a number that was issued is a point of the journal
   pub issued_point : (n : ℕ) → IsIssued seat.log seat.number n → IsPoint journal n
   issued_point n (inl none) = inl none
@@ -65,7 +68,7 @@ module _ {C R I S L : Type 0} (meaning : Meaning C R I S) (key : CellKey C R L) 
 
   pub issued_within : (n : ℕ) → IsIssued seat.log seat.number n → n ≤ length journal
   issued_within n issued =
-      let numbered = numbered_legal meaning key.form journal cell.legal.0 in numbered.within n (issued_point n issued)
+      let numbered = numbered_legal meaning key.form journal cell.legal in numbered.within n (issued_point n issued)
 
   shown_is : (h : List (Entry C R)) (conn : ConnId) (index : ℕ) → index < key.form.vector
       → shown_after meaning key.form h conn index ≡ stands_after meaning key.form h conn index
@@ -80,7 +83,7 @@ module _ {C R I S L : Type 0} (meaning : Meaning C R I S) (key : CellKey C R L) 
       → IsTold meaning key.form journal owner test
   told owner test most honest =
       let conn : ConnId = record { 0 = owner } in
-      let numbered = numbered_legal meaning key.form journal cell.legal.0 in
+      let numbered = numbered_legal meaning key.form journal cell.legal in
       let point : IsPoint journal test.at = issued_point test.at honest.issued in
       let bits_of : ℕ → ℕ
       → Bool = λ len n. bit_in
@@ -137,12 +140,22 @@ module _ {C R I S L : Type 0} (meaning : Meaning C R I S) (key : CellKey C R L) 
 
 -- ---- a cell that is closed
 
-module _ {C R I S L : Type 0} (meaning : Meaning C R I S) (key seen : CellKey C R L) (limit : ℕ)
-    (standing : StructureView S) (touched : TouchedWords)
-    (journal history : List (Entry C R)) (links : Links L) (seat : SeatSeen (About C R))
+module _ {C R I S L : Type 0} (asks : L → Option ℕ) (downs : L → Option (List ℕ)) (faults : L → ℕ)
+    (meaning : Meaning C R I S) (key seen : CellKey C R L) (limit : ℕ)
+    (standing : StructureView S L) (touched : TouchedWords)
+    (journal history : List (Entry C R)) (seat : SeatSeen (About C R))
     (passes : List (PassSeen (About C R)))
-    (cell : IsCell meaning key limit standing touched journal links seat) (key_is : key ≡ seen)
+    (cell : IsCell asks downs faults meaning key limit standing touched journal seat) (key_is : key ≡ seen)
     (history_is : history ≡ journal) where
+  -- its links, with those that are handed out
+  pub closed_links : (handed : Links L) → handed ≡ standing.links
+      → AreAsked asks downs faults (answers meaning seen.form history) seen.links handed
+  closed_links handed same =
+      subst (λ (k : CellKey C R L). AreAsked asks downs faults (answers meaning k.form history) k.links handed) key_is
+      (subst (λ (h : List (Entry C R)). AreAsked asks downs faults (answers meaning key.form h) key.links handed)
+      (sym history_is)
+      (subst (AreAsked asks downs faults (answers meaning key.form journal) key.links) (sym same) cell.links))
+
   pub closed_callers : All (λ (call : Call C R). call.by.0 ≤ seen.callers) (calls history)
   closed_callers =
       subst (λ (k : CellKey C R L). All (λ (call : Call C R). call.by.0 ≤ k.callers) (calls history)) key_is
@@ -158,16 +171,20 @@ module _ {C R I S L : Type 0} (meaning : Meaning C R I S) (key seen : CellKey C 
       (sym history_is)
       (All-weaker (IsShown seat)
       (λ (pass : PassSeen (About C R)). pass.mine ≡ map own_call_of (own journal (record { 0 = pass.owner })))
-      (λ pass it. mine_own meaning key limit standing touched journal links seat cell pass it) passes shown)
+      (λ pass it. mine_own asks downs faults meaning key limit standing touched journal seat cell pass it) passes shown)
 
   pub closed_known : All (IsShown seat) passes
-      → All (λ (pass : PassSeen (About C R)). pass.known ≤ length history) passes
+      → All (λ (pass : PassSeen (About C R)). IsPoint history pass.known × (pass.known ≤ length history)) passes
   closed_known shown =
-      subst (λ (h : List (Entry C R)). All (λ (pass : PassSeen (About C R)). pass.known ≤ length h) passes)
+      subst (λ (h : List (Entry C R)).
+      All (λ (pass : PassSeen (About C R)). IsPoint h pass.known × (pass.known ≤ length h)) passes)
       (sym history_is)
-      (All-weaker (IsShown seat) (λ (pass : PassSeen (About C R)). pass.known ≤ length journal)
-      (λ pass it. issued_within meaning key limit standing touched journal links seat cell pass.known it.known) passes
-      shown)
+      (All-weaker (IsShown seat)
+      (λ (pass : PassSeen (About C R)). IsPoint journal pass.known × (pass.known ≤ length journal))
+      (λ pass it. (
+        issued_point asks downs faults meaning key limit standing touched journal seat cell pass.known it.known,
+        issued_within asks downs faults meaning key limit standing touched journal seat cell pass.known it.known,
+      )) passes shown)
 
   pub closed_tests : All (λ (pass : PassSeen (About C R)). pass.table ≡ seen.words) passes → All (IsShown seat) passes
       → All (λ (pass : PassSeen (About C R)). All (IsTold meaning seen.form history pass.owner) pass.tests) passes
@@ -176,7 +193,7 @@ module _ {C R I S L : Type 0} (meaning : Meaning C R I S) (key seen : CellKey C 
       let table : pass.table ≡ key.words = tables k d below ∙ ap (λ (it : CellKey C R L). it.words) (sym key_is) in
       subst (λ (it : CellKey C R L). All (IsTold meaning it.form history pass.owner) pass.tests) key_is
       (subst (λ (h : List (Entry C R)). All (IsTold meaning key.form h pass.owner) pass.tests) (sym history_is)
-      (tests_told meaning key limit standing touched journal links seat cell pass table (shown k d below)))
+      (tests_told asks downs faults meaning key limit standing touched journal seat cell pass table (shown k d below)))
 
 -- the passes' table, by another name
 pub same_tables : {D : Type 0} (words other : WordTable) (passes same : List (PassSeen D)) → words ≡ other

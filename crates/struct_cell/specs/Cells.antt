@@ -1,19 +1,21 @@
 -- What the lock of a cell keeps: how the journal, the words and the machine stand to one another.
-use Rattle.std.specs.Prelude.{◌≡◌, ℕ, ◌+◌, ◌/◌, ◌<◌, ◌≤◌, Bool, List, length, map, take, All}
+use Rattle.std.specs.Prelude.{◌≡◌, ℕ, ◌+◌, ◌/◌, ◌<◌, ◌≤◌, Bool, List, Option, length, map, take, All}
 use Rattle.cf_types.specs.declared.forms.StrForm.{StrForm}
 use Rattle.cf_types.specs.declared.numbers.ConnId.{ConnId}
-use Rattle.cf_link.specs.declared.links.Links.{Links}
+use Rattle.cf_link.specs.Links.{AreAsked}
 use Rattle.engine_api.specs.declared.asks.Ask.{Ask}
 use Rattle.engine_api.specs.declared.asks.Reply.{Reply}
 use Rattle.engine_api.specs.declared.histories.Entry.{Entry}
+use Rattle.engine_api.specs.Answers.{answers}
 use Rattle.engine_api.specs.Meaning.{Meaning}
-use Rattle.engine_api.specs.History.{Call, calls, replay, last_call_below, IsLegal, IsUnmarked}
+use Rattle.engine_api.specs.History.{Call, calls, replay, numbers, last_call_below, IsLegal}
 use Rattle.struct_machine.specs.StructureView.{StructureView}
 use Rattle.vec_world.specs.Log.{bits_at}
 use Rattle.vec_words.specs.declared.logged.Logged.{Logged}
 use Rattle.vec_words.specs.Logged.{CallRecord, steps_of, commits_of, count_of, words_of, word_number, bit_in}
 use Rattle.vec_words.specs.Tokens.{SeatSeen}
 use Rattle.struct_cell.specs.declared.inside.CellKey.{CellKey}
+use Rattle.struct_cell.specs.Limits.{AreMadeBelow}
 use Rattle.struct_cell.specs.Touches.{TouchedWords}
 use Rattle.struct_cell.specs.Words.{shown_in}
 
@@ -46,24 +48,24 @@ module _ {C R I S : Type 0} (meaning : Meaning C R I S) (form : StrForm) where
       ≡ shown_below history (n + 1) conn index
 
 -- What lies under the lock stands to what never changes. Nothing is in flight; the log's commits are the journal's
--- calls; the journal is legal, with no marks yet, and leads to the machine; and at each number the words show what stood after the last
--- call up to it.
-pub record IsCell {C R I S L : Type 0} (meaning : Meaning C R I S) (key : CellKey C R L) (limit : ℕ)
-    (standing : StructureView S)
-    (touched : TouchedWords) (journal : List (Entry C R)) (links : Links L) (seat : SeatSeen (About C R)) : Type 0
-  where
-    pub form : standing.form ≡ key.form
-    pub limit_is : limit ≡ key.limit
-    pub links_are : links ≡ key.links
-    pub table : seat.table ≡ key.words
-    pub touches : (touched.conns ≡ key.callers) × (touched.len ≡ key.form.vector)
-    pub conns : key.words.conns ≡ key.callers
-    pub len : key.words.len ≡ key.form.vector
-    pub idle : seat.number ≡ 0
-    pub commits : commits_of seat.log ≡ map commit_of (calls journal)
-    pub count : count_of seat.log ≡ length journal
-    pub callers : All (λ call. call.by.0 ≤ key.callers) (calls journal)
-    pub most : length journal ≤ key.limit
-    pub legal : IsLegal meaning key.form journal × IsUnmarked journal
-    pub machine : standing.machine ≡ replay meaning key.form journal
-    pub bits : Shows meaning key.form key.callers seat.log journal
+-- calls; the journal is legal, and leads to the machine; the links were asked since the start as the journal's answers
+-- say; each call found room in it; and at each number the words show what stood after the last call up to it.
+pub record IsCell {C R I S L : Type 0} (asks : L → Option ℕ) (downs : L → Option (List ℕ)) (faults : L → ℕ)
+    (meaning : Meaning C R I S) (key : CellKey C R L) (limit : ℕ) (standing : StructureView S L)
+    (touched : TouchedWords) (journal : List (Entry C R)) (seat : SeatSeen (About C R)) : Type 0 where
+  pub form : standing.form ≡ key.form
+  pub limit_is : limit ≡ key.limit
+  pub links : AreAsked asks downs faults (answers meaning key.form journal) key.links standing.links
+  pub table : seat.table ≡ key.words
+  pub touches : (touched.conns ≡ key.callers) × (touched.len ≡ key.form.vector)
+  pub conns : key.words.conns ≡ key.callers
+  pub len : key.words.len ≡ key.form.vector
+  pub idle : seat.number ≡ 0
+  pub commits : commits_of seat.log ≡ map commit_of (calls journal)
+  pub count : count_of seat.log ≡ length journal
+  pub callers : All (λ call. call.by.0 ≤ key.callers) (calls journal)
+  pub most : length journal ≤ key.limit + 2
+  pub room : AreMadeBelow key.limit 0 (numbers journal)
+  pub legal : IsLegal meaning key.form journal
+  pub machine : standing.machine ≡ replay meaning key.form journal
+  pub bits : Shows meaning key.form key.callers seat.log journal

@@ -1,5 +1,5 @@
 -- The words in which a call may have changed a bit.
-use Rattle.std.specs.Prelude.{◌≡◌, ◌+◌, ◌*◌, ◌<◌, ◌≤◌, ◌⊎◌, ℕ, List, All, length, get_or}
+use Rattle.std.specs.Prelude.{◌≡◌, ◌*◌, ◌<◌, ◌≤◌, ◌⊎◌, ℕ, List, All, length, get_or}
 use Rattle.vec_words.specs.declared.stores.Place.{Place}
 use Rattle.vec_words.specs.Logged.{words_of, word_number}
 use Rattle.vec_words.specs.Stores.{IsSpared, IsWithin}

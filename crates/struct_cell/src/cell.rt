@@ -1,10 +1,12 @@
 //! The cell.
-ghost use Rattle.std.specs.Prelude.{◌≡◌, ◌+◌, ◌<◌, ◌≤◌, ◌++◌, ◌≢◌, ℕ, [], ◌∷◌, IsTrue, IfOk, IfErr, IfSome, Err, None, Some, All, length, map, max, is_some, true, false};
+ghost use Rattle.std.specs.Prelude.{◌≡◌, ◌+◌, ◌<◌, ◌≤◌, ◌++◌, ◌≢◌, ℕ, [], ◌∷◌, IsTrue, IfOk, IfErr, IfSome, Err, Some, All, length, map, max, option_map, is_some, true, false};
 ghost use Rattle.std.specs.List.{range_with_len};
 ghost use Rattle.cf_types.specs.declared.limits.TheConstants.{CONNECTORS};
+ghost use Rattle.cf_link.specs.Links.{AreAsked};
 ghost use Rattle.cf_types.specs.Forms.{IsForm};
-ghost use Rattle.engine_api.specs.Asking.{MayAsk, IsBuilt};
-ghost use Rattle.engine_api.specs.History.{calls, own, replay, IsLegal, IsUnmarked};
+ghost use Rattle.engine_api.specs.Asking.{MayAsk};
+ghost use Rattle.engine_api.specs.Answers.{answers};
+ghost use Rattle.engine_api.specs.History.{calls, numbers, own, replay, IsLegal, IsPoint};
 ghost use Rattle.engine_api.specs.Meaning.{items_of};
 ghost use Rattle.engine_api.specs.Rebuilds.{fresh_of};
 ghost use Rattle.engine_api.specs.Shapes.{shape_of};
@@ -13,12 +15,13 @@ ghost use Rattle.vec_words.specs.Logged.{count_of};
 ghost use Rattle.vec_words.specs.Tokens.{new_pass, learned_pass};
 ghost use Rattle.struct_cell.specs.Cells.{own_call_of, IsCell};
 ghost use Rattle.struct_cell.specs.Calls.{IsAnswered, IsLater};
+ghost use Rattle.struct_cell.specs.Limits.{AreMadeBelow};
 ghost use Rattle.struct_cell.specs.Telling.{IsTold};
 ghost use Rattle.struct_machine.specs.StructureView.{copied_items};
 ghost use Rattle.struct_cell.specs.declared.refused.CallRefused.TheVariants as refused;
 
 use crate::closed::Closed;
-use crate::inside::{CellFact, Inside, reserve_entry};
+use crate::inside::{CellFact, Inside, enter_marks, reserve_entries};
 use crate::refused::CallRefused;
 use crate::touched::Touched;
 use crate::words::store_words;
@@ -63,7 +66,8 @@ impl<E: Engine, L: Link> Model for Cell<E, L> {
 
 impl<E: Engine, L: Link> Cell<E, L> {
     /// A cell of a structure without calls yet, with a pass for each caller from the operator, 0,
-    /// on. Its journal has at most `limit` entries. Where there is no memory the links come back.
+    /// on. A call is made where its journal has fewer than `limit` entries. Where there is no memory
+    /// the links come back.
     pub fn start(
         alloc: Global,
         form: StrForm,
@@ -89,37 +93,35 @@ impl<E: Engine, L: Link> Cell<E, L> {
         ensures handed_back { IfErr result (λ back. back ≡ links) }
     {
         let len = form.vector;
-        let Ok(machine) = Machine::start(alloc, form) else {
-            return Err(links);
-        };
         let Ok(touched) = Touched::none(alloc, callers, len) else {
             return Err(links);
         };
         let Ok((vectors, seat, passes)) = Vectors::start(alloc, callers, len) else {
             return Err(links);
         };
+        let machine = Machine::start(alloc, form, links)?;
         let inside = Inside {
             limit,
             machine,
             changed: Changed::none(alloc),
             touched,
             journal: Vec::new(alloc),
-            links,
             seat,
         };
         match KeyLock::new(alloc, inside) {
             Ok(lock) => Ok((Cell { lock, vectors }, passes)),
-            Err(Inside { links, .. }) => Err(links),
+            Err(Inside { machine, .. }) => Err(machine.into_parts().links),
         }
     }
 
-    /// A call of the pass's owner. It waits for its turn; then it is judged and done at once, it
-    /// stands in the journal, and each word of a vector in which it changed a bit is stored, before
-    /// its number is published.
+    /// A call of the pass's owner. It waits for its turn; then it is judged and done at once, and
+    /// stands in the journal, behind a mark for each instance that its links tell to be lost. Each
+    /// word of a vector in which it or its marks changed a bit is stored before its number is
+    /// published.
     ///
     /// # Errors
     ///
-    /// `JournalFull` where the journal has `limit` entries; `NoMemory`, before anything was
+    /// `JournalFull` where the journal has `limit` entries or more; `NoMemory`, before anything was
     /// changed. In both cases nothing happened to the structure.
     pub fn call(
         &self,
@@ -130,7 +132,6 @@ impl<E: Engine, L: Link> Cell<E, L> {
     ) -> Result<Told, CallRefused>
         requires pass { pass.old.table ≡ self.now.words }
         requires may { MayAsk (record { 0 = pass.old.owner }) ask }
-        requires built { IsBuilt ask }
         ensures later { IfOk result (λ told. pass.old.known < told.no) }
         ensures answered { IfOk result (λ told. IsAnswered ask told pass.old pass.new) }
         ensures refused { IfErr result (λ _. IsLater pass.old pass.new) }
@@ -153,13 +154,12 @@ impl<E: Engine, L: Link> Cell<E, L> {
         pass: &mut Pass<(Ask<E::Cmd>, Reply<E::Reply>)>,
         ask: Ask<E::Cmd>,
     ) -> Result<Told, CallRefused>
-        requires cell { IsCell E.meaning self.now inside.old.limit inside.old.machine
-            inside.old.touched inside.old.journal.items inside.old.links inside.old.seat }
+        requires cell { IsCell L.calls L.downs L.faults E.meaning self.now inside.old.limit
+            inside.old.machine inside.old.touched inside.old.journal.items inside.old.seat }
         requires pass { pass.old.table ≡ self.now.words }
         requires may { MayAsk (record { 0 = pass.old.owner }) ask }
-        requires built { IsBuilt ask }
-        ensures cell { IsCell E.meaning self.now inside.new.limit inside.new.machine
-            inside.new.touched inside.new.journal.items inside.new.links inside.new.seat }
+        ensures cell { IsCell L.calls L.downs L.faults E.meaning self.now inside.new.limit
+            inside.new.machine inside.new.touched inside.new.journal.items inside.new.seat }
         ensures later { IfOk result (λ told. pass.old.known < told.no) }
         ensures answered { IfOk result (λ told. IsAnswered ask told pass.old pass.new) }
         ensures refused { IfErr result (λ _. IsLater pass.old pass.new) }
@@ -172,12 +172,13 @@ impl<E: Engine, L: Link> Cell<E, L> {
         if is_full(count, inside.limit) {
             return Err(self.journal_full(&mut inside.seat, pass, inside.limit));
         }
-        reserve_entry(&mut inside.journal)?;
+        reserve_entries(&mut inside.journal)?;
         let by = pass.owner();
         let reply = inside.machine.answer(alloc, by, &ask, &mut inside.changed)?;
-        inside.touched.note(&inside.changed);
-        let no = count as u32 + 1;
         self.vectors.learn(&mut inside.seat, pass);
+        enter_marks(&mut inside.journal, inside.changed.marks());
+        inside.touched.note(&inside.changed);
+        let no = inside.journal.len() as u32 + 1;
         self.vectors.begin(&mut inside.seat, no);
         let words = inside.touched.places();
         store_words(&self.vectors, &mut inside.seat, &inside.machine, words);
@@ -225,21 +226,26 @@ impl<E: Engine, L: Link> Cell<E, L> {
         passes: Vec<Pass<(Ask<E::Cmd>, Reply<E::Reply>)>>,
     ) -> Closed<E, L>
         requires passes { All (λ pass. pass.table ≡ self.words) passes.items }
-        ensures legal { IsLegal E.meaning self.form result.history
-            × IsUnmarked result.history }
-        ensures most { length result.history ≤ self.limit }
+        ensures legal { IsLegal E.meaning self.form result.history }
+        ensures most { length result.history ≤ self.limit + 2 }
+        ensures room { AreMadeBelow self.limit 0 (numbers result.history) }
         ensures callers { All (λ call. call.by.0 ≤ self.callers) (calls result.history) }
         ensures mine { All (λ pass. pass.mine ≡ map own_call_of (own result.history
             (record { 0 = pass.owner }))) passes.items }
         ensures tests { All (λ pass. All (IsTold E.meaning self.form result.history pass.owner)
             pass.tests) passes.items }
-        ensures known { All (λ pass. pass.known ≤ length result.history) passes.items }
-        ensures links { result.links ≡ self.links }
+        ensures known { All (λ pass. IsPoint result.history pass.known
+            × (pass.known ≤ length result.history)) passes.items }
+        ensures links { AreAsked L.calls L.downs L.faults
+            (answers E.meaning self.form result.history) self.links result.links }
         ensures first { is_some result.first ≡ is_some
             (replay E.meaning self.form result.history).shell.instances.primary }
         ensures content { IfSome result.first (λ engine. (E.held engine).state
             ≡ (replay E.meaning self.form result.history).content) }
-        ensures second { result.second ≡ None }
+        ensures second { is_some result.second ≡ is_some
+            (replay E.meaning self.form result.history).shell.instances.secondary }
+        ensures same { IfSome result.second
+            (λ engine. Some (E.held engine) ≡ option_map E.held result.first) }
         ensures fresh { is_some result.fresh ≡ is_some (fresh_of
             (replay E.meaning self.form result.history).shell.rebuild) }
         ensures front { IfSome result.fresh (λ engine. items_of E.meaning (E.held engine)
@@ -261,16 +267,15 @@ impl<E: Engine, L: Link> Cell<E, L> {
         let Inside {
             machine,
             journal,
-            links,
             ..
         } = inside;
-        let (first, fresh) = machine.into_instances();
+        let parts = machine.into_parts();
         Closed {
             history: History::from_vec(journal),
-            links,
-            first,
-            second: None,
-            fresh,
+            links: parts.links,
+            first: parts.first,
+            second: parts.second,
+            fresh: parts.fresh,
         }
     }
 }

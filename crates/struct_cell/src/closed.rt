@@ -7,7 +7,7 @@ pub struct Closed<E: Engine, L> {
     /// The structure's journal.
     pub history: History<E::Cmd, E::Reply>,
 
-    /// The links, as the cell got them.
+    /// The links, asked as often as the journal tells.
     pub links: Links<L>,
 
     /// The content of the primary, where one stands.

@@ -1,36 +1,57 @@
-ghost use Rattle.std.specs.Prelude.{◌≡◌, ◌<◌, OnOk};
+ghost use Rattle.std.specs.Prelude.{◌≡◌, ◌+◌, ◌^◌, ◌<◌, ◌≤◌, OnOk, length};
 ghost use Rattle.std.specs.Vec.{vec_len, vec_capacity};
 ghost use Rattle.struct_cell.specs.Cells.{IsCell};
+ghost use Rattle.struct_cell.specs.Marks.{entered};
 
 use crate::touched::Touched;
 use cf_link::{Link, Links};
 use cf_turn::Keeps;
-use cf_types::{NoMemory, StrForm};
-use engine_api::{Ask, Engine, Entry, Reply};
+use cf_types::{ConnId, NoMemory, StrForm};
+use engine_api::{Ask, Engine, Entry, Reply, What};
 use std::marker::{Model, PhantomData};
-use struct_machine::{Changed, Machine};
+use struct_machine::{Changed, Machine, Mark};
 use vec_words::{EngineSeat, Vectors};
 
-/// What lies under a cell's lock: the structure's machine and its journal, its links, and the seat
-/// by which words are stored.
+/// What lies under a cell's lock: the structure's machine, with its links, and its journal, and the
+/// seat by which words are stored.
 #[derive(Drop)]
 pub struct Inside<E: Engine, L: Link> {
     pub(crate) limit: u32,
-    pub(crate) machine: Machine<E>,
+    pub(crate) machine: Machine<E, L>,
     pub(crate) changed: Changed,
     pub(crate) touched: Touched,
     pub(crate) journal: Vec<Entry<E::Cmd, E::Reply>>,
-    pub(crate) links: Links<L>,
     pub(crate) seat: EngineSeat<(Ask<E::Cmd>, Reply<E::Reply>)>,
 }
 
-// Takes the place of an entry in the journal. Want of memory changes nothing.
-pub(crate) fn reserve_entry<C, R>(journal: &mut Vec<Entry<C, R>>) -> Result<(), NoMemory>
+/// The most entries that a call adds: its own, and those of the two links that it may ask.
+const CALL_ENTRIES: usize = 3;
+
+// Takes the places of a call's entries in the journal. Want of memory changes nothing.
+pub(crate) fn reserve_entries<C, R>(journal: &mut Vec<Entry<C, R>>) -> Result<(), NoMemory>
     ensures items { journal.new.items ≡ journal.old.items }
-    ensures room { OnOk result (vec_len journal.new < vec_capacity journal.new) }
+    ensures room { OnOk result (vec_len journal.new + 3 ≤ vec_capacity journal.new) }
 {
-    journal.reserve(1)?;
+    journal.reserve(CALL_ENTRIES)?;
     Ok(())
+}
+
+// Enters the losses that a call met.
+pub(crate) fn enter_marks<C, R>(journal: &mut Vec<Entry<C, R>>, marks: &[Mark])
+    requires room { vec_len journal.old + length marks.now < vec_capacity journal.old }
+    requires short { vec_len journal.old + length marks.now < 2 ^ 32 }
+    ensures items { journal.new.items ≡ entered journal.old.items marks.now }
+    ensures room { vec_len journal.new < vec_capacity journal.new }
+{
+    for mark in marks {
+        let no = journal.len() as u32 + 1;
+        journal.push_reserved(Entry {
+            no,
+            by: ConnId(0),
+            what: What::Lost(mark.cf),
+            reply: Reply::Shell(mark.lost.reply()),
+        });
+    }
 }
 
 /// What of a cell never changes. No value of it is made: contracts alone see it.
@@ -57,9 +78,9 @@ impl<E: Engine, L: Link> Keeps for CellFact<E, L> {
       callers = inside.seat.table.conns;
       limit = inside.limit;
       words = inside.seat.table;
-      links = inside.links;
+      links = inside.machine.links;
     } };
 
-    ghost stands = { λ key inside. IsCell E.meaning key inside.limit inside.machine
-        inside.touched inside.journal.items inside.links inside.seat };
+    ghost stands = { λ key inside. IsCell L.calls L.downs L.faults E.meaning key inside.limit
+        inside.machine inside.touched inside.journal.items inside.seat };
 }

@@ -1,5 +1,5 @@
 -- Which bits stand as before.
-use Rattle.std.proofs.Common.{◌≡◌, ℕ, Bool, true, false, ◌||◌, List, [], ◌∷◌, All, Option, None, Some, is_some, map, filter, refl, sym, ap, ◌∙◌, subst, subst₂}
+use Rattle.std.proofs.Common.{◌≡◌, ℕ, Bool, true, false, List, [], ◌∷◌, All, Option, None, Some, is_some, option_map, map, filter, refl, sym, ap, ◌∙◌, subst}
 use Rattle.std.proofs.lemmas.List.Elements.{recursion_from_All}
 use Rattle.std.specs.List.{AllByRecursion}
 use Rattle.cf_types.specs.declared.effects.BitChange.{BitChange}
@@ -9,7 +9,9 @@ use Rattle.cf_types.specs.declared.numbers.ConnId.{ConnId}
 use Rattle.cf_types.specs.Gains.{Bits, Gains, is_for, bits_told, difference}
 use Rattle.engine_api.specs.declared.deeds.Deeds.{Deeds}
 use Rattle.engine_api.specs.Machine.{content_after}
-use Rattle.engine_api.specs.Meaning.{Meaning, Held, stands_in}
+use Rattle.duplex_pair.specs.Pairs.{bits_of}
+use Rattle.engine_api.specs.Meaning.{Meaning, Held, with_departure}
+use Rattle.struct_machine.specs.Kept.{state_in}
 use Rattle.struct_machine.specs.Changes.{ChangeList, Covers, may_change_bits}
 
 -- ---- what is told covers what changed
@@ -40,15 +42,24 @@ covers_gains before after changed gains conn index untouched =
     (sym (gains.exactly conn index) ∙ ap (λ (changes : List BitChange). bits_told changes conn index) (sym gains.behind)
     ∙ nothing)
 
--- the same of an engine that was got ready
-pub covers_ready : {C R I S : Type 0} (meaning : Meaning C R I S) (before ready after : Held S)
-    (named : List BitChange) (changed : ChangeList)
-    → ready ≡ before → named ≡ [] → Gains (stands_in meaning ready) (stands_in meaning after) named changed.bits
-    → Covers changed (stands_in meaning before) (stands_in meaning after)
-covers_ready {C} {R} {I} {S} meaning before ready after named changed same none gains =
-    covers_gains (stands_in meaning before) (stands_in meaning after) changed
-    (subst₂ (λ (held : Held S) (names : List BitChange). Gains (stands_in meaning held) (stands_in meaning after)
-    names changed.bits) same none gains)
+-- the same of a content that stands
+pub gains_held : {C R I S : Type 0} (meaning : Meaning C R I S) (form : StrForm) (was now : Option (Held S))
+    (bits : List BitChange) → is_some was ≡ true → is_some now ≡ true
+    → Gains (bits_of meaning was) (bits_of meaning now) [] bits
+    → Gains (meaning.stands (state_in meaning form was)) (meaning.stands (state_in meaning form now)) [] bits
+gains_held meaning form None now bits stands left gains = absurd (cc)
+gains_held meaning form (Some was) None bits stands left gains = absurd (cc)
+gains_held meaning form (Some was) (Some now) bits stands left gains = gains
+
+-- and where somebody departed
+pub gains_departed : {C R I S : Type 0} (meaning : Meaning C R I S) (form : StrForm) (was now : Option (Held S))
+    (bits : List BitChange) (conn : ConnId) (keep : Bool) → is_some was ≡ true
+    → now ≡ option_map (λ (held : Held S). with_departure meaning held conn keep) was
+    → Gains (bits_of meaning was) (bits_of meaning now) [] bits
+    → Gains (meaning.stands (state_in meaning form was)) (meaning.stands (state_in meaning form now)) [] bits
+gains_departed meaning form None now bits conn keep stands same gains = absurd (cc)
+gains_departed meaning form (Some was) None bits conn keep stands same gains = absurd (cc)
+gains_departed meaning form (Some was) (Some now) bits conn keep stands same gains = gains
 
 -- ---- deeds that change no bits leave the content
 
@@ -84,6 +95,10 @@ module _ {C R I S : Type 0} (meaning : Meaning C R I S) (form : StrForm) where
   covers_deeds rebuilding deeds before middle after named changed noted done gains =
       subst (λ (list : ChangeList). Covers list (meaning.stands before) (meaning.stands after)) (sym noted)
       (λ conn index untouched.
-      ap (λ (state : S). meaning.stands state conn index) (done ∙ content_kept rebuilding deeds middle untouched.not_all)
-      ∙ covers_gains (meaning.stands before) (meaning.stands middle) (record named { all = may_change_bits rebuilding deeds }) gains
+      ap (λ (state : S). meaning.stands state conn index) (done ∙ content_kept rebuilding deeds middle
+      untouched.not_all)
+      ∙ covers_gains (meaning.stands before) (meaning.stands middle) (record named {
+        all = may_change_bits rebuilding
+            deeds;
+      }) gains
       conn index untouched)

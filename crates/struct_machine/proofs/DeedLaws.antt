@@ -1,8 +1,7 @@
 -- What a command's deeds name, and what they do.
-use Rattle.std.specs.Prelude.{if◌then◌else◌, ◌||◌, ◌&&◌, not}
-use Rattle.std.proofs.lemmas.Bool.{and_parts}
+use Rattle.std.specs.Prelude.{if◌then◌else◌, ◌||◌, ◌&&◌}
 use Rattle.cf_types.specs.declared.forms.Caps.{Caps}
-use Rattle.std.proofs.Common.{◌≡◌, Bool, true, false, Option, None, Some, IfSome, refl, sym, ap, arith, is_some, cond}
+use Rattle.std.proofs.Common.{◌≡◌, Bool, true, false, Option, None, Some, IfSome, refl, sym, ap, ◌∙◌, subst, arith, is_some, cond}
 use Rattle.cf_types.specs.declared.forms.StrForm.{StrForm}
 use Rattle.cf_types.specs.declared.numbers.CfId.{CfId}
 use Rattle.cf_types.specs.declared.numbers.ConnId.{ConnId}
@@ -16,14 +15,15 @@ use Rattle.engine_api.specs.declared.deeds.Deeds.{Deeds}
 use Rattle.engine_api.specs.declared.deeds.Room.{Room}
 use Rattle.engine_api.specs.Asking.{MayCommand}
 use Rattle.engine_api.specs.Shapes.{shape_of}
-use Rattle.engine_api.specs.Meaning.{Meaning, Held}
+use Rattle.engine_api.specs.Meaning.{Meaning, Held, new_held}
 use Rattle.engine_api.specs.Machine.{content_after, copied_after, with_back_of}
-use Rattle.engine_api.specs.Shell.{Shell, Leaver, ShellOutcome, shell_done, leaver, take_event, responded, response_outcome, stop_outcome, rebuild_connect_outcome, complete_outcome, vary_outcome, simplex_again}
+use Rattle.engine_api.specs.Shell.{Shell, Leaver, caps_in, caps_made, ShellOutcome, shell_done, leaver, take_event, responded, response_outcome, stop_outcome, rebuild_connect_outcome, complete_outcome, vary_outcome, simplex_again}
 use Rattle.rebuild_core.specs.declared.rebuild.Rebuild.{Rebuild}
 use Rattle.rebuild_core.specs.Stages.{is_response}
-use Rattle.rebuild_copy.specs.Rebuildable.{Fresh, caps_or, emptied}
-use Rattle.struct_machine.specs.Deeds.{fresh_made, fresh_ended, caps_past, fresh_past, held_back, held_switched}
-use Rattle.struct_machine.specs.Kept.{copied_in, caps_of}
+use Rattle.rebuild_copy.specs.Filling.{Fresh, caps_or, emptied}
+use Rattle.rebuild_shell.specs.Capacities.{caps_behind, fresh_behind, fresh_caps}
+use Rattle.struct_machine.specs.Deeds.{fresh_made, fresh_past, held_back, held_made, held_switched, held_past}
+use Rattle.struct_machine.specs.Kept.{copied_in, caps_of, state_in, left_in, IsOf}
 use Rattle.rebuild_shell.proofs.LossLaws.{vary-cases}
 
 -- who departs is a caller
@@ -128,7 +128,7 @@ back_caller form room shell by (cmd.Vary cf off) may = varied_none form shell cf
 back_caller form room shell by cmd.DuplexStart may = tt
 back_caller form room shell by cmd.DuplexStop may = simplex_none shell shell.instances.secondary
 
--- ---- one deed after another, and all at once
+-- ---- deeds, all at once
 
 emptied_none : (fresh : Option Fresh) → copied_in (emptied fresh) ≡ 0
 emptied_none None = refl
@@ -138,102 +138,186 @@ emptied_caps : (fresh : Option Fresh) → caps_of (emptied fresh) ≡ caps_of fr
 emptied_caps None = refl
 emptied_caps (Some fresh) = refl
 
--- how many items the new instance has behind its own deeds
-copied_by : (restart switch drop made : Bool) (caps : Caps) (fresh : Option Fresh) → (made ≡ true → fresh ≡ None)
-    → copied_in (if switch || drop then None
-    else if restart then emptied (fresh_made made caps fresh) else fresh_made made caps fresh)
-    ≡ (if restart || (switch || (drop || false)) then 0 else copied_in fresh)
-copied_by true true drop made caps fresh alone = refl
-copied_by true false true made caps fresh alone = refl
-copied_by true false false made caps fresh alone = emptied_none (fresh_made made caps fresh)
-copied_by false true drop made caps fresh alone = refl
-copied_by false false true made caps fresh alone = refl
-copied_by false false false true caps fresh alone = sym (ap copied_in (alone refl))
-copied_by false false false false caps fresh alone = refl
+-- an empty instance of this form
+abbrev pub IsEmptyOf : {C R I S : Type 0} → Meaning C R I S → StrForm → Caps → Option (Held S) → Type 0
+IsEmptyOf meaning form caps empty = empty ≡ Some (new_held meaning (shape_of form) caps)
 
--- and its capacity
-caps_by : (restart switch drop made : Bool) (caps : Caps) (fresh : Option Fresh)
-    → caps_of (if switch || drop then None
-    else if restart then emptied (fresh_made made caps fresh) else fresh_made made caps fresh)
-    ≡ (if false || (switch || drop) then None else if made then Some caps else caps_of fresh)
-caps_by restart true drop made caps fresh = refl
-caps_by restart false true made caps fresh = refl
-caps_by true false false true caps fresh = refl
-caps_by true false false false caps fresh = emptied_caps fresh
-caps_by false false false true caps fresh = refl
-caps_by false false false false caps fresh = refl
-
-module _ {C R I S : Type 0} (meaning : Meaning C R I S) where
-  back_caps : (back : Option ConnId) (held : Held S) → (held_back meaning back held).caps ≡ held.caps
-  back_caps None held = refl
-  back_caps (Some conn) held = refl
-
-  pub back_shape : (back : Option ConnId) (held : Held S) → (held_back meaning back held).shape ≡ held.shape
-  back_shape None held = refl
-  back_shape (Some conn) held = refl
-
-  back_state : (form : StrForm) (back : Option ConnId) (held : Held S)
-      → (held_back meaning back held).state ≡ with_back_of meaning form back held.state
-  back_state form None held = refl
-  back_state form (Some conn) held = refl
-
-  -- what the primary holds, once it is taken up again, made anew, and replaced by the new instance
-  abbrev pub held_by : Bool → Deeds → Held S → Held S → Option Fresh → Held S
-  held_by rebuilding deeds spare held fresh =
-      held_switched meaning deeds.switch (fresh_made (is_some deeds.make && rebuilding) spare.caps fresh)
-      (if is_some deeds.make && not rebuilding then spare else held_back meaning deeds.back held)
-
-  pub state_by : (form : StrForm) (rebuilding : Bool) (deeds : Deeds) (spare held : Held S) (fresh : Option Fresh)
-      → spare.state ≡ meaning.empty (shape_of form) → deeds.drop_all ≡ false
-      → (held_by rebuilding deeds spare held fresh).state ≡ content_after meaning form rebuilding deeds held.state
-  state_by form rebuilding deeds spare held fresh empty kept =
-      go rebuilding deeds.make deeds.switch deeds.drop_all kept
+module _ {C R I S : Type 0} (meaning : Meaning C R I S) (form : StrForm) (caps : Caps) (empty : Option (Held S)) where
+  -- how many items the new instance has behind deeds
+  pub copied_past : (rebuilding : Bool) (deeds : Deeds) (fresh : Option Fresh)
+      → (is_some deeds.make ≡ true → fresh ≡ None) → (is_some deeds.make ≡ true → IsEmptyOf meaning form caps empty)
+      → copied_in (fresh_past rebuilding deeds empty fresh) ≡ copied_after deeds (copied_in fresh)
+  copied_past rebuilding deeds fresh alone made =
+      go deeds.drop_all deeds.switch deeds.drop_fresh deeds.restart rebuilding deeds.make alone made
     where
-      go : (rebuilding : Bool) (make : Option CfId) (switch drop : Bool) → drop ≡ false
-          → (held_by rebuilding (record deeds { make = make; switch = switch }) spare held fresh).state
+      ended : (all switch drop restart : Bool) (now : Option Fresh) → copied_in now ≡ copied_in fresh
+          → copied_in (if all then None else if switch || drop then None else if restart then emptied now else now)
+          ≡ (if restart || (switch || (drop || all)) then 0 else copied_in fresh)
+      ended true true drop true now same = refl
+      ended true true drop false now same = refl
+      ended true false true true now same = refl
+      ended true false true false now same = refl
+      ended true false false true now same = refl
+      ended true false false false now same = refl
+      ended false true drop true now same = refl
+      ended false true drop false now same = refl
+      ended false false true true now same = refl
+      ended false false true false now same = refl
+      ended false false false true now same = emptied_none now
+      ended false false false false now same = same
+
+      go : (all switch drop restart rebuilding : Bool) (make : Option CfId)
+          → (is_some make ≡ true → fresh ≡ None) → (is_some make ≡ true → IsEmptyOf meaning form caps empty)
+          → copied_in (if all then None else if switch || drop then None
+          else if restart then emptied (fresh_made rebuilding make empty fresh)
+          else fresh_made rebuilding make empty fresh)
+          ≡ (if restart || (switch || (drop || all)) then 0 else copied_in fresh)
+      go all switch drop restart rebuilding None alone made = ended all switch drop restart fresh refl
+      go all switch drop restart false (Some cf) alone made = ended all switch drop restart fresh refl
+      go all switch drop restart true (Some cf) alone made =
+          ended all switch drop restart (fresh_made true (Some cf) empty fresh)
+          (rw (made refl, alone refl) refl)
+
+  -- and its capacity
+  pub caps_past : (deeds : Deeds) (shell : Shell) (fresh : Option Fresh) → caps_of fresh ≡ fresh_caps shell.rebuild
+      → caps ≡ caps_made shell → (is_some deeds.make ≡ true → IsEmptyOf meaning form caps empty)
+      → caps_of (fresh_past (is_some shell.rebuild) deeds empty fresh) ≡ fresh_behind shell deeds
+  caps_past deeds shell fresh same are made =
+      go deeds.drop_all deeds.switch deeds.drop_fresh deeds.restart (is_some shell.rebuild) deeds.make made
+    where
+      ended : (all switch drop restart : Bool) (now : Option Fresh) (behind : Option Caps) → caps_of now ≡ behind
+          → caps_of (if all then None else if switch || drop then None else if restart then emptied now else now)
+          ≡ (if all || (switch || drop) then None else behind)
+      ended true switch drop restart now behind same = refl
+      ended false true drop restart now behind same = refl
+      ended false false true restart now behind same = refl
+      ended false false false true now behind same = emptied_caps now ∙ same
+      ended false false false false now behind same = same
+
+      go : (all switch drop restart rebuilding : Bool) (make : Option CfId)
+          → (is_some make ≡ true → IsEmptyOf meaning form caps empty)
+          → caps_of (if all then None else if switch || drop then None
+          else if restart then emptied (fresh_made rebuilding make empty fresh)
+          else fresh_made rebuilding make empty fresh)
+          ≡ (if all || (switch || drop) then None
+          else if is_some make && rebuilding then Some (caps_made shell) else fresh_caps shell.rebuild)
+      go all switch drop restart rebuilding None made = ended all switch drop restart fresh _ same
+      go all switch drop restart false (Some cf) made = ended all switch drop restart fresh _ same
+      go all switch drop restart true (Some cf) made =
+          ended all switch drop restart (fresh_made true (Some cf) empty fresh) (Some (caps_made shell))
+          (rw (made refl) (ap (λ (c : Caps). Some c) are))
+
+  back_of : (back : Option ConnId) (size : Caps) (held : Option (Held S)) → IsOf meaning form size held
+      → IsOf meaning form size (held_back meaning back held)
+  back_of None size held of = of
+  back_of (Some conn) size None of = of
+  back_of (Some conn) size (Some held) of = of
+
+  -- what the instances hold is of the form, and of the capacity behind the deeds
+  pub of_past : (deeds : Deeds) (shell : Shell) (fresh : Option Fresh) (held : Option (Held S))
+      → IsOf meaning form shell.caps held → caps ≡ caps_made shell
+      → (is_some deeds.make ≡ true → IsEmptyOf meaning form caps empty) → (deeds.switch ≡ true → deeds.make ≡ None)
+      → (deeds.switch ≡ true → (size : Caps) → caps_or fresh size ≡ caps_made shell)
+      → IsOf meaning form (caps_behind form shell deeds)
+      (held_past meaning (is_some shell.rebuild) deeds empty fresh held)
+  of_past deeds shell fresh held of are made unmade switched_to =
+      go deeds.drop_all deeds.switch shell.rebuild deeds.make (held_back meaning deeds.back held)
+      (back_of deeds.back shell.caps held of) are made unmade switched_to
+    where
+      switched_of : (rebuild : Option Rebuild) (now : Option (Held S)) → IsOf meaning form shell.caps now
+          → ((size : Caps) → caps_or fresh size ≡ caps_in rebuild shell.caps)
+          → IsOf meaning form (caps_in rebuild shell.caps) (held_switched meaning true fresh now)
+      switched_of rebuild None of to = tt
+      switched_of rebuild (Some now) of to = (of.0, to now.caps)
+
+      go : (all switch : Bool) (rebuild : Option Rebuild) (make : Option CfId) (now : Option (Held S))
+          → IsOf meaning form shell.caps now → caps ≡ caps_in rebuild shell.caps
+          → (is_some make ≡ true → IsEmptyOf meaning form caps empty) → (switch ≡ true → make ≡ None)
+          → (switch ≡ true → (size : Caps) → caps_or fresh size ≡ caps_in rebuild shell.caps)
+          → IsOf meaning form
+          (if all then form.caps else if switch then caps_in rebuild shell.caps else shell.caps)
+          (if all then None else held_switched meaning switch fresh (held_made (is_some rebuild) make empty now))
+      go true switch rebuild make now of are made unmade to = tt
+      go false true rebuild (Some cf) now of are made unmade to =
+          absurd (let wrong : Some cf ≡ None = unmade refl in cc)
+      go false true None None now of are made unmade to = switched_of None now of (to refl)
+      go false true (Some rebuild) None now of are made unmade to = switched_of (Some rebuild) now of (to refl)
+      go false false None None now of are made unmade to = of
+      go false false (Some rebuild) None now of are made unmade to = of
+      go false false (Some rebuild) (Some cf) now of are made unmade to = of
+      go false false None (Some cf) now of are made unmade to =
+          subst (IsOf meaning form shell.caps) (sym (made refl)) (refl, are)
+
+  state_back : (back : Option ConnId) (held : Held S) → (state : S)
+      → state_in meaning form (held_back meaning back (Some (record held { state = state })))
+      ≡ with_back_of meaning form back state
+  state_back None held state = refl
+  state_back (Some conn) held state = refl
+
+  -- without an instance deeds do nothing to what is held, but that they make one
+  pub record AreIdle (rebuilding : Bool) (deeds : Deeds) : Type 0 where
+    pub rebuild : rebuilding ≡ false
+    pub switch : deeds.switch ≡ false
+    pub back : is_some deeds.back ≡ true → is_some deeds.make ≡ true
+
+  -- the content behind deeds is what the instances hold then
+  pub state_past : (rebuilding : Bool) (deeds : Deeds) (fresh : Option Fresh) (held : Option (Held S)) (state : S)
+      → (is_some deeds.make ≡ true → IsEmptyOf meaning form caps empty)
+      → (is_some held ≡ false → state ≡ meaning.empty (shape_of form))
+      → (is_some held ≡ false → AreIdle rebuilding deeds)
+      → state_in meaning form (held_past meaning rebuilding deeds empty fresh (left_in state held))
+      ≡ content_after meaning form rebuilding deeds state
+  state_past rebuilding deeds fresh (Some held) state made empty_so idle =
+      go deeds.drop_all deeds.switch rebuilding deeds.make made
+      (held_back meaning deeds.back (Some (record held { state = state }))) (state_back deeds.back held state)
+      (some_back deeds.back)
+    where
+      some_back : (back : Option ConnId) → is_some (held_back meaning back (Some (record held { state = state }))) ≡
+          true
+      some_back None = refl
+      some_back (Some conn) = refl
+
+      switch_state : (switch : Bool) (now : Option (Held S)) → is_some now ≡ true
+          → state_in meaning form (held_switched meaning switch fresh now)
+          ≡ (if switch then meaning.forget (state_in meaning form now) else state_in meaning form now)
+      switch_state true None some = absurd (cc)
+      switch_state true (Some now) some = refl
+      switch_state false now some = refl
+
+      go : (all switch rebuilding : Bool) (make : Option CfId)
+          → (is_some make ≡ true → IsEmptyOf meaning form caps empty)
+          → (now : Option (Held S)) → state_in meaning form now ≡ with_back_of meaning form deeds.back state
+          → is_some now ≡ true
+          → state_in meaning form (if all then None
+          else held_switched meaning switch fresh (held_made rebuilding make empty now))
           ≡ content_after meaning form rebuilding
-          (record deeds { make = make; switch = switch; drop_all = drop }) held.state
-      go rebuilding make switch true kept = absurd (cc)
-      go true None true false kept = ap meaning.forget (back_state form deeds.back held)
-      go true None false false kept = back_state form deeds.back held
-      go true (Some cf) true false kept = ap meaning.forget (back_state form deeds.back held)
-      go true (Some cf) false false kept = back_state form deeds.back held
-      go false None true false kept = ap meaning.forget (back_state form deeds.back held)
-      go false None false false kept = back_state form deeds.back held
-      go false (Some cf) true false kept = ap meaning.forget empty
-      go false (Some cf) false false kept = empty
-
-  pub caps_held_by : (rebuilding : Bool) (deeds : Deeds) (spare held : Held S) (fresh : Option Fresh)
-      → (deeds.switch ≡ true → deeds.make ≡ None) → deeds.drop_all ≡ false
-      → (held_by rebuilding deeds spare held fresh).caps ≡ caps_past rebuilding deeds spare.caps held.caps fresh
-  caps_held_by rebuilding deeds spare held fresh unmade kept =
-      go rebuilding deeds.make deeds.switch deeds.drop_all unmade kept
+          (record deeds { drop_all = all; switch = switch; make = make }) state
+      go true switch rebuilding make made now same some = refl
+      go false switch rebuilding None made now same some =
+          switch_state switch now some
+          ∙ ap (λ (s : S). if switch then meaning.forget s else s) same
+      go false switch true (Some cf) made now same some =
+          switch_state switch now some
+          ∙ ap (λ (s : S). if switch then meaning.forget s else s) same
+      go false switch false (Some cf) made now same some =
+          switch_state switch empty (rw (made refl) refl)
+          ∙ ap (λ (o : Option (Held S)). if switch then meaning.forget (state_in meaning form o)
+          else state_in meaning form o) (made refl)
+  state_past rebuilding deeds fresh None state made empty_so idle =
+      let quiet = idle refl in
+      go deeds.drop_all deeds.switch rebuilding deeds.back deeds.make made quiet.switch quiet.rebuild quiet.back
     where
-      go : (rebuilding : Bool) (make : Option CfId) (switch drop : Bool) → (switch ≡ true → make ≡ None)
-          → drop ≡ false
-          → (held_by rebuilding (record deeds { make = make; switch = switch }) spare held fresh).caps
-          ≡ caps_past rebuilding (record deeds { make = make; switch = switch; drop_all = drop }) spare.caps held.caps
-          fresh
-      go rebuilding make switch true unmade kept = absurd (cc)
-      go rebuilding (Some cf) true false unmade kept = absurd (let wrong : Some cf ≡ None = unmade refl in cc)
-      go rebuilding None true false unmade kept = ap (caps_or fresh) (back_caps deeds.back held)
-      go rebuilding None false false unmade kept = back_caps deeds.back held
-      go true (Some cf) false false unmade kept = back_caps deeds.back held
-      go false (Some cf) false false unmade kept = refl
-
-pub copied_past : (rebuilding : Bool) (deeds : Deeds) (caps : Caps) (fresh : Option Fresh)
-    → (is_some deeds.make ≡ true → fresh ≡ None) → deeds.drop_all ≡ false
-    → copied_in (fresh_ended deeds (fresh_made (is_some deeds.make && rebuilding) caps fresh))
-    ≡ copied_after deeds (copied_in fresh)
-copied_past rebuilding deeds caps fresh alone kept =
-    rw kept
-    (copied_by deeds.restart deeds.switch deeds.drop_fresh (is_some deeds.make && rebuilding) caps fresh
-    (λ both. alone (and_parts (is_some deeds.make) rebuilding both).0))
-
-pub fresh_caps_past : (rebuilding : Bool) (deeds : Deeds) (caps : Caps) (fresh : Option Fresh)
-    → deeds.drop_all ≡ false
-    → caps_of (fresh_ended deeds (fresh_made (is_some deeds.make && rebuilding) caps fresh))
-    ≡ fresh_past rebuilding deeds caps fresh
-fresh_caps_past rebuilding deeds caps fresh kept =
-    rw kept
-    (caps_by deeds.restart deeds.switch deeds.drop_fresh (is_some deeds.make && rebuilding) caps fresh)
+      go : (all switch rebuilding : Bool) (back : Option ConnId) (make : Option CfId)
+          → (is_some make ≡ true → IsEmptyOf meaning form caps empty) → switch ≡ false → rebuilding ≡ false
+          → (is_some back ≡ true → is_some make ≡ true)
+          → state_in meaning form (if all then None
+          else held_switched meaning switch fresh (held_made rebuilding make empty (held_back meaning back None)))
+          ≡ content_after meaning form rebuilding
+          (record deeds { drop_all = all; switch = switch; make = make; back = back }) state
+      go true switch rebuilding back make made stays outside needs = refl
+      go false true rebuilding back make made stays outside needs = absurd (cc)
+      go false false true back make made stays outside needs = absurd (cc)
+      go false false false None None made stays outside needs = sym (empty_so refl)
+      go false false false (Some conn) None made stays outside needs =
+          absurd (let wrong : false ≡ true = needs refl in cc)
+      go false false false back (Some cf) made stays outside needs = ap (state_in meaning form) (made refl)

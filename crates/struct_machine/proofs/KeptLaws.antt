@@ -1,27 +1,39 @@
 -- A shell and instances of one form.
-use Rattle.std.proofs.Common.{◌≡◌, ◌-◌, Bool, true, false, List, length, Option, None, Some, inl, refl, sym, ap, ◌∙◌, subst, arith}
+use Rattle.std.proofs.Common.{◌≡◌, ◌-◌, Bool, true, false, List, length, Option, None, Some, Result, IfSome, option_map, inl, refl, sym, ap, ◌∙◌, subst, arith}
 use Rattle.std.specs.Prelude.{if◌then◌else◌, is_some}
 use Rattle.cf_types.specs.declared.events.Letter.{Letter}
+use Rattle.cf_types.specs.declared.forms.Caps.{Caps}
 use Rattle.cf_types.specs.declared.forms.StrForm.{StrForm}
 use Rattle.cf_types.specs.declared.numbers.CfId.{CfId}
 use Rattle.cf_types.specs.declared.numbers.ConnId.{ConnId}
 use Rattle.engine_api.specs.declared.shapes.Shape.{Shape}
-use Rattle.engine_api.specs.Machine.{room_of}
-use Rattle.engine_api.specs.Meaning.{Meaning, Held, new_held}
+use Rattle.engine_api.specs.Instances.{Instances}
+use Rattle.engine_api.specs.Machine.{CallOutcome, room_of, content_done, content_reply}
+use Rattle.engine_api.specs.Meaning.{Meaning, Held, Answer, answer, unless_refused, StepResult}
 use Rattle.engine_api.specs.Rebuilds.{fresh_of}
 use Rattle.engine_api.specs.Shapes.{shape_of}
-use Rattle.engine_api.specs.Shell.{Shell, opening_shell, content_cause, with_posted, entered}
+use Rattle.engine_api.specs.Shell.{Shell, opening_shell, content_cause, if_failed, if_lost, unless_active, with_posted, entered}
+use Rattle.duplex_pair.specs.Pairs.{facility_of, letters_by}
+use Rattle.duplex_pair.specs.declared.placed.Placed.{Placed}
 use Rattle.plex_shell.specs.ShellView.{ShellView}
-use Rattle.rebuild_copy.specs.Rebuildable.{Fresh, RebuildableView, lacking}
+use Rattle.rebuild_copy.specs.Filling.{Fresh, lacking}
 use Rattle.rebuild_core.specs.declared.rebuild.Rebuild.{Rebuild}
+use Rattle.cf_types.specs.Connections.{actives, is_active}
+use Rattle.cf_types.specs.Forms.{IsForm, IsFacility}
 use Rattle.cf_types.specs.Mailboxes.{with_letters}
+use Rattle.cf_types.specs.declared.refusals.Refusal.{Refusal}
+use Rattle.cf_types.specs.declared.refusals.Refusal.TheVariants as refusal
 use Rattle.rebuild_shell.specs.Capacities.{fresh_caps}
 use Rattle.rebuild_shell.specs.Filling.{IsFilled}
-use Rattle.rebuild_shell.specs.Members.{IsManned}
+use Rattle.rebuild_shell.specs.Members.{IsManned, IsBare}
 use Rattle.rebuild_shell.proofs.CapacityLaws.{none_fresh_then}
-use Rattle.rebuild_shell.proofs.MemberLaws.{manned-opening}
+use Rattle.rebuild_shell.proofs.CauseLaws.{not_so, third_none}
+use Rattle.rebuild_shell.proofs.MemberLaws.{manned-members, manned-opening}
+use Rattle.rebuild_shell.proofs.StepLaws.{active_member, active_of, first_none, somebody_member}
+use Rattle.std.proofs.lemmas.Bool.{false_from_ne_true}
 use Rattle.struct_machine.proofs.ToldLaws.{manned-told, filled-told}
-use Rattle.struct_machine.specs.Kept.{AreOf, machine_of, copied_in, caps_of}
+use Rattle.struct_machine.specs.Content.{ContentView, Kept, kept_of, nothing_kept, lacking_in}
+use Rattle.struct_machine.specs.Kept.{AreOf, IsOf, machine_of, state_in, copied_in, caps_of}
 
 -- ---- where a new instance stands
 
@@ -58,72 +70,229 @@ lacking_left meaning held shape None false same is = refl
 lacking_left meaning held shape (Some fresh) true same is = rw same refl
 lacking_left meaning held shape (Some fresh) false same is = absurd (cc)
 
-module _ {E S : Type 0} (holds : E → Held S) {C R I : Type 0} (meaning : Meaning C R I S) (form : StrForm)
-    (shelled : ShellView) (content : RebuildableView E) (of : AreOf holds meaning form shelled content) where
-  pub fresh_none : fresh_of shelled.shell.rebuild ≡ None → content.fresh ≡ None
-  fresh_none none = caps_none content.fresh (of.fresh ∙ none_stands shelled.shell.rebuild none)
+-- ---- a primary stands
 
-  pub fresh_stands : is_some (fresh_of shelled.shell.rebuild) ≡ true → is_some content.fresh ≡ true
-  fresh_stands stands = same_standing content.fresh shelled.shell.rebuild of.fresh ∙ stands
+-- where a rebuild is under way
+pub rebuilt_stands : (shell : Shell) (rebuild : Rebuild) → IsManned shell → shell.rebuild ≡ Some rebuild
+    → is_some shell.instances.primary ≡ true
+rebuilt_stands shell rebuild manned is =
+    manned.primary (manned-members shell rebuild manned is).1
+    (false_from_ne_true shell.failed (λ failed.
+    let bare : IsBare shell = manned.bare failed in let wrong : Some rebuild ≡ None = sym is ∙ bare.rebuild in cc))
 
-  pub room_left : lacking meaning (holds content.primary) content.fresh
-      ≡ (room_of meaning form (machine_of holds shelled content)).left
-  room_left =
-      lacking_left meaning (holds content.primary) (shape_of form) content.fresh
-      (is_some (fresh_of shelled.shell.rebuild)) of.shape
-      (same_standing content.fresh shelled.shell.rebuild of.fresh)
+-- and where a command on the content is accepted
+pub content_stands : (shell : Shell) (by : ConnId) → IsManned shell → content_cause shell by ≡ None
+    → is_some shell.instances.primary ≡ true
+content_stands shell by manned accepted =
+    manned.primary (somebody_member by (actives shell.conns)
+    (active_member shell.conns by manned.places
+    (active_of (is_active shell.conns by) (first_none (unless_active shell by) _ accepted))))
+    (not_so shell.failed refusal.StructureFailed
+    (third_none (unless_active shell by) (if_lost shell) (if_failed shell) _ accepted))
 
-  -- no new instance stands where a command on the content is accepted
-  pub content_alone : (by : ConnId) → content_cause shelled.shell by ≡ None → content.fresh ≡ None
+module _ {C R I S : Type 0} (meaning : Meaning C R I S) (form : StrForm)
+    (shelled : ShellView) (kept : Kept S) (of : AreOf meaning form shelled kept) where
+  pub fresh_none : fresh_of shelled.shell.rebuild ≡ None → kept.fresh ≡ None
+  fresh_none none = caps_none kept.fresh (of.fresh ∙ none_stands shelled.shell.rebuild none)
+
+  pub fresh_stands : is_some (fresh_of shelled.shell.rebuild) ≡ true → is_some kept.fresh ≡ true
+  fresh_stands stands = same_standing kept.fresh shelled.shell.rebuild of.fresh ∙ stands
+
+  pub held_stands : is_some shelled.shell.instances.primary ≡ true → is_some kept.held ≡ true
+  held_stands stands = of.stands ∙ ap (λ (at : Instances). is_some at.primary) of.places ∙ stands
+
+  -- a rebuild has a primary
+  pub rebuild_held : is_some shelled.shell.rebuild ≡ true → is_some kept.held ≡ true
+  rebuild_held under = go shelled.shell.rebuild refl under
+    where
+      go : (rebuild : Option Rebuild) → shelled.shell.rebuild ≡ rebuild → is_some rebuild ≡ true
+          → is_some kept.held ≡ true
+      go None is under = absurd (cc)
+      go (Some rebuild) is under = held_stands (rebuilt_stands shelled.shell rebuild of.manned is)
+
+  pub fresh_under : is_some (fresh_of shelled.shell.rebuild) ≡ true → is_some shelled.shell.rebuild ≡ true
+  fresh_under stands = go shelled.shell.rebuild stands
+    where
+      go : (rebuild : Option Rebuild) → is_some (fresh_of rebuild) ≡ true → is_some rebuild ≡ true
+      go None stands = absurd (cc)
+      go (Some rebuild) stands = refl
+
+  pub room_left : lacking_in meaning kept.held kept.fresh ≡ (room_of meaning form (machine_of meaning form shelled
+      kept)).left
+  room_left = go kept.held refl of.held
+    where
+      go : (held : Option (Held S)) → kept.held ≡ held → IsOf meaning form shelled.shell.caps held
+          → lacking_in meaning held kept.fresh
+          ≡ (if is_some (fresh_of shelled.shell.rebuild)
+          then length (meaning.items (shape_of form) (state_in meaning form held)) - copied_in kept.fresh else 0)
+      go None is so = nothing (is_some (fresh_of shelled.shell.rebuild)) refl
+        where
+          nothing : (b : Bool) → is_some (fresh_of shelled.shell.rebuild) ≡ b
+              → 0 ≡ (if b then length (meaning.items (shape_of form) (meaning.empty (shape_of form)))
+              - copied_in kept.fresh else 0)
+          nothing true stands =
+              absurd (let wrong : false ≡ true = ap is_some (sym is) ∙ rebuild_held (fresh_under stands) in cc)
+          nothing false stands = refl
+      go (Some held) is so =
+          lacking_left meaning held (shape_of form) kept.fresh (is_some (fresh_of shelled.shell.rebuild)) so.0
+          (same_standing kept.fresh shelled.shell.rebuild of.fresh)
+
+  -- no new instance stands where a command on the content is accepted, and a primary does
+  pub content_alone : (by : ConnId) → content_cause shelled.shell by ≡ None → kept.fresh ≡ None
   content_alone by accepted = fresh_none (none_fresh_then shelled.shell by of.manned accepted)
 
--- after a command on the content, and the letters that it sent
-pub kept_content : {E S : Type 0} (holds : E → Held S) {C R I : Type 0} (meaning : Meaning C R I S) (form : StrForm)
-    (shelled now : ShellView) (content after : RebuildableView E) (letters : List Letter)
-    → AreOf holds meaning form shelled content → now.form ≡ shelled.form
-    → now.shell ≡ with_posted letters shelled.shell
-    → (holds after.primary).shape ≡ (holds content.primary).shape
-    → (holds after.primary).caps ≡ (holds content.primary).caps → content.fresh ≡ None → after.fresh ≡ None
-    → AreOf holds meaning form now after
-kept_content holds meaning form shelled now content after letters of same posted shape caps alone none = record {
-  shell_form = same ∙ of.shell_form;
-  shape = shape ∙ of.shape;
-  caps = caps ∙ of.caps ∙ sym (ap (λ (shell : Shell). shell.caps) posted);
-  fresh =
-      ap caps_of (none ∙ sym alone) ∙ of.fresh ∙ sym (ap (λ (shell : Shell). fresh_caps shell.rebuild) posted);
-  manned =
-      subst IsManned (sym posted)
-      (manned-told (with_letters shelled.shell.mail letters) shelled.shell.lost shelled.shell of.manned);
-  filled = record { filling = inl (ap copied_in none); within = rw none (omega arith) };
-}
+  pub content_held : (by : ConnId) → content_cause shelled.shell by ≡ None → is_some kept.held ≡ true
+  content_held by accepted = held_stands (content_stands shelled.shell by of.manned accepted)
 
--- after a call has come
-pub kept_entered : {E S : Type 0} (holds : E → Held S) {C R I : Type 0} (meaning : Meaning C R I S) (form : StrForm)
-    (shelled now : ShellView) (content : RebuildableView E) → AreOf holds meaning form shelled content
-    → now.form ≡ shelled.form → now.shell ≡ entered shelled.shell → AreOf holds meaning form now content
-kept_entered holds meaning form shelled now content of same came = record {
-  shell_form = same ∙ of.shell_form;
-  shape = of.shape;
-  caps = of.caps ∙ sym (ap (λ (shell : Shell). shell.caps) came);
-  fresh = of.fresh ∙ sym (ap (λ (shell : Shell). fresh_caps shell.rebuild) came);
-  manned = subst IsManned (sym came) (manned-told shelled.shell.mail None shelled.shell of.manned);
-  filled =
-      subst (λ (shell : Shell). IsFilled meaning form
-      (record { shell = shell; content = (holds content.primary).state; copied = copied_in content.fresh }))
-      (sym came)
-      (filled-told meaning form shelled.shell.mail None (machine_of holds shelled content) of.filled);
-}
+-- ---- after a command on the content, and the letters that it sent
 
--- before the first call
-pub kept_opening : {E S : Type 0} (holds : E → Held S) {C R I : Type 0} (meaning : Meaning C R I S) (form : StrForm)
-    (shelled : ShellView) (content : RebuildableView E) → shelled.form ≡ form → shelled.shell ≡ opening_shell form
-    → holds content.primary ≡ new_held meaning (shape_of form) form.caps → content.fresh ≡ None
-    → AreOf holds meaning form shelled content
-kept_opening {E} {S} holds meaning form shelled content same opens empty none = record {
-  shell_form = same;
-  shape = ap (λ (held : Held S). held.shape) empty;
-  caps = ap (λ (held : Held S). held.caps) empty ∙ sym (ap (λ (shell : Shell). shell.caps) opens);
-  fresh = rw (none, opens) refl;
-  manned = subst IsManned (sym opens) (manned-opening meaning form);
-  filled = record { filling = inl (ap copied_in none); within = rw none (omega arith) };
-}
+module _ {C R I S : Type 0} (meaning : Meaning C R I S) (form : StrForm) where
+  -- what the instances hold then, and the reply
+  abbrev pub IsAnswered : ConnId → C → Result R Refusal → (was now : Option (Held S)) → Type 0
+  IsAnswered by command reply was now =
+      Path (Option (Answer R S))
+      (option_map (λ (held : Held S). (let a : Answer R S = record { reply = reply; held = held } in a)) now)
+      (option_map (λ (held : Held S). answer meaning held by command) was)
+
+  answered_of : (by : ConnId) (command : C) (reply : Result R Refusal) (caps : Caps) (was now : Option (Held S))
+      → IsAnswered by command reply was now → IsOf meaning form caps was → IsOf meaning form caps now
+  answered_of by command reply caps None None is of = tt
+  answered_of by command reply caps None (Some now) is of = absurd (cc)
+  answered_of by command reply caps (Some was) None is of = absurd (cc)
+  answered_of by command reply caps (Some was) (Some now) is of =
+      let same : Path (Answer R S) (record { reply = reply; held = now }) (answer meaning was by command) = cc in
+      (ap (λ (a : Answer R S). a.held.shape) same ∙ of.0, ap (λ (a : Answer R S). a.held.caps) same ∙ of.1)
+
+  pub answered_some : (by : ConnId) (command : C) (reply : Result R Refusal) (was now : Option (Held S))
+      → IsAnswered by command reply was now → is_some now ≡ is_some was
+  answered_some by command reply None None is = refl
+  answered_some by command reply None (Some now) is = absurd (cc)
+  answered_some by command reply (Some was) None is = absurd (cc)
+  answered_some by command reply (Some was) (Some now) is = refl
+
+  pub kept_content : (shelled now : ShellView) (kept after : Kept S) (letters : List Letter) (by : ConnId)
+      (command : C) (reply : Result R Refusal)
+      → AreOf meaning form shelled kept → now.form ≡ shelled.form
+      → now.shell ≡ with_posted letters shelled.shell
+      → IsAnswered by command reply kept.held after.held → after.at ≡ kept.at
+      → kept.fresh ≡ None → after.fresh ≡ None
+      → AreOf meaning form now after
+  kept_content shelled now kept after letters by command reply of same posted is at alone none = record {
+    formed = of.formed;
+    shell_form = same ∙ of.shell_form;
+    places = at ∙ of.places ∙ sym (ap (λ (shell : Shell). shell.instances) posted);
+    held =
+        subst (λ (shell : Shell). IsOf meaning form shell.caps after.held) (sym posted)
+        (answered_of by command reply shelled.shell.caps kept.held after.held is of.held);
+    fresh =
+        ap caps_of (none ∙ sym alone) ∙ of.fresh ∙ sym (ap (λ (shell : Shell). fresh_caps shell.rebuild) posted);
+    fresh_at = subst (λ (shell : Shell). IfSome (fresh_of shell.rebuild) IsFacility) (sym posted) of.fresh_at;
+    stands =
+        answered_some by command reply kept.held after.held is ∙ of.stands
+        ∙ ap (λ (a : Instances). is_some a.primary) (sym at);
+    manned =
+        subst IsManned (sym posted)
+        (manned-told (with_letters shelled.shell.mail letters) shelled.shell.lost shelled.shell of.manned);
+    filled = record { filling = inl (ap copied_in none); within = rw none (omega arith) };
+  }
+
+  -- the call's outcome is the machine's
+  pub content_same : (shelled now : ShellView) (kept after : Kept S) (letters : List Letter) (by : ConnId)
+      (command : C) (reply : Result R Refusal)
+      → AreOf meaning form shelled kept → is_some kept.held ≡ true
+      → now.shell ≡ with_posted letters shelled.shell → letters ≡ letters_by meaning by command kept.held
+      → IsAnswered by command reply kept.held after.held → kept.fresh ≡ None → after.fresh ≡ None
+      → Path (CallOutcome R S)
+      (record { reply = content_reply reply; machine = machine_of meaning form now after })
+      (content_done meaning form (machine_of meaning form shelled kept) by command)
+  content_same shelled now kept after letters by command reply of stands posted sent is alone none =
+      go kept.held after.held of.held stands is sent
+    where
+      counted : copied_in after.fresh ≡ copied_in kept.fresh
+      counted = ap copied_in (none ∙ sym alone)
+
+      go : (was held : Option (Held S)) → IsOf meaning form shelled.shell.caps was → is_some was ≡ true
+          → IsAnswered by command reply was held → letters ≡ letters_by meaning by command was
+          → Path (CallOutcome R S)
+          (record {
+            reply = content_reply reply;
+            machine = record {
+              shell = now.shell;
+              content = state_in meaning form held;
+              copied = copied_in after.fresh;
+            };
+          })
+          (content_done meaning form (record {
+            shell = shelled.shell;
+            content = state_in meaning form was;
+            copied = copied_in kept.fresh;
+          }) by command)
+      go None held of stands is sent = absurd (cc)
+      go (Some was) None of stands is sent = absurd (cc)
+      go (Some was) (Some held) of stands is sent =
+          let same : Path (Answer R S) (record { reply = reply; held = held }) (answer meaning was by command) = cc in
+          (λ i. record {
+            reply = content_reply (same i).reply;
+            machine = record {
+              shell = (posted ∙ ap (λ (l : List Letter). with_posted l shelled.shell) sent) i;
+              content = (same i).held.state;
+              copied = counted i;
+            };
+          })
+          ∙ (λ i.
+          let step : StepResult R S =
+          unless_refused (meaning.cause (of.0 i) (of.1 i) was.state by command) was.state
+          (meaning.done (of.0 i) (of.1 i) was.state by command) in
+          record {
+            reply = content_reply step.reply;
+            machine = record {
+              shell = with_posted step.letters shelled.shell;
+              content = step.state;
+              copied = copied_in kept.fresh;
+            };
+          })
+
+  -- after a call has come
+  pub kept_entered : (shelled now : ShellView) (kept : Kept S) → AreOf meaning form shelled kept
+      → now.form ≡ shelled.form → now.shell ≡ entered shelled.shell → AreOf meaning form now kept
+  kept_entered shelled now kept of same came = record {
+    formed = of.formed;
+    shell_form = same ∙ of.shell_form;
+    places = of.places ∙ sym (ap (λ (shell : Shell). shell.instances) came);
+    held = subst (λ (shell : Shell). IsOf meaning form shell.caps kept.held) (sym came) of.held;
+    fresh = of.fresh ∙ sym (ap (λ (shell : Shell). fresh_caps shell.rebuild) came);
+    fresh_at = subst (λ (shell : Shell). IfSome (fresh_of shell.rebuild) IsFacility) (sym came) of.fresh_at;
+    stands = of.stands;
+    manned = subst IsManned (sym came) (manned-told shelled.shell.mail None shelled.shell of.manned);
+    filled =
+        subst (λ (shell : Shell). IsFilled meaning form
+        (record { shell = shell; content = state_in meaning form kept.held; copied = copied_in kept.fresh }))
+        (sym came)
+        (filled-told meaning form shelled.shell.mail None (machine_of meaning form shelled kept) of.filled);
+  }
+
+  -- before the first call
+  pub kept_opening : (shelled : ShellView) (kept : Kept S) → IsForm form → shelled.form ≡ form
+      → shelled.shell ≡ opening_shell form → kept ≡ nothing_kept → AreOf meaning form shelled kept
+  kept_opening shelled kept formed same opens nothing =
+      subst (AreOf meaning form shelled) (sym nothing) (record {
+        formed = formed;
+        shell_form = same;
+        places = sym (ap (λ (shell : Shell). shell.instances) opens);
+        held = tt;
+        fresh = rw opens refl;
+        fresh_at = rw opens tt;
+        stands = refl;
+        manned = subst IsManned (sym opens) (manned-opening meaning form);
+        filled = record { filling = inl refl; within = omega arith };
+      })
+
+-- what is held stands where a primary does
+pub kept_stands : {E L S : Type 0} (holds : E → Held S) (content : ContentView E L)
+    → is_some (kept_of holds content).held ≡ is_some (kept_of holds content).at.primary
+kept_stands {E = E} holds content = go content.pair.primary
+  where
+    go : (primary : Option (Placed E)) → is_some (option_map (λ (p : Placed E). holds p.engine) primary)
+        ≡ is_some (facility_of primary)
+    go None = refl
+    go (Some p) = refl

@@ -1,9 +1,17 @@
-pub mod AskerLaws
-pub mod ChangeLaws
-pub mod CommandLaws
-pub mod DeedLaws
-pub mod KeptLaws
-pub mod PostedLaws
-pub mod RefusalLaws
-pub mod ToldLaws
-pub mod RoomLaws
+mod RoomLaws
+mod AskerLaws
+mod ToldLaws
+mod RefusalLaws
+mod PostedLaws
+mod ChangeLaws
+mod FacilityLaws
+mod InstanceLaws
+mod DeedLaws
+mod KeptLaws
+mod CommandLaws
+mod ContentLaws
+mod LossLaws
+mod AskingLaws
+mod TurnLaws
+mod CopyLaws
+mod BeforeLaws

@@ -4,11 +4,14 @@ use Rattle.cf_types.specs.declared.effects.BitChange.{BitChange}
 use Rattle.cf_types.specs.declared.numbers.ConnId.{ConnId}
 use Rattle.cf_types.specs.Gains.{Bits, is_for}
 use Rattle.engine_api.specs.declared.deeds.Deeds.{Deeds}
+use Rattle.struct_machine.specs.declared.marks.Mark.{Mark}
 
 -- all of them, or those that are named
 pub record ChangeList : Type 0 where
   pub all : Bool
   pub bits : List BitChange
+  -- the marks that the call made
+  pub marks : List Mark
 
 -- the bit is none of them
 pub record IsUntouched (changed : ChangeList) (conn : ConnId) (index : ℕ) : Type 0 where

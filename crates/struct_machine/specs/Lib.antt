@@ -1,4 +1,9 @@
+pub mod Asking
 pub mod Changes
+pub mod Content
 pub mod Deeds
 pub mod Kept
+pub mod Losses
+pub mod Marks
 pub mod StructureView
+pub mod Turns

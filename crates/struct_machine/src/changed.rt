@@ -1,17 +1,20 @@
-ghost use Rattle.std.specs.Prelude.{◌≡◌, [], false, true};
+ghost use Rattle.std.specs.Prelude.{◌≡◌, ◌||◌, [], false, true};
 ghost use Rattle.struct_machine.specs.Changes.{may_change_bits};
 
+use crate::marks::{Mark, Marks};
 use cf_types::{BitChange, Effects};
 use engine_api::Deeds;
 use std::alloc::Global;
 use std::marker::Model;
 
-/// Which vector bits a call may have changed. Most calls name each bit that they changed; one that
-/// makes the primary, replaces it or ends it, or takes a connection up again, may have changed any.
+/// What marks a call made, and which vector bits marks and call may have changed. Most calls name
+/// each bit that they changed; one that makes the primary, replaces it or ends it, or takes a
+/// connection up again, may have changed any, and so may a mark that ends all instances.
 #[derive(Drop)]
 pub struct Changed {
     pub(crate) effects: Effects,
     pub(crate) all: bool,
+    pub(crate) marks: Marks,
 }
 
 impl Model for Changed {
@@ -19,17 +22,22 @@ impl Model for Changed {
 
     ghost Value = { ChangeList };
 
-    ghost view = { λ c. record { all = c.all; bits = c.effects.bits.items } };
+    ghost view = { λ c. record {
+      all = c.all;
+      bits = c.effects.bits.items;
+      marks = c.marks;
+    } };
 }
 
 impl Changed {
     /// No bit.
     pub fn none(alloc: Global) -> Changed
-        ensures { result ≡ record { all = false; bits = [] } }
+        ensures { result ≡ record { all = false; bits = []; marks = [] } }
     {
         Changed {
             effects: Effects::new(alloc),
             all: false,
+            marks: Marks::none(),
         }
     }
 
@@ -38,6 +46,13 @@ impl Changed {
         ensures { result ≡ self.now.all }
     {
         self.all
+    }
+
+    /// What links told before the call was done, in order: two marks at most.
+    pub fn marks(&self) -> &[Mark]
+        ensures { result.now ≡ self.now.marks }
+    {
+        self.marks.items()
     }
 
     /// The bits that are named, in no order that matters.
@@ -49,10 +64,11 @@ impl Changed {
 
     // No bit.
     pub(crate) fn clear(&mut self)
-        ensures { self.new ≡ record { all = false; bits = [] } }
+        ensures { self.new ≡ record { all = false; bits = []; marks = [] } }
     {
         self.effects.clear();
         self.all = false;
+        self.marks.clear();
     }
 
     // What a command did beside the bits that are named. Where it may have changed others, that is

@@ -1,77 +1,140 @@
 //! What deeds do to a structure's instances.
-ghost use Rattle.std.specs.Prelude.{◌≡◌, ◌&&◌, IfSome, IsTrue, None, is_some, true, false, not, if◌then◌else◌};
+ghost use Rattle.std.specs.Prelude.{◌≡◌, ◌&&◌, ◌||◌, IfSome, IfOk, IsTrue, None, Some, is_some, true, false, not, option_map, if◌then◌else◌};
 ghost use Rattle.cf_types.specs.Forms.{IsForm, IsCaller, IsCapacity};
-ghost use Rattle.engine_api.specs.Items.{Fits};
-ghost use Rattle.engine_api.specs.Machine.{content_after, copied_after};
-ghost use Rattle.engine_api.specs.Meaning.{new_held, items_of};
+ghost use Rattle.duplex_pair.specs.Pairs.{instances_of, content_of};
+ghost use Rattle.struct_machine.specs.Content.{kept_of};
+ghost use Rattle.struct_machine.specs.Deeds.{Spares, AreSpares, AreAdmitted, MayMake, MayAdd, MayDrop, MaySwitch, HasNone, kept_past, held_back, held_made, held_switched, at_made, at_second, at_dropped, at_switched, fresh_made, fresh_ended, makes_empty, makes_second};
+ghost use Rattle.engine_api.specs.Meaning.{new_held};
 ghost use Rattle.engine_api.specs.Shapes.{shape_of};
 ghost use Rattle.engine_api.specs.Shell.{caps_made};
-ghost use Rattle.rebuild_copy.specs.Rebuildable.{lacking};
-ghost use Rattle.struct_machine.specs.Deeds.{is_making, fresh_made, fresh_ended, caps_past, fresh_past, held_back, held_switched, AreAdmitted};
-ghost use Rattle.struct_machine.specs.Kept.{copied_in, caps_of};
 
-use cf_types::{Caps, CfId, ConnId, ShellCmd, StrForm};
+use crate::content::Content;
+use cf_link::Link;
+use cf_types::{CfId, ConnId, NoMemory, ShellCmd, StrForm};
 use engine_api::{Deeds, Engine};
 use plex_shell::Shell;
-use rebuild_copy::Rebuildable;
+use std::alloc::Global;
+use std::marker::Model;
 
-// The capacity of the instance that a command may begin with: the one that it makes, or the one
-// that a structure has once all of them have ended.
-pub(crate) fn spare_caps(form: &StrForm, shell: &Shell, cmd: &ShellCmd) -> Caps
-    requires { IsForm form.now }
-    ensures making { is_making cmd.now ≡ true → result ≡ caps_made shell.now.shell }
-    ensures other { is_making cmd.now ≡ false → result ≡ form.now.caps }
-    ensures capacity { IsCapacity result }
+/// The engines that a command needs: an empty one, or a second one with the primary's content.
+#[derive(Drop)]
+pub(crate) struct Made<E> {
+    empty: Option<E>,
+    second: Option<E>,
+}
+
+/// Makes the engines that a command needs, before it acts.
+pub(crate) fn make_engines<E: Engine, L: Link>(
+    alloc: Global,
+    form: &StrForm,
+    shell: &Shell,
+    content: &Content<E, L>,
+    cmd: &ShellCmd,
+) -> Result<Made<E>, NoMemory>
+    requires form { IsForm form.now }
+    requires kind { IsTrue (E.is_kind form.now.kind) }
+    requires stands { makes_second cmd.now ≡ true
+        → is_some (content_of E.held content.now.pair) ≡ true }
+    ensures { IfOk result (λ made. AreSpares E.meaning form.now shell.now.shell cmd.now
+        (content_of E.held content.now.pair)
+        (record { empty = option_map E.held made.empty; second = option_map E.held made.second })) }
 {
-    match cmd {
-        ShellCmd::Connect { .. } | ShellCmd::RebuildConnect => shell.caps(),
-        _ => form.caps,
+    let empty = make_empty(alloc, form, shell, cmd)?;
+    let second = make_second(alloc, content, cmd)?;
+    Ok(Made { empty, second })
+}
+
+// An empty engine, where the command may make an instance.
+fn make_empty<E: Engine>(
+    alloc: Global,
+    form: &StrForm,
+    shell: &Shell,
+    cmd: &ShellCmd,
+) -> Result<Option<E>, NoMemory>
+    requires form { IsForm form.now }
+    requires kind { IsTrue (E.is_kind form.now.kind) }
+    ensures { IfOk result (λ made. makes_empty shell.now.shell cmd.now ≡ true
+        → option_map E.held made
+        ≡ Some (new_held E.meaning (shape_of form.now) (caps_made shell.now.shell))) }
+{
+    if makes_empty(shell, cmd) {
+        let engine = E::empty(alloc, form, shell.caps())?;
+        Ok(Some(engine))
+    } else {
+        Ok(None)
     }
 }
 
-// What a command does to the instances; one that it makes begins with the spare engine.
-pub(crate) fn do_deeds<E: Engine>(
+// Whether the command makes an empty instance.
+fn makes_empty(shell: &Shell, cmd: &ShellCmd) -> bool
+    ensures { result ≡ makes_empty shell.now.shell cmd.now }
+{
+    let (primary, _, fresh) = shell.instances();
+    match cmd {
+        ShellCmd::Connect { .. } => !primary.is_some(),
+        ShellCmd::RebuildConnect => !fresh.is_some(),
+        _ => false,
+    }
+}
+
+// An engine with the primary's content, where the command makes a second instance.
+fn make_second<E: Engine, L: Link>(
+    alloc: Global,
+    content: &Content<E, L>,
+    cmd: &ShellCmd,
+) -> Result<Option<E>, NoMemory>
+    requires stands { makes_second cmd.now ≡ true
+        → is_some (content_of E.held content.now.pair) ≡ true }
+    ensures { IfOk result (λ made. makes_second cmd.now ≡ true
+        → option_map E.held made ≡ content_of E.held content.now.pair) }
+{
+    match cmd {
+        ShellCmd::DuplexStart => {
+            let engine = content.copy_primary(alloc)?;
+            Ok(Some(engine))
+        }
+        _ => Ok(None),
+    }
+}
+
+/// What a command does to the instances, in the order of the deeds. A rebuild's new instance stands
+/// in the facility `fresh`.
+pub(crate) fn do_deeds<E: Engine, L: Link>(
     form: &StrForm,
-    content: &mut Rebuildable<E>,
-    spare: E,
+    content: &mut Content<E, L>,
+    made: Made<E>,
     deeds: Deeds,
     rebuilding: bool,
+    fresh: Option<CfId>,
 )
     requires kind { IsTrue (E.is_kind form.now.kind) }
-    requires caller { IfSome deeds.back IsCaller }
-    requires shape { (E.held content.old.primary).shape ≡ shape_of form.now }
-    requires empty { E.held spare
-        ≡ new_held E.meaning (shape_of form.now) (E.held spare).caps }
-    requires admitted { AreAdmitted E.meaning rebuilding deeds (E.held spare)
-        (E.held content.old.primary) content.old.fresh }
-    ensures shape { (E.held content.new.primary).shape ≡ shape_of form.now }
-    ensures state { (E.held content.new.primary).state ≡ content_after E.meaning form.now rebuilding
-        deeds (E.held content.old.primary).state }
-    ensures copied { copied_in content.new.fresh
-        ≡ copied_after deeds (copied_in content.old.fresh) }
-    ensures caps { (E.held content.new.primary).caps
-        ≡ caps_past rebuilding deeds (E.held spare).caps (E.held content.old.primary).caps
-        content.old.fresh }
-    ensures fresh { caps_of content.new.fresh
-        ≡ fresh_past rebuilding deeds (E.held spare).caps content.old.fresh }
+    requires admitted { AreAdmitted E.meaning form.now rebuilding deeds fresh
+        (record { empty = option_map E.held made.empty; second = option_map E.held made.second })
+        (kept_of E.held content.old) }
+    ensures kept { kept_of E.held content.new ≡ kept_past E.meaning rebuilding deeds fresh
+        (record { empty = option_map E.held made.empty; second = option_map E.held made.second })
+        (kept_of E.held content.old) }
+    ensures links { content.new.pair.links ≡ content.old.pair.links }
 {
-    let _ = form;
     if deeds.drop_all {
-        *content = Rebuildable::start(spare);
-    } else {
-        take_back(content, deeds.back);
-        make_instance(content, spare, deeds.make, rebuilding);
-        end_fresh(content, deeds);
+        content.drop_all();
+        return;
     }
+    let Made { empty, second } = made;
+    take_back(content, deeds.back);
+    make_instance(form, content, empty, deeds.make, rebuilding);
+    change_pair(content, second, deeds.second, deeds.drop_at);
+    end_fresh(content, deeds, fresh);
 }
 
 // A failed connection is taken up again.
-fn take_back<E: Engine>(content: &mut Rebuildable<E>, back: Option<ConnId>)
-    requires caller { IfSome back IsCaller }
-    requires alone { is_some back ≡ true → content.old.fresh ≡ None }
-    ensures held { E.held content.new.primary
-        ≡ held_back E.meaning back (E.held content.old.primary) }
+fn take_back<E: Engine, L: Link>(content: &mut Content<E, L>, back: Option<ConnId>)
+    requires { IfSome back (λ conn. IsCaller conn × (content.old.fresh ≡ None)) }
+    ensures held { content_of E.held content.new.pair
+        ≡ held_back E.meaning back (content_of E.held content.old.pair) }
+    ensures places { instances_of content.new.pair ≡ instances_of content.old.pair }
     ensures fresh { content.new.fresh ≡ content.old.fresh }
+    ensures links { content.new.pair.links ≡ content.old.pair.links }
 {
     if let Some(conn) = back {
         content.back(conn);
@@ -79,50 +142,108 @@ fn take_back<E: Engine>(content: &mut Rebuildable<E>, back: Option<ConnId>)
 }
 
 // An empty instance is made: a rebuild's new one, or the primary.
-fn make_instance<E: Engine>(
-    content: &mut Rebuildable<E>,
-    spare: E,
+fn make_instance<E: Engine, L: Link>(
+    form: &StrForm,
+    content: &mut Content<E, L>,
+    empty: Option<E>,
     make: Option<CfId>,
     rebuilding: bool,
 )
-    requires kind { IsTrue (E.is_kind (E.held spare).shape.kind) }
-    requires alone { is_some make ≡ true → content.old.fresh ≡ None }
-    requires empty { E.held spare
-        ≡ new_held E.meaning (E.held content.old.primary).shape (E.held spare).caps }
-    requires fits { is_some make ≡ true → rebuilding ≡ true
-        → Fits (E.held content.old.primary).shape.kind
-        (E.meaning.need (items_of E.meaning (E.held content.old.primary))) (E.held spare).caps }
-    ensures primary { content.new.primary
-        ≡ (if is_some make && not rebuilding then spare else content.old.primary) }
+    requires kind { IsTrue (E.is_kind form.now.kind) }
+    requires may { IfSome make (MayMake E.meaning form.now rebuilding
+        (kept_of E.held content.old) (option_map E.held empty)) }
+    ensures held { content_of E.held content.new.pair ≡ held_made rebuilding make
+        (option_map E.held empty) (content_of E.held content.old.pair) }
+    ensures places { instances_of content.new.pair
+        ≡ at_made rebuilding make (instances_of content.old.pair) }
     ensures fresh { content.new.fresh
-        ≡ fresh_made (is_some make && rebuilding) (E.held spare).caps content.old.fresh }
+        ≡ fresh_made rebuilding make (option_map E.held empty) content.old.fresh }
+    ensures links { content.new.pair.links ≡ content.old.pair.links }
 {
-    if make.is_some() {
-        if rebuilding {
-            content.make(spare);
-        } else {
-            *content = Rebuildable::start(spare);
+    let _ = form;
+    if let Some(at) = make {
+        match empty {
+            Some(engine) if rebuilding => content.make(engine),
+            Some(engine) => content.place(engine, at),
+            None => unreachable!(),
         }
     }
 }
 
-// The new instance is emptied, takes the primary's place, or is dropped.
-fn end_fresh<E: Engine>(content: &mut Rebuildable<E>, deeds: Deeds)
-    requires stands { deeds.switch ≡ true → is_some content.old.fresh ≡ true }
-    requires filled { deeds.switch ≡ true → lacking E.meaning (E.held content.old.primary)
-        content.old.fresh ≡ 0 }
-    requires whole { deeds.switch ≡ true → deeds.restart ≡ false }
-    ensures held { E.held content.new.primary
-        ≡ held_switched E.meaning deeds.switch content.old.fresh (E.held content.old.primary) }
-    ensures fresh { content.new.fresh ≡ fresh_ended deeds content.old.fresh }
+// A second instance is made, or one of two is dropped.
+fn change_pair<E: Engine, L: Link>(
+    content: &mut Content<E, L>,
+    second: Option<E>,
+    make: Option<CfId>,
+    drop_at: Option<CfId>,
+)
+    requires add { IfSome make (MayAdd (kept_of E.held content.old) (option_map E.held second)) }
+    requires drop { IfSome drop_at
+        (λ cf. MayDrop (kept_of E.held content.old) cf × HasNone make) }
+    ensures held { content_of E.held content.new.pair ≡ content_of E.held content.old.pair }
+    ensures places { instances_of content.new.pair
+        ≡ at_dropped drop_at (at_second make (instances_of content.old.pair)) }
+    ensures fresh { content.new.fresh ≡ content.old.fresh }
+    ensures links { content.new.pair.links ≡ content.old.pair.links }
 {
+    match make {
+        Some(at) => match second {
+            Some(engine) => content.add(engine, at),
+            None => unreachable!(),
+        },
+        None => drop_one(content, drop_at),
+    }
+}
+
+// One of two instances is dropped.
+fn drop_one<E: Engine, L: Link>(content: &mut Content<E, L>, drop_at: Option<CfId>)
+    requires { IfSome drop_at (MayDrop (kept_of E.held content.old)) }
+    ensures held { content_of E.held content.new.pair ≡ content_of E.held content.old.pair }
+    ensures places { instances_of content.new.pair
+        ≡ at_dropped drop_at (instances_of content.old.pair) }
+    ensures fresh { content.new.fresh ≡ content.old.fresh }
+    ensures links { content.new.pair.links ≡ content.old.pair.links }
+{
+    if let Some(cf) = drop_at {
+        content.drop_at(cf);
+    }
+}
+
+// The new instance is emptied, takes the primary's place, or is dropped.
+fn end_fresh<E: Engine, L: Link>(content: &mut Content<E, L>, deeds: Deeds, fresh: Option<CfId>)
+    requires switch { deeds.switch ≡ true → MaySwitch E.meaning fresh (kept_of E.held content.old) }
+    requires whole { deeds.switch ≡ true → deeds.restart ≡ false }
+    ensures held { content_of E.held content.new.pair ≡ held_switched E.meaning deeds.switch
+        content.old.fresh (content_of E.held content.old.pair) }
+    ensures places { instances_of content.new.pair
+        ≡ at_switched deeds.switch fresh (instances_of content.old.pair) }
+    ensures fresh { content.new.fresh ≡ fresh_ended deeds content.old.fresh }
+    ensures links { content.new.pair.links ≡ content.old.pair.links }
+{
+    if deeds.switch {
+        switch_to(content, fresh);
+        return;
+    }
     if deeds.restart {
         content.restart();
     }
-    if deeds.switch {
-        content.switch();
-    }
     if deeds.drop_fresh {
         content.drop_fresh();
+    }
+}
+
+// The new instance takes the primary's place.
+fn switch_to<E: Engine, L: Link>(content: &mut Content<E, L>, fresh: Option<CfId>)
+    requires { MaySwitch E.meaning fresh (kept_of E.held content.old) }
+    ensures held { content_of E.held content.new.pair ≡ held_switched E.meaning true
+        content.old.fresh (content_of E.held content.old.pair) }
+    ensures places { instances_of content.new.pair
+        ≡ at_switched true fresh (instances_of content.old.pair) }
+    ensures fresh { content.new.fresh ≡ None }
+    ensures links { content.new.pair.links ≡ content.old.pair.links }
+{
+    match fresh {
+        Some(at) => content.switch(at),
+        None => unreachable!(),
     }
 }

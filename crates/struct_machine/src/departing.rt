@@ -1,109 +1,126 @@
 //! What comes before a command: a departure from the content, or the next items of a copy.
-ghost use Rattle.std.specs.Prelude.{◌≡◌, ◌≤◌, ◌+◌, [], min, IfOk, OnOk, OnErr, IsTrue, length};
+ghost use Rattle.std.specs.Prelude.{◌≡◌, ◌≤◌, ◌+◌, [], min, is_some, true, IfOk, OnOk, OnErr, length, option_map};
 ghost use Rattle.cf_types.specs.Forms.{IsCaller};
 ghost use Rattle.cf_types.specs.Gains.{Gains};
+ghost use Rattle.duplex_pair.specs.Pairs.{instances_of, content_of, bits_of, letters_on_leave};
 ghost use Rattle.engine_api.specs.Asking.{MayCommand};
 ghost use Rattle.engine_api.specs.Machine.{departure_from};
-ghost use Rattle.engine_api.specs.Meaning.{departure, with_departure, stands_in};
+ghost use Rattle.engine_api.specs.Meaning.{with_departure};
 ghost use Rattle.engine_api.specs.Shell.{leaver, with_posted};
-ghost use Rattle.rebuild_copy.specs.Rebuildable.{emptied, lacking, with_copied};
+ghost use Rattle.rebuild_copy.specs.Filling.{emptied, with_copied};
+ghost use Rattle.struct_machine.specs.Content.{kept_of, lacking_in};
 ghost use Rattle.struct_machine.specs.Deeds.{fresh_left, fresh_before};
-ghost use Rattle.struct_machine.specs.Kept.{AreOf, machine_of};
+ghost use Rattle.struct_machine.specs.Kept.{AreOf, machine_of, state_in, left_in};
 
-use cf_types::{ConnId, Effects, Letter, NoMemory, ShellCmd};
+use crate::content::Content;
+use cf_link::Link;
+use cf_types::{ConnId, Effects, Letter, NoMemory, ShellCmd, StrForm};
 use engine_api::Engine;
 use plex_shell::{ACT_LETTERS, Shell};
-use rebuild_copy::Rebuildable;
 use std::alloc::Global;
 
 // Who departs leaves the content first, where an instance stands, and COPY's items are copied; room
 // for the command's own letters is taken in any case. The effects name the bits that the departure
 // changed.
-pub(crate) fn prepare<E: Engine>(
+pub(crate) fn prepare<E: Engine, L: Link>(
     alloc: Global,
+    form: &StrForm,
     shell: &mut Shell,
-    content: &mut Rebuildable<E>,
+    content: &mut Content<E, L>,
     out: &mut Effects,
     by: ConnId,
     cmd: &ShellCmd,
 ) -> Result<(), NoMemory>
     requires may { MayCommand by cmd.now }
     requires unnamed { out.old.bits.items ≡ [] }
-    requires of_form { AreOf E.held E.meaning shell.old.form shell.old content.old }
+    requires of_form { AreOf E.meaning form.now shell.old (kept_of E.held content.old) }
     ensures form { shell.new.form ≡ shell.old.form }
-    ensures shape { (E.held content.new.primary).shape ≡ (E.held content.old.primary).shape }
-    ensures caps { (E.held content.new.primary).caps ≡ (E.held content.old.primary).caps }
-    ensures ok_state { let gone = departure_from E.meaning shell.old.form
-        (leaver shell.old.shell by cmd.now) (machine_of E.held shell.old content.old) in
-        OnOk result ((E.held content.new.primary).state ≡ gone.state) }
-    ensures ok_shell { let gone = departure_from E.meaning shell.old.form
-        (leaver shell.old.shell by cmd.now) (machine_of E.held shell.old content.old) in
+    ensures places { instances_of content.new.pair ≡ instances_of content.old.pair }
+    ensures links { content.new.pair.links ≡ content.old.pair.links }
+    ensures ok_held { let gone = departure_from E.meaning form.now
+        (leaver shell.old.shell by cmd.now)
+        (machine_of E.meaning form.now shell.old (kept_of E.held content.old)) in
+        OnOk result (content_of E.held content.new.pair
+        ≡ left_in gone.state (content_of E.held content.old.pair)) }
+    ensures ok_shell { let gone = departure_from E.meaning form.now
+        (leaver shell.old.shell by cmd.now)
+        (machine_of E.meaning form.now shell.old (kept_of E.held content.old)) in
         OnOk result (shell.new.shell ≡ with_posted gone.letters shell.old.shell) }
     ensures ok_fresh { OnOk result (content.new.fresh ≡ fresh_before E.meaning shell.old.shell by
-        cmd.now (E.held content.old.primary) content.old.fresh) }
+        cmd.now (content_of E.held content.old.pair) content.old.fresh) }
     ensures room { OnOk result (ACT_LETTERS ≤ shell.new.room) }
-    ensures bits { OnOk result (Gains (stands_in E.meaning (E.held content.old.primary))
-        (stands_in E.meaning (E.held content.new.primary)) [] out.new.bits.items) }
+    ensures bits { OnOk result (Gains
+        (E.meaning.stands (state_in E.meaning form.now (content_of E.held content.old.pair)))
+        (E.meaning.stands (state_in E.meaning form.now (content_of E.held content.new.pair)))
+        [] out.new.bits.items) }
     ensures err_shell { OnErr result (shell.new.shell ≡ shell.old.shell) }
-    ensures err_held { OnErr result (E.held content.new.primary ≡ E.held content.old.primary) }
+    ensures err_held { OnErr result
+        (content_of E.held content.new.pair ≡ content_of E.held content.old.pair) }
     ensures err_fresh { OnErr result (content.new.fresh ≡ content.old.fresh) }
 {
     match cmd {
         ShellCmd::Copy { n } => copy_items(alloc, shell, content, *n),
-        _ => depart_first(shell, content, out, by, cmd),
+        _ => depart_first(form, shell, content, out, by, cmd),
     }
 }
 
 // Copies the next items. Room for the letters of the command itself is taken.
-fn copy_items<E: Engine>(
+fn copy_items<E: Engine, L: Link>(
     alloc: Global,
     shell: &mut Shell,
-    content: &mut Rebuildable<E>,
+    content: &mut Content<E, L>,
     n: u32,
 ) -> Result<(), NoMemory>
     ensures form { shell.new.form ≡ shell.old.form }
     ensures shell { shell.new.shell ≡ shell.old.shell }
-    ensures primary { content.new.primary ≡ content.old.primary }
+    ensures pair { content.new.pair ≡ content.old.pair }
     ensures room { OnOk result (ACT_LETTERS ≤ shell.new.room) }
-    ensures ok { OnOk result (content.new.fresh ≡ with_copied (min n (lacking E.meaning
-        (E.held content.old.primary) content.old.fresh)) content.old.fresh) }
+    ensures ok { OnOk result (content.new.fresh ≡ with_copied (min n (lacking_in E.meaning
+        (content_of E.held content.old.pair) content.old.fresh)) content.old.fresh) }
     ensures err { OnErr result (content.new.fresh ≡ content.old.fresh) }
 {
     shell.ready(ACT_LETTERS)?;
-    content.copy(alloc, n)?;
-    Ok(())
+    content.copy(alloc, n)
 }
 
 // Who departs leaves the content first, where an instance stands; room for the command's own
 // letters is taken in any case. The effects name the bits that the departure changed.
-fn depart_first<E: Engine>(
+fn depart_first<E: Engine, L: Link>(
+    form: &StrForm,
     shell: &mut Shell,
-    content: &mut Rebuildable<E>,
+    content: &mut Content<E, L>,
     out: &mut Effects,
     by: ConnId,
     cmd: &ShellCmd,
 ) -> Result<(), NoMemory>
     requires may { MayCommand by cmd.now }
     requires unnamed { out.old.bits.items ≡ [] }
-    requires of_form { AreOf E.held E.meaning shell.old.form shell.old content.old }
+    requires of_form { AreOf E.meaning form.now shell.old (kept_of E.held content.old) }
     ensures form { shell.new.form ≡ shell.old.form }
-    ensures shape { (E.held content.new.primary).shape ≡ (E.held content.old.primary).shape }
-    ensures caps { (E.held content.new.primary).caps ≡ (E.held content.old.primary).caps }
-    ensures ok_state { let gone = departure_from E.meaning shell.old.form
-        (leaver shell.old.shell by cmd.now) (machine_of E.held shell.old content.old) in
-        OnOk result ((E.held content.new.primary).state ≡ gone.state) }
-    ensures ok_shell { let gone = departure_from E.meaning shell.old.form
-        (leaver shell.old.shell by cmd.now) (machine_of E.held shell.old content.old) in
+    ensures places { instances_of content.new.pair ≡ instances_of content.old.pair }
+    ensures links { content.new.pair.links ≡ content.old.pair.links }
+    ensures ok_held { let gone = departure_from E.meaning form.now
+        (leaver shell.old.shell by cmd.now)
+        (machine_of E.meaning form.now shell.old (kept_of E.held content.old)) in
+        OnOk result (content_of E.held content.new.pair
+        ≡ left_in gone.state (content_of E.held content.old.pair)) }
+    ensures ok_shell { let gone = departure_from E.meaning form.now
+        (leaver shell.old.shell by cmd.now)
+        (machine_of E.meaning form.now shell.old (kept_of E.held content.old)) in
         OnOk result (shell.new.shell ≡ with_posted gone.letters shell.old.shell) }
     ensures ok_fresh { OnOk result (content.new.fresh
         ≡ fresh_left shell.old.shell (leaver shell.old.shell by cmd.now) content.old.fresh) }
     ensures room { OnOk result (ACT_LETTERS ≤ shell.new.room) }
-    ensures bits { OnOk result (Gains (stands_in E.meaning (E.held content.old.primary))
-        (stands_in E.meaning (E.held content.new.primary)) [] out.new.bits.items) }
+    ensures bits { OnOk result (Gains
+        (E.meaning.stands (state_in E.meaning form.now (content_of E.held content.old.pair)))
+        (E.meaning.stands (state_in E.meaning form.now (content_of E.held content.new.pair)))
+        [] out.new.bits.items) }
     ensures err_shell { OnErr result (shell.new.shell ≡ shell.old.shell) }
-    ensures err_held { OnErr result (E.held content.new.primary ≡ E.held content.old.primary) }
+    ensures err_held { OnErr result
+        (content_of E.held content.new.pair ≡ content_of E.held content.old.pair) }
     ensures err_fresh { OnErr result (content.new.fresh ≡ content.old.fresh) }
 {
+    let _ = form;
     let (primary, _, _) = shell.instances();
     match shell.leaving(by, cmd) {
         Some((conn, keep)) if primary.is_some() => leave_content(shell, content, out, conn, keep),
@@ -113,25 +130,31 @@ fn depart_first<E: Engine>(
 
 // A connector departs from the content, and the letters that this brings are posted. The effects
 // name the bits that it changed. Room for the letters of the command itself is left.
-fn leave_content<E: Engine>(
+fn leave_content<E: Engine, L: Link>(
     shell: &mut Shell,
-    content: &mut Rebuildable<E>,
+    content: &mut Content<E, L>,
     out: &mut Effects,
     conn: ConnId,
     keep: bool,
 ) -> Result<(), NoMemory>
     requires caller { IsCaller conn }
+    requires stands { is_some (content_of E.held content.old.pair) ≡ true }
     requires unnamed { out.old.bits.items ≡ [] }
     ensures form { shell.new.form ≡ shell.old.form }
-    ensures ok_held { OnOk result (E.held content.new.primary
-        ≡ with_departure E.meaning (E.held content.old.primary) conn keep) }
+    ensures places { instances_of content.new.pair ≡ instances_of content.old.pair }
+    ensures links { content.new.pair.links ≡ content.old.pair.links }
+    ensures ok_held { OnOk result (content_of E.held content.new.pair
+        ≡ option_map (λ held. with_departure E.meaning held conn keep)
+        (content_of E.held content.old.pair)) }
     ensures ok_fresh { OnOk result (content.new.fresh ≡ emptied content.old.fresh) }
     ensures ok_shell { OnOk result (shell.new.shell ≡ with_posted
-        (departure E.meaning (E.held content.old.primary) conn keep).letters shell.old.shell) }
+        (letters_on_leave E.meaning conn keep (content_of E.held content.old.pair))
+        shell.old.shell) }
     ensures room { OnOk result (ACT_LETTERS ≤ shell.new.room) }
-    ensures bits { OnOk result (Gains (stands_in E.meaning (E.held content.old.primary))
-        (stands_in E.meaning (E.held content.new.primary)) [] out.new.bits.items) }
-    ensures err_held { OnErr result (E.held content.new.primary ≡ E.held content.old.primary) }
+    ensures bits { OnOk result (Gains (bits_of E.meaning (content_of E.held content.old.pair))
+        (bits_of E.meaning (content_of E.held content.new.pair)) [] out.new.bits.items) }
+    ensures err_held { OnErr result
+        (content_of E.held content.new.pair ≡ content_of E.held content.old.pair) }
     ensures err_fresh { OnErr result (content.new.fresh ≡ content.old.fresh) }
     ensures err_shell { OnErr result (shell.new.shell ≡ shell.old.shell) }
 {

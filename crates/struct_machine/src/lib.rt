@@ -1,11 +1,16 @@
 //! The one-thread machine of a structure: its shell and its instances, without a journal.
 #![tactic(auto)]
 
+mod asking;
 mod changed;
+mod content;
 mod deeds;
 mod departing;
 mod doing;
+mod losing;
 mod machine;
+mod marks;
 
 pub use changed::Changed;
-pub use machine::Machine;
+pub use machine::{Machine, Parts};
+pub use marks::{MARKS, Mark};

@@ -1,58 +1,81 @@
-ghost use Rattle.std.specs.Prelude.{◌≡◌, ℕ, IfOk, OnOk, OnErr, IsTrue, IfSome, Some, is_some};
+ghost use Rattle.std.specs.Prelude.{◌≡◌, ℕ, IfOk, IfErr, OnOk, OnErr, IsTrue, IfSome, Some, is_some, option_map};
 ghost use Rattle.cf_types.specs.Forms.{IsForm, IsCaller};
 ghost use Rattle.cf_types.specs.declared.numbers.ConnId.{ConnId};
-ghost use Rattle.engine_api.specs.Asking.{MayAsk, IsBuilt};
-ghost use Rattle.engine_api.specs.Machine.{step};
+ghost use Rattle.engine_api.specs.Asking.{MayAsk};
 ghost use Rattle.engine_api.specs.Meaning.{items_of};
 ghost use Rattle.engine_api.specs.Rebuilds.{fresh_of};
 ghost use Rattle.engine_api.specs.Shapes.{shape_of};
 ghost use Rattle.rebuild_shell.specs.Capacities.{fresh_caps};
 ghost use Rattle.struct_machine.specs.Changes.{IsUntouched};
+ghost use Rattle.struct_machine.specs.Turns.{IsTurn};
 ghost use Rattle.struct_machine.specs.StructureView.{new_structure, stands_at, copied_items};
 
 use crate::changed::Changed;
+use crate::content::{Content, Left};
 use crate::doing::answer;
+use cf_link::{Link, Links};
 use cf_types::limits::CONNECTORS;
 use cf_types::{ConnId, NoMemory, StrForm};
 use engine_api::{Ask, Engine, Reply};
 use plex_shell::Shell;
-use rebuild_copy::Rebuildable;
 use std::alloc::Global;
 use std::marker::Model;
 
-/// A structure on one thread: its form, its shell, and its primary with a rebuild's new instance.
-/// It keeps no journal: contracts see the form and the state that the calls so far have led to.
+/// A structure on one thread: its form, its shell, and its instances with the links to them. It
+/// keeps no journal: contracts see the form and the state that the calls so far have led to.
 #[derive(Drop)]
-pub struct Machine<E: Engine> {
+pub struct Machine<E: Engine, L: Link> {
     form: StrForm,
     shell: Shell,
-    content: Rebuildable<E>,
+    content: Content<E, L>,
 }
 
-impl<E: Engine> Model for Machine<E> {
+impl<E: Engine, L: Link> Model for Machine<E, L> {
     ghost use Rattle.std.specs.Prelude.{IsTrue};
-    ghost use Rattle.cf_types.specs.Forms.{IsForm};
+    ghost use Rattle.struct_machine.specs.Content.{kept_of};
     ghost use Rattle.struct_machine.specs.StructureView.{StructureView};
     ghost use Rattle.struct_machine.specs.Kept.{AreOf, machine_of};
 
-    ghost Value = { StructureView E.State };
+    ghost Value = { StructureView E.State L };
 
-    ghost view = { λ m. record { form = m.form; machine = machine_of E.held m.shell m.content } };
+    ghost view = { λ m. record {
+      form = m.form;
+      machine = machine_of E.meaning m.form m.shell (kept_of E.held m.content);
+      links = m.content.pair.links;
+    } };
 
-    ghost invariant = { λ m. IsForm m.form × AreOf E.held E.meaning m.form m.shell m.content
+    ghost invariant = { λ m. AreOf E.meaning m.form m.shell (kept_of E.held m.content)
         × IsTrue (E.is_kind m.form.kind) };
 }
 
-impl<E: Engine> Machine<E> {
+/// What is left of a structure that ends: its instances, where they stand, and the links.
+#[derive(Drop)]
+pub struct Parts<E, L> {
+    /// The primary.
+    pub first: Option<E>,
+    /// The secondary.
+    pub second: Option<E>,
+    /// The new instance of a rebuild.
+    pub fresh: Option<E>,
+    pub links: Links<L>,
+}
+
+impl<E: Engine, L: Link> Machine<E, L> {
     /// A structure of this form, without calls yet.
-    pub fn start(alloc: Global, form: StrForm) -> Result<Machine<E>, NoMemory>
+    ///
+    /// # Errors
+    ///
+    /// The links, where memory lacks.
+    pub fn start(alloc: Global, form: StrForm, links: Links<L>) -> Result<Machine<E, L>, Links<L>>
         requires formed { IsForm form }
         requires kind { IsTrue (E.is_kind form.kind) }
-        ensures { IfOk result (λ machine. machine ≡ new_structure E.meaning form) }
+        ensures ok { IfOk result (λ machine. machine ≡ new_structure E.meaning form links) }
+        ensures err { IfErr result (λ back. back ≡ links) }
     {
-        let shell = Shell::start(alloc, &form, CONNECTORS)?;
-        let primary = E::empty(alloc, &form, form.caps)?;
-        let content = Rebuildable::start(primary);
+        let Ok(shell) = Shell::start(alloc, &form, CONNECTORS) else {
+            return Err(links);
+        };
+        let content = Content::bare(alloc, links);
         Ok(Machine {
             form,
             shell,
@@ -74,11 +97,12 @@ impl<E: Engine> Machine<E> {
         requires { IsCaller conn }
         ensures { result ≡ stands_at E.meaning self.now.machine conn index }
     {
-        self.content.primary().stands(conn, index)
+        self.content.stands(conn, index)
     }
 
-    /// A call is judged, and done where nothing refuses it. What vector bits it may have changed is
-    /// told. Want of memory changes nothing of the structure.
+    /// A call is judged, its links are asked, and it is judged again behind what they tell and done
+    /// where nothing refuses it. The marks are told, and what vector bits may have changed. Want of
+    /// memory changes nothing of the structure, and asks no link.
     pub fn answer(
         &mut self,
         alloc: Global,
@@ -87,10 +111,9 @@ impl<E: Engine> Machine<E> {
         changed: &mut Changed,
     ) -> Result<Reply<E::Reply>, NoMemory>
         requires may { MayAsk by ask.now }
-        requires built { IsBuilt ask.now }
         ensures form { self.new.form ≡ self.old.form }
-        ensures ok { IfOk result (λ reply. record { reply = reply; machine = self.new.machine }
-            ≡ step E.meaning self.old.form self.old.machine by ask.now) }
+        ensures turn { IfOk result (λ reply. IsTurn L.calls L.downs L.faults E.meaning
+            self.old self.new by ask.now changed.new.marks reply) }
         ensures bits { OnOk result ((conn : ConnId) (index : ℕ) → IsUntouched changed.new conn index
             → stands_at E.meaning self.new.machine conn index
             ≡ stands_at E.meaning self.old.machine conn index) }
@@ -108,29 +131,41 @@ impl<E: Engine> Machine<E> {
         )
     }
 
-    /// The primary, and a rebuild's new instance, where they stand: both of the structure's shape,
-    /// each at its own capacity.
-    pub fn into_instances(self) -> (Option<E>, Option<E>)
-        ensures stands { is_some result.0 ≡ is_some self.machine.shell.instances.primary }
-        ensures content { IfSome result.0
+    /// The instances where they stand: all of the structure's shape, the primary and the secondary
+    /// with the same content at one capacity, and a rebuild's new one at its own; and the links.
+    pub fn into_parts(self) -> Parts<E, L>
+        ensures stands { is_some result.first ≡ is_some self.machine.shell.instances.primary }
+        ensures content { IfSome result.first
             (λ engine. (E.held engine).state ≡ self.machine.content) }
-        ensures fresh { is_some result.1 ≡ is_some (fresh_of self.machine.shell.rebuild) }
-        ensures front { IfSome result.1 (λ engine. items_of E.meaning (E.held engine)
+        ensures shape { IfSome result.first
+            (λ engine. (E.held engine).shape ≡ shape_of self.form) }
+        ensures caps { IfSome result.first
+            (λ engine. (E.held engine).caps ≡ self.machine.shell.caps) }
+        ensures second { is_some result.second
+            ≡ is_some self.machine.shell.instances.secondary }
+        ensures same { IfSome result.second
+            (λ engine. Some (E.held engine) ≡ option_map E.held result.first) }
+        ensures fresh { is_some result.fresh ≡ is_some (fresh_of self.machine.shell.rebuild) }
+        ensures front { IfSome result.fresh (λ engine. items_of E.meaning (E.held engine)
             ≡ copied_items E.meaning self.form self.machine) }
-        ensures shape { IfSome result.0 (λ engine. (E.held engine).shape ≡ shape_of self.form) }
-        ensures caps { IfSome result.0 (λ engine. (E.held engine).caps
-            ≡ self.machine.shell.caps) }
-        ensures fresh_shape { IfSome result.1 (λ engine. (E.held engine).shape
-            ≡ shape_of self.form) }
-        ensures fresh_caps { IfSome result.1 (λ engine. Some (E.held engine).caps
+        ensures fresh_shape { IfSome result.fresh
+            (λ engine. (E.held engine).shape ≡ shape_of self.form) }
+        ensures fresh_caps { IfSome result.fresh (λ engine. Some (E.held engine).caps
             ≡ fresh_caps self.machine.shell.rebuild) }
+        ensures links { result.links ≡ self.links }
     {
-        let Machine { shell, content, .. } = self;
-        let (standing, _, _) = shell.instances();
-        let (primary, fresh) = content.into_instances();
-        match standing {
-            Some(_) => (Some(primary), fresh),
-            None => (None, fresh),
+        let Machine { content, .. } = self;
+        let Left {
+            first,
+            second,
+            fresh,
+            links,
+        } = content.end();
+        Parts {
+            first,
+            second,
+            fresh,
+            links,
         }
     }
 }

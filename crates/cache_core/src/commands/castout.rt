@@ -4,16 +4,14 @@ ghost use Rattle.engine_api.specs.Meaning.{first_refusal};
 ghost use Rattle.cache_model.specs.Rows.{row_or_new, rows_replaced};
 ghost use Rattle.cache_model.specs.Commands.Castout as castout;
 
-use super::take_or_new;
 use crate::refusals::{entry_refusal, first_refusal, held_refusal, unchanged_refusal};
-use cache_model::{CacheItem, Holder};
-use cache_rows::{Rows, row_of};
-use cf_types::{CacheReply, ConnId, Name16, NoMemory, Refusal, copy_body};
+use cache_rows::{Row, Rows};
+use cf_types::{CacheReply, ConnId, Name16, NoMemory, Refusal};
 use std::alloc::Global;
 
 /// Why the command is refused.
-pub(crate) fn refusal(rows: &[CacheItem], name: &Name16) -> Option<Refusal>
-    ensures { result ≡ first_refusal (castout.causes rows.now name.now) }
+pub(crate) fn refusal(rows: &Rows, name: &Name16) -> Option<Refusal>
+    ensures { result ≡ first_refusal (castout.causes rows.now.rows name.now) }
 {
     let entry_cause = entry_refusal(rows, name);
     let held_cause = held_refusal(rows, name);
@@ -22,28 +20,24 @@ pub(crate) fn refusal(rows: &[CacheItem], name: &Name16) -> Option<Refusal>
 }
 
 // The answer to a row.
-fn data_reply(alloc: Global, row: &CacheItem) -> Result<CacheReply, NoMemory>
+fn data_reply(alloc: Global, row: &Row<'_>) -> Result<CacheReply, NoMemory>
     ensures { IfOk result (λ reply. reply ≡ castout.data_reply row.now row.now.body) }
 {
-    match &row.body {
+    match row.body(alloc)? {
         None => Ok(CacheReply::NoData),
         Some(body) => Ok(CacheReply::CastData {
-            body: copy_body(alloc, body)?,
-            adj: row.adj,
+            body,
+            adj: row.adj(),
         }),
     }
 }
 
 /// The reply where the command isn't refused.
-pub(crate) fn reply(
-    alloc: Global,
-    rows: &[CacheItem],
-    name: &Name16,
-) -> Result<CacheReply, NoMemory>
-    ensures { IfOk result (λ reply. reply ≡ castout.reply rows.now name.now) }
+pub(crate) fn reply(alloc: Global, rows: &Rows, name: &Name16) -> Result<CacheReply, NoMemory>
+    ensures { IfOk result (λ reply. reply ≡ castout.reply rows.now.rows name.now) }
 {
-    match row_of(rows, name) {
-        Some(row) => data_reply(alloc, row),
+    match rows.row(name) {
+        Some(row) => data_reply(alloc, &row),
         None => Ok(CacheReply::NoData),
     }
 }
@@ -54,12 +48,5 @@ pub(crate) fn act(rows: &mut Rows, by: ConnId, name: &Name16)
     ensures { rows.new.rows ≡ rows_replaced (castout.row_with_hold by
         (row_or_new name.now 1 rows.old.rows)) rows.old.rows }
 {
-    let row = take_or_new(rows, name, 1);
-    rows.put(CacheItem {
-        holder: Some(Holder {
-            conn: by,
-            rewritten: false,
-        }),
-        ..row
-    });
+    rows.hold(by, name);
 }

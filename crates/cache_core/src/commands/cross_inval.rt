@@ -6,13 +6,13 @@ ghost use Rattle.cache_regs.specs.Registrations.{stands, regs_without_name};
 ghost use Rattle.cache_model.specs.Commands.CrossInval as cross_inval;
 
 use crate::refusals::{entry_refusal, first_refusal};
-use cache_model::CacheItem;
 use cache_regs::Regs;
+use cache_rows::Rows;
 use cf_types::{CacheReply, ConnId, Effects, Name16, Refusal};
 
 /// Why the command is refused.
-pub(crate) fn refusal(rows: &[CacheItem], name: &Name16) -> Option<Refusal>
-    ensures { result ≡ first_refusal (cross_inval.causes rows.now name.now) }
+pub(crate) fn refusal(rows: &Rows, name: &Name16) -> Option<Refusal>
+    ensures { result ≡ first_refusal (cross_inval.causes rows.now.rows name.now) }
 {
     let entry_cause = entry_refusal(rows, name);
     first_refusal(&[entry_cause])
@@ -34,6 +34,7 @@ pub(crate) fn act(regs: &mut Regs, by: ConnId, name: &Name16, out: &mut Effects)
     ensures bits { Gains (stands regs.old.regs) (stands regs.new.regs) out.old.bits.items
         out.new.bits.items }
     ensures mail { out.new.mail ≡ out.old.mail }
+    ensures len { regs.new.len ≡ regs.old.len }
 {
     let _ = regs.drop_name(name, Some(by), out);
 }

@@ -6,14 +6,13 @@ ghost use Rattle.cache_regs.specs.Registrations.{stands};
 ghost use Rattle.cache_model.specs.Commands.Delete as delete;
 
 use crate::refusals::{entry_refusal, first_refusal, held_by_other_refusal};
-use cache_model::CacheItem;
 use cache_regs::Regs;
 use cache_rows::Rows;
 use cf_types::{ConnId, Effects, Name16, Refusal};
 
 /// Why the command is refused.
-pub(crate) fn refusal(rows: &[CacheItem], by: ConnId, name: &Name16) -> Option<Refusal>
-    ensures { result ≡ first_refusal (delete.causes rows.now by name.now) }
+pub(crate) fn refusal(rows: &Rows, by: ConnId, name: &Name16) -> Option<Refusal>
+    ensures { result ≡ first_refusal (delete.causes rows.now.rows by name.now) }
 {
     let entry_cause = entry_refusal(rows, name);
     let held_cause = held_by_other_refusal(rows, by, name);
@@ -28,7 +27,8 @@ pub(crate) fn act(rows: &mut Rows, regs: &mut Regs, name: &Name16, out: &mut Eff
     ensures bits { Gains (stands regs.old.regs) (stands regs.new.regs) out.old.bits.items
         out.new.bits.items }
     ensures mail { out.new.mail ≡ out.old.mail }
+    ensures len { regs.new.len ≡ regs.old.len }
 {
-    let _ = rows.take(name);
+    rows.remove(name);
     let _ = regs.drop_name(name, None, out);
 }

@@ -1,5 +1,6 @@
 //! READ_DATA of IXLCACHE: registers the caller for a name, and answers the data of its row.
 ghost use Rattle.std.specs.Prelude.{◌≡◌, ◌+◌, ◌^◌, ◌<◌, ◌≤◌, false, IfOk, length};
+ghost use Rattle.cf_types.specs.Forms.{IsCaller};
 ghost use Rattle.cf_types.specs.Gains.{Gains};
 ghost use Rattle.engine_api.specs.Meaning.{first_refusal};
 ghost use Rattle.cache_regs.specs.Registrations.{stands, regs_with};
@@ -7,13 +8,13 @@ ghost use Rattle.cache_model.specs.Rows.{elements_in};
 ghost use Rattle.cache_model.specs.Contents.{is_among, regs_spared};
 ghost use Rattle.cache_model.specs.Commands.Read as read;
 
-use super::{end_regs, take_or_new};
+use super::end_regs;
 use crate::refusals::{first_refusal, index_refusal, storage_refusal};
 use crate::room::room_refusal;
-use cache_model::{CacheItem, Request};
+use cache_model::Request;
 use cache_regs::Regs;
-use cache_rows::{Rows, row_of};
-use cf_types::{CacheReply, Caps, ConnId, Effects, Name16, NoMemory, Refusal, copy_body};
+use cache_rows::{Row, Rows};
+use cf_types::{CacheReply, Caps, ConnId, Effects, Name16, NoMemory, Refusal};
 use std::alloc::Global;
 
 /// What the command asks room for.
@@ -31,7 +32,7 @@ pub(crate) fn request(name: &Name16, stg: u32) -> Request
 pub(crate) fn refusal(
     vector: u32,
     caps: Caps,
-    rows: &[CacheItem],
+    rows: &Rows,
     regs: &Regs,
     by: ConnId,
     name: &Name16,
@@ -39,9 +40,9 @@ pub(crate) fn refusal(
     old: Option<Name16>,
     stg: u32,
 ) -> Option<Refusal>
-    requires { elements_in rows.now < 2 ^ 32 }
+    requires { elements_in rows.now.rows < 2 ^ 32 }
     ensures { result ≡ first_refusal (read.causes vector caps
-        (record { rows = rows.now; regs = regs.now.regs })
+        (record { rows = rows.now.rows; regs = regs.now.regs })
         by name.now index old stg) }
 {
     let index_cause = index_refusal(vector, regs, by, name, index, old);
@@ -51,15 +52,15 @@ pub(crate) fn refusal(
 }
 
 // The answer to a row.
-fn data_reply(alloc: Global, row: &CacheItem) -> Result<CacheReply, NoMemory>
+fn data_reply(alloc: Global, row: &Row<'_>) -> Result<CacheReply, NoMemory>
     ensures { IfOk result (λ reply. reply ≡ read.data_reply row.now row.now.body) }
 {
-    match &row.body {
+    match row.body(alloc)? {
         None => Ok(CacheReply::NoData),
         Some(body) => Ok(CacheReply::Data {
-            body: copy_body(alloc, body)?,
-            adj: row.adj,
-            changed: row.class.is_some(),
+            body,
+            adj: row.adj(),
+            changed: row.class().is_some(),
         }),
     }
 }
@@ -67,14 +68,14 @@ fn data_reply(alloc: Global, row: &CacheItem) -> Result<CacheReply, NoMemory>
 /// The reply where the command isn't refused.
 pub(crate) fn reply(
     alloc: Global,
-    rows: &[CacheItem],
+    rows: &Rows,
     name: &Name16,
     stg: u32,
 ) -> Result<CacheReply, NoMemory>
-    ensures { IfOk result (λ reply. reply ≡ read.reply rows.now name.now stg) }
+    ensures { IfOk result (λ reply. reply ≡ read.reply rows.now.rows name.now stg) }
 {
-    match row_of(rows, name) {
-        Some(row) => data_reply(alloc, row),
+    match rows.row(name) {
+        Some(row) => data_reply(alloc, &row),
         None => Ok(CacheReply::NoData),
     }
 }
@@ -89,6 +90,8 @@ fn register(
     index: u32,
     out: &mut Effects,
 )
+    requires caller { IsCaller by }
+    requires index { index < regs.old.len }
     requires place { 1 ≤ regs.old.room }
     requires room { length regs.old.regs + 3 ≤ out.old.bits.room }
     requires spared { is_among gone.now name.now ≡ false }
@@ -97,6 +100,7 @@ fn register(
     ensures bits { Gains (stands regs.old.regs) (stands regs.new.regs) out.old.bits.items
         out.new.bits.items }
     ensures mail { out.new.mail ≡ out.old.mail }
+    ensures len { regs.new.len ≡ regs.old.len }
 {
     regs.set(by, index, *name, out);
     end_regs(regs, gone, out);
@@ -113,6 +117,8 @@ pub(crate) fn act(
     stg: u32,
     out: &mut Effects,
 )
+    requires caller { IsCaller by }
+    requires index { index < regs.old.len }
     requires row_room { 1 ≤ rows.old.room }
     requires reg_room { 1 ≤ regs.old.room }
     requires bit_room { length regs.old.regs + 3 ≤ out.old.bits.room }
@@ -123,9 +129,8 @@ pub(crate) fn act(
     ensures bits { Gains (stands regs.old.regs) (stands regs.new.regs) out.old.bits.items
         out.new.bits.items }
     ensures mail { out.new.mail ≡ out.old.mail }
+    ensures len { regs.new.len ≡ regs.old.len }
 {
-    let row = take_or_new(rows, name, stg);
-    rows.end_named(gone);
-    rows.put(row);
+    rows.read(gone, name, stg);
     register(regs, gone, by, name, index, out);
 }

@@ -1,6 +1,7 @@
 //! WRITE_DATA of IXLCACHE: replaces data, adjunct and class of a row, registers the caller for it,
 //! and ends the registrations of all others.
 ghost use Rattle.std.specs.Prelude.{◌≡◌, ◌+◌, ◌^◌, ◌<◌, ◌≤◌, false, Some, length};
+ghost use Rattle.cf_types.specs.Forms.{IsCaller};
 ghost use Rattle.cf_types.specs.Gains.{Gains};
 ghost use Rattle.engine_api.specs.Meaning.{first_refusal};
 ghost use Rattle.cache_regs.specs.Registrations.{stands, regs_with, regs_without_name};
@@ -8,13 +9,13 @@ ghost use Rattle.cache_model.specs.Rows.{elements_in};
 ghost use Rattle.cache_model.specs.Contents.{is_among, regs_spared};
 ghost use Rattle.cache_model.specs.Commands.Write as write;
 
-use super::{end_regs, take_or_new};
+use super::end_regs;
 use crate::refusals::{
     castout_refusal, change_refusal, first_refusal, index_refusal, registration_refusal,
     storage_refusal,
 };
 use crate::room::room_refusal;
-use cache_model::{CacheItem, Holder, Request};
+use cache_model::Request;
 use cache_regs::Regs;
 use cache_rows::{Rows, elements_of_body};
 use cf_types::{Adjunct, Body, Caps, ConnId, Effects, Name16, Refusal};
@@ -34,7 +35,7 @@ pub(crate) fn request(name: &Name16, body: &Body, stg: u32) -> Request
 pub(crate) fn refusal(
     vector: u32,
     caps: Caps,
-    rows: &[CacheItem],
+    rows: &Rows,
     regs: &Regs,
     by: ConnId,
     name: &Name16,
@@ -45,9 +46,9 @@ pub(crate) fn refusal(
     stg: u32,
     when_reg: bool,
 ) -> Option<Refusal>
-    requires { elements_in rows.now < 2 ^ 32 }
+    requires { elements_in rows.now.rows < 2 ^ 32 }
     ensures { result ≡ first_refusal (write.causes vector caps
-        (record { rows = rows.now; regs = regs.now.regs })
+        (record { rows = rows.now.rows; regs = regs.now.regs })
         by name.now index body.now class old stg when_reg) }
 {
     let index_cause = index_refusal(vector, regs, by, name, index, old);
@@ -66,22 +67,6 @@ pub(crate) fn refusal(
     ])
 }
 
-// A row with new data, adjunct and class; where it is held it is rewritten.
-fn row_with(row: CacheItem, body: Body, class: Option<u32>, adj: Option<Adjunct>) -> CacheItem
-    ensures { result ≡ write.row_with body class adj row }
-{
-    CacheItem {
-        body: Some(body),
-        adj,
-        class,
-        holder: row.holder.map(|holder| Holder {
-            rewritten: true,
-            ..holder
-        }),
-        ..row
-    }
-}
-
 // The caller is registered for the name, and the registrations of all others for it and for other
 // names end.
 fn register_alone(
@@ -92,6 +77,8 @@ fn register_alone(
     index: u32,
     out: &mut Effects,
 )
+    requires caller { IsCaller by }
+    requires index { index < regs.old.len }
     requires place { 1 ≤ regs.old.room }
     requires room { length regs.old.regs + 3 ≤ out.old.bits.room }
     requires spared { is_among gone.now name.now ≡ false }
@@ -101,6 +88,7 @@ fn register_alone(
     ensures bits { Gains (stands regs.old.regs) (stands regs.new.regs) out.old.bits.items
         out.new.bits.items }
     ensures mail { out.new.mail ≡ out.old.mail }
+    ensures len { regs.new.len ≡ regs.old.len }
 {
     regs.set(by, index, *name, out);
     let _ = regs.drop_name(name, Some(by), out);
@@ -121,6 +109,8 @@ pub(crate) fn act(
     stg: u32,
     out: &mut Effects,
 )
+    requires caller { IsCaller by }
+    requires index { index < regs.old.len }
     requires row_room { 1 ≤ rows.old.room }
     requires reg_room { 1 ≤ regs.old.room }
     requires bit_room { length regs.old.regs + 3 ≤ out.old.bits.room }
@@ -131,10 +121,8 @@ pub(crate) fn act(
     ensures bits { Gains (stands regs.old.regs) (stands regs.new.regs) out.old.bits.items
         out.new.bits.items }
     ensures mail { out.new.mail ≡ out.old.mail }
+    ensures len { regs.new.len ≡ regs.old.len }
 {
-    let old = take_or_new(rows, name, stg);
-    let row = row_with(old, body, class, adj);
-    rows.end_named(gone);
-    rows.put(row);
+    rows.write(gone, name, body, class, adj, stg);
     register_alone(regs, gone, by, name, index, out);
 }

@@ -1,13 +1,46 @@
 //! DELETE of IXLLIST: a record is removed.
 ghost use Rattle.std.specs.Prelude.{◌≡◌};
 ghost use Rattle.cf_types.specs.Gains.{Gains};
+ghost use Rattle.engine_api.specs.Meaning.{first_refusal};
 ghost use Rattle.list_model.specs.Contents.{stands};
 ghost use Rattle.list_model.specs.Commands.Delete as delete;
 ghost use Rattle.list_kept.specs.ContentView.{IsRoomy};
 ghost use Rattle.list_core.specs.Found.{IsFound};
 
-use cf_types::{At, Effects, ListReply};
-use list_kept::{Kept, id_at};
+use crate::refusals::{
+    cond_lock_refusal, cond_refusal, first_refusal, record_refusal, ref_form_refusal,
+    ref_header_refusal, refs_of, version_refusal,
+};
+use cf_types::{At, Cond, ConnId, Effects, ListReply, Refusal};
+use engine_api::Shape;
+use list_kept::{Kept, headers_of, id_at, locks_of};
+
+/// Why the command is refused.
+pub(crate) fn refusal(
+    shape: Shape,
+    kept: &Kept,
+    by: ConnId,
+    at: At,
+    version: Option<u32>,
+    cond: Option<Cond>,
+) -> Option<Refusal>
+    ensures { result ≡ first_refusal (delete.causes shape kept.now.content by at version cond) }
+{
+    let lock_cause = cond_lock_refusal(locks_of(shape.kind), cond);
+    let cond_cause = cond_refusal(kept, by, cond);
+    let header_cause = ref_header_refusal(headers_of(shape.kind), at);
+    let form_cause = ref_form_refusal(refs_of(shape.kind), at);
+    let record_cause = record_refusal(kept, at);
+    let version_cause = version_refusal(kept, at, version);
+    first_refusal(&[
+        lock_cause,
+        cond_cause,
+        header_cause,
+        form_cause,
+        record_cause,
+        version_cause,
+    ])
+}
 
 /// The reply where the command isn't refused.
 pub(crate) fn reply(kept: &Kept, at: At) -> ListReply

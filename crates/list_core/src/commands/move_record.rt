@@ -1,5 +1,5 @@
 //! MOVE of IXLLIST: a record is taken out and comes to its place in a header, with a new key if one
-//! is given.
+//! is given and with the version that it has.
 ghost use Rattle.std.specs.Prelude.{◌≡◌, ◌<◌, length};
 ghost use Rattle.cf_types.specs.Gains.{Gains};
 ghost use Rattle.engine_api.specs.Meaning.{first_refusal};
@@ -10,7 +10,7 @@ ghost use Rattle.list_core.specs.Found.{IsFound};
 
 use crate::refusals::{
     cond_lock_refusal, cond_refusal, first_refusal, full_refusal, header_refusal, new_key_refusal,
-    record_refusal, ref_form_refusal, ref_header_refusal, refs_of,
+    record_refusal, ref_form_refusal, ref_header_refusal, refs_of, version_refusal,
 };
 use cf_types::{At, Cond, ConnId, Effects, Key16, Refusal};
 use engine_api::Shape;
@@ -35,15 +35,18 @@ pub(crate) fn refusal(
     at: At,
     header: u32,
     key: Option<Key16>,
+    version: Option<u32>,
     cond: Option<Cond>,
 ) -> Option<Refusal>
-    ensures { result ≡ first_refusal (moving.causes shape kept.now.content by at header key cond) }
+    ensures { result
+        ≡ first_refusal (moving.causes shape kept.now.content by at header key version cond) }
 {
     let lock_cause = cond_lock_refusal(locks_of(shape.kind), cond);
     let cond_cause = cond_refusal(kept, by, cond);
     let ref_cause = ref_header_refusal(headers_of(shape.kind), at);
     let form_cause = ref_form_refusal(refs_of(shape.kind), at);
     let record_cause = record_refusal(kept, at);
+    let version_cause = version_refusal(kept, at, version);
     let header_cause = header_refusal(headers_of(shape.kind), header);
     let key_cause = new_key_refusal(refs_of(shape.kind), key);
     let place_cause = place_refusal(kept, at, header);
@@ -53,6 +56,7 @@ pub(crate) fn refusal(
         ref_cause,
         form_cause,
         record_cause,
+        version_cause,
         header_cause,
         key_cause,
         place_cause,

@@ -1,4 +1,4 @@
-//! READ of IXLLIST: a record, and the header that it is in.
+//! READ of IXLLIST: a record with its version, and the header that it is in.
 ghost use Rattle.std.specs.Prelude.{◌≡◌, IfOk};
 ghost use Rattle.engine_api.specs.Meaning.{first_refusal};
 ghost use Rattle.list_model.specs.Commands.Read as read;
@@ -45,6 +45,7 @@ pub(crate) fn reply(alloc: Global, kept: &Kept, at: At) -> Result<ListReply, NoM
         Some(rec) => Ok(ListReply::Entry {
             id: rec.id,
             header: kept.header_of(rec.id),
+            version: rec.version,
             name: rec.name,
             key: rec.key,
             body: copy_data(alloc, &rec.body)?,
@@ -53,6 +54,7 @@ pub(crate) fn reply(alloc: Global, kept: &Kept, at: At) -> Result<ListReply, NoM
         None => Ok(ListReply::Entry {
             id: EntryId(0),
             header: kept.header_of(EntryId(0)),
+            version: 0,
             name: None,
             key: None,
             body: None,

@@ -1,4 +1,5 @@
-//! WRITE of IXLLIST, updating: what is given of a record's data and adjunct is replaced.
+//! WRITE of IXLLIST, updating: what is given of a record's data and adjunct is replaced, and its
+//! version rises.
 ghost use Rattle.std.specs.Prelude.{◌≡◌, ◌<◌, ◌^◌, IfOk};
 ghost use Rattle.std.specs.Option.{option_or};
 ghost use Rattle.engine_api.specs.Meaning.{first_refusal};
@@ -11,7 +12,7 @@ ghost use Rattle.list_core.specs.Found.{IsFound};
 use crate::data::copy_data;
 use crate::refusals::{
     cond_lock_refusal, cond_refusal, elements_refusal, first_refusal, record_refusal,
-    ref_form_refusal, ref_header_refusal, refs_of,
+    ref_form_refusal, ref_header_refusal, refs_of, version_refusal,
 };
 use cf_types::{Adjunct, At, Body, Caps, Cond, ConnId, ListReply, NoMemory, Refusal};
 use engine_api::Shape;
@@ -27,17 +28,19 @@ pub(crate) fn refusal(
     by: ConnId,
     at: At,
     body: &Option<Body>,
+    version: Option<u32>,
     cond: Option<Cond>,
 ) -> Option<Refusal>
     requires { elements_in (all_records kept.now.content.lists) < 2 ^ 32 }
     ensures { result
-        ≡ first_refusal (update.causes shape caps kept.now.content by at body.now cond) }
+        ≡ first_refusal (update.causes shape caps kept.now.content by at body.now version cond) }
 {
     let lock_cause = cond_lock_refusal(locks_of(shape.kind), cond);
     let cond_cause = cond_refusal(kept, by, cond);
     let header_cause = ref_header_refusal(headers_of(shape.kind), at);
     let form_cause = ref_form_refusal(refs_of(shape.kind), at);
     let record_cause = record_refusal(kept, at);
+    let version_cause = version_refusal(kept, at, version);
     let need = elements_of(body);
     let elements_cause = elements_refusal(caps, need, kept, id_at(kept, at));
     first_refusal(&[
@@ -46,6 +49,7 @@ pub(crate) fn refusal(
         header_cause,
         form_cause,
         record_cause,
+        version_cause,
         elements_cause,
     ])
 }
@@ -85,6 +89,15 @@ pub(crate) fn data(
     }
 }
 
+// The version of a record after an update: one greater, and 1 after the greatest.
+fn next_version(version: u32) -> u32
+    ensures { result ≡ next_version version }
+{
+    if version < u32::MAX { version + 1 } else { 1 }
+}
+
+ghost use Rattle.list_model.specs.Records.{next_version};
+
 // The record as it will be.
 fn updated(kept: &Kept, at: At, body: Option<Body>, adj: Option<Adjunct>) -> Rec
     requires { IsFound kept.now.content.lists at }
@@ -93,6 +106,7 @@ fn updated(kept: &Kept, at: At, body: Option<Body>, adj: Option<Adjunct>) -> Rec
     match record_at(kept, at) {
         Some(rec) => Rec {
             id: rec.id,
+            version: next_version(rec.version),
             name: rec.name,
             key: rec.key,
             body,

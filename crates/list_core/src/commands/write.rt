@@ -103,6 +103,7 @@ pub(crate) fn act(
 {
     let rec = Rec {
         id: EntryId(kept.next()),
+        version: 1,
         name,
         key,
         body,

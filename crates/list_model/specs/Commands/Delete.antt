@@ -1,11 +1,23 @@
 -- DELETE: a record is removed.
+use Rattle.std.specs.Prelude.{ℕ, List, [], ◌∷◌, Option}
 use Rattle.cf_types.specs.declared.list_commands.At.{At}
+use Rattle.cf_types.specs.declared.list_commands.Cond.{Cond}
 use Rattle.cf_types.specs.declared.list_commands.ListReply.{ListReply}
 use Rattle.cf_types.specs.declared.list_commands.ListReply.TheVariants as replies
+use Rattle.cf_types.specs.declared.numbers.ConnId.{ConnId}
+use Rattle.cf_types.specs.declared.refusals.Refusal.{Refusal}
+use Rattle.engine_api.specs.declared.shapes.Shape.{Shape}
 use Rattle.list_store.specs.Lists.{lists_without}
-use Rattle.list_model.specs.Lists.{the_record}
-use Rattle.list_model.specs.Contents.{Content}
-pub use Rattle.list_model.specs.Commands.Read.{causes}
+use Rattle.list_model.specs.Lists.{record_at, the_record}
+use Rattle.list_model.specs.Contents.{Content, headers_of, locks_of, refs_of}
+use Rattle.list_model.specs.Refusals.{cond_lock_refusal, cond_refusal, ref_header_refusal, ref_form_refusal, record_refusal, version_refusal}
+
+abbrev pub causes : Shape → Content → ConnId → At → Option ℕ → Option Cond → List (Option Refusal)
+causes shape content by at version cond =
+    cond_lock_refusal (locks_of shape.kind) cond ∷ cond_refusal content.locks by cond
+    ∷ ref_header_refusal (headers_of shape.kind) at ∷ ref_form_refusal (refs_of shape.kind) at
+    ∷ record_refusal (record_at content.lists at)
+    ∷ version_refusal version (the_record content.lists at).version ∷ []
 
 abbrev pub reply : Content → At → ListReply
 reply content at = replies.Id (the_record content.lists at).id

@@ -1,4 +1,5 @@
--- MOVE: a record is taken out and comes to its place in a header, with a new key if one is given.
+-- MOVE: a record is taken out and comes to its place in a header, with a new key if one is given and
+-- with the version that it has.
 use Rattle.std.specs.Prelude.{ℕ, ◌==◌, Bool, if◌then◌else◌, List, [], ◌∷◌, Option, None}
 use Rattle.std.specs.Option.{option_or}
 use Rattle.cf_types.specs.declared.list_commands.At.{At}
@@ -11,7 +12,7 @@ use Rattle.list_store.specs.declared.records.Rec.{Rec}
 use Rattle.list_store.specs.Lists.{lists_without}
 use Rattle.list_model.specs.Lists.{header_of, record_at, the_record, with_record}
 use Rattle.list_model.specs.Contents.{Content, headers_of, locks_of, refs_of}
-use Rattle.list_model.specs.Refusals.{cond_lock_refusal, cond_refusal, ref_header_refusal, ref_form_refusal, record_refusal, header_refusal, new_key_refusal, full_refusal}
+use Rattle.list_model.specs.Refusals.{cond_lock_refusal, cond_refusal, ref_header_refusal, ref_form_refusal, record_refusal, version_refusal, header_refusal, new_key_refusal, full_refusal}
 
 -- a header that the record is in already has a place for it
 abbrev pub place_refusal : Content → At → ℕ → Option Refusal
@@ -20,12 +21,14 @@ place_refusal content at header =
     then None
     else full_refusal content header
 
-abbrev pub causes : Shape → Content → ConnId → At → ℕ → Option Key16 → Option Cond
+abbrev pub causes : Shape → Content → ConnId → At → ℕ → Option Key16 → Option ℕ → Option Cond
     → List (Option Refusal)
-causes shape content by at header key cond =
+causes shape content by at header key version cond =
     cond_lock_refusal (locks_of shape.kind) cond ∷ cond_refusal content.locks by cond
     ∷ ref_header_refusal (headers_of shape.kind) at ∷ ref_form_refusal (refs_of shape.kind) at
-    ∷ record_refusal (record_at content.lists at) ∷ header_refusal (headers_of shape.kind) header
+    ∷ record_refusal (record_at content.lists at)
+    ∷ version_refusal version (the_record content.lists at).version
+    ∷ header_refusal (headers_of shape.kind) header
     ∷ new_key_refusal (refs_of shape.kind) key ∷ place_refusal content at header ∷ []
 
 abbrev pub with_new_key : Option Key16 → Rec → Rec

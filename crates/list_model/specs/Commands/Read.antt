@@ -1,4 +1,4 @@
--- READ: a record, and the header that it is in.
+-- READ: a record with its version, and the header that it is in.
 use Rattle.std.specs.Prelude.{List, [], ◌∷◌, Option}
 use Rattle.cf_types.specs.declared.list_commands.At.{At}
 use Rattle.cf_types.specs.declared.list_commands.Cond.{Cond}
@@ -20,4 +20,4 @@ causes shape content by at cond =
 abbrev pub reply : Content → At → ListReply
 reply content at =
     let rec = the_record content.lists at in
-    replies.Entry rec.id (header_of rec.id content.lists) rec.name rec.key rec.body rec.adj
+    replies.Entry rec.id (header_of rec.id content.lists) rec.version rec.name rec.key rec.body rec.adj

@@ -1,4 +1,4 @@
--- WRITE: a new record at its place in a header.
+-- WRITE: a new record, of version 1, at its place in a header.
 use Rattle.std.specs.Prelude.{ℕ, ◌+◌, Bool, List, [], ◌∷◌, Option}
 use Rattle.cf_types.specs.declared.forms.Caps.{Caps}
 use Rattle.cf_types.specs.declared.list_commands.Cond.{Cond}
@@ -37,7 +37,7 @@ reply content = replies.Id (new_id content)
 abbrev pub new_record : Content → Option Name16 → Option Key16 → Option (List ℕ) → Option (List ℕ)
     → Rec
 new_record content name key body adj =
-    record { id = new_id content; name = name; key = key; body = body; adj = adj }
+    record { id = new_id content; version = 1; name = name; key = key; body = body; adj = adj }
 
 abbrev pub after : Content → ℕ → Bool → Option Name16 → Option Key16 → Option (List ℕ)
     → Option (List ℕ) → Content

@@ -1,12 +1,14 @@
 //! VARY, lost facilities, and what becomes of a structure that loses an instance.
-ghost use Rattle.std.specs.Prelude.{◌≡◌, ◌≤◌, ◌+◌};
+ghost use Rattle.std.specs.Prelude.{◌≡◌, ◌≤◌, ◌+◌, true};
 ghost use Rattle.cf_types.specs.declared.limits.TheConstants.{CALLERS};
 ghost use Rattle.cf_types.specs.Forms.{IsFacility};
-ghost use Rattle.engine_api.specs.Shell.{vary_outcome, mark_outcome, loss_outcome, primary_loss, fresh_loss, simplex_outcome, failed_outcome};
+ghost use Rattle.engine_api.specs.Shell.{vary_outcome, mark_outcome, loss_outcome, primary_loss, fresh_loss, simplex_outcome, failed_outcome, stands_at};
+ghost use Rattle.plex_shell.specs.Losses.{reply_as, is_loss};
 ghost use Rattle.plex_shell.specs.declared.shell.TheConstants.{ACT_LETTERS};
 
 use crate::commands::connect::facility_of;
 use crate::letters::tell;
+use crate::lost_as::LostAs;
 use crate::places::is_at;
 use crate::shell::{Shell, no_deeds};
 use cf_types::{CfId, Event, ShellReply};
@@ -34,17 +36,18 @@ impl Shell {
     /// letters was taken. Of two instances the other is left; a rebuild that loses its new instance
     /// stops; and without any instance the structure fails, and the active connectors are told. The
     /// call that comes next is told which facility that was.
-    pub fn lost(&mut self, cf: CfId) -> (ShellReply, Deeds)
+    pub fn lost(&mut self, cf: CfId) -> LostAs
         requires facility { IsFacility cf }
+        requires there { stands_at self.old.shell cf ≡ true }
         requires room { ACT_LETTERS ≤ self.old.room }
         ensures form { self.new.form ≡ self.old.form }
-        ensures acts { record { reply = result.0; shell = self.new.shell; deeds = result.1 }
-            ≡ mark_outcome self.old.form cf self.old.shell }
+        ensures shell { self.new.shell ≡ (mark_outcome self.old.form cf self.old.shell).shell }
+        ensures told { reply_as result ≡ (mark_outcome self.old.form cf self.old.shell).reply }
         ensures room { self.old.room ≤ self.new.room + ACT_LETTERS }
     {
-        let outcome = self.lose(cf);
+        let (reply, _) = self.lose(cf);
         self.lost = if self.failed { Some(cf) } else { None };
-        outcome
+        loss_told(reply)
     }
 
     // What stands in a facility is lost.
@@ -143,5 +146,18 @@ impl Shell {
             }
             _ => (ShellReply::OkNone, no_deeds()),
         }
+    }
+}
+
+// Which loss a reply tells.
+fn loss_told(reply: ShellReply) -> LostAs
+    requires { is_loss reply ≡ true }
+    ensures { reply_as result ≡ reply }
+{
+    match reply {
+        ShellReply::Simplex { cf } => LostAs::Simplex { cf },
+        ShellReply::Stopped { number } => LostAs::Stopped { number },
+        ShellReply::FailedNow => LostAs::FailedNow,
+        _ => unreachable!(),
     }
 }

@@ -202,18 +202,6 @@ fn misspelt_policy(rt: HostRuntime) -> Result<(), Fail> {
 }
 
 #[test]
-fn unbuilt_line(rt: HostRuntime) -> Result<(), Fail> {
-    let (status, text) = ran(
-        &rt,
-        rt.alloc(),
-        "serial",
-        "A GBP CONNECT DELETE\nOP GBP DUPLEX START\n",
-    )?;
-    assert!(rt; status == 3 && text.as_slice() == b"SCRIPT 9 NOTYET\n".as_slice());
-    Ok(())
-}
-
-#[test]
 fn oversized_source(rt: HostRuntime) -> Result<(), Fail> {
     let mut source = source_of(rt.alloc(), "", "", &[])?;
     source.bytes = vec![in rt.alloc(); b'*'; 1_048_577]?;

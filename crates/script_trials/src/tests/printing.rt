@@ -51,6 +51,9 @@ A MSG UPDATE #4294967295 DATA d
 A MSG READ NAME n HELDBY 2
 A MSG MOVE KEY 0 k1 1 HEAD KEY k2
 A MSG DELETE HEAD 3
+A MSG UPDATE #1 ADJ a VERSION 4294967295 NOTHELD 1
+A MSG MOVE #1 0 TAIL KEY k2 VERSION 1
+A MSG DELETE #1 VERSION 2 HELDBY 0
 A MSG READLIST 1
 A MSG LOCK 1 SET
 A MSG LOCK 1 RESET
@@ -119,6 +122,9 @@ A MSG UPDATE #4294967295 DATA d
 A MSG READ NAME n HELDBY 2
 A MSG MOVE KEY 0 k1 1 HEAD KEY k2
 A MSG DELETE HEAD 3
+A MSG UPDATE #1 ADJ a VERSION 4294967295 NOTHELD 1
+A MSG MOVE #1 0 TAIL KEY k2 VERSION 1
+A MSG DELETE #1 VERSION 2 HELDBY 0
 A MSG READLIST 1
 A MSG LOCK 1 SET
 A MSG LOCK 1 RESET
@@ -155,6 +161,6 @@ fn plain_form_is_read_again(rt: HostRuntime) -> Result<(), Fail> {
     assert!(rt; print(alloc, &script)?.as_slice() == PLAIN);
     let lines = script.lines.items();
     let last = lines.last().ok_or("no line")?;
-    assert!(rt; (lines.len(), last.at) == (56, 66));
+    assert!(rt; (lines.len(), last.at) == (59, 69));
     Ok(())
 }

@@ -34,6 +34,12 @@ fn the_first_fault_is_told(rt: HostRuntime) -> Result<(), Fail> {
         ("CONNECTOR A", 8, Why::Twice),
         ("STRUCTURE X LOCK 8 8 4 KEEP\nPREF X CF1 61", 9, Why::Space),
         ("CONNECTOR C\r", 8, Why::Syntax),
+        ("A GBP DELETE P1 VERSION 1", 8, Why::Syntax),
+        (
+            "STRUCTURE MSG LIST 8 8 4 32 KEEP 1 0 NOTHING\nA MSG DELETE #1 VERSION 0",
+            9,
+            Why::Limit,
+        ),
     ];
     for (lines, line, why) in faults {
         let text = format!(in rt.alloc(); "{POLICY}{lines}")?;

@@ -17,6 +17,7 @@ loop-name-preserved c =
       room = omega (arith, c.drop_name.ensures.room, c.drop_name.ensures.fewer, c.loop-name.invariant.room);
       mail = c.drop_name.ensures.mail ∙ c.loop-name.invariant.mail;
       place = omega (arith, c.drop_name.ensures.place, c.loop-name.invariant.place);
+      len = c.drop_name.ensures.len ∙ c.loop-name.invariant.len;
     }
 
 pub returns-clause-regs : goal.returns-clause-regs

@@ -10,4 +10,5 @@ invariant-loop-name l =
       room : l.fn.out.bits.room + length l.regs.regs ≡ l.out.bits.room + length l.fn.regs.regs;
       mail : l.out.mail ≡ l.fn.out.mail;
       place : l.fn.regs.room ≤ l.regs.room;
+      len : l.regs.len ≡ l.fn.regs.len;
     }

@@ -56,6 +56,6 @@ pub returns : goal.returns
 returns c =
     let l = c.loop-k in
     let few : length c.args.rows.now.rows ≤ l.k =
-    omega (arith, ap (λ (rows : List CacheItem). length rows) c.items.ensures) in
+    omega (arith, c.len-k-end.ensures) in
     fronting_end c.args.request.now c.args.rows.now.rows c.args.room.now l.names.items (vec_len l.names) l.given l.k
     few l.invariant

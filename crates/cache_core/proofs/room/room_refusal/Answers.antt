@@ -9,7 +9,7 @@ use Rattle.cache_core.proofs.room.room_refusal.Goals as goal
 pub returns-then-not-has_place : goal.returns-then-not-has_place
 returns-then-not-has_place c =
     let request = c.args.request.now in
-    let rows = c.args.rows.now in
+    let rows = c.args.rows.now.rows in
     let place : has_place (room_for c.args.caps request rows) (length (filter (is_reclaimable request.name) rows)) ≡
     false =
     rw (c.measure-room.ensures, c.reclaimable_count-count.ensures) at (sym c.if-not-has_place.ensures) in
@@ -18,7 +18,7 @@ returns-then-not-has_place c =
 pub returns-then-request-free : goal.returns-then-request-free
 returns-then-request-free c =
     let request = c.args.request.now in
-    let rows = c.args.rows.now in
+    let rows = c.args.rows.now.rows in
     let place : has_place (room_for c.args.caps request rows) (length (filter (is_reclaimable request.name) rows)) ≡
     true =
     rw (c.measure-room.ensures, c.reclaimable_count-count.ensures) at (sym c.if-not-has_place.ensures) in
@@ -30,7 +30,7 @@ returns-then-request-free c =
 pub returns-else-request-free : goal.returns-else-request-free
 returns-else-request-free c =
     let request = c.args.request.now in
-    let rows = c.args.rows.now in
+    let rows = c.args.rows.now.rows in
     let place : has_place (room_for c.args.caps request rows) (length (filter (is_reclaimable request.name) rows)) ≡
     true =
     rw (c.measure-room.ensures, c.reclaimable_count-count.ensures) at (sym c.if-not-has_place.ensures) in

@@ -12,7 +12,7 @@ returns c =
     let request = c.args.request.now in
     let rows = c.args.rows.now.rows in
     let measured : c.measure-room.result ≡ room_for c.args.caps request rows =
-    c.measure-room.ensures ∙ ap (λ l. room_for c.args.caps request l) c.items.ensures in
+    c.measure-room.ensures in
     IfOk-weaker c.front.result (λ names. names.items ≡ front_names c.measure-room.result
     (reclaimable_from request rows 0))
     (λ names. names.items ≡ victims c.args.caps request rows)

@@ -1,34 +1,58 @@
-use Rattle.std.proofs.Common.{not, ◌&&◌, is_some, arith}
-use Rattle.list_laws.proofs.FilterLaws.{length-filter-le}
-use Rattle.lock_queue.specs.declared.waiters.Waiter.{Waiter}
-use Rattle.lock_queue.specs.Waiters.{is_waiter}
+use Rattle.std.proofs.Common.{ap, ◌∙◌, arith}
+use Rattle.lock_queue.specs.Waiters.{recorded_of}
 use Rattle.lock_interests.proofs.ReadLaws.{records_of_within}
-use Rattle.lock_core.proofs.ReadLaws.{waiting-with}
+use Rattle.lock_core.proofs.ReadLaws.{waiting-counted_with, waiting-without}
 use Rattle.lock_core.proofs.locks.count_waiting_with.Goals as goal
+
+pub overflow_sub-result : goal.overflow_sub-result
+overflow_sub-result c =
+    let had = c.records_brought-had.ensures.count ∙ ap recorded_of c.find.ensures in
+    omega (
+      arith,
+      had,
+      waiting-counted_with c.args.w.now c.args.queue.now.waiters c.len.ensures.queue,
+      waiting-without c.args.w.now c.args.queue.now.waiters c.len.ensures.queue,
+      c.count_waiting.ensures.count,
+      c.count_waiting.ensures.few,
+    )
 
 pub overflow_add-result : goal.overflow_add-result
 overflow_add-result c =
-    let w = c.args.w.now in
+    let had = c.records_brought-had.ensures.count ∙ ap recorded_of c.find.ensures in
     omega (
       arith,
-      length-filter-le (λ (other : Waiter). not (is_waiter w.r w.conn other) && is_some other.rec) c.args.waiters.now,
-      c.count_waiting_others.ensures,
+      had,
+      waiting-counted_with c.args.w.now c.args.queue.now.waiters c.len.ensures.queue,
+      waiting-without c.args.w.now c.args.queue.now.waiters c.len.ensures.queue,
+      c.count_waiting.ensures.count,
+      c.count_waiting.ensures.few,
       c.records_of.ensures,
-      records_of_within w.rec,
-      c.requires,
+      records_of_within c.args.w.now.rec,
     )
 
 pub returns-clause-count : goal.returns-clause-count
-returns-clause-count c = rw (c.count_waiting_others.ensures, c.records_of.ensures)
-    (waiting-with c.args.w.now c.args.waiters.now)
+returns-clause-count c =
+    let had = c.records_brought-had.ensures.count ∙ ap recorded_of c.find.ensures in
+    omega (
+      arith,
+      had,
+      waiting-counted_with c.args.w.now c.args.queue.now.waiters c.len.ensures.queue,
+      waiting-without c.args.w.now c.args.queue.now.waiters c.len.ensures.queue,
+      c.count_waiting.ensures.count,
+      c.count_waiting.ensures.few,
+      c.records_of.ensures,
+    )
 
 pub returns-clause-few : goal.returns-clause-few
 returns-clause-few c =
-    let w = c.args.w.now in
+    let had = c.records_brought-had.ensures.count ∙ ap recorded_of c.find.ensures in
     omega (
       arith,
-      length-filter-le (λ (other : Waiter). not (is_waiter w.r w.conn other) && is_some other.rec) c.args.waiters.now,
-      c.count_waiting_others.ensures,
+      had,
+      waiting-counted_with c.args.w.now c.args.queue.now.waiters c.len.ensures.queue,
+      waiting-without c.args.w.now c.args.queue.now.waiters c.len.ensures.queue,
+      c.count_waiting.ensures.count,
+      c.count_waiting.ensures.few,
       c.records_of.ensures,
-      records_of_within w.rec,
+      records_of_within c.args.w.now.rec,
     )

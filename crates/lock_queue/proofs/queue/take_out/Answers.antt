@@ -1,6 +1,40 @@
-use Rattle.std.proofs.Common.{rules}
-use Rattle.std.proofs.lemmas.Fn.{filter_same}
+use Rattle.std.proofs.Common.{map, not, ◌∙◌}
+use Rattle.table_entries.specs.Tables.{resource_by}
+use Rattle.lock_queue.specs.declared.waiters.Waiter.{Waiter}
+use Rattle.lock_queue.specs.Waiters.{is_waiter}
+use Rattle.lock_queue.specs.Tables.{part_of, waiters_in}
+use Rattle.table_entries.proofs.TableLaws.{entry_apart, there_in, taken_seen, taken_bins}
+use Rattle.lock_queue.proofs.WaiterLaws.{queue-filter}
+use Rattle.lock_queue.proofs.CountLaws.{less_one}
 use Rattle.lock_queue.proofs.queue.take_out.Goals as goal
 
-pub returns-clause-items : goal.returns-clause-items
-returns-clause-items c = filter_same _ _ _ (λ x b f h. search rules) _ _ c.retain.ensures.filtered
+pub take_from-requires : goal.take_from-requires
+take_from-requires c = entry_apart part_of c.args.entries.now (map (resource_by part_of) (waiters_in c.args.entries.now))
+    c.requires.kept c.slot_of-slot.result c.index-entries-slot.result c.slot_of-slot.ensures.within
+
+pub returns-clause-kept : goal.returns-clause-kept
+returns-clause-kept c = taken_bins part_of c.args.entries.now (map (resource_by part_of) (waiters_in c.args.entries.now))
+    c.requires.kept c.slot_of-slot.result c.index-entries-slot.result c.slot_of-slot.ensures.within (c.args.r.now, c.args.conn) c.slot_of-slot.ensures.slot c.take_from.new.waiters c.take_from.ensures.waiters
+
+pub returns-clause-there : goal.returns-clause-there
+returns-clause-there c = c.take_from.ensures.there ∙ there_in part_of c.args.entries.now (map (resource_by part_of) (waiters_in c.args.entries.now))
+    c.requires.kept c.slot_of-slot.result c.index-entries-slot.result c.slot_of-slot.ensures.within (c.args.r.now, c.args.conn) c.slot_of-slot.ensures.slot
+
+pub returns-clause-waiters : goal.returns-clause-waiters
+returns-clause-waiters c = taken_seen part_of c.args.entries.now (map (resource_by part_of) (waiters_in c.args.entries.now))
+    c.requires.kept c.slot_of-slot.result c.index-entries-slot.result c.slot_of-slot.ensures.within (c.args.r.now, c.args.conn) c.slot_of-slot.ensures.slot c.take_from.new.waiters c.take_from.ensures.waiters
+
+pub returns-clause-less : goal.returns-clause-less
+returns-clause-less c =
+    rw (taken_seen part_of c.args.entries.now (map (resource_by part_of) (waiters_in c.args.entries.now))
+    c.requires.kept c.slot_of-slot.result c.index-entries-slot.result c.slot_of-slot.ensures.within (c.args.r.now, c.args.conn) c.slot_of-slot.ensures.slot c.take_from.new.waiters c.take_from.ensures.waiters)
+    (less_one c.args.r.now c.args.conn (waiters_in c.args.entries.now) c.take_from.result
+    (c.take_from.ensures.there ∙ there_in part_of c.args.entries.now (map (resource_by part_of) (waiters_in c.args.entries.now))
+    c.requires.kept c.slot_of-slot.result c.index-entries-slot.result c.slot_of-slot.ensures.within (c.args.r.now, c.args.conn) c.slot_of-slot.ensures.slot) c.requires.kept.one_each)
+
+pub returns-clause-queue : goal.returns-clause-queue
+returns-clause-queue c =
+    rw (taken_seen part_of c.args.entries.now (map (resource_by part_of) (waiters_in c.args.entries.now))
+    c.requires.kept c.slot_of-slot.result c.index-entries-slot.result c.slot_of-slot.ensures.within (c.args.r.now, c.args.conn) c.slot_of-slot.ensures.slot c.take_from.new.waiters c.take_from.ensures.waiters)
+    (queue-filter (λ (waiter : Waiter). not (is_waiter c.args.r.now c.args.conn waiter))
+    (waiters_in c.args.entries.now) c.requires.queue)

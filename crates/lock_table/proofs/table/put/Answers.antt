@@ -1,19 +1,19 @@
-use Rattle.std.proofs.Common.{arith}
-use Rattle.std.proofs.lemmas.List.Sums.{prefix_len-le-length}
+use Rattle.std.proofs.Common.{length}
 use Rattle.cf_types.specs.Resources.{resource_up_to}
-use Rattle.list_laws.proofs.InsertionLaws.{insert-prefix_len}
 use Rattle.lock_table.specs.declared.holdings.Held.{Held}
-use Rattle.lock_table.specs.Holdings.{owners_without}
+use Rattle.lock_table.specs.Holdings.{is_interest}
+use Rattle.lock_table.specs.Tables.{owners_in}
+use Rattle.list_laws.proofs.FilterLaws.{none_filtered}
+use Rattle.lock_table.proofs.CountLaws.{one_more}
 use Rattle.lock_table.proofs.table.put.Goals as goal
 
-pub insert_at-requires-clause-place : goal.insert_at-requires-clause-place
-insert_at-requires-clause-place c =
-    let within = prefix_len-le-length (λ (other : Held). resource_up_to other.r c.args.new.r)
-    c.take_out.new.owners.items in
-    rw (c.place_of-at.ensures, c.deref.ensures.value) (omega (arith, within, c.take_out.new.owners.ok.0))
+pub put_new-requires-clause-none : goal.put_new-requires-clause-none
+put_new-requires-clause-none c =
+    rw c.take_out-there.ensures.owners
+    (none_filtered (is_interest c.args.held.r c.args.held.conn) (owners_in c.args.entries.now))
 
-pub returns-clause-items : goal.returns-clause-items
-returns-clause-items c =
-    rw (c.insert_at.ensures.items, c.place_of-at.ensures, c.deref.ensures.value, c.take_out.ensures.items)
-    (insert-prefix_len (λ (other : Held). resource_up_to other.r c.args.new.r) c.args.new
-    (owners_without c.args.new.r c.args.new.conn c.args.owners.now.items))
+pub returns-clause-more : goal.returns-clause-more
+returns-clause-more c =
+    rw c.put_new.ensures.owners (one_more (λ (other : Held). resource_up_to other.r c.args.held.r) c.args.held
+    (owners_in c.take_out-there.new.entries) (length (owners_in c.args.entries.now)) c.take_out-there.result
+    c.take_out-there.ensures.less)

@@ -1,10 +1,17 @@
 use Rattle.std.proofs.Common.{arith}
 use Rattle.list_laws.proofs.MapLaws.{mapped_more}
-use Rattle.lock_table.specs.Holdings.{in_retention}
+use Rattle.table_entries.proofs.PassLaws.{mapped_whole}
+use Rattle.lock_table.specs.Holdings.{owners_retained_of}
 use Rattle.lock_table.proofs.table.put_retentions.Goals as goal
 
-pub loop-held-preserved : goal.loop-held-preserved
-loop-held-preserved c =
-    mapped_more (in_retention c.args.r.now c.args.conn c.args.retained) c.deref_mut-held-items.result.now
-    c.loop-held.held-items c.loop-held.held-index
-    _ c.put_retention.new.held (omega arith) c.put_retention.ensures c.loop-held.invariant.0 c.loop-held.invariant.1
+pub loop-entry-preserved : goal.loop-entry-preserved
+loop-entry-preserved c =
+    let next = mapped_more (owners_retained_of c.args.conn c.args.retained) c.args.entries.now c.loop-entry.entries c.loop-entry.entry-index c.entry-item.result
+    c.set_retained_of.new.self (omega (arith, c.loop-entry.auto.entries, c.loop-entry-test.true)) c.set_retained_of.ensures
+    c.loop-entry.invariant.0 c.loop-entry.invariant.1 in
+    next
+
+pub returns : goal.returns
+returns c =
+    mapped_whole (owners_retained_of c.args.conn c.args.retained) c.args.entries.now c.loop-entry.entries c.loop-entry.entry-index
+    (omega (arith, c.loop-entry.auto.entries, c.loop-entry-test.false)) c.loop-entry-test.false c.loop-entry.invariant.0

@@ -1,9 +1,8 @@
-use Rattle.std.proofs.Common.{◌≡◌, map, take, drop}
-use Rattle.lock_table.specs.Holdings.{in_retention}
+use Rattle.std.proofs.Common.{◌≡◌, ◌≤◌, length, map, take, drop}
+use Rattle.lock_table.specs.Holdings.{owners_retained_of}
 use Rattle.lock_table.proofs.table.put_retentions.Given as goal
 
-abbrev pub invariant-loop-held : goal.invariant-loop-held
-invariant-loop-held l =
-    (take l.held-index l.held-items ≡ map (in_retention l.r l.conn l.retained)
-    (take l.held-index l.initial.held-items))
-    × (drop l.held-index l.held-items ≡ drop l.held-index l.initial.held-items)
+abbrev pub invariant-loop-entry : goal.invariant-loop-entry
+invariant-loop-entry l =
+    (take l.entry-index l.entries ≡ map (owners_retained_of l.conn l.retained) (take l.entry-index l.initial.entries))
+    × (drop l.entry-index l.entries ≡ drop l.entry-index l.initial.entries)

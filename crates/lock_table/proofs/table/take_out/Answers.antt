@@ -1,6 +1,30 @@
-use Rattle.std.proofs.Common.{rules}
-use Rattle.std.proofs.lemmas.Fn.{filter_same}
+use Rattle.std.proofs.Common.{map, ◌∙◌}
+use Rattle.table_entries.specs.Tables.{resource_by}
+use Rattle.lock_table.specs.Tables.{part_of, owners_in}
+use Rattle.table_entries.proofs.TableLaws.{entry_apart, there_in, taken_seen, taken_bins}
+use Rattle.lock_table.proofs.CountLaws.{less_one}
 use Rattle.lock_table.proofs.table.take_out.Goals as goal
 
-pub returns-clause-items : goal.returns-clause-items
-returns-clause-items c = filter_same _ _ _ (λ x b f h. search rules) _ _ c.retain.ensures.filtered
+pub take-requires : goal.take-requires
+take-requires c = entry_apart part_of c.args.entries.now (map (resource_by part_of) (owners_in c.args.entries.now))
+    c.requires c.slot_of-slot.result c.index-entries-slot.result c.slot_of-slot.ensures.within
+
+pub returns-clause-kept : goal.returns-clause-kept
+returns-clause-kept c = taken_bins part_of c.args.entries.now (map (resource_by part_of) (owners_in c.args.entries.now))
+    c.requires c.slot_of-slot.result c.index-entries-slot.result c.slot_of-slot.ensures.within (c.args.r.now, c.args.conn) c.slot_of-slot.ensures.slot c.take.new.self c.take.ensures.owners
+
+pub returns-clause-there : goal.returns-clause-there
+returns-clause-there c = c.take.ensures.there ∙ there_in part_of c.args.entries.now (map (resource_by part_of) (owners_in c.args.entries.now))
+    c.requires c.slot_of-slot.result c.index-entries-slot.result c.slot_of-slot.ensures.within (c.args.r.now, c.args.conn) c.slot_of-slot.ensures.slot
+
+pub returns-clause-owners : goal.returns-clause-owners
+returns-clause-owners c = taken_seen part_of c.args.entries.now (map (resource_by part_of) (owners_in c.args.entries.now))
+    c.requires c.slot_of-slot.result c.index-entries-slot.result c.slot_of-slot.ensures.within (c.args.r.now, c.args.conn) c.slot_of-slot.ensures.slot c.take.new.self c.take.ensures.owners
+
+pub returns-clause-less : goal.returns-clause-less
+returns-clause-less c =
+    rw (taken_seen part_of c.args.entries.now (map (resource_by part_of) (owners_in c.args.entries.now))
+    c.requires c.slot_of-slot.result c.index-entries-slot.result c.slot_of-slot.ensures.within (c.args.r.now, c.args.conn) c.slot_of-slot.ensures.slot c.take.new.self c.take.ensures.owners)
+    (less_one c.args.r.now c.args.conn (owners_in c.args.entries.now) c.take.result
+    (c.take.ensures.there ∙ there_in part_of c.args.entries.now (map (resource_by part_of) (owners_in c.args.entries.now))
+    c.requires c.slot_of-slot.result c.index-entries-slot.result c.slot_of-slot.ensures.within (c.args.r.now, c.args.conn) c.slot_of-slot.ensures.slot) c.requires.one_each)

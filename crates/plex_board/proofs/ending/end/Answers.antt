@@ -1,6 +1,6 @@
-use Rattle.std.proofs.Common.{length, sym, ap, ◌∙◌, arith}
+use Rattle.std.proofs.Common.{rules, length, sym, ap, ◌∙◌, arith}
 use Rattle.std.proofs.lemmas.List.{length-append}
-use Rattle.plex_board.proofs.EndLaws.{taken-first, none-left, all-accounts, end-homes, end-ended, end-links, end-count, end-done}
+use Rattle.plex_board.proofs.EndLaws.{taken-first, none-left, all-accounts, end-homes, end-ended, end-asked, end-count, end-done, asked-done}
 use Rattle.plex_board.proofs.ending.end.Goals as goal
 
 pub loop-station-preserved : goal.loop-station-preserved
@@ -14,9 +14,11 @@ loop-station-preserved g c =
       homes = end-homes _ _ _ _ _ _ left at before.homes;
       ended =
           end-ended _ _ _ _ _ _ left at _ _ _ _ _ c.push_reserved.ensures.items before.ended
-          (record { history_type = said.history_type; legal = said.legal; most = said.most; callers = said.callers })
+          (record { history_type = said.history_type; legal = said.legal; most = said.most; room = said.room; callers = said.callers })
           (all-accounts _ _ _ said.mine said.tests said.known);
-      links = end-links _ _ _ _ _ _ left at _ _ _ _ c.push_four.ensures.items said.links before.links;
+      links =
+          end-asked _ _ _ _ _ _ left at g.L.Link.calls g.L.Link.downs g.L.Link.faults _ _ _ _ _ _ _ _
+          c.push_reserved.ensures.items c.push_four.ensures.items said.links before.links;
       history_room =
           omega (arith, count, before.history_room, c.push_reserved.ensures.len, c.push_reserved.ensures.capacity);
       link_room =
@@ -35,3 +37,9 @@ pub returns-clause-histories : goal.returns-clause-histories
 returns-clause-histories g c =
     let none = none-left _ (sym c.loop-station.station-iterator.rest.ok.0 ∙ c.in-None.ensures.steps.0) in
     end-done _ _ _ _ _ none c.loop-station.invariant.homes c.loop-station.invariant.ended
+
+pub returns-clause-links : goal.returns-clause-links
+returns-clause-links g c =
+    let none = none-left _ (sym c.loop-station.station-iterator.rest.ok.0 ∙ c.in-None.ensures.steps.0) in
+    asked-done g.L.Link.calls g.L.Link.downs g.L.Link.faults _ _ _ _ _ _ none c.loop-station.invariant.links
+    (search rules)

@@ -1,9 +1,8 @@
 use Rattle.std.proofs.Common.{◌≡◌, ◌+◌, ◌*◌, ◌≤◌, ◌++◌, List, length}
-use Rattle.std.specs.List.{flat_map}
 use Rattle.std.specs.Vec.{vec_len, vec_capacity}
 use Rattle.std.specs.Vec.Iter.{into_iter_items}
 use Rattle.plex_script.specs.declared.asks.AnyHistory.{AnyHistory}
-use Rattle.desk_model.specs.Boards.{four_of}
+use Rattle.desk_model.specs.Boards.{AreEachAsked}
 use Rattle.plex_board.specs.Rests.{homes_shown, AreHomes, AreEnded}
 use Rattle.plex_board.proofs.ending.end.Given as goal
 
@@ -13,8 +12,11 @@ invariant-loop-station g l = record {
   ended : (rest : List AnyHistory)
       → AreEnded (into_iter_items l.station-iterator) (homes_shown (into_iter_items l.homes)) rest
       → AreEnded l.fn.stations.items (homes_shown l.fn.rest.homes.items) (l.histories.items ++ rest);
-  links : l.links.items ++ flat_map (λ cell. four_of cell.links) (into_iter_items l.station-iterator)
-      ≡ flat_map (λ cell. four_of cell.links) l.fn.stations.items;
+  links : (rest : List AnyHistory) (others : List g.row.L.Denot)
+      → AreEachAsked g.L.Link.calls g.L.Link.downs g.L.Link.faults (into_iter_items l.station-iterator) rest
+      l.spare.items others
+      → AreEachAsked g.L.Link.calls g.L.Link.downs g.L.Link.faults l.fn.stations.items (l.histories.items ++ rest)
+      l.spare.items (l.links.items ++ others);
   history_room : vec_len l.histories + length (into_iter_items l.station-iterator) ≤ vec_capacity l.histories;
   link_room : vec_len l.links + 4 * length (into_iter_items l.station-iterator) + length l.spare.items
       ≤ vec_capacity l.links;

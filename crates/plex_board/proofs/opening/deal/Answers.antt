@@ -1,30 +1,35 @@
-use Rattle.std.proofs.Common.{◌-◌, ◌≤◌, ◌++◌, ◌∷◌, [], length, sym, ap, ◌∙◌, arith}
+use Rattle.std.proofs.Common.{◌-◌, ◌<◌, ◌≤◌, length, sym, subst, arith}
 use Rattle.std.proofs.lemmas.List.{length-set}
-use Rattle.any_cell.specs.Passes.{PassShown}
-use Rattle.plex_board.proofs.DealLaws.{deal-next, deal-desks, deal-unused, deal-left, desk-with}
+use Rattle.std.proofs.Common.{◌∙◌}
+use Rattle.plex_board.proofs.DealLaws.{deal-some, deal-next, deal-desks, deal-unused, few-left}
 use Rattle.plex_board.proofs.opening.deal.Goals as goal
+
+pub deal_one-requires-clause-unused : goal.deal_one-requires-clause-unused
+deal_one-requires-clause-unused c =
+    let before = c.loop-pass.invariant in
+    (deal-unused _ _ _ _ c.in-Some.ensures.some before.owner before.unused).1
+
+pub deal_one-requires-clause-few : goal.deal_one-requires-clause-few
+deal_one-requires-clause-few c =
+    let before = c.loop-pass.invariant in
+    subst (λ desk. length desk.passes < 16) (sym c.index_mut.ensures.value)
+    (before.few (c.loop-pass.owner - 1) c.index_mut.result.now
+    (omega (arith, deal-some _ _ _ _ c.in-Some.ensures.some before.owner)))
 
 pub loop-pass-preserved : goal.loop-pass-preserved
 loop-pass-preserved c =
     let before = c.loop-pass.invariant in
-    let few : c.loop-pass.owner ≤ length c.loop-pass.desks.items = omega (arith, before.few, before.count) in
+    let within : c.loop-pass.owner ≤ length c.loop-pass.desks.items = omega (arith, before.within, before.count) in
     record {
       owner = deal-next _ _ _ _ c.in-Some.ensures.some before.owner;
       desks =
-          deal-desks _ _ _ _ c.in-Some.ensures.some before.owner c.loop-pass.desks.items c.index_mut.result.now _ few
-          c.index_mut.ensures.value
-          (desk-with _ _ _ _ (sym c.behind-desks.view_is) (c.in_ok-push.ensures.items
-          ∙ ap (λ (pass : PassShown). c.behind-desks.inside.places.items ++ pass ∷ []) c.new.ensures))
+          deal-desks _ _ _ _ c.in-Some.ensures.some before.owner c.loop-pass.desks.items c.index_mut.result.now _ within
+          c.index_mut.ensures.value c.deal_one.ensures
           ∙ before.desks;
       unused = (deal-unused _ _ _ _ c.in-Some.ensures.some before.owner before.unused).0;
       count = length-set c.loop-pass.desks.items (c.loop-pass.owner - 1) _ ∙ before.count;
-      few = omega (arith, before.few);
-      left = (_, deal-left _ _ _ _ c.in-Some.ensures.some before.owner before.left.0 _ before.left.1);
+      within = omega (arith, before.within);
+      few = few-left c.loop-pass.desks.items c.loop-pass.owner 16 _ before.few;
       str_type = c.pop.ensures.str_type ∙ before.str_type;
       room = c.pop.ensures.room ∙ before.room;
     }
-
-pub returns-in_err-push-clause-left : goal.returns-in_err-push-clause-left
-returns-in_err-push-clause-left c =
-    let before = c.loop-pass.invariant in
-    (_, deal-left _ _ _ _ c.in-Some.ensures.some before.owner before.left.0 _ before.left.1)

@@ -1,6 +1,7 @@
-use Rattle.std.proofs.Common.{◌≡◌, ◌≤◌, ◌++◌, [], List, length}
+use Rattle.std.proofs.Common.{◌≡◌, ◌<◌, ◌≤◌, ℕ, [], length, get_or}
 use Rattle.std.specs.Prelude.{All}
-use Rattle.any_cell.specs.Passes.{PassShown, passes_shown, type_of_passes, room_of}
+use Rattle.any_cell.specs.Passes.{passes_shown, type_of_passes, room_of}
+use Rattle.desk_model.specs.Desks.{DeskShown}
 use Rattle.plex_board.specs.Rests.{each_with}
 use Rattle.plex_board.specs.Openings.{desk_with}
 use Rattle.plex_board.proofs.opening.deal.Given as goal
@@ -12,8 +13,8 @@ invariant-loop-pass l = record {
       ≡ each_with desk_with (passes_shown l.fn.home) l.fn.desks.items;
   unused : All (λ pass. pass.calls ≡ []) (passes_shown l.home);
   count : length l.desks.items ≡ length l.fn.desks.items;
-  few : l.owner ≤ length l.fn.desks.items;
-  left : (gone : List PassShown) × (passes_shown l.fn.home ≡ passes_shown l.home ++ gone);
+  within : l.owner ≤ length l.fn.desks.items;
+  few : (k : ℕ) (desk : DeskShown) → k < l.owner → length (get_or l.desks.items k desk).passes < 16;
   str_type : type_of_passes l.home ≡ type_of_passes l.fn.home;
   room : room_of l.home ≡ room_of l.fn.home;
 }

@@ -1,4 +1,6 @@
-use Rattle.std.proofs.Common.{arith}
+use Rattle.std.proofs.Common.{arith, refl}
+use Rattle.desk_model.specs.Boards.{links_of}
+use Rattle.plex_floor.proofs.RunLaws.{finished_asked, finished_count}
 use Rattle.plex_crew.proofs.CrewLaws.{crew_is_idle, desks-of_board, desks-owners, finish_shows, lines_fit}
 use Rattle.plex_crew.proofs.runs.play.Goals as goal
 
@@ -30,3 +32,18 @@ returns-clause-shows g c =
     c.close-histories.result.0.items c.part-desks.result.0.items c.part-desks.result.1.items
     c.part-desks.ensures.desks c.part-desks.ensures.shown c.close-histories.ensures.histories
     c.finish.result c.finish.ensures.histories c.finish.ensures.transcripts c.finish.ensures.had_memory
+
+pub returns-clause-asked : goal.returns-clause-asked
+returns-clause-asked g c =
+    let laws = g.met.L.Link g.world.𝓛 g.world.𝓜 g.world.𝓡 ((λ s x. x), (λ x. x), (λ x. x), λ x. x) in
+    finished_asked g.L.Link.calls g.L.Link.downs g.L.Link.faults laws.tells_enough c.args.limit c.args.script.now
+    c.args.board c.part-desks.result.0.items c.close-histories.result.0.items (links_of c.args.board)
+    c.close-histories.result.1.items c.finish.result c.requires.board refl c.close-histories.ensures.histories
+    c.close-histories.ensures.links c.finish.ensures.histories
+
+pub returns-clause-count : goal.returns-clause-count
+returns-clause-count g c =
+    let laws = g.met.L.Link g.world.𝓛 g.world.𝓜 g.world.𝓡 ((λ s x. x), (λ x. x), (λ x. x), λ x. x) in
+    finished_count g.L.Link.calls g.L.Link.downs g.L.Link.faults laws.tells_enough c.args.limit c.args.script.now
+    c.args.board c.close-histories.result.0.items (links_of c.args.board) c.close-histories.result.1.items
+    c.requires.board refl c.close-histories.ensures.links

@@ -1,4 +1,5 @@
 use Rattle.std.proofs.Common.{length, ◌∙◌}
+use Rattle.plex_floor.proofs.RunLaws.{finished_count}
 use Rattle.plex_crew.proofs.CrewLaws.{new_desks-of_board, new_desks-owners, new_crew}
 use Rattle.plex_crew.proofs.runs.threads.Goals as goal
 
@@ -16,3 +17,11 @@ pub close-histories-requires-clause-owners : goal.close-histories-requires-claus
 close-histories-requires-clause-owners g c κs within =
     new_desks-owners c.in-Ok.begun.0 c.in-Err-new.desks.items (length c.args.script.now.connectors)
     c.in-Ok.ensures.callers (c.in-Err-new.ensures.handed_back ∙ c.in-Ok.ensures.desks)
+
+pub returns-in-Err-new-clause-count : goal.returns-in-Err-new-clause-count
+returns-in-Err-new-clause-count g c =
+    let laws = g.met.L.Link g.world.𝓛 g.world.𝓜 g.world.𝓡 ((λ s x. x), (λ x. x), (λ x. x), λ x. x) in
+    finished_count g.L.Link.calls g.L.Link.downs g.L.Link.faults laws.tells_enough c.args.limit c.args.script.now
+    c.in-Ok.begun.0 c.close-histories.result.0.items c.args.links.items c.close-histories.result.1.items
+    (record { forms = c.in-Ok.ensures.forms; cells = c.in-Ok.ensures.cells; callers = c.in-Ok.ensures.callers })
+    c.in-Ok.ensures.links c.close-histories.ensures.links

@@ -1,3 +1,4 @@
+use Rattle.plex_run.specs.Wires.{wires}
 use Rattle.plex_run.specs.Outcome.{reading_of}
 use Rattle.plex_run.proofs.LoadRunLaws.{load_runnable, load_run, IfOk-so}
 use Rattle.plex_run.proofs.loading.run_load.Goals as goal
@@ -7,6 +8,7 @@ run_over-requires-clause-script g c κs within = load_runnable c.in_ok-script.sc
 
 pub returns-clause-run : goal.returns-clause-run
 returns-clause-run g c =
-    IfOk-so c.run_over.result _ _ (λ it run. load_run c.args.n c.in_ok-script.script (reading_of it)
+    IfOk-so c.run_over.result _ _ (λ it run. load_run
+    (wires g.L.Link.calls g.L.Link.downs g.L.Link.faults c.args.links.now.items c.run_over.new.links.items) c.args.n c.in_ok-script.script (reading_of it)
     c.valid_is_fresh.ensures c.within_script.ensures c.in_ok-script.ensures.script c.in_ok-script.ensures.load run)
     c.run_over.ensures.run

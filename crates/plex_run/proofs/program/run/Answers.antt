@@ -1,5 +1,6 @@
 use Rattle.std.proofs.Common.{◌≡◌, ◌∙◌, inr, Some, refl, ap}
 use Rattle.plex_run.specs.declared.way.Work.TheVariants as works
+use Rattle.plex_run.specs.Wires.{wires}
 use Rattle.plex_run.specs.Written.{output}
 use Rattle.plex_run.specs.Outcome.{IsSerial, IsThreads}
 use Rattle.plex_run.specs.Loading.{IsLoading}
@@ -10,7 +11,8 @@ use Rattle.plex_run.proofs.program.run.Goals as goal
 
 pub returns-in-Some-Load-clause-load : goal.returns-in-Some-Load-clause-load
 returns-in-Some-Load-clause-load g c = λ n loading.
-    ends_as_asked c.work_of.result c.in-Some-Load.field-0 c.in-Some-Load.n n
+    ends_as_asked (wires g.L.Link.calls g.L.Link.downs g.L.Link.faults c.args.links.now.items c.loaded.new.links.items)
+    c.work_of.result c.in-Some-Load.field-0 c.in-Some-Load.n n
     (output g.K.Sink.held g.K.Sink.faults c.args.sink.now c.loaded.new.sink) c.loaded.result
     c.in-Some-Load.is c.in-Some-Load.field-0-is ((c.work_of.ensures.load n).1 loading) c.loaded.ensures.ends
 
@@ -36,7 +38,7 @@ returns-in-None-clause-usage g c = (
 
 pub returns-in-Err-clause-headline : goal.returns-in-Err-clause-headline
 returns-in-Err-clause-headline g c = λ way said.
-    unread_ends way (g.S.Source.left c.args.source.now)
+    unread_ends (wires g.L.Link.calls g.L.Link.downs g.L.Link.faults c.args.links.now.items c.args.links.now.items) way (g.S.Source.left c.args.source.now)
     (output g.K.Sink.held g.K.Sink.faults c.args.sink.now c.say_unread.new.sink) c.say_unread.result
     c.say_unread.ensures.statuses
     (unread_long _ (g.S.Source.left c.args.source.now) _ _ c.in-Err.end c.say_unread.result c.in-Err.ensures.cause

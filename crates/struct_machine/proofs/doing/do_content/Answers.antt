@@ -1,36 +1,26 @@
-use Rattle.std.proofs.Common.{ap, ◌∙◌}
-use Rattle.engine_api.specs.Shell.{with_posted}
-use Rattle.struct_machine.specs.Changes.{ChangeList}
-use Rattle.struct_machine.proofs.ChangeLaws.{covers_ready}
-use Rattle.struct_machine.proofs.KeptLaws.{content_alone, kept_content}
+-- What changed is told: any bit where the structure failed, else those that are named.
+use Rattle.std.proofs.Common.{[], Option, subst}
+use Rattle.cf_types.specs.Gains.{Gains}
+use Rattle.duplex_pair.specs.Pairs.{content_of}
+use Rattle.engine_api.specs.Meaning.{Held}
+use Rattle.struct_machine.specs.Kept.{state_in}
+use Rattle.struct_machine.proofs.ChangeLaws.{covers_gains}
 use Rattle.struct_machine.proofs.doing.do_content.Goals as goal
 
-pub apply-answer-requires-clause-alone : goal.apply-answer-requires-clause-alone
-apply-answer-requires-clause-alone g c κs within =
-    c.ready.ensures.fresh
-    ∙ content_alone g.E.Engine.held g.E.Engine.meaning c.args.shell.now.form c.args.shell.now c.args.content.now
-    c.requires.of_form c.args.by c.requires.accepted
-
 pub returns-clause-bits : goal.returns-clause-bits
-returns-clause-bits g c =
-    covers_ready g.E.Engine.meaning (g.E.Engine.held c.args.content.now.primary)
-    (g.E.Engine.held c.ready.new.self.primary) (g.E.Engine.held c.apply-answer.new.self.primary)
-    c.ready.new.out.bits.items (record { all = c.changed.inside.all; bits = c.apply-answer.new.out.bits.items })
-    c.ready.ensures.held
-    (c.ready.ensures.bits ∙ ap (λ (changed : ChangeList). changed.bits) c.changed.view_is ∙ c.requires.unnamed)
-    c.apply-answer.ensures.bits
-
-pub returns-clause-of_form : goal.returns-clause-of_form
-returns-clause-of_form g c =
-    let held = c.ready.ensures.held in
-    let step = c.apply-answer.ensures.step in
-    let alone =
-    content_alone g.E.Engine.held g.E.Engine.meaning c.args.shell.now.form c.args.shell.now c.args.content.now
-    c.requires.of_form c.args.by c.requires.accepted in
-    kept_content g.E.Engine.held g.E.Engine.meaning c.args.shell.now.form c.args.shell.now c.post_all.new.shell
-    c.args.content.now c.apply-answer.new.self c.items.result.now c.requires.of_form
-    (c.post_all.ensures.form ∙ c.ready-2.ensures.form)
-    (c.post_all.ensures.shell ∙ ap (with_posted c.items.result.now) c.ready-2.ensures.shell)
-    (ap (λ answer. answer.held.shape) step ∙ ap (λ held. held.shape) held)
-    (ap (λ answer. answer.held.caps) step ∙ ap (λ held. held.caps) held)
-    alone c.apply-answer.ensures.fresh
+returns-clause-bits g c = λ conn index untouched.
+    let now = state_in g.E.Engine.meaning c.args.form.now
+    (content_of g.E.Engine.held c.ask_and_apply-reply.new.content.pair) in
+    let was = state_in g.E.Engine.meaning c.args.form.now
+    (content_of g.E.Engine.held c.args.content.now.pair) in
+    covers_gains (g.E.Engine.meaning.stands was) (g.E.Engine.meaning.stands now)
+    (record {
+      all = c.ask_and_apply-reply.result.1;
+      bits = c.ask_and_apply-reply.new.out.bits.items;
+      marks = c.ask_and_apply-reply.new.marks;
+    })
+    (subst (λ (held : Option (Held g.row.E-State.Denot)). Gains
+    (g.E.Engine.meaning.stands (state_in g.E.Engine.meaning c.args.form.now held)) (g.E.Engine.meaning.stands now) []
+    c.ask_and_apply-reply.new.out.bits.items) c.ready.ensures.held (c.ask_and_apply-reply.ensures.bits
+    untouched.not_all))
+    conn index untouched

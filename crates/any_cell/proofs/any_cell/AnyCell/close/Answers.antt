@@ -1,13 +1,15 @@
-use Rattle.std.proofs.Common.{ap, length}
+use Rattle.std.proofs.Common.{◌≤◌, ap, length}
 use Rattle.cache_model.specs.Meaning.{cache_meaning}
 use Rattle.list_model.specs.Meaning.{list_meaning}
 use Rattle.lock_model.specs.Meaning.{lock_meaning}
-use Rattle.engine_api.specs.History.{calls}
+use Rattle.engine_api.specs.History.{calls, numbers, IsPoint}
 use Rattle.plex_script.specs.declared.scripts.AnyAsk.TheVariants as ask
+use Rattle.plex_script.specs.declared.asks.AnyHistory.TheVariants as history
+use Rattle.any_model.specs.Kinds.{any_answers}
 use Rattle.any_model.specs.Types.{OfCache, OfList, OfLock}
 use Rattle.any_cell.specs.Passes.{passes_shown}
 use Rattle.any_cell.specs.Cells.{cell_shown}
-use Rattle.any_cell.proofs.ShownLaws.{shown_tables, shown_callers, shown_mine, shown_tests, shown_known}
+use Rattle.any_cell.proofs.ShownLaws.{shown_tables, shown_callers, shown_mine, shown_tests, shown_known, shown_room, shown_links}
 use Rattle.any_cell.proofs.any_cell.AnyCell.close.Goals as goal
 
 pub close-history-requires-clause-passes : goal.close-history-requires-clause-passes
@@ -42,7 +44,7 @@ returns-in-Cache-Cache-clause-known g c =
     shown_known OfCache ask.Cache (cell_shown c.args.self) c.in-Cache-Cache.cell (passes_shown c.args.passes)
     c.in-Cache-Cache.passes.items
     (ap cell_shown c.in-Cache-Cache.is-0) (ap passes_shown c.in-Cache-Cache.is-1)
-    (length c.close-history.result.history) c.close-history.ensures.known
+    (λ n. IsPoint c.close-history.result.history n × (n ≤ length c.close-history.result.history)) c.close-history.ensures.known
 
 pub close-history-requires-in-List-List-clause-passes : goal.close-history-requires-in-List-List-clause-passes
 close-history-requires-in-List-List-clause-passes g c κs within =
@@ -76,7 +78,7 @@ returns-in-List-List-clause-known g c =
     shown_known OfList ask.List (cell_shown c.args.self) c.in-List-List.cell (passes_shown c.args.passes)
     c.in-List-List.passes.items
     (ap cell_shown c.in-List-List.is-0) (ap passes_shown c.in-List-List.is-1)
-    (length c.close-history-in-List-List.result.history) c.close-history-in-List-List.ensures.known
+    (λ n. IsPoint c.close-history-in-List-List.result.history n × (n ≤ length c.close-history-in-List-List.result.history)) c.close-history-in-List-List.ensures.known
 
 pub close-history-requires-in-Lock-Lock-clause-passes : goal.close-history-requires-in-Lock-Lock-clause-passes
 close-history-requires-in-Lock-Lock-clause-passes g c κs within =
@@ -110,4 +112,55 @@ returns-in-Lock-Lock-clause-known g c =
     shown_known OfLock ask.Lock (cell_shown c.args.self) c.in-Lock-Lock.cell (passes_shown c.args.passes)
     c.in-Lock-Lock.passes.items
     (ap cell_shown c.in-Lock-Lock.is-0) (ap passes_shown c.in-Lock-Lock.is-1)
-    (length c.close-history-in-Lock-Lock.result.history) c.close-history-in-Lock-Lock.ensures.known
+    (λ n. IsPoint c.close-history-in-Lock-Lock.result.history n × (n ≤ length c.close-history-in-Lock-Lock.result.history)) c.close-history-in-Lock-Lock.ensures.known
+
+pub returns-in-Cache-Cache-clause-room : goal.returns-in-Cache-Cache-clause-room
+returns-in-Cache-Cache-clause-room g c =
+    shown_room
+    OfCache ask.Cache (cell_shown c.args.self) c.in-Cache-Cache.cell (passes_shown c.args.passes)
+    c.in-Cache-Cache.passes.items
+    (ap cell_shown c.in-Cache-Cache.is-0) (ap passes_shown c.in-Cache-Cache.is-1)
+    (numbers c.close-history.result.history) c.close-history.ensures.room
+
+pub returns-in-Cache-Cache-clause-links : goal.returns-in-Cache-Cache-clause-links
+returns-in-Cache-Cache-clause-links g c =
+    shown_links
+    OfCache ask.Cache (cell_shown c.args.self) c.in-Cache-Cache.cell (passes_shown c.args.passes)
+    c.in-Cache-Cache.passes.items
+    (ap cell_shown c.in-Cache-Cache.is-0) (ap passes_shown c.in-Cache-Cache.is-1)
+    g.L.Link.calls g.L.Link.downs g.L.Link.faults
+    (λ form. any_answers form (history.Cache c.close-history.result.history)) c.close-history.result.links c.close-history.ensures.links
+
+pub returns-in-List-List-clause-room : goal.returns-in-List-List-clause-room
+returns-in-List-List-clause-room g c =
+    shown_room
+    OfList ask.List (cell_shown c.args.self) c.in-List-List.cell (passes_shown c.args.passes)
+    c.in-List-List.passes.items
+    (ap cell_shown c.in-List-List.is-0) (ap passes_shown c.in-List-List.is-1)
+    (numbers c.close-history-in-List-List.result.history) c.close-history-in-List-List.ensures.room
+
+pub returns-in-List-List-clause-links : goal.returns-in-List-List-clause-links
+returns-in-List-List-clause-links g c =
+    shown_links
+    OfList ask.List (cell_shown c.args.self) c.in-List-List.cell (passes_shown c.args.passes)
+    c.in-List-List.passes.items
+    (ap cell_shown c.in-List-List.is-0) (ap passes_shown c.in-List-List.is-1)
+    g.L.Link.calls g.L.Link.downs g.L.Link.faults
+    (λ form. any_answers form (history.List c.close-history-in-List-List.result.history)) c.close-history-in-List-List.result.links c.close-history-in-List-List.ensures.links
+
+pub returns-in-Lock-Lock-clause-room : goal.returns-in-Lock-Lock-clause-room
+returns-in-Lock-Lock-clause-room g c =
+    shown_room
+    OfLock ask.Lock (cell_shown c.args.self) c.in-Lock-Lock.cell (passes_shown c.args.passes)
+    c.in-Lock-Lock.passes.items
+    (ap cell_shown c.in-Lock-Lock.is-0) (ap passes_shown c.in-Lock-Lock.is-1)
+    (numbers c.close-history-in-Lock-Lock.result.history) c.close-history-in-Lock-Lock.ensures.room
+
+pub returns-in-Lock-Lock-clause-links : goal.returns-in-Lock-Lock-clause-links
+returns-in-Lock-Lock-clause-links g c =
+    shown_links
+    OfLock ask.Lock (cell_shown c.args.self) c.in-Lock-Lock.cell (passes_shown c.args.passes)
+    c.in-Lock-Lock.passes.items
+    (ap cell_shown c.in-Lock-Lock.is-0) (ap passes_shown c.in-Lock-Lock.is-1)
+    g.L.Link.calls g.L.Link.downs g.L.Link.faults
+    (λ form. any_answers form (history.Lock c.close-history-in-Lock-Lock.result.history)) c.close-history-in-Lock-Lock.result.links c.close-history-in-Lock-Lock.ensures.links

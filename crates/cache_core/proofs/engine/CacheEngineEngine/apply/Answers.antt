@@ -4,9 +4,9 @@ use Rattle.cf_types.proofs.GainsLaws.{gains_none}
 use Rattle.cache_model.specs.Contents.{Content, IsContent}
 use Rattle.cache_model.specs.Step.{after, victims}
 use Rattle.cache_model.proofs.ContentLaws.{content-done}
-use Rattle.cache_core.specs.Plans.{plan_for}
+use Rattle.cache_core.specs.Plans.{plan_for, IsIndexed}
 use Rattle.cache_core.specs.EngineView.{EngineView, content_of}
-use Rattle.cache_core.proofs.PlanLaws.{plan_taken, plan_accepted, spared_victims}
+use Rattle.cache_core.proofs.PlanLaws.{plan_taken, plan_accepted, spared_victims, indexed}
 use Rattle.cache_core.proofs.engine.CacheEngineEngine.apply.Goals as goal
 
 pub act-requires-clause-spared : goal.act-requires-clause-spared
@@ -21,6 +21,19 @@ act-requires-clause-spared c =
     c.in-Ok.reply is c.in-Ok.is in
     rw (c.items.ensures, accepted.gone) (spared_victims e.caps e.rows.rows c.args.cmd.now
     c.self.invariant.content.directory)
+
+pub act-requires-clause-index : goal.act-requires-clause-index
+act-requires-clause-index c =
+    let e = c.self.inside in
+    let planned = subst (λ (s : EngineView). s.plan ≡ Some (plan_for s.held.shape.vector s.held.caps s.held.state
+    c.args.by
+    c.args.cmd.now)) (sym c.self.view_is) c.requires.ready.planned in
+    let is = plan_taken c.take.result e.plan c.in-Some.plan (plan_for e.shape.vector e.caps (content_of e) c.args.by
+    c.args.cmd.now) c.take.ensures.value c.in-Some.is planned in
+    let accepted = plan_accepted e.shape.vector e.caps (content_of e) c.args.by c.args.cmd.now c.in-Some.plan
+    c.in-Ok.reply is c.in-Ok.is in
+    subst (λ n. IsIndexed n c.args.cmd.now) (sym c.self.invariant.vector)
+    (indexed e.shape.vector e.caps (content_of e) c.args.by c.args.cmd.now accepted.none)
 
 pub act-requires-clause-copied : goal.act-requires-clause-copied
 act-requires-clause-copied c =
@@ -53,6 +66,7 @@ invariant_of-self c =
       content = subst (λ (k : Content). IsContent e.caps k) (sym left)
           (content-done e.shape.vector e.caps (content_of e) c.args.by c.args.cmd.now c.self.invariant.content
           accepted.none);
+      vector = c.act.ensures.len ∙ c.self.invariant.vector;
     }
 
 pub returns-in-Some-clause-bits : goal.returns-in-Some-clause-bits

@@ -1,4 +1,4 @@
-use Rattle.std.proofs.Common.{◌≤◌, length, sym, subst, arith}
+use Rattle.std.proofs.Common.{◌≤◌, ◌∙◌, length, sym, subst, arith}
 use Rattle.list_laws.proofs.FilterLaws.{length-filter-le}
 use Rattle.cache_regs.specs.Registrations.{is_of}
 use Rattle.cache_model.proofs.ContentLaws.{content-without}
@@ -19,4 +19,5 @@ invariant_of-self c =
       caps = c.self.invariant.caps;
       content = rw (c.release.ensures.rows, c.drop_conn.ensures.regs) (content-without c.self.inside.caps
           (content_of c.self.inside) c.args.conn c.self.invariant.content);
+      vector = c.drop_conn.ensures.len ∙ c.self.invariant.vector;
     }

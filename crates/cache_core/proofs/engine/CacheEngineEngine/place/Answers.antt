@@ -48,4 +48,5 @@ invariant_of-self c =
           c.self.inside.rows.rows (c.self.inside.rows.rows ++ c.args.item ∷ []) c.push.new.self.rows c.push.ensures.ok
           c.push.ensures.err
           placed c.self.invariant.content;
+      vector = c.self.invariant.vector;
     }

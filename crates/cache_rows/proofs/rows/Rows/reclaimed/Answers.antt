@@ -10,7 +10,7 @@ pub returns-in-Some : goal.returns-in-Some
 returns-in-Some c =
     let rows = c.self.inside.rows.items in
     rw (← c.self.view_is)
-    (c.row_of.ensures ∙ ap (λ (l : List CacheItem). row_of c.in-Some.name l) c.deref.ensures.value
+    (c.row_of.ensures ∙ ap (λ (l : List CacheItem). row_of c.in-Some.name l) c.as_slice.ensures.value
     ∙ reclaimed-row c.args.stg c.args.k rows c.in-Some.name c.self.invariant.one_for_name
     (c.in-Some.ensures ∙ ap (λ (l : List Used). victim c.args.stg c.args.k l) c.self.invariant.order))
 

@@ -18,8 +18,8 @@ placeable : (shape : Shape) (content : Content) (item : ListItem)
     → IsNextItem list_meaning IsContent shape content item → IsPlaceable content item
 placeable shape content (Controls next limits locks watches) comes =
     (content-place shape content (Controls next limits locks watches) comes).watch
-placeable shape content (Row header id name key body adj) comes =
-    let fits = next-fits shape content header id name key body adj comes in (fits.header, fits.alone)
+placeable shape content (Row header id version name key body adj) comes =
+    let fits = next-fits shape content header id version name key body adj comes in (fits.header, fits.alone)
 
 pub place_item-requires : goal.place_item-requires
 place_item-requires c =

@@ -13,7 +13,7 @@ returns-then-is_given-clause-count c =
     ap (λ (v : InterestsView). is_some w.rec && interests.has_interest w.r w.conn v.interests) c.self.view_is
     ∙ sym c.is_given.ensures ∙ c.if-is_given.true in
     rw (← c.self.view_is, c.count_others.ensures.count)
-    (counted-given w owners records c.items.ensures.owners c.count_others.ensures.records c.self.invariant given)
+    (counted-given w owners records c.len.ensures.owners c.count_others.ensures.records c.self.invariant given)
 
 pub returns-else-is_given-clause-count : goal.returns-else-is_given-clause-count
 returns-else-is_given-clause-count c =
@@ -24,4 +24,4 @@ returns-else-is_given-clause-count c =
     ap (λ (v : InterestsView). is_some w.rec && interests.has_interest w.r w.conn v.interests) c.self.view_is
     ∙ sym c.is_given.ensures ∙ c.if-is_given.false in
     rw (← c.self.view_is, c.count.ensures.count)
-    (counted-ungiven w owners records c.items.ensures.owners c.count.ensures.records c.self.invariant ungiven)
+    (counted-ungiven w owners records c.len.ensures.owners c.count.ensures.records c.self.invariant ungiven)

@@ -6,4 +6,4 @@ pub returns-clause-count : goal.returns-clause-count
 returns-clause-count c =
     rw (← c.self.view_is, c.count_others.ensures.count, c.records_of.ensures)
     (counted-with (held_by c.args.w.now) c.args.w.now.rec c.self.inside.owners.owners c.self.inside.records.records
-    c.items.ensures.owners c.count_others.ensures.records c.self.invariant)
+    c.len.ensures.owners c.count_others.ensures.records c.self.invariant)

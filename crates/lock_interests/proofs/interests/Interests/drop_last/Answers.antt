@@ -1,20 +1,32 @@
-use Rattle.std.proofs.Common.{◌≡◌, ◌<◌, length, sym, subst, ◌∙◌}
+use Rattle.std.proofs.Common.{◌≡◌, ◌<◌, ◌-◌, Some, None, length, sym, ap, subst, ◌∙◌, arith}
+use Rattle.std.specs.List.{slice_get}
+use Rattle.std.proofs.lemmas.List.{length-map}
 use Rattle.lock_model.specs.Interests.{AreInterests}
 use Rattle.lock_model.proofs.ItemLaws.{interests_without-last}
-use Rattle.lock_interests.specs.InterestsView.{InterestsView, interests_of}
-use Rattle.lock_interests.proofs.ReadLaws.{last-joined}
+use Rattle.lock_interests.specs.InterestsView.{InterestsView, with_record, interests_of}
+use Rattle.lock_interests.proofs.ReadLaws.{last-joined, last_there}
 use Rattle.lock_interests.proofs.interests.Interests.drop_last.Goals as goal
 
-pub returns-clause-interests : goal.returns-clause-interests
-returns-clause-interests c =
+pub returns-in-Some-clause-interests : goal.returns-in-Some-clause-interests
+returns-in-Some-clause-interests c =
     let owners = c.self.inside.owners.owners in
     let records = c.self.inside.records.records in
     let are : AreInterests (interests_of owners records) = subst (λ (o : InterestsView). AreInterests o.interests)
     (sym c.self.view_is) c.requires.interests in
-    let some : 0 < length (interests_of owners records) =
-    subst (λ (o : InterestsView). 0 < length o.interests) (sym c.self.view_is)
-    c.requires.some in
-    let same : c.items-owners.result.now ≡ owners = c.items-owners.ensures.items in
+    let there : slice_get owners (length owners - 1) ≡ Some c.in-Some.last =
+    sym c.last.ensures ∙ sym c.copied.ensures ∙ c.in-Some.is in
     c.remove.ensures.interests
-    ∙ rw (← c.self.view_is, same) (interests_without-last (interests_of owners records) _ are
-    (last-joined owners records _ some))
+    ∙ rw (← c.self.view_is) (interests_without-last (interests_of owners records) (with_record records c.in-Some.last)
+    are (last-joined owners records c.in-Some.last there))
+
+pub returns-in_default-clause-interests : goal.returns-in_default-clause-interests
+returns-in_default-clause-interests c =
+    let owners = c.self.inside.owners.owners in
+    let records = c.self.inside.records.records in
+    let some : 0 < length owners = omega (
+      arith,
+      ap (λ (v : InterestsView). length v.interests) c.self.view_is,
+      length-map owners (with_record records),
+      c.requires.some,
+    ) in
+    absurd (last_there owners some (sym c.last.ensures ∙ sym c.copied.ensures ∙ c.in_default.is))

@@ -1,7 +1,14 @@
+use Rattle.std.proofs.Common.{◌==◌, ◌∙◌, ap, find}
+use Rattle.lock_table.specs.declared.holdings.Held.{Held}
+use Rattle.lock_interests.specs.InterestsView.{is_held_retained}
+use Rattle.lock_interests.proofs.OwnerLaws.{find_both, retained-found}
 use Rattle.lock_interests.proofs.ReadLaws.{retained-joined}
 use Rattle.lock_interests.proofs.interests.Interests.is_retained.Goals as goal
 
 pub returns : goal.returns
 returns c =
-    rw (← c.self.view_is, c.is_part_retained.ensures, c.items.ensures.items)
-    (retained-joined c.args.r.now c.args.conn c.self.inside.owners.owners c.self.inside.records.records)
+    rw (← c.self.view_is) (c.is_held_retained.ensures
+    ∙ ap is_held_retained (c.find_by.ensures ∙ ap (find (λ (held : Held). held.conn.0 == c.args.conn.0)) c.owners.ensures
+    ∙ find_both c.args.r.now c.args.conn c.self.inside.owners.owners)
+    ∙ retained-found c.args.r.now c.args.conn c.self.inside.owners.owners c.len.ensures.owners.one_each
+    ∙ retained-joined c.args.r.now c.args.conn c.self.inside.owners.owners c.self.inside.records.records)

@@ -7,6 +7,5 @@ returns c =
       ← c.self.view_is,
       ← read-joined c.args.conn c.self.inside.records.records c.self.inside.owners.owners,
       c.from_vec.ensures,
-      ← c.items.ensures.items,
     )
     c.in_ok-list.ensures

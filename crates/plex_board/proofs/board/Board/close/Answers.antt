@@ -1,5 +1,5 @@
-use Rattle.std.proofs.Common.{sym}
-use Rattle.plex_board.proofs.CloseLaws.{close-fits, close-homes, close-says, ready-homes, ready-empty, homes-seen, ended-seen}
+use Rattle.std.proofs.Common.{refl, sym}
+use Rattle.plex_board.proofs.CloseLaws.{close-fits, close-homes, close-says, ready-homes, ready-empty, homes-seen, ended-seen, links-seen}
 use Rattle.plex_board.proofs.board.Board.close.Goals as goal
 
 pub gather-requires : goal.gather-requires
@@ -20,3 +20,8 @@ returns-clause-histories g c =
     (ready-homes _ _ c.end-rest.result _ (sym c.self.view_is) c.self.invariant c.end-rest.ensures)
     (ready-empty _ _ c.end-rest.result _ (sym c.self.view_is) c.self.invariant c.end-rest.ensures) _
     (ended-seen _ _ _ _ _ (sym c.self.view_is) c.gather.ensures c.end.ensures.histories)
+
+pub returns-clause-links : goal.returns-clause-links
+returns-clause-links g c =
+    links-seen g.L.Link.calls g.L.Link.downs g.L.Link.faults c.args.self _ c.end-rest.result _ _ _ (sym c.self.view_is)
+    c.end-rest.ensures refl c.end.ensures.links

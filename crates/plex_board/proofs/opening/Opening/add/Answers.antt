@@ -1,17 +1,20 @@
 use Rattle.std.proofs.Common.{◌+◌, ◌≤◌, sym, subst, ap, ◌∙◌, arith}
-use Rattle.std.specs.List.{range_with_len}
 use Rattle.std.proofs.lemmas.List.{length-map}
 use Rattle.plex_board.specs.Rests.{home_shown}
 use Rattle.plex_station.proofs.StationLaws.{started-passes}
 use Rattle.plex_board.proofs.HomeLaws.{count-of-homes}
-use Rattle.plex_board.proofs.OpenLaws.{unused-calls, started-cell, left-of_cell, more-started, more-desks, more-homes, more-empty, empty-home}
+use Rattle.plex_board.proofs.UnusedLaws.{desks-few}
+use Rattle.plex_board.proofs.OpenLaws.{unused-calls, started-cell, more-started, more-desks, more-homes, more-empty, empty-home}
 use Rattle.plex_board.proofs.opening.Opening.add.Goals as goal
 
 pub deal-requires-clause-unused : goal.deal-requires-clause-unused
 deal-requires-clause-unused g c = unused-calls _ _ _ _ c.in_ok-station.ensures.passes
 
-pub push_reserved-requires-in-Ok-deal : goal.push_reserved-requires-in-Ok-deal
-push_reserved-requires-in-Ok-deal g c =
+pub deal-requires-clause-few : goal.deal-requires-clause-few
+deal-requires-clause-few g c = desks-few _ _ _ _ c.requires.opening.desks c.requires.few
+
+pub push_reserved-requires-2 : goal.push_reserved-requires-2
+push_reserved-requires-2 g c =
     let begun = c.requires.opening.begun in
     omega (
       arith,
@@ -22,14 +25,8 @@ push_reserved-requires-in-Ok-deal g c =
       c.requires.few,
     )
 
-pub close-history-requires-clause-passes : goal.close-history-requires-clause-passes
-close-history-requires-clause-passes g c κs within =
-    left-of_cell c.in_ok-station.station _ _ (range_with_len 0 (c.args.callers + 1))
-    (started-passes _ _ _ _ _ _ _ c.in_ok-station.ensures.cell c.in_ok-station.ensures.passes)
-    c.in-Err.ensures.left
-
-pub returns-in-Ok-deal-clause-opening : goal.returns-in-Ok-deal-clause-opening
-returns-in-Ok-deal-clause-opening g c =
+pub returns-clause-opening : goal.returns-clause-opening
+returns-clause-opening g c =
     let old = c.requires.opening in
     let passes = started-passes _ _ _ _ _ _ _ c.in_ok-station.ensures.cell c.in_ok-station.ensures.passes in
     record {
@@ -37,18 +34,18 @@ returns-in-Ok-deal-clause-opening g c =
           (started-cell _ _ _ _ _ c.in_ok-station.ensures.cell c.in_ok-station.ensures.words);
       stations_room = subst (λ n. 16 ≤ n) (sym c.push_reserved.ensures.capacity) old.stations_room;
       desks = more-desks _ _ _ c.push_reserved.ensures.items _ _ _ _ old.desks passes
-          c.in-Ok-deal.ensures.desks;
+          c.deal.ensures.desks;
       begun = record {
-        homes = more-homes _ _ _ c.push_reserved.ensures.items _ _ _ c.push_reserved-in-Ok-deal.ensures.items
+        homes = more-homes _ _ _ c.push_reserved.ensures.items _ _ _ c.push_reserved-2.ensures.items
             (c.args.callers + 1) old.begun.homes
             (empty-home (c.args.callers + 1) _ c.deal.new.home
-            (c.in-Ok-deal.ensures.str_type ∙ c.in_ok-station.ensures.passes_type
+            (c.deal.ensures.str_type ∙ c.in_ok-station.ensures.passes_type
             ∙ sym (ap (λ cell. cell.str_type) c.in_ok-station.ensures.cell))
-            c.in-Ok-deal.ensures.empty
-            (subst (λ n. c.args.callers + 1 ≤ n) (sym c.in-Ok-deal.ensures.room) c.in_ok-station.ensures.room));
-        empty = more-empty _ _ _ c.push_reserved.ensures.items _ _ _ c.push_reserved-in-Ok-deal.ensures.items
-            old.begun.empty c.in-Ok-deal.ensures.empty;
-        homes_room = subst (λ n. 16 ≤ n) (sym c.push_reserved-in-Ok-deal.ensures.capacity) old.begun.homes_room;
+            c.deal.ensures.empty
+            (subst (λ n. c.args.callers + 1 ≤ n) (sym c.deal.ensures.room) c.in_ok-station.ensures.room));
+        empty = more-empty _ _ _ c.push_reserved.ensures.items _ _ _ c.push_reserved-2.ensures.items
+            old.begun.empty c.deal.ensures.empty;
+        homes_room = subst (λ n. 16 ≤ n) (sym c.push_reserved-2.ensures.capacity) old.begun.homes_room;
         no_histories = old.begun.no_histories;
         history_room = old.begun.history_room;
         no_links = old.begun.no_links;

@@ -1,10 +1,11 @@
-use Rattle.std.proofs.Common.{◌+◌, arith, sym, subst}
-use Rattle.plex_board.specs.Rests.{AreHomes, homes_shown}
-use Rattle.plex_board.proofs.OpenLaws.{homes-fewer}
+use Rattle.std.proofs.Common.{sym, subst}
+use Rattle.plex_board.specs.Rests.{homes_shown}
+use Rattle.plex_board.specs.Openings.{IsUnused}
+use Rattle.plex_board.proofs.UnusedLaws.{opening-unused}
 use Rattle.plex_board.proofs.opening.Opening.open.Goals as goal
 
-pub end-requires-clause-homes : goal.end-requires-clause-homes
-end-requires-clause-homes g c κs within =
-    subst (λ rest. AreHomes 0 c.args.self.stations.items (homes_shown rest.homes.items))
+pub end_unused-requires-clause-unused : goal.end_unused-requires-clause-unused
+end_unused-requires-clause-unused g c κs within =
+    subst (λ rest. IsUnused c.args.self.stations.items (homes_shown rest.homes.items) c.args.self.desks.items)
     (sym c.in-Err.ensures.refused)
-    (homes-fewer (c.args.callers + 1) 0 _ _ (omega arith) c.requires.opening.begun.homes)
+    (opening-unused c.args.callers c.args.limit c.args.self c.requires.opening)

@@ -1,7 +1,8 @@
-use Rattle.std.proofs.Common.{◌≡◌, ◌+◌, ◌≤◌, ◌++◌, ◌∷◌, [], sym, ap, subst, ◌∙◌}
+use Rattle.std.proofs.Common.{◌≡◌, ◌+◌, ◌≤◌, ◌++◌, ◌∷◌, [], sym, ap, subst, ◌∙◌, arith}
 use Rattle.std.specs.Prelude.{All}
 use Rattle.any_cell.specs.Passes.{PassShown, pass_shown, passes_shown, note_shown}
 use Rattle.any_cell.specs.Cells.{IsPassOf, cell_shown}
+use Rattle.any_cell.proofs.UnusedLaws.{unused_links, unused_none}
 use Rattle.plex_station.proofs.StationLaws.{started-passes, unused-of_cell, last-of_cell, popped, room-again}
 use Rattle.plex_station.proofs.station.Station.start.Goals as goal
 
@@ -63,3 +64,22 @@ close-history-requires-clause-passes g c κs within =
     subst (All (IsPassOf (cell_shown c.in_ok-cell.cell))) (sym same)
     (unused-of_cell (cell_shown c.in_ok-cell.cell) (passes_shown c.in_ok-cell.passes) _
     (started-passes _ _ _ _ _ _ _ c.in_ok-cell.ensures.cell c.in_ok-cell.ensures.passes))
+
+-- nobody has called yet, so no link was asked
+pub returns-in-Err-clause-handed_back : goal.returns-in-Err-clause-handed_back
+returns-in-Err-clause-handed_back g c =
+    let same : passes_shown c.put.new.self ≡ passes_shown c.in_ok-cell.passes =
+    c.put.ensures.passes
+    ∙ ap (λ (pass : PassShown). passes_shown c.pop.new.self ++ pass ∷ []) c.tell-first.ensures.pass
+    ∙ sym (popped (λ pass. passes_shown c.in_ok-cell.passes ≡ passes_shown c.pop.new.self ++ pass_shown pass ∷ [])
+    c.pop.result c.unwrap-pass.result c.unwrap-pass.ensures c.pop.ensures.some) in
+    let callers : (cell_shown c.in_ok-cell.cell).callers ≡ c.args.callers =
+    ap (λ cell. cell.callers) c.in_ok-cell.ensures.cell in
+    unused_links g.L.Link.calls g.L.Link.downs g.L.Link.faults (cell_shown c.in_ok-cell.cell)
+    c.close-history.result.0 c.close-history.result.1
+    c.close-history.ensures.legal c.close-history.ensures.callers
+    (λ owner few. unused_none _ _ (c.args.callers + 1) (passes_shown c.put.new.self) _
+    (same ∙ started-passes _ _ _ _ _ _ _ c.in_ok-cell.ensures.cell c.in_ok-cell.ensures.passes)
+    c.close-history.ensures.mine owner (omega (arith, few, callers)))
+    c.close-history.ensures.links
+    ∙ ap (λ cell. cell.links) c.in_ok-cell.ensures.cell

@@ -1,7 +1,11 @@
-use Rattle.std.proofs.Common.{rules, arith, ◌≡◌, ◌≤◌, ◌+◌, ap, sym, subst, ◌∙◌}
+use Rattle.std.proofs.Common.{rules, arith, ◌≡◌, ◌<◌, ◌≤◌, ◌+◌, length, refl, ap, sym, subst, ◌∙◌}
+use Rattle.std.specs.Vec.{vec_len}
 use Rattle.cf_types.specs.declared.limits.TheConstants.{VECTOR_BITS}
 use Rattle.cf_types.specs.Forms.{IsForm}
+use Rattle.vec_words.specs.Logged.{count_of}
+use Rattle.struct_cell.specs.Marks.{entered}
 use Rattle.struct_cell.proofs.KeptLaws.{cell_answered}
+use Rattle.struct_cell.proofs.TurnLaws.{told-number, number-later, count-entered, few_marks}
 use Rattle.struct_cell.proofs.ToldLaws.{issued_within, vector_small}
 use Rattle.struct_cell.proofs.cell.Cell.answer.Goals as goal
 
@@ -16,25 +20,86 @@ store_words-requires-clause-len g c κs within =
 
 pub returns-clause-cell : goal.returns-clause-cell
 returns-clause-cell g c =
-    cell_answered g.E.Engine.meaning c.args.self.now c.args.inside.now.limit c.args.inside.now.machine
-    c.answer.new.self
-    c.args.inside.now.touched c.note.new.self c.args.inside.now.journal.items c.push_reserved.new.self.items
-    c.args.inside.now.links
+    cell_answered g.L.Link.calls g.L.Link.downs g.L.Link.faults g.E.Engine.meaning c.args.self.now
+    c.args.inside.now.limit c.args.inside.now.machine c.answer.new.self
+    c.args.inside.now.touched c.note.new.self c.args.inside.now.journal.items c.enter_marks.new.journal.items
+    c.push_reserved.new.self.items c.answer.new.changed.marks
     c.args.inside.now.seat c.learn.new.seat c.begin.new.seat c.store_words.new.seat c.commit_call.new.seat
-    c.self.inside.vectors c.places-words.result.now (c.len-count.result + 1) c.args.pass.now.owner
+    c.self.inside.vectors c.places-words.result.now _ c.args.pass.now.owner
     c.owner-by.result c.args.ask c.in_ok-reply.reply
-    c.requires.cell c.in_ok-reply.ensures.ok c.answer.ensures.form c.note.ensures.table (search rules)
+    c.requires.cell c.in_ok-reply.ensures.turn c.answer.ensures.form c.note.ensures.table (search rules)
     (λ conn index some most inside spared. c.in_ok-reply.ensures.bits conn index
     (c.note.ensures.spared conn index some most inside spared))
     (sym c.self.invariant.0 ∙ ap (λ k. k.words) c.self.view_is)
-    c.places-words.ensures.places c.learn.ensures.seat (search rules) (search rules) c.learn.ensures.owner
+    c.places-words.ensures.places c.learn.ensures.seat
+    (c.enter_marks.ensures.items ∙ ap (λ h. entered h c.marks.result.now) c.in_ok-reserve_entries.ensures.items
+    ∙ ap (entered c.args.inside.now.journal.items) c.marks.ensures) (search rules) (search rules)
+    c.learn.ensures.owner
     c.begin.ensures.seat c.store_words.ensures (search rules) (search rules)
 
 pub returns-clause-later : goal.returns-clause-later
 returns-clause-later g c =
-    let most = issued_within g.E.Engine.meaning c.args.self.now c.args.inside.now.limit c.args.inside.now.machine
-    c.args.inside.now.touched
-    c.args.inside.now.journal.items c.args.inside.now.links c.args.inside.now.seat c.requires.cell
-    c.args.pass.now.known c.learn.ensures.before in
-    let no : c.of-told.result.no ≡ c.len-count.result + 1 = search rules in
-    omega (arith, most, no)
+    number-later c.args.inside.now.journal.items c.enter_marks.new.journal.items c.marks.result.now
+    c.args.pass.now.known (c.len.result + 1) _
+    (issued_within g.L.Link.calls g.L.Link.downs g.L.Link.faults g.E.Engine.meaning c.args.self.now
+    c.args.inside.now.limit c.args.inside.now.machine c.args.inside.now.touched c.args.inside.now.journal.items
+    c.args.inside.now.seat c.requires.cell c.args.pass.now.known c.learn.ensures.before)
+    (c.enter_marks.ensures.items ∙ ap (λ h. entered h c.marks.result.now) c.in_ok-reserve_entries.ensures.items)
+    (ap (λ n. n + 1) (c.len.ensures ∙ c.enter_marks.new.journal.ok.0)) (ap (λ told. told.no) c.of-told.ensures ∙ told-number _ _ _)
+
+-- two marks at most: there is room for them, and the numbers fit
+
+pub enter_marks-requires-clause-room : goal.enter_marks-requires-clause-room
+enter_marks-requires-clause-room g c =
+    let two : length c.marks.result.now ≤ 2 = subst (λ ms. length ms ≤ 2) (sym c.marks.ensures) (few_marks
+    g.L.Link.calls g.L.Link.downs g.L.Link.faults g.E.Engine.meaning _ _ _ _ _ _ c.in_ok-reply.ensures.turn) in
+    omega (arith, two, c.in_ok-reserve_entries.ensures.room)
+
+pub enter_marks-requires-clause-short : goal.enter_marks-requires-clause-short
+enter_marks-requires-clause-short g c =
+    let two : length c.marks.result.now ≤ 2 = subst (λ ms. length ms ≤ 2) (sym c.marks.ensures) (few_marks
+    g.L.Link.calls g.L.Link.downs g.L.Link.faults g.E.Engine.meaning _ _ _ _ _ _ c.in_ok-reply.ensures.turn) in
+    let most : c.args.self.now.limit ≤ 4294967000 = subst (λ k. k.limit ≤ 4294967000) c.self.view_is c.self.invariant.1
+    in
+    let few : length c.args.inside.now.journal.items < c.args.inside.now.limit = search rules in
+    let same : vec_len c.reserve_entries.new.journal ≡ length c.args.inside.now.journal.items =
+    c.reserve_entries.new.journal.ok.0 ∙ ap length c.in_ok-reserve_entries.ensures.items in
+    omega (arith, two, most, few, same, c.requires.cell.limit_is)
+
+pub overflow_cast-no : goal.overflow_cast-no
+overflow_cast-no g c =
+    let two : length c.marks.result.now ≤ 2 = subst (λ ms. length ms ≤ 2) (sym c.marks.ensures) (few_marks
+    g.L.Link.calls g.L.Link.downs g.L.Link.faults g.E.Engine.meaning _ _ _ _ _ _ c.in_ok-reply.ensures.turn) in
+    let most : c.args.self.now.limit ≤ 4294967000 = subst (λ k. k.limit ≤ 4294967000) c.self.view_is c.self.invariant.1
+    in
+    let few : length c.args.inside.now.journal.items < c.args.inside.now.limit = search rules in
+    let all : length c.enter_marks.new.journal.items ≤ c.args.inside.now.limit + 1 =
+    count-entered c.args.inside.now.journal.items _ c.marks.result.now _ few two
+    (c.enter_marks.ensures.items ∙ ap (λ h. entered h c.marks.result.now) c.in_ok-reserve_entries.ensures.items) in
+    let same : c.len.result ≡ length c.enter_marks.new.journal.items = c.len.ensures ∙ c.enter_marks.new.journal.ok.0 in
+    let small : c.len.result < 4294967296 = omega (arith, all, most, same, c.requires.cell.limit_is) in
+    search rules
+
+pub overflow_add-no : goal.overflow_add-no
+overflow_add-no g c =
+    let two : length c.marks.result.now ≤ 2 = subst (λ ms. length ms ≤ 2) (sym c.marks.ensures) (few_marks
+    g.L.Link.calls g.L.Link.downs g.L.Link.faults g.E.Engine.meaning _ _ _ _ _ _ c.in_ok-reply.ensures.turn) in
+    let most : c.args.self.now.limit ≤ 4294967000 = subst (λ k. k.limit ≤ 4294967000) c.self.view_is c.self.invariant.1
+    in
+    let few : length c.args.inside.now.journal.items < c.args.inside.now.limit = search rules in
+    let all : length c.enter_marks.new.journal.items ≤ c.args.inside.now.limit + 1 =
+    count-entered c.args.inside.now.journal.items _ c.marks.result.now _ few two
+    (c.enter_marks.ensures.items ∙ ap (λ h. entered h c.marks.result.now) c.in_ok-reserve_entries.ensures.items) in
+    let same : c.len.result ≡ length c.enter_marks.new.journal.items = c.len.ensures ∙ c.enter_marks.new.journal.ok.0 in
+    let small : c.len.result + 1 < 4294967296 = omega (arith, all, most, same, c.requires.cell.limit_is) in
+    search rules
+
+pub begin-requires-clause-above : goal.begin-requires-clause-above
+begin-requires-clause-above g c =
+    let old : count_of c.learn.new.seat.log ≤ length c.args.inside.now.journal.items =
+    (let same : count_of c.learn.new.seat.log ≡ length c.args.inside.now.journal.items =
+    ap (λ s. count_of s.log) c.learn.ensures.seat ∙ c.requires.cell.count in omega (arith, same)) in
+    number-later c.args.inside.now.journal.items c.enter_marks.new.journal.items c.marks.result.now
+    (count_of c.learn.new.seat.log) (c.len.result + 1) _ old
+    (c.enter_marks.ensures.items ∙ ap (λ h. entered h c.marks.result.now) c.in_ok-reserve_entries.ensures.items)
+    (ap (λ n. n + 1) (c.len.ensures ∙ c.enter_marks.new.journal.ok.0)) refl

@@ -1,0 +1,16 @@
+use Rattle.std.proofs.Common.{◌≡◌, ℕ, List, Option, arith}
+use Rattle.cache_reclaim.specs.declared.used.Used.{Used}
+use Rattle.cache_reclaim.specs.Slots.{IsTied}
+use Rattle.cache_reclaim.proofs.order.Order.copy.Goals as goal
+
+same_tied : (es fs : List (ℕ × Option Used)) (ns ms : List (List ℕ × ℕ)) (cap most : ℕ) → fs ≡ es → ms ≡ ns
+    → most ≡ cap → IsTied es ns cap → IsTied fs ms most
+same_tied es fs ns ms cap most e f g tied = rw (e, f, g) tied
+
+pub invariant_of-result : goal.invariant_of-result
+invariant_of-result c =
+    record {
+      tied = same_tied _ _ _ _ _ _ c.in_ok-slots.ensures.entries c.in_ok-names.ensures c.in_ok-slots.ensures.cap
+          c.self.invariant.tied;
+      within = omega (arith, c.self.invariant.within, c.in_ok-slots.ensures.cap);
+    }

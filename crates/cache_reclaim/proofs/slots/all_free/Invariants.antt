@@ -1,0 +1,12 @@
+use Rattle.std.proofs.Common.{◌≡◌, ℕ, ◌≤◌, None, length, nat_eq}
+use Rattle.std.specs.Map.{lookup}
+use Rattle.cache_reclaim.specs.Slots.{IsFree}
+use Rattle.cache_reclaim.proofs.slots.all_free.Given as goal
+
+abbrev pub invariant-loop-slot : goal.invariant-loop-slot
+invariant-loop-slot l = record {
+  free : IsFree l.slots.entries;
+  full : length l.slots.entries ≡ l.slot;
+  cap : l.slots.cap ≡ l.count;
+  missing : (q : ℕ) → l.slot ≤ q → lookup (nat_eq q) l.slots.entries ≡ None;
+}

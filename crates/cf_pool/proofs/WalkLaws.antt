@@ -1,0 +1,61 @@
+-- One element more at the front of those that follow each other.
+use Rattle.std.proofs.Common.{◌≡◌, ℕ, zero, suc, ◌<◌, ◌≤◌, List, [], ◌++◌, take, drop, length, get_or, set, subst, sym, refl, ap, append_assoc, ◌∙◌, arith}
+use Rattle.std.specs.Prelude.{if◌then◌else◌, is_ok, Result, Ok, Err, OnOk}
+use Rattle.std.proofs.lemmas.List.{take_all, drop_all}
+use Rattle.cf_pool.specs.declared.elements.TheConstants.{SIZE}
+use Rattle.cf_pool.specs.Chains.{behind, IsWithin, walked, written, stored}
+
+pub behind-step : (next : List ℕ) (n m at : ℕ) → n ≡ suc m → behind next n at ≡ behind next m (get_or next at 0)
+behind-step next n m at e = rw e refl
+
+pub within-step : (next : List ℕ) (n m at : ℕ) → n ≡ suc m → IsWithin next n at
+    → (at < length next) × IsWithin next m (get_or next at 0)
+within-step next n m at e h = subst (λ k. IsWithin next k at) e h
+
+pub walked-step : (cells : List (List ℕ)) (next : List ℕ) (n m at : ℕ) → n ≡ suc m
+    → walked cells next n at ≡ take SIZE (get_or cells at []) ++ walked cells next m (get_or next at 0)
+walked-step cells next n m at e = rw e refl
+
+pub stored-step : (next : List ℕ) (n m at : ℕ) (bytes : List ℕ) (cells : List (List ℕ)) → n ≡ suc m
+    → stored next n at bytes cells
+    ≡ stored next m (get_or next at 0) (drop SIZE bytes) (set cells at (written (take SIZE bytes) (get_or cells at [])))
+stored-step next n m at bytes cells e = rw e refl
+
+-- a walk goes on behind its first part
+pub walked_more : (cells : List (List ℕ)) (next : List ℕ) (done now whole : List ℕ) (n m at : ℕ)
+    → done ++ walked cells next n at ≡ whole → n ≡ suc m → now ≡ done ++ take SIZE (get_or cells at [])
+    → now ++ walked cells next m (get_or next at 0) ≡ whole
+walked_more cells next done now whole n m at h e f =
+    rw f (append_assoc done (take SIZE (get_or cells at [])) (walked cells next m (get_or next at 0))
+    ∙ ap (λ w. done ++ w) (sym (walked-step cells next n m at e)) ∙ h)
+
+-- fewer of them are within too
+pub within_fewer : (next : List ℕ) (n m at : ℕ) → m ≤ n → IsWithin next n at → IsWithin next m at
+within_fewer next n zero at le h = tt
+within_fewer next zero (suc m) at le h = absurd (omega arith)
+within_fewer next (suc n) (suc m) at le h = (h.0, within_fewer next n m (get_or next at 0) (omega arith) h.1)
+
+-- ---- at a size that goals would unroll
+
+pub front_all : (size : ℕ) (xs : List ℕ) → length xs < size → take (length xs) xs ≡ take size xs
+front_all size xs h = take_all (length xs) xs (omega arith) ∙ sym (take_all size xs (omega arith))
+
+pub rest_none : (size : ℕ) (xs : List ℕ) → length xs < size → drop (length xs) xs ≡ drop size xs
+rest_none size xs h = drop_all (length xs) xs (omega arith) ∙ sym (drop_all size xs (omega arith))
+
+pub stored_more : (next : List ℕ) (n m at : ℕ) (bytes part later cell : List ℕ) (cells whole : List (List ℕ))
+    → n ≡ suc m
+    → stored next n at bytes cells ≡ whole → part ≡ take SIZE bytes → later ≡ drop SIZE bytes
+    → cell ≡ written part (get_or cells at [])
+    → stored next m (get_or next at 0) later (set cells at cell) ≡ whole
+stored_more next n m at bytes part later cell cells whole one h p l c =
+    ap (λ x. stored next m (get_or next at 0) x (set cells at cell)) l
+    ∙ ap (λ x. stored next m (get_or next at 0) (drop SIZE bytes) (set cells at x))
+    (c ∙ ap (λ x. written x (get_or cells at [])) p)
+    ∙ sym (stored-step next n m at bytes cells one) ∙ h
+
+pub appended : {E : Type 0} (r : Result (Unit {0}) E) (new old part : List ℕ)
+    → new ≡ (if is_ok r then old ++ part else old)
+    → OnOk r (new ≡ old ++ part)
+appended (Ok x) new old part h = h
+appended (Err x) new old part h = tt

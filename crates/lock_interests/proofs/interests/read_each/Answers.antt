@@ -1,0 +1,15 @@
+use Rattle.std.proofs.Common.{◌++◌, ◌==◌, List, Option, find, ap, ◌∙◌}
+use Rattle.std.specs.Prelude.{option_to_list}
+use Rattle.lock_table.specs.declared.holdings.Held.{Held}
+use Rattle.lock_interests.specs.InterestsView.{held_read, read_in}
+use Rattle.lock_interests.proofs.OwnerLaws.{read_more}
+use Rattle.lock_interests.proofs.interests.read_each.Goals as goal
+
+pub loop-r-preserved : goal.loop-r-preserved
+loop-r-preserved c =
+    read_more (read_in c.args.conn c.args.records.now.records c.args.owners.now.owners) c.args.resources.now
+    c.loop-r.r-index _ c.loop-r.list.items c.push_held.new.list.items _ c.loop-r-test.true
+    (c.in_ok-push_held.ensures
+    ∙ ap (λ (o : Option Held). c.loop-r.list.items ++ option_to_list (held_read c.args.records.now.records o))
+    (c.find_by.ensures ∙ ap (λ (l : List Held). find (λ (held : Held). held.conn.0 == c.args.conn.0) l)
+    c.owners.ensures)) c.loop-r.invariant

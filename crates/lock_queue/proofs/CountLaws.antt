@@ -1,0 +1,155 @@
+-- How many interests there are.
+use Rattle.std.proofs.Common.{◌≡◌, ℕ, zero, suc, ◌+◌, ◌<◌, ◌≤◌, Bool, true, false, not, if◌then◌else◌, Option, Some, None, is_some, sum_by, List, [], ◌∷◌, ◌++◌, map, filter, drop, get_or, length, refl, sym, ap, ◌∙◌, arith}
+use Rattle.std.proofs.lemmas.List.{append_assoc, append-nil, map-append, drop_all}
+use Rattle.std.proofs.lemmas.List.Elements.{filter-append}
+use Rattle.table_entries.specs.Bins.{arranged, joined}
+use Rattle.cf_types.specs.declared.numbers.ConnId.{ConnId}
+use Rattle.cf_types.specs.declared.resources.Resource.{Resource}
+use Rattle.list_laws.specs.Insertions.{insertion}
+use Rattle.list_laws.specs.Pairwise.{pairwise}
+use Rattle.list_laws.proofs.InsertionLaws.{length-insertion, sum_by-insertion}
+use Rattle.list_laws.proofs.KeyLaws.{sum_by_without}
+use Rattle.list_laws.proofs.FilterLaws.{any_is_found, length-filter-le}
+use Rattle.std.specs.List.{list_any}
+use Rattle.std.proofs.lemmas.List.Sums.{sum_by-append, sum_by-cons}
+use Rattle.cf_types.specs.Resources.{same_part, resource_before}
+use Rattle.cf_types.proofs.ResourceLaws.{same_part-eq, same_part-refl}
+use Rattle.table_entries.proofs.TableLaws.{one_less, none_out}
+use Rattle.lock_queue.specs.declared.waiters.Waiter.{Waiter}
+use Rattle.lock_queue.specs.Waiters.{is_waiter, waits, waiter_of, waiters_without, waiters_with, stands_before, are_apart, recorded_by, recorded_of, recorded_in}
+use Rattle.lock_queue.specs.Tables.{part_of, resource_of, waiters_in, one_where}
+
+pub less_one : (r : Resource) (conn : ConnId) (waiters : List Waiter) (b : Bool) → b ≡ waits r conn waiters
+    → pairwise are_apart waiters ≡ true → length (waiters_without r conn waiters) + one_where b ≡ length waiters
+less_one r conn waiters true h u = one_less part_of (r, conn) waiters u (sym h)
+less_one r conn waiters false h u =
+    let same : length waiters ≡ length (waiters_without r conn waiters) = ap length (none_out part_of (r, conn) waiters (sym h))
+    in
+    let none : length (waiters_without r conn waiters) + 0 ≡ length waiters = omega (arith, same) in none
+
+pub one_more : (before : Waiter → Bool) (waiter : Waiter) (waiters : List Waiter) (n : ℕ) (b : Bool)
+    → length waiters + one_where b ≡ n → length (insertion before waiter waiters) ≡ n + one_where (not b)
+one_more before waiter waiters n true h =
+    let all : length waiters + 1 ≡ n = h in
+    let more : length waiters + 1 ≡ n + 0 = omega (arith, all) in length-insertion before waiter waiters ∙ more
+one_more before waiter waiters n false h =
+    let all : length waiters + 0 ≡ n = h in
+    let more : length waiters + 1 ≡ n + 1 = omega (arith, all) in length-insertion before waiter waiters ∙ more
+
+-- ---- the resources of all entries
+
+joined_next : (entries : List (List Waiter)) (i : ℕ) (d : List Waiter) → i < length entries
+    → joined (drop i entries) ≡ get_or entries i d ++ joined (drop (i + 1) entries)
+unfolding joined
+joined_next [] i d h = absurd (omega (arith, h))
+joined_next (x ∷ xs) zero d h = refl
+joined_next (x ∷ xs) (suc i) d h =
+    let next : suc i + 1 ≡ suc (i + 1) = omega arith in
+    rw next (joined_next xs i d (omega (arith, h)))
+
+pub keys_more : (entries : List (List Waiter)) (keys new : List Resource) (i : ℕ) (entry : List Waiter) (all : List Resource)
+    → i < length entries → entry ≡ get_or entries i entry → new ≡ keys ++ map resource_of entry
+    → keys ++ map resource_of (joined (drop i entries)) ≡ all
+    → new ++ map resource_of (joined (drop (i + 1) entries)) ≡ all
+keys_more entries keys new i entry all within is put h =
+    ap (λ l. l ++ map resource_of (joined (drop (i + 1) entries))) put
+    ∙ append_assoc keys (map resource_of entry) (map resource_of (joined (drop (i + 1) entries)))
+    ∙ ap (λ l. keys ++ l) (sym (map-append resource_of entry (joined (drop (i + 1) entries))))
+    ∙ ap (λ l. keys ++ map resource_of (l ++ joined (drop (i + 1) entries))) is
+    ∙ ap (λ l. keys ++ map resource_of l) (sym (joined_next entries i entry within)) ∙ h
+
+pub keys_end : (entries : List (List Waiter)) (keys : List Resource) (i : ℕ) (all : List Resource) → length entries ≤ i
+    → keys ++ map resource_of (joined (drop i entries)) ≡ all → keys ≡ all
+unfolding joined
+keys_end entries keys i all past h =
+    sym (append-nil keys) ∙ sym (ap (λ l. keys ++ map resource_of (joined l)) (drop_all i entries past)) ∙ h
+
+-- ---- the resources of a connector's waiters
+
+pub keys_more_by : (q : Waiter → Bool) (entries : List (List Waiter)) (keys new : List Resource) (i : ℕ) (entry : List Waiter)
+    (all : List Resource) → i < length entries → entry ≡ get_or entries i entry
+    → new ≡ keys ++ map resource_of (filter q entry)
+    → keys ++ map resource_of (filter q (joined (drop i entries))) ≡ all
+    → new ++ map resource_of (filter q (joined (drop (i + 1) entries))) ≡ all
+keys_more_by q entries keys new i entry all within is put h =
+    ap (λ l. l ++ map resource_of (filter q (joined (drop (i + 1) entries)))) put
+    ∙ append_assoc keys (map resource_of (filter q entry)) (map resource_of (filter q (joined (drop (i + 1) entries))))
+    ∙ ap (λ l. keys ++ l) (sym (map-append resource_of (filter q entry) (filter q (joined (drop (i + 1) entries)))))
+    ∙ ap (λ l. keys ++ map resource_of l) (sym (filter-append q entry (joined (drop (i + 1) entries))))
+    ∙ ap (λ l. keys ++ map resource_of (filter q (l ++ joined (drop (i + 1) entries)))) is
+    ∙ ap (λ l. keys ++ map resource_of (filter q l)) (sym (joined_next entries i entry within)) ∙ h
+
+pub keys_end_by : (q : Waiter → Bool) (entries : List (List Waiter)) (keys : List Resource) (i : ℕ) (all : List Resource)
+    → length entries ≤ i → keys ++ map resource_of (filter q (joined (drop i entries))) ≡ all → keys ≡ all
+unfolding joined
+keys_end_by q entries keys i all past h =
+    sym (append-nil keys) ∙ sym (ap (λ l. keys ++ map resource_of (filter q (joined l))) (drop_all i entries past)) ∙ h
+
+-- ---- record data that waiters bring
+
+pub recorded_parts : (xs ys : List Waiter) → recorded_in (xs ++ ys) ≡ recorded_in xs + recorded_in ys
+recorded_parts xs ys = sum_by-append recorded_by xs ys
+
+once : (w : Waiter) → recorded_by w ≤ 1
+once w = go (is_some w.rec)
+  where
+    go : (b : Bool) → (if b then 1 else 0) ≤ 1
+    go true = omega arith
+    go false = omega arith
+
+pub recorded_few : (xs : List Waiter) → recorded_in xs ≤ length xs
+recorded_few [] = omega arith
+recorded_few (x ∷ xs) = omega (arith, sum_by-cons recorded_by x xs, once x, recorded_few xs)
+
+counted_more : {X : Type 0} (size : X → ℕ) (b : X → Bool) (x : X) (ys : List X)
+    → sum_by size (insertion b x ys) ≡ sum_by size ys + size x
+counted_more size b x ys = omega (arith, sum_by-insertion size b x ys)
+
+-- as many in the order of entries as in that of resources
+pub recorded_seen : (entries : List (List Waiter)) → recorded_in (joined entries) ≡ recorded_in (waiters_in entries)
+unfolding arranged
+recorded_seen entries = go (joined entries)
+  where
+    go : (xs : List Waiter) → recorded_in xs ≡ recorded_in (arranged resource_of resource_before xs)
+    go [] = refl
+    go (x ∷ xs) =
+        omega (
+          arith,
+          sum_by-cons recorded_by x xs,
+          go xs,
+          counted_more recorded_by (λ y. resource_before y.r x.r) x (arranged resource_of resource_before xs),
+        )
+
+-- a waiter goes, and one comes
+pub recorded_less : (r : Resource) (conn : ConnId) (waiters : List Waiter) → pairwise are_apart waiters ≡ true
+    → recorded_in (waiters_without r conn waiters) + recorded_of (waiter_of r conn waiters) ≡ recorded_in waiters
+recorded_less r conn waiters u = go (waiter_of r conn waiters) refl
+  where
+    go : (o : Option Waiter) → waiter_of r conn waiters ≡ o
+        → recorded_in (waiters_without r conn waiters) + recorded_of o ≡ recorded_in waiters
+    go None e =
+        let none : list_any (is_waiter r conn) waiters ≡ false =
+        any_is_found (is_waiter r conn) waiters ∙ ap (λ (o : Option Waiter). is_some o) e in
+        let same : recorded_in waiters ≡ recorded_in (waiters_without r conn waiters) =
+        ap recorded_in (none_out part_of (r, conn) waiters none) in
+        omega (arith, same)
+    go (Some w) e =
+        omega (arith, sum_by_without part_of same_part same_part-eq same_part-refl recorded_by (r, conn) waiters w u e)
+
+pub recorded_more : (w : Waiter) (waiters : List Waiter) → pairwise are_apart waiters ≡ true
+    → recorded_in (waiters_with w waiters) + recorded_of (waiter_of w.r w.conn waiters)
+    ≡ recorded_in waiters + recorded_by w
+recorded_more w waiters u =
+    omega (
+      arith,
+      counted_more recorded_by (λ other. stands_before other w) w (waiters_without w.r w.conn waiters),
+      recorded_less w.r w.conn waiters u,
+    )
+
+pub few_with : (w : Waiter) (waiters : List Waiter) → length (waiters_with w waiters) ≤ length waiters + 1
+few_with w waiters =
+    omega (
+      arith,
+      length-insertion (λ other. stands_before other w) w (waiters_without w.r w.conn waiters),
+      length-filter-le (λ other. not (is_waiter w.r w.conn other)) waiters,
+    )

@@ -1,0 +1,7 @@
+use Rattle.std.proofs.Common.{◌≡◌, ◌+◌, length, drop}
+use Rattle.table_entries.specs.Bins.{joined}
+use Rattle.lock_queue.proofs.queue.count_all.Given as goal
+
+abbrev pub invariant-loop-waiters : goal.invariant-loop-waiters
+invariant-loop-waiters l =
+    l.count + length (joined (drop l.waiters-index l.entries)) ≡ length (joined l.entries)

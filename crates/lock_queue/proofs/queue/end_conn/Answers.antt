@@ -1,0 +1,94 @@
+use Rattle.std.proofs.Common.{◌≡◌, ◌≤◌, List, map, not, length, ap, arith, ◌∙◌}
+use Rattle.cf_types.specs.declared.numbers.ConnId.{ConnId}
+use Rattle.list_laws.proofs.FilterLaws.{length-filter-le}
+use Rattle.table_entries.specs.Tables.{resource_by}
+use Rattle.table_entries.specs.Bins.{joined}
+use Rattle.table_entries.proofs.PassLaws.{left_seen, left_table}
+use Rattle.table_entries.proofs.RankLaws.{length_seen}
+use Rattle.lock_queue.specs.declared.waiters.Waiter.{Waiter}
+use Rattle.lock_queue.specs.Waiters.{is_by, waiters_without_conn}
+use Rattle.lock_queue.specs.Tables.{part_of, waiters_in, AreEntries}
+use Rattle.lock_queue.proofs.CountLaws.{recorded_few, recorded_seen}
+use Rattle.lock_queue.proofs.WaiterLaws.{queue-filter}
+use Rattle.lock_queue.proofs.queue.end_conn.Goals as goal
+
+left : (conn : ConnId) (entries new : List (List Waiter)) → AreEntries entries → new ≡ map (waiters_without_conn conn) entries
+    → waiters_in new ≡ waiters_without_conn conn (waiters_in entries)
+left conn entries new is e =
+    ap waiters_in e ∙ left_seen part_of entries (map (resource_by part_of) (waiters_in entries)) is
+    (λ (waiter : Waiter). not (is_by conn waiter))
+
+fewer : (conn : ConnId) (entries new : List (List Waiter)) → AreEntries entries
+    → new ≡ map (waiters_without_conn conn) entries → length (joined new) ≤ length (waiters_in entries)
+fewer conn entries new is e =
+    omega (
+      arith,
+      length_seen part_of new,
+      ap (λ (l : List Waiter). length l) (left conn entries new is e),
+      length-filter-le (λ (waiter : Waiter). not (is_by conn waiter)) (waiters_in entries),
+    )
+
+pub count_all-count-requires : goal.count_all-count-requires
+count_all-count-requires c =
+    omega (
+      arith,
+      fewer c.args.conn c.args.entries.now c.take_out_conn.new.entries c.requires.kept c.take_out_conn.ensures.entries,
+      c.requires.few,
+    )
+
+pub returns-clause-kept : goal.returns-clause-kept
+returns-clause-kept c =
+    rw c.take_out_conn.ensures.entries (left_table part_of c.args.entries.now (map (resource_by part_of)
+    (waiters_in c.args.entries.now)) c.requires.kept (λ (waiter : Waiter). not (is_by c.args.conn waiter)))
+
+pub returns-clause-waiters : goal.returns-clause-waiters
+returns-clause-waiters c =
+    left c.args.conn c.args.entries.now c.take_out_conn.new.entries c.requires.kept c.take_out_conn.ensures.entries
+
+pub returns-clause-count : goal.returns-clause-count
+returns-clause-count c = c.count_all-count.ensures ∙ length_seen part_of c.take_out_conn.new.entries
+
+pub returns-clause-fits : goal.returns-clause-fits
+returns-clause-fits c =
+    omega (
+      arith,
+      fewer c.args.conn c.args.entries.now c.take_out_conn.new.entries c.requires.kept c.take_out_conn.ensures.entries,
+      c.requires.few,
+      c.count_all-count.ensures,
+    )
+
+pub returns-clause-less : goal.returns-clause-less
+returns-clause-less c =
+    omega (
+      arith,
+      fewer c.args.conn c.args.entries.now c.take_out_conn.new.entries c.requires.kept c.take_out_conn.ensures.entries,
+      c.count_all-count.ensures,
+    )
+
+pub returns-clause-queue : goal.returns-clause-queue
+returns-clause-queue c =
+    rw (left c.args.conn c.args.entries.now c.take_out_conn.new.entries c.requires.kept c.take_out_conn.ensures.entries)
+    (queue-filter (λ (waiter : Waiter). not (is_by c.args.conn waiter)) (waiters_in c.args.entries.now)
+    c.requires.queue)
+
+pub recorded_all-recorded-requires : goal.recorded_all-recorded-requires
+recorded_all-recorded-requires c =
+    omega (
+      arith,
+      recorded_few (joined c.take_out_conn.new.entries),
+      fewer c.args.conn c.args.entries.now c.take_out_conn.new.entries c.requires.kept c.take_out_conn.ensures.entries,
+      c.requires.few,
+    )
+
+pub returns-clause-recorded : goal.returns-clause-recorded
+returns-clause-recorded c = c.recorded_all-recorded.ensures ∙ recorded_seen c.take_out_conn.new.entries
+
+pub returns-clause-recorded_fits : goal.returns-clause-recorded_fits
+returns-clause-recorded_fits c =
+    omega (
+      arith,
+      c.recorded_all-recorded.ensures,
+      recorded_few (joined c.take_out_conn.new.entries),
+      fewer c.args.conn c.args.entries.now c.take_out_conn.new.entries c.requires.kept c.take_out_conn.ensures.entries,
+      c.requires.few,
+    )

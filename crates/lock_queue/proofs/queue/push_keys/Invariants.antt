@@ -1,0 +1,7 @@
+use Rattle.std.proofs.Common.{◌≡◌, ◌++◌, map}
+use Rattle.lock_queue.specs.Tables.{resource_of}
+use Rattle.lock_queue.proofs.queue.push_keys.Given as goal
+
+abbrev pub invariant-loop-waiter : goal.invariant-loop-waiter
+invariant-loop-waiter l =
+    l.keys.items ++ map resource_of l.waiter-iterator ≡ l.fn.keys.items ++ map resource_of l.fn.waiters

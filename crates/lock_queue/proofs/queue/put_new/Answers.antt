@@ -1,0 +1,60 @@
+use Rattle.std.proofs.Common.{◌≡◌, ◌+◌, ◌≤◌, ◌&&◌, ◌||◌, not, length, map, filter, ap, ◌∙◌, arith}
+use Rattle.std.proofs.lemmas.List.{length-map}
+use Rattle.table_entries.specs.Tables.{resource_by}
+use Rattle.list_laws.proofs.FilterLaws.{length-filter-le}
+use Rattle.table_entries.proofs.TableLaws.{of_seen, few_in, kept_in, put_seen, put_table}
+use Rattle.lock_queue.specs.declared.waiters.Waiter.{Waiter}
+use Rattle.lock_queue.specs.Waiters.{is_on, stands_before}
+use Rattle.lock_queue.specs.Tables.{part_of, waiters_in, is_ahead}
+use Rattle.lock_queue.proofs.WaiterLaws.{ahead_front, ahead_stop, ahead_agree, ahead_others, counts_on}
+use Rattle.lock_queue.proofs.queue.put_new.Goals as goal
+
+counted : (c : goal.After-put_in-before) → c.put_in-before.result ≡ length (filter (λ (other : Waiter).
+    is_on c.args.waiter.r other && (other.alter || not c.args.waiter.alter)) (waiters_in c.args.entries.now))
+counted c =
+    c.put_in-before.ensures.before
+    ∙ ap length (kept_in part_of c.args.entries.now (map (resource_by part_of) (waiters_in c.args.entries.now)) c.requires.kept c.slot_of-slot.result
+    c.index-entries-slot.result c.slot_of-slot.ensures.within (c.args.waiter.r, c.args.waiter.conn)
+    c.slot_of-slot.ensures.slot (λ (other : Waiter). is_on c.args.waiter.r other
+    && (other.alter || not c.args.waiter.alter)) (counts_on c.args.waiter))
+
+within : (c : goal.After-put_in-before) → c.put_in-before.result ≤ length (waiters_in c.args.entries.now)
+within c =
+    omega (
+      arith,
+      counted c,
+      length-filter-le (λ (other : Waiter). is_on c.args.waiter.r other
+          && (other.alter || not c.args.waiter.alter)) (waiters_in c.args.entries.now),
+    )
+
+pub put_in-before-requires-clause-few : goal.put_in-before-requires-clause-few
+put_in-before-requires-clause-few c =
+    omega (
+      arith,
+      few_in part_of c.args.entries.now (map (resource_by part_of) (waiters_in c.args.entries.now)) c.requires.kept c.slot_of-slot.result c.index-entries-slot.result c.slot_of-slot.ensures.within,
+      length-map (waiters_in c.args.entries.now) (resource_by part_of),
+      c.requires.few,
+    )
+
+pub overflow_add-result : goal.overflow_add-result
+overflow_add-result c = omega (arith, within c, c.requires.few)
+
+pub returns-clause-kept : goal.returns-clause-kept
+returns-clause-kept c =
+    of_seen part_of _ _ (put_table part_of c.args.entries.now (map (resource_by part_of) (waiters_in c.args.entries.now)) c.requires.kept c.slot_of-slot.result c.index-entries-slot.result
+    c.slot_of-slot.ensures.within (λ y. stands_before y c.args.waiter) (λ y. is_ahead y c.args.waiter) c.args.waiter
+    c.slot_of-slot.ensures.slot (ahead_front c.args.waiter) (ahead_stop c.args.waiter) (ahead_agree c.args.waiter)
+    (ahead_others c.args.waiter) c.put_in-before.new.waiters c.put_in-before.ensures.waiters c.requires.none)
+
+pub returns-clause-place : goal.returns-clause-place
+returns-clause-place c = ap (λ n. n + 1) (counted c)
+
+pub returns-clause-within : goal.returns-clause-within
+returns-clause-within c = omega (arith, within c, c.requires.few)
+
+pub returns-clause-waiters : goal.returns-clause-waiters
+returns-clause-waiters c =
+    put_seen part_of c.args.entries.now (map (resource_by part_of) (waiters_in c.args.entries.now)) c.requires.kept c.slot_of-slot.result c.index-entries-slot.result
+    c.slot_of-slot.ensures.within (λ y. stands_before y c.args.waiter) (λ y. is_ahead y c.args.waiter) c.args.waiter
+    c.slot_of-slot.ensures.slot (ahead_front c.args.waiter) (ahead_stop c.args.waiter) (ahead_agree c.args.waiter)
+    (ahead_others c.args.waiter) c.put_in-before.new.waiters c.put_in-before.ensures.waiters

@@ -1,0 +1,20 @@
+use Rattle.std.proofs.Common.{List, map, filter, ap, subst, arith, ◌∙◌}
+use Rattle.std.specs.List.Sorted.{IsPermutation}
+use Rattle.cf_types.specs.declared.resources.Resource.{Resource}
+use Rattle.cf_types.specs.Resources.{same_resource, resource_before}
+use Rattle.table_entries.specs.Bins.{joined}
+use Rattle.table_entries.proofs.KeyLaws.{resource_order}
+use Rattle.table_entries.proofs.SortLaws.{neighbours, sorted_is, arranged-filter}
+use Rattle.lock_queue.specs.Waiters.{is_by}
+use Rattle.lock_queue.specs.Tables.{resource_of}
+use Rattle.lock_queue.proofs.queue.sorted_keys_by.Goals as goal
+
+pub returns : goal.returns
+returns c =
+    sorted_is same_resource resource_before resource_order resource_of (filter (is_by c.args.conn) (joined c.args.entries.now)) c.sort.new.self.items
+    (subst (λ (l : List Resource). IsPermutation l c.sort.new.self.items) c.in_ok-keys.ensures
+    c.in_ok-sort.ensures.permutation)
+    (neighbours same_resource resource_before resource_order c.sort.new.self.items
+    (λ k d less. c.in_ok-sort.ensures.sorted k d (omega arith) less))
+    ∙ ap (map resource_of) (arranged-filter resource_of same_resource resource_before resource_order (is_by c.args.conn)
+    (joined c.args.entries.now))

@@ -1,0 +1,26 @@
+use Rattle.std.proofs.Common.{sym, ◌∙◌}
+use Rattle.list_laws.proofs.KeyLaws.{none_placed}
+use Rattle.table_entries.proofs.SpotLaws.{some_place}
+use Rattle.table_entries.proofs.TableLaws.{cut_out, none_out}
+use Rattle.lock_queue.specs.Waiters.{is_waiter}
+use Rattle.lock_queue.specs.Tables.{part_of}
+use Rattle.lock_queue.proofs.queue.take_from.Goals as goal
+
+pub returns-in-Some-clause-there : goal.returns-in-Some-clause-there
+returns-in-Some-clause-there c =
+    some_place (is_waiter c.args.r.now c.args.conn) c.args.waiters.now c.in-Some.at
+    (sym c.place_in.ensures ∙ c.in-Some.is)
+
+pub returns-in-Some-clause-waiters : goal.returns-in-Some-clause-waiters
+returns-in-Some-clause-waiters c =
+    c.cut.ensures.list ∙ cut_out part_of (c.args.r.now, c.args.conn) c.args.waiters.now c.in-Some.at c.requires
+    (sym c.place_in.ensures ∙ c.in-Some.is)
+
+pub returns-in-None-clause-there : goal.returns-in-None-clause-there
+returns-in-None-clause-there c =
+    sym (none_placed (is_waiter c.args.r.now c.args.conn) c.args.waiters.now (sym c.place_in.ensures ∙ c.in-None.is))
+
+pub returns-in-None-clause-waiters : goal.returns-in-None-clause-waiters
+returns-in-None-clause-waiters c =
+    none_out part_of (c.args.r.now, c.args.conn) c.args.waiters.now
+    (none_placed (is_waiter c.args.r.now c.args.conn) c.args.waiters.now (sym c.place_in.ensures ∙ c.in-None.is))

@@ -1,0 +1,25 @@
+use Rattle.std.proofs.Common.{◌≡◌, ap, ◌∙◌, arith}
+use Rattle.lock_queue.specs.Waiters.{recorded_of}
+use Rattle.lock_queue.specs.Tables.{waiters_in}
+use Rattle.lock_queue.proofs.CountLaws.{recorded_less}
+use Rattle.lock_queue.proofs.queue.take_recorded.Goals as goal
+
+pub overflow_sub-result : goal.overflow_sub-result
+overflow_sub-result c =
+    let had = c.recorded_of-had.ensures ∙ ap recorded_of c.find_on.ensures in
+    omega (
+      arith,
+      had,
+      recorded_less c.args.r.now c.args.conn (waiters_in c.args.entries.now) c.requires.kept.one_each,
+      c.requires.recorded,
+    )
+
+pub returns : goal.returns
+returns c =
+    let had = c.recorded_of-had.ensures ∙ ap recorded_of c.find_on.ensures in
+    omega (
+      arith,
+      had,
+      recorded_less c.args.r.now c.args.conn (waiters_in c.args.entries.now) c.requires.kept.one_each,
+      c.requires.recorded,
+    )

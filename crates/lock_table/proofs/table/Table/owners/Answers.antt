@@ -1,0 +1,12 @@
+use Rattle.std.proofs.Common.{◌∙◌, map}
+use Rattle.table_entries.specs.Tables.{resource_by}
+use Rattle.table_entries.proofs.TableLaws.{found}
+use Rattle.lock_table.specs.Tables.{part_of, owners_in}
+use Rattle.lock_table.proofs.table.Table.owners.Goals as goal
+
+pub returns : goal.returns
+returns c =
+    c.owners_on.ensures
+    ∙ rw (c.deref.ensures.value, ← c.self.view_is)
+    (found part_of c.args.r.now c.self.inside.entries.items (map (resource_by part_of)
+    (owners_in c.self.inside.entries.items)) c.self.invariant.entries)

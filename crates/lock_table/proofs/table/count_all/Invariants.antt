@@ -1,0 +1,7 @@
+use Rattle.std.proofs.Common.{◌≡◌, ◌+◌, length, drop}
+use Rattle.table_entries.specs.Bins.{joined}
+use Rattle.lock_table.proofs.table.count_all.Given as goal
+
+abbrev pub invariant-loop-entry : goal.invariant-loop-entry
+invariant-loop-entry l =
+    l.count + length (joined (drop l.entry-index l.entries)) ≡ length (joined l.entries)

@@ -1,0 +1,65 @@
+use Rattle.std.proofs.Common.{◌≡◌, ◌≤◌, ◌&&◌, List, map, not, length, ap, arith, ◌∙◌}
+use Rattle.cf_types.specs.declared.numbers.ConnId.{ConnId}
+use Rattle.list_laws.proofs.FilterLaws.{length-filter-le}
+use Rattle.table_entries.specs.Tables.{resource_by}
+use Rattle.table_entries.specs.Bins.{joined}
+use Rattle.table_entries.proofs.PassLaws.{left_seen, left_table}
+use Rattle.table_entries.proofs.RankLaws.{length_seen}
+use Rattle.lock_table.specs.declared.holdings.Held.{Held}
+use Rattle.lock_table.specs.Holdings.{is_by, owners_without_active}
+use Rattle.lock_table.specs.Tables.{part_of, owners_in, AreEntries}
+use Rattle.lock_table.proofs.table.end_active.Goals as goal
+
+left : (conn : ConnId) (entries new : List (List Held)) → AreEntries entries → new ≡ map (owners_without_active conn) entries
+    → owners_in new ≡ owners_without_active conn (owners_in entries)
+left conn entries new is e =
+    ap owners_in e ∙ left_seen part_of entries (map (resource_by part_of) (owners_in entries)) is
+    (λ (held : Held). not (is_by conn held && not held.retained))
+
+fewer : (conn : ConnId) (entries new : List (List Held)) → AreEntries entries
+    → new ≡ map (owners_without_active conn) entries → length (joined new) ≤ length (owners_in entries)
+fewer conn entries new is e =
+    omega (
+      arith,
+      length_seen part_of new,
+      ap (λ (l : List Held). length l) (left conn entries new is e),
+      length-filter-le (λ (held : Held). not (is_by conn held && not held.retained)) (owners_in entries),
+    )
+
+pub count_all-requires : goal.count_all-requires
+count_all-requires c =
+    omega (
+      arith,
+      fewer c.args.conn c.args.entries.now c.take_active.new.entries c.requires.kept c.take_active.ensures.entries,
+      c.requires.few,
+    )
+
+pub returns-clause-kept : goal.returns-clause-kept
+returns-clause-kept c =
+    rw c.take_active.ensures.entries (left_table part_of c.args.entries.now (map (resource_by part_of)
+    (owners_in c.args.entries.now)) c.requires.kept (λ (held : Held). not (is_by c.args.conn held
+    && not held.retained)))
+
+pub returns-clause-owners : goal.returns-clause-owners
+returns-clause-owners c =
+    left c.args.conn c.args.entries.now c.take_active.new.entries c.requires.kept c.take_active.ensures.entries
+
+pub returns-clause-count : goal.returns-clause-count
+returns-clause-count c = c.count_all.ensures ∙ length_seen part_of c.take_active.new.entries
+
+pub returns-clause-fits : goal.returns-clause-fits
+returns-clause-fits c =
+    omega (
+      arith,
+      fewer c.args.conn c.args.entries.now c.take_active.new.entries c.requires.kept c.take_active.ensures.entries,
+      c.requires.few,
+      c.count_all.ensures,
+    )
+
+pub returns-clause-less : goal.returns-clause-less
+returns-clause-less c =
+    omega (
+      arith,
+      fewer c.args.conn c.args.entries.now c.take_active.new.entries c.requires.kept c.take_active.ensures.entries,
+      c.count_all.ensures,
+    )

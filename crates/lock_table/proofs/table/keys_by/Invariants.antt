@@ -1,0 +1,9 @@
+use Rattle.std.proofs.Common.{◌≡◌, ◌++◌, map, filter, drop}
+use Rattle.table_entries.specs.Bins.{joined}
+use Rattle.lock_table.specs.Holdings.{is_by}
+use Rattle.lock_table.specs.Tables.{resource_of}
+use Rattle.lock_table.proofs.table.keys_by.Given as goal
+
+abbrev pub invariant-loop-entry : goal.invariant-loop-entry
+invariant-loop-entry l =
+    l.keys.items ++ map resource_of (filter (is_by l.conn) (joined (drop l.entry-index l.entries))) ≡ map resource_of (filter (is_by l.conn) (joined l.entries))

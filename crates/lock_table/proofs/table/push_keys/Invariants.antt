@@ -1,0 +1,7 @@
+use Rattle.std.proofs.Common.{◌≡◌, ◌++◌, map}
+use Rattle.lock_table.specs.Tables.{resource_of}
+use Rattle.lock_table.proofs.table.push_keys.Given as goal
+
+abbrev pub invariant-loop-held : goal.invariant-loop-held
+invariant-loop-held l =
+    l.keys.items ++ map resource_of l.held-iterator ≡ l.fn.keys.items ++ map resource_of l.fn.entry

@@ -1,0 +1,30 @@
+use Rattle.std.proofs.Common.{map, true, not, refl, arith, ◌∙◌}
+use Rattle.std.proofs.lemmas.List.{length-map}
+use Rattle.cf_types.specs.Resources.{resource_before}
+use Rattle.table_entries.specs.Tables.{resource_by}
+use Rattle.lock_table.specs.Tables.{part_of, owners_in}
+use Rattle.table_entries.proofs.TableLaws.{few_in, put_seen, put_table, of_seen, last_front, last_stop, last_agree, last_put}
+use Rattle.lock_table.proofs.table.put_new.Goals as goal
+
+pub put-requires-clause-few : goal.put-requires-clause-few
+put-requires-clause-few c =
+    omega (
+      arith,
+      few_in part_of c.args.entries.now (map (resource_by part_of) (owners_in c.args.entries.now))
+          c.requires.kept c.slot_of-slot.result c.index-entries-slot.result c.slot_of-slot.ensures.within,
+      length-map (owners_in c.args.entries.now) (resource_by part_of),
+      c.requires.few,
+    )
+
+pub returns-clause-kept : goal.returns-clause-kept
+returns-clause-kept c =
+    of_seen part_of _ _ (put_table part_of c.args.entries.now (map (resource_by part_of) (owners_in c.args.entries.now))
+    c.requires.kept c.slot_of-slot.result c.index-entries-slot.result c.slot_of-slot.ensures.within (λ y. not (resource_before c.args.held.r y.r)) (λ y. true) c.args.held c.slot_of-slot.ensures.slot
+    (last_front part_of c.args.held) (last_stop part_of c.args.held) (last_agree part_of c.args.held) (λ y e. refl)
+    c.put.new.self (c.put.ensures.owners ∙ last_put part_of c.args.held _) c.requires.none)
+
+pub returns-clause-owners : goal.returns-clause-owners
+returns-clause-owners c = put_seen part_of c.args.entries.now (map (resource_by part_of) (owners_in c.args.entries.now))
+    c.requires.kept c.slot_of-slot.result c.index-entries-slot.result c.slot_of-slot.ensures.within (λ y. not (resource_before c.args.held.r y.r)) (λ y. true) c.args.held c.slot_of-slot.ensures.slot
+    (last_front part_of c.args.held) (last_stop part_of c.args.held) (last_agree part_of c.args.held) (λ y e. refl)
+    c.put.new.self (c.put.ensures.owners ∙ last_put part_of c.args.held _)

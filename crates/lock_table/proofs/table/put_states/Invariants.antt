@@ -1,8 +1,0 @@
-use Rattle.std.proofs.Common.{◌≡◌, map, take, drop}
-use Rattle.lock_table.specs.Holdings.{in_state}
-use Rattle.lock_table.proofs.table.put_states.Given as goal
-
-abbrev pub invariant-loop-held : goal.invariant-loop-held
-invariant-loop-held l =
-    (take l.held-index l.held-items ≡ map (in_state l.r l.conn l.excl) (take l.held-index l.initial.held-items))
-    × (drop l.held-index l.held-items ≡ drop l.held-index l.initial.held-items)

@@ -1,0 +1,71 @@
+-- What the runs on one thread and on many leave is what a run leaves.
+use Rattle.std.proofs.Common.{◌≡◌, ℕ, List, length, Option, Some, slice_get, Result, Ok, Err, IfOk, sym, ap, ◌∙◌, arith}
+use Rattle.std.proofs.lemmas.Option.{slice_get_within}
+use Rattle.list_laws.proofs.TableLaws.{get_within}
+use Rattle.cf_types.specs.declared.memory.NoMemory.{NoMemory}
+use Rattle.cf_types.specs.declared.numbers.CfId.{CfId}
+use Rattle.cf_link.specs.Links.{Telling}
+use Rattle.plex_script.specs.declared.asks.AnyHistory.{AnyHistory}
+use Rattle.plex_script.specs.declared.scripts.Script.{Script}
+use Rattle.plex_script.specs.declared.transcripts.Transcript.{Transcript}
+use Rattle.serial_model.specs.Headline.{ShowsHistories}
+use Rattle.serial_model.specs.RunLinks.{AreTelling, AreRunLinks}
+use Rattle.serial_model.specs.Serial.{serial_run}
+use Rattle.plex_floor.specs.declared.runs.Finished.{Finished}
+use Rattle.plex_reading.specs.Readings.{Reading}
+use Rattle.plex_reading.proofs.MarkLaws.{marks_facilities}
+use Rattle.plex_run.specs.declared.way.Way.{Way}
+use Rattle.plex_run.specs.declared.way.Way.TheVariants as ways
+use Rattle.plex_run.specs.Wires.{wires}
+use Rattle.plex_run.specs.Outcome.{IsRunOf, AreMarked, journal_limit, reading_of}
+
+module _ {L : Type 0} (calls : L → Option ℕ) (downs : L → Option (List ℕ)) (faults : L → ℕ) (old new : List L)
+    (script : Script) where
+  marked : (it : Finished) → ShowsHistories journal_limit script it.histories it.transcripts
+      → AreRunLinks calls downs faults script.structures it.histories old new → AreMarked (reading_of it)
+  marked it shows asked x entries there =
+      let form = get_within script.structures x
+      (let within = slice_get_within it.histories x entries there in omega (arith, within, shows.structures)) in
+      let right = shows.histories_right x form.0 entries form.1 there in
+      marks_facilities form.0 entries right.legal (λ cf other. asked.others x form.0 entries cf form.1 there other)
+
+  reading_same : (one other : List AnyHistory) (shown shown' : List Transcript) → one ≡ other → shown ≡ shown'
+      → (let it : Reading = record { histories = one; transcripts = shown } in
+      let it' : Reading = record { histories = other; transcripts = shown' } in it ≡ it')
+  reading_same one other shown shown' e e' =
+      ap (λ (hs : List AnyHistory). (let it : Reading = record { histories = hs; transcripts = shown } in it)) e
+      ∙ ap (λ (ts : List Transcript). (let it : Reading = record { histories = other; transcripts = ts } in it)) e'
+
+  -- on one thread
+  pub serial_run_is : (result : Result Finished NoMemory) (by : Way)
+      → ((told : ℕ → CfId → Telling) → AreTelling calls downs faults told (length script.structures) old
+      → IfOk result (λ it. (it.histories ≡ (serial_run journal_limit told script).histories)
+      × (it.transcripts ≡ (serial_run journal_limit told script).transcripts)))
+      → IfOk result (λ it. ShowsHistories journal_limit script it.histories it.transcripts)
+      → IfOk result (λ it. AreRunLinks calls downs faults script.structures it.histories old new)
+      → IfOk result (λ it. IsRunOf (wires calls downs faults old new) by script (reading_of it))
+  serial_run_is (Ok it) by exact shows asked =
+      record {
+        shows = shows;
+        asked = asked;
+        marks = marked it shows asked;
+        in_turn = λ turn told telling.
+            let both = exact told telling in
+            reading_same it.histories (serial_run journal_limit told script).histories it.transcripts
+            (serial_run journal_limit told script).transcripts both.0 both.1;
+      }
+  serial_run_is (Err e) by exact shows asked = tt
+
+  -- on threads
+  pub threads_run_is : (result : Result Finished NoMemory) (by : Way) → by ≡ ways.OnThreads
+      → IfOk result (λ it. ShowsHistories journal_limit script it.histories it.transcripts)
+      → IfOk result (λ it. AreRunLinks calls downs faults script.structures it.histories old new)
+      → IfOk result (λ it. IsRunOf (wires calls downs faults old new) by script (reading_of it))
+  threads_run_is (Ok it) by on_threads shows asked =
+      record {
+        shows = shows;
+        asked = asked;
+        marks = marked it shows asked;
+        in_turn = λ turn. absurd (let wrong : ways.InTurn ≡ ways.OnThreads = sym turn ∙ on_threads in cc);
+      }
+  threads_run_is (Err e) by on_threads shows asked = tt

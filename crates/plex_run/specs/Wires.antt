@@ -1,0 +1,21 @@
+-- What is said of the links of a run: what they may tell before it, and what became of them.
+use Rattle.std.specs.Prelude.{ℕ, List, Option}
+use Rattle.cf_types.specs.declared.forms.StrForm.{StrForm}
+use Rattle.cf_types.specs.declared.numbers.CfId.{CfId}
+use Rattle.cf_link.specs.Links.{Telling}
+use Rattle.plex_script.specs.declared.asks.AnyHistory.{AnyHistory}
+use Rattle.serial_model.specs.RunLinks.{AreTelling, AreRunLinks}
+
+-- whether the links of so many structures tell this, and whether they were asked as the histories of structures of these
+-- forms tell
+pub record Wires : Type 1 where
+  pub telling : (ℕ → CfId → Telling) → ℕ → Type 0
+  pub asked : List StrForm → List AnyHistory → Type 0
+
+-- links as they were before a run, and as they are
+abbrev pub wires : {L : Type 0} → (L → Option ℕ) → (L → Option (List ℕ)) → (L → ℕ) → List L → List L → Wires
+wires calls downs faults old new =
+    record {
+      telling = λ told structures. AreTelling calls downs faults told structures old;
+      asked = λ forms histories. AreRunLinks calls downs faults forms histories old new;
+    }

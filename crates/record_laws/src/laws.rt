@@ -1,0 +1,34 @@
+ghost use Rattle.std.specs.Prelude.{◌≡◌, ◌<◌, List, Some, length};
+ghost use Rattle.cf_types.specs.declared.list_commands.ListCmd.{ListCmd};
+ghost use Rattle.cf_types.specs.declared.numbers.ConnId.{ConnId};
+ghost use Rattle.cf_types.specs.declared.numbers.EntryId.{EntryId};
+ghost use Rattle.engine_api.specs.Meaning.{Held};
+ghost use Rattle.list_store.specs.declared.records.Rec.{Rec};
+ghost use Rattle.list_store.specs.Lists.{record_of};
+ghost use Rattle.list_model.specs.Contents.{Content};
+ghost use Rattle.record_laws.specs.Applied.{Deed, IsHeldAfter, content_applied, told_then};
+ghost use Rattle.record_laws.specs.Histories.{IsLegalList, content_after, told_in};
+ghost use Rattle.record_laws.specs.Versions.{IsVersioned};
+
+use cf_types::{ListCmd, ListReply, StrForm};
+use engine_api::History;
+
+/// After every legal history of a list structure that has fewer entries than there are versions: a
+/// record's version is 1 plus the number of accepted UPDATEs that answered its id after the
+/// accepted WRITE that made it, which is the last one that answered this id.
+pub fn versions(form: &StrForm, history: &History<ListCmd, ListReply>)
+    requires legal { IsLegalList form.now history.now }
+    requires few { length history.now < 4294967295 }
+    ensures { (id : EntryId) (rec : Rec)
+        → record_of id (content_after form.now history.now).lists ≡ Some rec
+        → IsVersioned (told_in history.now) id rec.version }
+{}
+
+/// The same of what an engine's `apply` leaves of a list structure that was empty at first,
+/// whatever commands, departures and returns came before.
+pub fn after_apply()
+    ensures { (held : Held Content) (deeds : List Deed) (by : ConnId) (cmd : ListCmd)
+        → IsHeldAfter deeds held → length (told_then held deeds by cmd) < 4294967295
+        → (id : EntryId) (rec : Rec) → record_of id (content_applied held by cmd).lists ≡ Some rec
+        → IsVersioned (told_then held deeds by cmd) id rec.version }
+{}

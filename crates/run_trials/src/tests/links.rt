@@ -1,0 +1,311 @@
+//! Runs over links that are down at listed calls.
+ghost use Rattle.std.specs.Prelude.{◌≡◌};
+ghost use Rattle.std.specs.Vec.{vec_len};
+
+use super::{POLICY, script_of};
+use cf_io::{MemSink, MemSource};
+use cf_link::ListLink;
+use plex_agent::OpenGate;
+use plex_run::run;
+use std::alloc::{AllocError, Global};
+use std::sync::Wait;
+use std::test::Fail;
+use std::thread::Threads;
+
+/// How many links there are.
+const LINKS: usize = 64;
+
+/// How many bytes a report can have here.
+const ROOM: usize = 1 << 16;
+
+/// What a run left: its status, what it wrote, and its links.
+#[derive(Drop)]
+struct Ran {
+    status: u8,
+    report: String,
+    links: Vec<ListLink>,
+}
+
+impl Ran {
+    // The report shows this.
+    fn shows(&self, part: &str) -> bool {
+        self.status == 0 && self.report.contains(part)
+    }
+
+    // So often were the links of the first structure to CF1 and CF2 asked, and so often down.
+    fn asked(&self, one: (u64, u64), two: (u64, u64)) -> bool {
+        self.was_asked(0, one) && self.was_asked(1, two)
+    }
+
+    fn was_asked(&self, at: usize, wanted: (u64, u64)) -> bool {
+        match self.links.get(at) {
+            Some(link) => link.calls == wanted.0 && link.faults == wanted.1,
+            None => false,
+        }
+    }
+}
+
+// A link that is down at these calls.
+fn link(alloc: Global, fails: &[u64]) -> Result<ListLink, AllocError> {
+    Ok(ListLink {
+        calls: 0,
+        fails: Vec::from_slice(alloc, fails)?,
+        faults: 0,
+    })
+}
+
+// The links to CF1 and CF2 of the first structure are down at these calls, the others never.
+fn links_of(alloc: Global, one: &[u64], two: &[u64]) -> Result<Vec<ListLink>, AllocError> {
+    let mut links = Vec::new(alloc);
+    links.push(link(alloc, one)?)?;
+    links.push(link(alloc, two)?)?;
+    while links.len() < LINKS {
+        links.push(link(alloc, &[])?)?;
+    }
+    Ok(links)
+}
+
+// The run by this word of a script behind the policy, over such links.
+fn ran_over<R: Threads + Wait + Sync>(
+    rt: &R,
+    alloc: Global,
+    word: &str,
+    lines: &str,
+    one: &[u64],
+    two: &[u64],
+) -> Result<Ran, Fail> {
+    let script = script_of(alloc, POLICY, lines)?;
+    let mut source = MemSource {
+        bytes: Vec::from_slice(alloc, script.as_bytes())?,
+        taken: 0,
+        calls: 0,
+        fails: Vec::new(alloc),
+        faults: 0,
+    };
+    let mut sink = MemSink::new(alloc, ROOM, 4096, Vec::new(alloc))?;
+    let mut words = Vec::new(alloc);
+    words.push(String::from_str(alloc, word)?)?;
+    let mut links = links_of(alloc, one, two)?;
+    let status = if links.len() == LINKS {
+        run(
+            rt,
+            alloc,
+            &words,
+            &mut source,
+            &mut sink,
+            &mut links,
+            &OpenGate,
+        )
+    } else {
+        u8::MAX
+    };
+    Ok(Ran {
+        status,
+        report: String::from_utf8(sink.bytes)?,
+        links,
+    })
+}
+
+/// Work on a pool with two instances.
+const DUPLEXED: &str = "A GBP CONNECT DELETE\n\
+    A GBP WRITE P1 0 one CHANGED 1\n\
+    OP GBP DUPLEX START\n\
+    A GBP WRITE P1 0 two CHANGED 1\n\
+    A GBP TEST 0\n\
+    A GBP READ P1 0\n\
+    A GBP READ P1 0\n\
+    A GBP TEST 0\n";
+
+/// The primary is lost at a write, which is done on the other; that is lost at a read.
+const BOTH_LOST: &str = "HISTORY GBP 9\n\
+    1 A CONNECT DELETE -> OK NEW CF1\n\
+    2 A WRITE P1 0 one CHANGED 1 -> OK\n\
+    3 OP DUPLEX START -> OK CF2\n\
+    4 SYS LOST CF1 -> SIMPLEX CF2\n\
+    5 A WRITE P1 0 two CHANGED 1 -> OK\n\
+    6 SYS LOST CF2 -> FAILED\n\
+    7 A READ P1 0 -> REFUSED 74 LOSTFACILITY CF2\n\
+    8 A READ P1 0 -> REFUSED 75 STRUCTUREFAILED\n\
+    9 A DISCONNECT -> OK\n\
+    TRANSCRIPT OP 1\nGBP 3\n\
+    TRANSCRIPT A 8\nGBP 1\nGBP 2\nGBP 5\nGBP TEST 0 VALID 5\nGBP 7\nGBP 8\n\
+    GBP TEST 0 INVALID 8\nGBP 9\n\
+    TRANSCRIPT B 0\nEND\n";
+
+#[test]
+fn one_instance_is_lost_and_then_the_other(rt: HostRuntime) -> Result<(), Fail> {
+    let ran = ran_over(&rt, rt.alloc(), "serial", DUPLEXED, &[2], &[2])?;
+    assert!(rt; ran.shows(BOTH_LOST));
+    assert!(rt; ran.asked((2, 1), (2, 1)));
+    Ok(())
+}
+
+/// Four commands on a pool with two instances.
+const FOUR_CALLS: &str = "A GBP CONNECT DELETE\n\
+    OP GBP DUPLEX START\n\
+    A GBP WRITE P1 0 v CHANGED 1\n\
+    A GBP READ P1 0\n\
+    A GBP CASTOUT P1\n\
+    A GBP UNLOCK P1\n\
+    A GBP TEST 0\n";
+
+#[test]
+fn no_instance_is_lost(rt: HostRuntime) -> Result<(), Fail> {
+    let ran = ran_over(&rt, rt.alloc(), "serial", FOUR_CALLS, &[], &[])?;
+    assert!(rt;
+        ran.shows(
+            "\n3 A WRITE P1 0 v CHANGED 1 -> OK\n4 A READ P1 0 -> DATA v CHANGED\n\
+             5 A CASTOUT P1 -> DATA v\n6 A UNLOCK P1 -> OK UNCHANGED\n7 A DISCONNECT -> OK\n"
+        )
+    );
+    assert!(rt; ran.shows("\nGBP TEST 0 VALID 6\n") && ran.asked((4, 0), (4, 0)));
+    Ok(())
+}
+
+/// The histories where one link is down at its first, second, third or fourth call.
+const ONE_LOST: [&str; 4] = [
+    "\n3 SYS LOST CF1 -> SIMPLEX CF2\n4 A WRITE P1 0 v CHANGED 1 -> OK\n\
+     5 A READ P1 0 -> DATA v CHANGED\n6 A CASTOUT P1 -> DATA v\n7 A UNLOCK P1 -> OK UNCHANGED\n",
+    "\n3 A WRITE P1 0 v CHANGED 1 -> OK\n4 SYS LOST CF1 -> SIMPLEX CF2\n\
+     5 A READ P1 0 -> DATA v CHANGED\n6 A CASTOUT P1 -> DATA v\n7 A UNLOCK P1 -> OK UNCHANGED\n",
+    "\n3 A WRITE P1 0 v CHANGED 1 -> OK\n4 A READ P1 0 -> DATA v CHANGED\n\
+     5 SYS LOST CF1 -> SIMPLEX CF2\n6 A CASTOUT P1 -> DATA v\n7 A UNLOCK P1 -> OK UNCHANGED\n",
+    "\n3 A WRITE P1 0 v CHANGED 1 -> OK\n4 A READ P1 0 -> DATA v CHANGED\n\
+     5 A CASTOUT P1 -> DATA v\n6 SYS LOST CF1 -> SIMPLEX CF2\n7 A UNLOCK P1 -> OK UNCHANGED\n",
+];
+
+#[test]
+fn the_first_instance_is_lost_at_each_call(rt: HostRuntime) -> Result<(), Fail> {
+    let mut call = 0;
+    for history in &ONE_LOST {
+        call += 1;
+        let ran = ran_over(&rt, rt.alloc(), "serial", FOUR_CALLS, &[call], &[])?;
+        assert!(rt;
+            ran.shows(history) && ran.shows("\nGBP TEST 0 VALID 7\n"),
+            "{call}"
+        );
+        assert!(rt; ran.asked((call, 1), (4, 0)), "{call}");
+    }
+    Ok(())
+}
+
+#[test]
+fn the_second_instance_is_lost_at_each_call(rt: HostRuntime) -> Result<(), Fail> {
+    for call in 1..=4 {
+        let ran = ran_over(&rt, rt.alloc(), "serial", FOUR_CALLS, &[], &[call])?;
+        assert!(rt; ran.shows(" SYS LOST CF2 -> SIMPLEX CF1\n"), "{call}");
+        assert!(rt; ran.shows("\n7 A UNLOCK P1 -> OK UNCHANGED\n"), "{call}");
+        assert!(rt; ran.shows("\nGBP TEST 0 VALID 7\n"), "{call}");
+        assert!(rt; ran.asked((4, 0), (call, 1)), "{call}");
+    }
+    Ok(())
+}
+
+/// The histories where both links are down at their first, second, third or fourth calls.
+const BOTH_AT_ONCE: [&str; 4] = [
+    "\n3 SYS LOST CF1 -> SIMPLEX CF2\n4 SYS LOST CF2 -> FAILED\n\
+     5 A WRITE P1 0 v CHANGED 1 -> REFUSED 74 LOSTFACILITY CF2\n\
+     6 A READ P1 0 -> REFUSED 75 STRUCTUREFAILED\n7 A CASTOUT P1 -> REFUSED 75 STRUCTUREFAILED\n\
+     8 A UNLOCK P1 -> REFUSED 75 STRUCTUREFAILED\n",
+    "\n4 SYS LOST CF1 -> SIMPLEX CF2\n5 SYS LOST CF2 -> FAILED\n\
+     6 A READ P1 0 -> REFUSED 74 LOSTFACILITY CF2\n7 A CASTOUT P1 -> REFUSED 75 STRUCTUREFAILED\n\
+     8 A UNLOCK P1 -> REFUSED 75 STRUCTUREFAILED\n",
+    "\n5 SYS LOST CF1 -> SIMPLEX CF2\n6 SYS LOST CF2 -> FAILED\n\
+     7 A CASTOUT P1 -> REFUSED 74 LOSTFACILITY CF2\n\
+     8 A UNLOCK P1 -> REFUSED 75 STRUCTUREFAILED\n",
+    "\n6 SYS LOST CF1 -> SIMPLEX CF2\n7 SYS LOST CF2 -> FAILED\n\
+     8 A UNLOCK P1 -> REFUSED 74 LOSTFACILITY CF2\n",
+];
+
+#[test]
+fn both_instances_are_lost_at_one_call(rt: HostRuntime) -> Result<(), Fail> {
+    let mut call = 0;
+    for history in &BOTH_AT_ONCE {
+        call += 1;
+        let ran = ran_over(&rt, rt.alloc(), "serial", FOUR_CALLS, &[call], &[call])?;
+        assert!(rt;
+            ran.shows(history) && ran.shows("\nGBP TEST 0 INVALID 8\n"),
+            "{call}"
+        );
+        assert!(rt; ran.asked((call, 1), (call, 1)), "{call}");
+    }
+    Ok(())
+}
+
+/// A rebuild up to its first COPY. One member reads while it has not been told yet.
+const COPYING: &str = "A GBP CONNECT DELETE\n\
+    B GBP CONNECT DELETE\n\
+    A GBP WRITE P1 0 one CHANGED 1\n\
+    B GBP WRITE P2 0 two CHANGED 2\n\
+    OP GBP REBUILD START 10 10\n\
+    A GBP EVENTS\n\
+    A GBP READ P1 0\n\
+    B GBP READ P1 1\n\
+    B GBP EVENTS\n\
+    A GBP REBUILD CONNECT\n\
+    B GBP REBUILD CONNECT\n\
+    A GBP COPY 1\n\
+    A GBP READ P1 0\n";
+
+// The new instance is lost: the rebuild stops, and the pool stays where it was.
+#[test]
+fn the_new_instance_is_lost_while_it_is_copied_to(rt: HostRuntime) -> Result<(), Fail> {
+    let ran = ran_over(&rt, rt.alloc(), "serial", COPYING, &[], &[1])?;
+    assert!(rt;
+        ran.shows(
+            "\n17 B REBUILD CONNECT -> OK CF2\n18 SYS LOST CF2 -> STOPPED 1\n\
+             19 A COPY 1 -> REFUSED 69 WRONGSTAGE STOPPING\n20 A READ P1 0 -> DATA one CHANGED\n"
+        )
+    );
+    assert!(rt; ran.asked((5, 0), (1, 1)));
+    Ok(())
+}
+
+// The old one is: the pool fails, and the link to the new one isn't asked.
+#[test]
+fn the_old_instance_is_lost_while_it_is_copied(rt: HostRuntime) -> Result<(), Fail> {
+    let ran = ran_over(&rt, rt.alloc(), "serial", COPYING, &[4], &[])?;
+    assert!(rt;
+        ran.shows(
+            "\n18 SYS LOST CF1 -> FAILED\n19 A COPY 1 -> REFUSED 74 LOSTFACILITY CF1\n\
+             20 A READ P1 0 -> REFUSED 75 STRUCTUREFAILED\n"
+        )
+    );
+    assert!(rt; ran.asked((4, 1), (0, 0)));
+    Ok(())
+}
+
+// A rebuild that waits for its members ends with the instance.
+#[test]
+fn the_instance_is_lost_while_members_are_quiesced(rt: HostRuntime) -> Result<(), Fail> {
+    let ran = ran_over(&rt, rt.alloc(), "serial", COPYING, &[3], &[])?;
+    assert!(rt;
+        ran.shows(
+            "\n10 A READ P1 0 -> REFUSED 72 QUIESCED 1\n11 SYS LOST CF1 -> FAILED\n\
+             12 B READ P1 1 -> REFUSED 74 LOSTFACILITY CF1\n"
+        )
+    );
+    assert!(rt; ran.asked((3, 1), (0, 0)));
+    Ok(())
+}
+
+/// One caller's calls: on threads they come in their order.
+const ALONE: &str = "A GBP CONNECT DELETE\n\
+    A GBP WRITE P1 0 one CHANGED 1\n\
+    A GBP WRITE P2 1 two CHANGED 1\n\
+    A GBP READ P1 0\n";
+
+#[test]
+fn an_instance_is_lost_on_threads(rt: HostRuntime) -> Result<(), Fail> {
+    let ran = ran_over(&rt, rt.alloc(), "threads", ALONE, &[2], &[])?;
+    assert!(rt;
+        ran.shows(
+            "HISTORY GBP 6\n1 A CONNECT DELETE -> OK NEW CF1\n\
+             2 A WRITE P1 0 one CHANGED 1 -> OK\n3 SYS LOST CF1 -> FAILED\n\
+             4 A WRITE P2 1 two CHANGED 1 -> REFUSED 74 LOSTFACILITY CF1\n\
+             5 A READ P1 0 -> REFUSED 75 STRUCTUREFAILED\n6 A DISCONNECT -> OK\n"
+        )
+    );
+    assert!(rt; ran.asked((2, 1), (0, 0)));
+    Ok(())
+}

@@ -1,0 +1,255 @@
+-- What a turn of the machine makes of the journal: marks are entered, and then the call.
+use Rattle.std.proofs.Common.{◌≡◌, ℕ, suc, ◌+◌, ◌<◌, ◌≤◌, Bool, List, [], ◌∷◌, ◌++◌, length, get_or, take, map, fold, refl, sym, ap, subst, ◌∙◌, arith, length-append}
+use Rattle.std.specs.Prelude.{Option}
+use Rattle.std.proofs.lemmas.List.{map-append, take_more}
+use Rattle.std.proofs.lemmas.List.Sums.{fold_push}
+use Rattle.cf_link.specs.declared.links.Links.{Links}
+use Rattle.cf_link.specs.Links.{IsAskedAll, AreAsked, link_at}
+use Rattle.cf_link.proofs.LinkLaws.{asked-append}
+use Rattle.cf_types.specs.declared.forms.StrForm.{StrForm}
+use Rattle.cf_types.specs.declared.numbers.CfId.{CfId}
+use Rattle.cf_types.specs.declared.numbers.ConnId.{ConnId}
+use Rattle.engine_api.specs.declared.asks.Ask.{Ask}
+use Rattle.cf_types.specs.declared.shell_commands.ShellReply.{ShellReply}
+use Rattle.engine_api.specs.declared.asks.Reply.{Reply}
+use Rattle.engine_api.specs.declared.asks.Reply.TheVariants as reply
+use Rattle.engine_api.specs.declared.asks.What.TheVariants as what
+use Rattle.engine_api.specs.declared.histories.Entry.{Entry}
+use Rattle.engine_api.specs.LinkAsks.{operator, links_asked, answers_to}
+use Rattle.engine_api.specs.Meaning.{Meaning}
+use Rattle.engine_api.specs.Machine.{Machine, CallOutcome, step}
+use Rattle.engine_api.specs.History.{Call, Turn, calls, numbers, replay, next_entry, next_mark, with_mark, with_marks, marks_by, after_turn, IsLegal}
+use Rattle.engine_api.specs.Told.{told_of}
+use Rattle.engine_api.specs.Answers.{answers}
+use Rattle.engine_api.proofs.AskLaws.{marks_few, two_asked}
+use Rattle.engine_api.proofs.AnswerLaws.{answers-turn, legal_group}
+use Rattle.engine_api.proofs.HistoryLaws.{replay-push, by_turns, calls-turn, call_added}
+use Rattle.engine_api.proofs.NumberLaws.{number_added, length-turn}
+use Rattle.plex_shell.specs.Losses.{reply_as}
+use Rattle.struct_machine.specs.declared.marks.Mark.{Mark}
+use Rattle.struct_machine.specs.StructureView.{StructureView}
+use Rattle.struct_machine.specs.Turns.{lost_at, lost_by, behind_marks, AreTold, IsTurn}
+use Rattle.struct_cell.specs.Limits.{AreMadeBelow}
+use Rattle.struct_cell.specs.Marks.{with_entry, entered}
+
+module _ {C R : Type 0} where
+  pub length-entered : (journal : List (Entry C R)) (marks : List Mark)
+      → length (entered journal marks) ≡ length journal + length marks
+  length-entered journal [] = omega arith
+  length-entered journal (mark ∷ marks) =
+      let rest : length (entered (with_entry journal mark) marks) ≡ length (with_entry journal mark) + length marks =
+      length-entered (with_entry journal mark) marks in
+      let here : length (with_entry journal mark) ≡ length journal + 1 = length-append journal _ in
+      omega arith
+
+  -- what is told of a call has its number
+  pub told-number : (number : ℕ) (ask : Ask C) (reply : Reply R)
+      → (let told = told_of number ask reply in told.no) ≡ number
+  told-number number ask (reply.Shell answer) = refl
+  told-number number ask (reply.Content answer) = refl
+  told-number number ask (reply.Refused refusal) = refl
+
+  -- the number of the call behind them is above what was known
+  pub number-later : (journal after : List (Entry C R)) (marks : List Mark) (known number told : ℕ)
+      → known ≤ length journal → after ≡ entered journal marks → number ≡ length after + 1 → told ≡ number
+      → known < told
+  number-later journal after marks known number told most is number_is told_is =
+      let all : length after ≡ length journal + length marks = ap length is ∙ length-entered journal marks in
+      omega (arith, most, all, number_is, told_is)
+
+  -- with the marks of a call that found room the journal is hardly longer
+  pub count-entered : (journal after : List (Entry C R)) (marks : List Mark) (limit : ℕ)
+      → length journal < limit → length marks ≤ 2 → after ≡ entered journal marks → length after ≤ limit + 1
+  count-entered journal after marks limit below two is =
+      let all : length after ≡ length journal + length marks = ap length is ∙ length-entered journal marks in
+      omega (arith, below, two, all)
+
+  -- one mark more
+  pub entered-more : (journal now after : List (Entry C R)) (marks : List Mark) (i : ℕ) (d : Mark) (number : ℕ)
+      (told : ShellReply) → i < length marks → now ≡ entered journal (take i marks) → number ≡ length now + 1
+      → told ≡ (let mark = get_or marks i d in reply_as mark.lost)
+      → after ≡ now ++ record {
+        no = number;
+        by = operator;
+        what = what.Lost (get_or marks i d).cf;
+        reply = reply.Shell told;
+      } ∷ []
+      → after ≡ entered journal (take (i + 1) marks)
+  entered-more journal now after marks i d number told below was number_is told_is more =
+      let mark : Mark = get_or marks i d in
+      more
+      ∙ ap (λ (n : ℕ). (let entry : Entry C R = record {
+        no = n;
+        by = operator;
+        what = what.Lost mark.cf;
+        reply = reply.Shell told;
+      } in now ++ entry ∷ [])) number_is
+      ∙ ap (λ (r : ShellReply). (let entry : Entry C R = record {
+        no = length now + 1;
+        by = operator;
+        what = what.Lost mark.cf;
+        reply = reply.Shell r;
+      } in now ++ entry ∷ [])) told_is
+      ∙ ap (λ (h : List (Entry C R)). with_entry h mark) was
+      ∙ sym (fold_push with_entry journal (take i marks) mark)
+      ∙ ap (entered journal) (sym (take_more marks i d below))
+
+module _ {C R I S : Type 0} (meaning : Meaning C R I S) (form : StrForm) where
+  -- marks that tell what is lost are those of the history
+  pub entered-told : (journal : List (Entry C R)) (cfs : List CfId) (marks : List Mark)
+      → AreTold meaning form (replay meaning form journal) cfs marks
+      → entered journal marks ≡ with_marks meaning form journal cfs
+  entered-told journal [] [] told = refl
+  entered-told journal [] (mark ∷ marks) told = absurd told
+  entered-told journal (cf ∷ cfs) [] told = absurd told
+  entered-told journal (cf ∷ cfs) (mark ∷ marks) told =
+      let here : with_entry journal mark ≡ with_mark meaning form journal cf =
+      ap (λ (x : CfId). (let entry : Entry C R = record {
+        no = length journal + 1;
+        by = operator;
+        what = what.Lost x;
+        reply = reply.Shell (reply_as mark.lost);
+      } in journal ++ entry ∷ [])) told.0
+      ∙ ap (λ (r : Reply R). (let entry : Entry C R = record {
+        no = length journal + 1;
+        by = operator;
+        what = what.Lost cf;
+        reply = r;
+      } in journal ++ entry ∷ [])) told.1 in
+      ap (λ (some : List (Entry C R)). entered some marks) here
+      ∙ entered-told (with_mark meaning form journal cf) cfs marks
+      (subst (λ (machine : Machine S). AreTold meaning form machine cfs marks)
+      (sym (replay-push meaning form journal (next_mark meaning form journal cf))) told.2)
+
+  -- as many as there are losses
+  pub told-length : (machine : Machine S) (cfs : List CfId) (marks : List Mark)
+      → AreTold meaning form machine cfs marks → length marks ≡ length cfs
+  told-length machine [] [] told = refl
+  told-length machine [] (mark ∷ marks) told = absurd told
+  told-length machine (cf ∷ cfs) [] told = absurd told
+  told-length machine (cf ∷ cfs) (mark ∷ marks) told =
+      ap (λ (n : ℕ). suc n) (told-length (lost_at meaning form machine cf) cfs marks told.2)
+
+  pub replay-marks : (journal : List (Entry C R)) (cfs : List CfId)
+      → replay meaning form (with_marks meaning form journal cfs)
+      ≡ behind_marks meaning form (replay meaning form journal) cfs
+  replay-marks journal [] = refl
+  replay-marks journal (cf ∷ cfs) =
+      replay-marks (with_mark meaning form journal cf) cfs
+      ∙ ap (λ (machine : Machine S). behind_marks meaning form machine cfs)
+      (replay-push meaning form journal (next_mark meaning form journal cf))
+
+-- What a turn of the machine is to the journal: these marks, and this call, are those of a turn of the history.
+pub record IsTaken {C R I S : Type 0} (meaning : Meaning C R I S) (form : StrForm) (journal : List (Entry C R))
+    (turn : Turn C) (machine : Machine S) (marks : List Mark) (reply : Reply R) : Type 0 where
+  pub marked : entered journal marks
+      ≡ with_marks meaning form journal (marks_by meaning form turn.down journal turn.by turn.ask)
+  pub reply_is : reply ≡ (let call = call_added meaning form journal turn in call.reply)
+  pub machine_is : machine ≡ replay meaning form (after_turn meaning form journal turn)
+
+module _ {C R I S L : Type 0} (asks : L → Option ℕ) (downs : L → Option (List ℕ)) (faults : L → ℕ)
+    (meaning : Meaning C R I S) where
+  -- a call meets two losses at most
+  pub few_marks : (old new : StructureView S L) (by : ConnId) (ask : Ask C) (marks : List Mark) (reply : Reply R)
+      → IsTurn asks downs faults meaning old new by ask marks reply → length marks ≤ 2
+  few_marks old new by ask marks reply it =
+      let asked = links_asked meaning old.form old.machine by ask in
+      let all : length marks ≡ length (lost_by meaning old.form it.down old.machine by ask) =
+      told-length meaning old.form old.machine (lost_by meaning old.form it.down old.machine by ask) marks it.told in
+      let some : length (lost_by meaning old.form it.down old.machine by ask) ≤ length asked.links =
+      marks_few it.down asked in
+      let two : length asked.links ≤ 2 = two_asked meaning old.form old.machine by ask in
+      omega (arith, all, some, two)
+
+  -- the same turn of the structure that a journal leads to
+  pub turn_at : (form : StrForm) (machine : Machine S) (old new : StructureView S L) (by : ConnId) (ask : Ask C)
+      (marks : List Mark) (reply : Reply R) → old.form ≡ form → old.machine ≡ machine
+      → IsTurn asks downs faults meaning old new by ask marks reply
+      → IsTurn asks downs faults meaning (record { form = form; machine = machine; links = old.links }) new by ask marks
+      reply
+  turn_at form machine old new by ask marks reply form_is machine_is it =
+      subst (λ (m : Machine S). IsTurn asks downs faults meaning
+      (record { form = form; machine = m; links = old.links }) new by ask marks reply) machine_is
+      (subst (λ (f : StrForm). IsTurn asks downs faults meaning
+      (record { form = f; machine = old.machine; links = old.links }) new by ask marks reply) form_is it)
+
+  pub taken : (form : StrForm) (journal : List (Entry C R)) (links : Links L) (new : StructureView S L)
+      (by : ConnId) (ask : Ask C) (marks : List Mark) (reply : Reply R)
+      → (it : IsTurn asks downs faults meaning
+      (record { form = form; machine = replay meaning form journal; links = links }) new by ask marks reply)
+      → IsTaken meaning form journal (record { by = by; ask = ask; down = it.down }) new.machine marks reply
+  taken form journal links new by ask marks reply it =
+      let lost = marks_by meaning form it.down journal by ask in
+      let call : record { reply = reply; machine = new.machine }
+      ≡ step meaning form (replay meaning form (with_marks meaning form journal lost)) by ask =
+      it.done ∙ ap (λ (m : Machine S). step meaning form m by ask) (sym (replay-marks meaning form journal lost)) in
+      record {
+        marked = entered-told meaning form journal lost marks it.told;
+        reply_is = ap (λ (a : CallOutcome R S). a.reply) call;
+        machine_is =
+            ap (λ (a : CallOutcome R S). a.machine) call
+            ∙ sym (replay-push meaning form (with_marks meaning form journal lost)
+            (next_entry meaning form (with_marks meaning form journal lost) by ask));
+      }
+
+  -- the links of a cell, asked since the start as its journal's answers say
+  pub links_more : (form : StrForm) (journal : List (Entry C R)) (turn : Turn C) (start before after : Links L)
+      → IsLegal meaning form journal → AreAsked asks downs faults (answers meaning form journal) start before
+      → AreAsked asks downs faults
+      (answers_to turn.down (links_asked meaning form (replay meaning form journal) turn.by turn.ask)) before after
+      → AreAsked asks downs faults (answers meaning form (after_turn meaning form journal turn)) start after
+  links_more form journal turn start before after legal since asked =
+      let told : CfId → List Bool =
+      answers_to turn.down (links_asked meaning form (replay meaning form journal) turn.by turn.ask) in
+      let more : (cf : CfId) → answers meaning form (after_turn meaning form journal turn) cf
+      ≡ answers meaning form journal cf ++ told cf =
+      (λ cf. answers-turn meaning form journal turn cf (legal_group meaning form journal legal)) in
+      record {
+        asked = λ cf here.
+            subst (λ (all : List Bool). IsAskedAll asks downs faults all (link_at start cf) (link_at after cf))
+            (sym (more cf))
+            (asked-append asks downs faults (answers meaning form journal cf) (told cf) (link_at start cf)
+            (link_at before cf) (link_at after cf) (since.asked cf here) (asked.asked cf here));
+        others = λ cf other.
+            more cf ∙ ap (λ (some : List Bool). some ++ told cf) (since.others cf other) ∙ asked.others cf other;
+      }
+
+  pub links_none : (form : StrForm) (links : Links L)
+      → AreAsked asks downs faults (answers {C = C} {R = R} meaning form []) links links
+  links_none form links = record { asked = λ cf here. refl; others = λ cf other. refl }
+
+-- ---- room for calls
+
+-- the last of some numbers, or the one before them
+abbrev last_of : ℕ → List ℕ → ℕ
+last_of last numbers = fold (λ (before number : ℕ). number) last numbers
+
+made_push : (limit last : ℕ) (some : List ℕ) (number : ℕ) → AreMadeBelow limit last some → last_of last some < limit
+    → AreMadeBelow limit last (some ++ number ∷ [])
+made_push limit last [] number made below = (below, tt)
+made_push limit last (first ∷ some) number made below = (made.0, made_push limit first some number made.1 below)
+
+module _ {C R I S : Type 0} (meaning : Meaning C R I S) (form : StrForm) where
+  numbers-turn : (history : List (Entry C R)) (turn : Turn C)
+      → numbers (after_turn meaning form history turn) ≡ numbers history ++ number_added meaning form history turn ∷ []
+  numbers-turn history turn =
+      ap (map (λ (call : Call C R). call.no)) (calls-turn meaning form history turn)
+      ∙ map-append (λ (call : Call C R). call.no) (calls history) (call_added meaning form history turn ∷ [])
+
+  -- a legal history ends with a call
+  ends_at : (history : List (Entry C R)) → IsLegal meaning form history
+      → last_of 0 (numbers history) ≡ length history
+  ends_at history legal =
+      by_turns meaning form (λ (h : List (Entry C R)). last_of 0 (numbers h) ≡ length h) refl
+      (λ h turn fine same. ap (last_of 0) (numbers-turn h turn)
+      ∙ fold_push (λ (before number : ℕ). number) 0 (numbers h) (number_added meaning form h turn)
+      ∙ sym (length-turn meaning form h turn)) history legal
+
+  -- one more turn, where there was room
+  pub room_more : (limit : ℕ) (history : List (Entry C R)) (turn : Turn C) → IsLegal meaning form history
+      → AreMadeBelow limit 0 (numbers history) → length history < limit
+      → AreMadeBelow limit 0 (numbers (after_turn meaning form history turn))
+  room_more limit history turn legal made below =
+      subst (AreMadeBelow limit 0) (sym (numbers-turn history turn))
+      (made_push limit 0 (numbers history) (number_added meaning form history turn) made
+      (subst (λ (n : ℕ). n < limit) (sym (ends_at history legal)) below))

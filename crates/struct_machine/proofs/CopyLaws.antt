@@ -1,0 +1,282 @@
+-- COPY behind the marks that its links make.
+use Rattle.std.proofs.Common.{◌≡◌, ℕ, ◌+◌, ◌-◌, ◌⊎◌, inl, inr, Bool, true, false, List, [], ◌∷◌, ◌++◌, Option, None, Some, IfSome, is_some, refl, sym, ap, ◌∙◌, subst, subst₂}
+use Rattle.std.specs.Prelude.{if◌then◌else◌, min}
+use Rattle.cf_types.specs.declared.events.Stage.TheVariants as stage
+use Rattle.cf_types.specs.declared.forms.StrForm.{StrForm}
+use Rattle.cf_types.specs.declared.numbers.CfId.{CfId}
+use Rattle.cf_types.specs.declared.numbers.ConnId.{ConnId}
+use Rattle.cf_types.specs.declared.refusals.Refusal.{Refusal}
+use Rattle.cf_types.specs.declared.refusals.Refusal.TheVariants as refusal
+use Rattle.cf_types.specs.declared.shell_commands.ShellCmd.TheVariants as cmd
+use Rattle.cf_types.specs.declared.shell_commands.ShellReply.{ShellReply}
+use Rattle.cf_types.specs.declared.shell_commands.ShellReply.TheVariants as shown
+use Rattle.duplex_pair.specs.declared.lost.Lost.{Lost}
+use Rattle.engine_api.specs.declared.asks.Ask.TheVariants as ask
+use Rattle.engine_api.specs.declared.asks.Reply.{Reply}
+use Rattle.engine_api.specs.declared.asks.Reply.TheVariants as reply
+use Rattle.engine_api.specs.declared.deeds.Room.{Room}
+use Rattle.engine_api.specs.Instances.{Instances, is_at}
+use Rattle.engine_api.specs.LinkAsks.{listed}
+use Rattle.engine_api.specs.Machine.{Machine, CallOutcome, command_done, copied_after, moved_by, room_of, unless}
+use Rattle.engine_api.specs.Meaning.{Meaning, first_refusal}
+use Rattle.engine_api.specs.Rebuilds.{fresh_of}
+use Rattle.engine_api.specs.Shell.{Shell, ShellOutcome, facility_of, failed_outcome, fresh_loss, idle_outcome, if_failed, if_lost, mark_outcome, primary_loss, shell_cause, shell_done, simplex_outcome, stopped_outcome, unless_active, unless_rebuilding}
+use Rattle.engine_api.proofs.AskLaws.{itself}
+use Rattle.plex_shell.specs.ShellView.{ShellView}
+use Rattle.rebuild_core.specs.declared.rebuild.Rebuild.{Rebuild}
+use Rattle.rebuild_shell.specs.Members.{IsManned}
+use Rattle.rebuild_shell.proofs.CauseLaws.{fourth_none}
+use Rattle.cf_types.specs.Forms.{IsFacility}
+use Rattle.rebuild_copy.specs.Filling.{with_copied}
+use Rattle.rebuild_shell.specs.Capacities.{fresh_caps}
+use Rattle.rebuild_shell.specs.Filling.{IsFilled}
+use Rattle.struct_machine.specs.Content.{Kept, lacking_in}
+use Rattle.struct_machine.specs.Kept.{AreOf, IsOf, caps_of, copied_in, copy_reply, judged, machine_of, state_in}
+use Rattle.struct_machine.proofs.BeforeLaws.{copied_caps, copied_more, nothing_lacks}
+use Rattle.struct_machine.proofs.CommandLaws.{filled_behind}
+use Rattle.struct_machine.proofs.KeptLaws.{room_left}
+use Rattle.struct_machine.specs.Turns.{AreTold, behind_marks, lost_at, marks_in}
+use Rattle.struct_machine.specs.declared.marks.Mark.{Mark}
+
+-- a refusal among causes
+first_some : (front : List (Option Refusal)) (why : Refusal) (rest : List (Option Refusal))
+    → is_some (first_refusal (front ++ Some why ∷ rest)) ≡ true
+first_some [] why rest = refl
+first_some (None ∷ front) why rest = first_some front why rest
+first_some (Some cause ∷ front) why rest = refl
+
+under_way : (rebuild : Option Rebuild) → unless_rebuilding rebuild ≡ None
+    → (r : Rebuild) × (rebuild ≡ Some r)
+under_way None fine = absurd (cc)
+under_way (Some r) fine = (r, refl)
+
+no_other : (second : Option CfId) → (is_some second ≡ true → ⊥) → second ≡ None
+no_other None none = refl
+no_other (Some cf) none = absurd (none refl)
+
+-- what copied items count for ends with all, and with the new instance
+record IsEnded (form : StrForm) (shell : Shell) (by : ConnId) (n : ℕ) (acted : ShellOutcome) : Type 0 where
+  pub copied : (k : ℕ) → copied_after acted.deeds k ≡ 0
+  pub refused : (room : Room) → is_some (shell_cause form room acted.shell by (cmd.Copy n)) ≡ true
+
+module _ (form : StrForm) (shell : Shell) (by : ConnId) (n : ℕ) (cf : CfId) where
+  abbrev marked : ShellOutcome → ShellOutcome
+  marked lost = record lost { shell = record lost.shell { lost = if lost.shell.failed then Some cf else None } }
+
+  failed_ends : IsEnded form shell by n (marked (failed_outcome form shell))
+  failed_ends = record {
+    copied = λ k. refl;
+    refused = λ room. first_some (unless_active (marked (failed_outcome form shell)).shell by ∷ [])
+        (refusal.LostFacility cf) _;
+  }
+
+  stopped_ends : (rebuild : Rebuild) → IsEnded form shell by n (marked (stopped_outcome rebuild shell))
+  stopped_ends rebuild = record {
+    copied = λ k. refl;
+    refused = λ room.
+        let after : Shell = (marked (stopped_outcome rebuild shell)).shell in
+        first_some (unless_active after by ∷ if_lost after ∷ if_failed after ∷ unless_rebuilding after.rebuild ∷ [])
+        (refusal.WrongStage stage.Stopping) _;
+  }
+
+  -- the loss of the old instance, and that of the new one
+  loss_ends : shell.instances.secondary ≡ None
+      → (shell.instances.primary ≡ Some cf) ⊎ (fresh_of shell.rebuild ≡ Some cf)
+      → IsEnded form shell by n (mark_outcome form cf shell)
+  loss_ends alone either = go (is_at cf shell.instances.primary) refl
+    where
+      by_fresh : (rebuild : Option Rebuild) → fresh_of rebuild ≡ Some cf
+          → IsEnded form shell by n (marked (fresh_loss cf rebuild shell))
+      by_fresh None is = absurd (cc)
+      by_fresh (Some rebuild) is =
+          subst (λ (b : Bool). IsEnded form shell by n (marked (if b then stopped_outcome rebuild shell
+          else idle_outcome shown.OkNone shell))) (sym (ap (is_at cf) is ∙ itself cf)) (stopped_ends rebuild)
+
+      new_one : (b : Bool) → is_at cf shell.instances.primary ≡ b → b ≡ false
+          → (shell.instances.primary ≡ Some cf) ⊎ (fresh_of shell.rebuild ≡ Some cf) → fresh_of shell.rebuild ≡ Some cf
+      new_one b at none (inl old) =
+          absurd (let wrong : true ≡ false = sym (itself cf) ∙ sym (ap (is_at cf) old) ∙ at ∙ none in cc)
+      new_one b at none (inr new) = new
+
+      go : (b : Bool) → is_at cf shell.instances.primary ≡ b → IsEnded form shell by n (mark_outcome form cf shell)
+      go true at =
+          subst₂ (λ (b : Bool) (second : Option CfId). IsEnded form shell by n (marked (if b
+          then primary_loss form cf second shell
+          else if is_at cf second then simplex_outcome cf (facility_of shell.instances.primary) shell
+          else fresh_loss cf shell.rebuild shell))) (sym at) (sym alone) failed_ends
+      go false at =
+          subst₂ (λ (b : Bool) (second : Option CfId). IsEnded form shell by n (marked (if b
+          then primary_loss form cf second shell
+          else if is_at cf second then simplex_outcome cf (facility_of shell.instances.primary) shell
+          else fresh_loss cf shell.rebuild shell))) (sym at) (sym alone)
+          (by_fresh shell.rebuild (new_one false at refl either))
+
+-- ---- the whole of it
+
+module _ {C R I S : Type 0} (meaning : Meaning C R I S) (form : StrForm) (machine : Machine S) (by : ConnId) (n : ℕ)
+    (manned : IsManned machine.shell)
+    (accepted : shell_cause form (room_of meaning form machine) machine.shell by (cmd.Copy n) ≡ None) where
+  abbrev room : Room
+  room = room_of meaning form machine
+
+  alone : machine.shell.instances.secondary ≡ None
+  alone =
+      no_other machine.shell.instances.secondary (λ two.
+      let way = under_way machine.shell.rebuild
+      (fourth_none (unless_active machine.shell by) (if_lost machine.shell) (if_failed machine.shell)
+      (unless_rebuilding machine.shell.rebuild) _ accepted) in
+      let wrong : Some way.0 ≡ None = sym way.1 ∙ manned.paired.rebuild two in cc)
+
+  ends : (cf : CfId) → (machine.shell.instances.primary ≡ Some cf) ⊎ (fresh_of machine.shell.rebuild ≡ Some cf)
+      → IsEnded form machine.shell by n (mark_outcome form cf machine.shell)
+  ends cf either = loss_ends form machine.shell by n cf alone either
+
+  -- with so many items more in the new instance
+  abbrev pub with_items : ℕ → Machine S
+  with_items more = record machine { copied = machine.copied + more }
+
+  -- one loss, of the machine with the items that were copied, and of the one before
+  same_loss : (cf : CfId) (more : ℕ)
+      → (machine.shell.instances.primary ≡ Some cf) ⊎ (fresh_of machine.shell.rebuild ≡ Some cf)
+      → lost_at meaning form (with_items more) cf ≡ lost_at meaning form machine cf
+  same_loss cf more either =
+      let ended : IsEnded form machine.shell by n (mark_outcome form cf machine.shell) = ends cf either in
+      λ i. record {
+        shell = (mark_outcome form cf machine.shell).shell;
+        content = (lost_at meaning form machine cf).content;
+        copied = (ended.copied (machine.copied + more) ∙ sym (ended.copied machine.copied)) i;
+      }
+
+  refused_so : (cause : Option Refusal) (answer : CallOutcome R S) (behind : Machine S) (told : Reply R)
+      → is_some cause ≡ true → (answered : ShellReply) → told ≡ copy_reply cause answered
+      → Path (CallOutcome R S) (record { reply = told; machine = behind }) (unless meaning form cause behind answer)
+  refused_so None answer behind told some answered is = absurd (cc)
+  refused_so (Some refusal) answer behind told some answered is =
+      λ i. record { reply = is i; machine = behind }
+
+  -- what COPY answers behind the marks, and leaves
+  pub copy_done : (lost : Lost) (now : Machine S) (seen : Room) (told : Reply R)
+      → IfSome lost.first (λ cf. machine.shell.instances.primary ≡ Some cf)
+      → IfSome lost.second (λ cf. fresh_of machine.shell.rebuild ≡ Some cf)
+      → (is_some lost.first ≡ true → lost.second ≡ None)
+      → now ≡ behind_marks meaning form (with_items (moved_by room (cmd.Copy n))) (marks_in lost)
+      → seen.left ≡ room.left
+      → told ≡ copy_reply (shell_cause form seen now.shell by (cmd.Copy n))
+      (shell_done form seen now.shell by (cmd.Copy n)).reply
+      → Path (CallOutcome R S) (record { reply = told; machine = now })
+      (judged meaning form (behind_marks meaning form machine (marks_in lost)) by (ask.Shell (cmd.Copy n)))
+  copy_done lost now seen told first second stopped behind left is =
+      go lost.first lost.second first second stopped behind
+    where
+      more : ℕ
+      more = moved_by room (cmd.Copy n)
+
+      Goes : Option CfId → Option CfId → Type 0
+      Goes one two =
+          now ≡ behind_marks meaning form (with_items more) (listed one ++ listed two)
+          → Path (CallOutcome R S) (record { reply = told; machine = now })
+          (judged meaning form (behind_marks meaning form machine (listed one ++ listed two)) by (ask.Shell (cmd.Copy
+          n)))
+
+      alone_lost : (cf : CfId)
+          → (machine.shell.instances.primary ≡ Some cf) ⊎ (fresh_of machine.shell.rebuild ≡ Some cf)
+          → now ≡ lost_at meaning form (with_items more) cf
+          → Path (CallOutcome R S) (record { reply = told; machine = now })
+          (judged meaning form (lost_at meaning form machine cf) by (ask.Shell (cmd.Copy n)))
+      alone_lost cf either behind =
+          let behind_it : now ≡ lost_at meaning form machine cf = behind ∙ same_loss cf more either in
+          let ended : IsEnded form machine.shell by n (mark_outcome form cf machine.shell) = ends cf either in
+          subst (λ (m : Machine S). Path (CallOutcome R S) (record { reply = told; machine = now })
+          (judged meaning form m by (ask.Shell (cmd.Copy n)))) behind_it
+          (refused_so (shell_cause form (room_of meaning form now) now.shell by (cmd.Copy n))
+          (command_done meaning form now by (cmd.Copy n)) now told
+          (ap (λ (m : Machine S). is_some (shell_cause form (room_of meaning form now) m.shell by (cmd.Copy n)))
+          behind_it
+          ∙ ended.refused (room_of meaning form now)) _ is)
+
+      go : (one two : Option CfId) → IfSome one (λ cf. machine.shell.instances.primary ≡ Some cf)
+          → IfSome two (λ cf. fresh_of machine.shell.rebuild ≡ Some cf)
+          → (is_some one ≡ true → two ≡ None) → Goes one two
+      go None None first second stopped behind =
+          subst (λ (cause : Option Refusal). Path (CallOutcome R S) (record { reply = told; machine = now })
+          (unless meaning form cause machine (command_done meaning form machine by (cmd.Copy n)))) (sym accepted)
+          (λ i. record { reply = told_so i; machine = behind i })
+        where
+          told_so : told ≡ reply.Shell (shell_done form room machine.shell by (cmd.Copy n)).reply
+          told_so =
+              is
+              ∙ ap (λ (m : Machine S). copy_reply (shell_cause form seen m.shell by (cmd.Copy n))
+              (shell_done form seen m.shell by (cmd.Copy n)).reply) behind
+              ∙ ap (λ (cause : Option Refusal). copy_reply cause (shell_done form seen machine.shell by (cmd.Copy
+              n)).reply)
+              accepted
+              ∙ ap (λ (l : ℕ). reply.Shell (shown.Copied (min n l) (l - min n l))) left
+      go None (Some cf) first second stopped behind = alone_lost cf (inr second) behind
+      go (Some cf) None first second stopped behind = alone_lost cf (inl first) behind
+      go (Some cf) (Some other) first second stopped behind =
+          absurd (let wrong : Some other ≡ None = stopped refl in cc)
+
+  -- the marks tell the same of the machine before the items were copied
+  pub told_before : (lost : Lost) (more : ℕ) (marks : List Mark) → (is_some lost.first ≡ true → lost.second ≡ None)
+      → AreTold meaning form (with_items more) (marks_in lost) marks
+      → AreTold meaning form machine (marks_in lost) marks
+  told_before lost more marks stopped told = go lost.first lost.second marks stopped told
+    where
+      single : (cf : CfId) (marks : List Mark) → AreTold meaning form (with_items more) (cf ∷ []) marks
+          → AreTold meaning form machine (cf ∷ []) marks
+      single cf [] told = absurd told
+      single cf (mark ∷ []) told = (told.0, told.1, tt)
+      single cf (mark ∷ (other ∷ marks)) told = absurd told.2
+
+      nothing : (marks : List Mark) → AreTold meaning form (with_items more) [] marks
+          → AreTold meaning form machine [] marks
+      nothing [] told = tt
+      nothing (mark ∷ marks) told = absurd told
+
+      go : (one two : Option CfId) (marks : List Mark) → (is_some one ≡ true → two ≡ None)
+          → AreTold meaning form (with_items more) (listed one ++ listed two) marks
+          → AreTold meaning form machine (listed one ++ listed two) marks
+      go None None marks stopped told = nothing marks told
+      go None (Some cf) marks stopped told = single cf marks told
+      go (Some cf) None marks stopped told = single cf marks told
+      go (Some cf) (Some other) marks stopped told =
+          absurd (let wrong : Some other ≡ None = stopped refl in cc)
+
+-- ---- once the items are copied
+
+module _ {C R I S : Type 0} (meaning : Meaning C R I S) (form : StrForm) (shelled : ShellView) (kept : Kept S)
+    (of : AreOf meaning form shelled kept) (by : ConnId) (n : ℕ)
+    (accepted : shell_cause form (room_of meaning form (machine_of meaning form shelled kept)) shelled.shell by
+    (cmd.Copy n) ≡ None) (now : ShellView) (after : Kept S) (same : now.form ≡ shelled.form)
+    (came : now.shell ≡ shelled.shell) (at : after.at ≡ kept.at) (holds : after.held ≡ kept.held)
+    (copied : after.fresh ≡ with_copied (min n (lacking_in meaning kept.held kept.fresh)) kept.fresh) where
+  abbrev before : Machine S
+  before = machine_of meaning form shelled kept
+
+  pub copied_machine : machine_of meaning form now after
+      ≡ record before { copied = before.copied + moved_by (room_of meaning form before) (cmd.Copy n) }
+  copied_machine = λ i. record { shell = came i; content = state_in meaning form (holds i); copied = counted i }
+    where
+      counted : copied_in after.fresh ≡ copied_in kept.fresh + min n (room_of meaning form before).left
+      counted =
+          ap copied_in copied
+          ∙ copied_more (min n (lacking_in meaning kept.held kept.fresh)) kept.fresh
+          (nothing_lacks meaning n kept.held kept.fresh)
+          ∙ ap (λ (left : ℕ). copied_in kept.fresh + min n left) (room_left meaning form shelled kept of)
+
+  pub kept_copied : AreOf meaning form now after
+  kept_copied = record {
+    formed = of.formed;
+    shell_form = same ∙ of.shell_form;
+    places = at ∙ of.places ∙ sym (ap (λ (s : Shell). s.instances) came);
+    held = subst₂ (IsOf meaning form) (sym (ap (λ (s : Shell). s.caps) came)) (sym holds) of.held;
+    fresh =
+        ap caps_of copied ∙ copied_caps (min n (lacking_in meaning kept.held kept.fresh)) kept.fresh ∙ of.fresh
+        ∙ sym (ap (λ (s : Shell). fresh_caps s.rebuild) came);
+    fresh_at = subst (λ (s : Shell). IfSome (fresh_of s.rebuild) IsFacility) (sym came) of.fresh_at;
+    stands = ap is_some holds ∙ of.stands ∙ sym (ap (λ (a : Instances). is_some a.primary) at);
+    manned = subst IsManned (sym came) of.manned;
+    filled =
+        subst (IsFilled meaning form) (sym copied_machine)
+        (filled_behind meaning form shelled kept of by (cmd.Copy n) accepted);
+  }

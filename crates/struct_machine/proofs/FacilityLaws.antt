@@ -1,0 +1,108 @@
+-- Where instances are made there is a facility.
+use Rattle.std.proofs.Common.{◌≡◌, ℕ, Bool, true, false, List, [], ◌∷◌, Option, None, Some, IfSome, refl}
+use Rattle.std.specs.Prelude.{if◌then◌else◌, unwrap_or, nat_le, filter}
+use Rattle.std.proofs.lemmas.List.Elements.{recursion_from_All}
+use Rattle.std.specs.List.{AllByRecursion}
+use Rattle.cf_types.specs.declared.events.Stage.{Stage}
+use Rattle.cf_types.specs.declared.events.Stage.TheVariants.{Quiesce, Connect, Copy, Cleanup, Stopping}
+use Rattle.cf_types.specs.declared.forms.Pref.{Pref}
+use Rattle.cf_types.specs.declared.forms.StrForm.{StrForm}
+use Rattle.cf_types.specs.declared.numbers.CfId.{CfId}
+use Rattle.cf_types.specs.declared.numbers.ConnId.{ConnId}
+use Rattle.cf_types.specs.Forms.{IsFacility, IsPref, IsForm}
+use Rattle.engine_api.specs.Instances.{place_for}
+use Rattle.engine_api.specs.Rebuilds.{fresh_of}
+use Rattle.engine_api.specs.Shell.{Shell, candidates, is_candidate}
+use Rattle.rebuild_core.specs.declared.passed.Passed.{Passed}
+use Rattle.rebuild_core.specs.declared.passed.Passed.TheVariants.{No, Into, Ended}
+use Rattle.rebuild_core.specs.declared.rebuild.Rebuild.{Rebuild}
+use Rattle.rebuild_core.specs.Stages.{outcome_of, rebuild_emptied, rebuild_left, rebuild_without, with_place, without_owing}
+use Rattle.rebuild_reading.specs.Steps.{rebuild_next, rebuild_given}
+use Rattle.rebuild_reading.specs.Tellings.{Telling, is_awaited}
+use Rattle.rebuild_reading.specs.Tellings.Telling.{Starts, Places, Completes, Responds, Stops, Departs, Forces, Fails, Nothing}
+
+-- ---- places of a form
+
+place_in : (units : ℕ) (is : Pref → Bool) (prefs : List Pref) → AllByRecursion IsPref prefs
+    → IfSome (place_for units (filter is prefs)) IsFacility
+place_in units is [] all = tt
+place_in units is (pref ∷ prefs) all = by_pref (is pref) (place_in units is prefs all.1)
+  where
+    by_pref : (b : Bool) → IfSome (place_for units (filter is prefs)) IsFacility
+        → IfSome (place_for units (if b then pref ∷ filter is prefs else filter is prefs)) IsFacility
+    by_pref false rest = rest
+    by_pref true rest = by_units (nat_le units pref.units) refl
+      where
+        by_units : (b : Bool) → nat_le units pref.units ≡ b
+            → IfSome (place_for units (pref ∷ filter is prefs)) IsFacility
+        by_units true enough = rw enough all.0.0
+        by_units false little = rw little rest
+
+-- a place that is found is a facility
+pub found_facility : (form : StrForm) (shell : Shell) (by : ConnId) (units : ℕ) → IsForm form
+    → IfSome (place_for units (candidates form shell by)) IsFacility
+found_facility form shell by units formed =
+    place_in units (is_candidate shell by) form.prefs (recursion_from_All IsPref form.prefs formed.prefs)
+
+-- ---- the new instance of a rebuild stands in a facility
+
+abbrev pub InFacility : Option Rebuild → Type 0
+InFacility rebuild = IfSome (fresh_of rebuild) IsFacility
+
+left_facility : (passed : Passed) (rebuild : Rebuild) → IfSome rebuild.fresh IsFacility
+    → InFacility (rebuild_left passed rebuild)
+left_facility No rebuild is = is
+left_facility (Into Quiesce) rebuild is = tt
+left_facility (Into Connect) rebuild is = is
+left_facility (Into Copy) rebuild is = is
+left_facility (Into Cleanup) rebuild is = tt
+left_facility (Into Stopping) rebuild is = tt
+left_facility Ended rebuild is = tt
+
+given_facility : (b : Bool) (by : ConnId) (rebuild : Rebuild) → IfSome rebuild.fresh IsFacility
+    → InFacility (rebuild_given b by rebuild)
+given_facility true by rebuild is = left_facility (outcome_of (without_owing by rebuild)) (without_owing by rebuild) is
+given_facility false by rebuild is = is
+
+emptied_facility : (at : Stage) (rebuild : Rebuild) → IfSome rebuild.fresh IsFacility
+    → InFacility (Some (rebuild_emptied at rebuild))
+emptied_facility Quiesce rebuild is = is
+emptied_facility Connect rebuild is = is
+emptied_facility Copy rebuild is = is
+emptied_facility Cleanup rebuild is = is
+emptied_facility Stopping rebuild is = is
+
+-- the place that is told is a facility, where the new one hasn't one already
+abbrev pub IsPlaceTold : Option Rebuild → Telling → Type 0
+IsPlaceTold rebuild (Places cf) = fresh_of rebuild ≡ None → IsFacility cf
+IsPlaceTold rebuild _ = Unit {0}
+
+placed_facility : (fresh : Option CfId) (cf : CfId) → IfSome fresh IsFacility → (fresh ≡ None → IsFacility cf)
+    → IsFacility (unwrap_or fresh cf)
+placed_facility None cf is may = may refl
+placed_facility (Some at) cf is may = is
+
+pub facility_next : (active : List ConnId) (by : ConnId) (told : Telling) (rebuild : Option Rebuild)
+    → IsPlaceTold rebuild told → InFacility rebuild → InFacility (rebuild_next active by told rebuild)
+facility_next active by (Starts number caps) rebuild may is = tt
+facility_next active by (Places cf) None may is = tt
+facility_next active by (Places cf) (Some rebuild) may is =
+    given_facility (is_awaited rebuild.stage rebuild.number (Places cf)) by (with_place cf rebuild)
+    (placed_facility rebuild.fresh cf is may)
+facility_next active by Completes None may is = tt
+facility_next active by Completes (Some rebuild) may is =
+    given_facility (is_awaited rebuild.stage rebuild.number Completes) by rebuild is
+facility_next active by (Responds answered) None may is = tt
+facility_next active by (Responds answered) (Some rebuild) may is =
+    given_facility (is_awaited rebuild.stage rebuild.number (Responds answered)) by rebuild is
+facility_next active by Stops None may is = tt
+facility_next active by Stops (Some rebuild) may is = tt
+facility_next active by Departs None may is = tt
+facility_next active by Departs (Some rebuild) may is =
+    left_facility (outcome_of (rebuild_without by rebuild)) (rebuild_without by rebuild) is
+facility_next active by Forces None may is = tt
+facility_next active by Forces (Some rebuild) may is = emptied_facility rebuild.stage rebuild is
+facility_next active by Fails None may is = tt
+facility_next active by Fails (Some rebuild) may is = tt
+facility_next active by Nothing None may is = tt
+facility_next active by Nothing (Some rebuild) may is = is

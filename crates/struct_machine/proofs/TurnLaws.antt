@@ -1,0 +1,233 @@
+-- A call with the links that it asks, put together.
+use Rattle.std.proofs.Common.{◌≡◌, ℕ, Bool, true, false, List, [], ◌∷◌, ◌++◌, Option, None, Some, IfSome, refl, sym, ap, ◌∙◌, subst, subst₂}
+use Rattle.std.specs.Prelude.{if◌then◌else◌, filter, ◌||◌, Result, Ok, Err, IfOk}
+use Rattle.std.proofs.lemmas.List.Sums.{fold-append}
+use Rattle.cf_link.specs.declared.links.Links.{Links}
+use Rattle.cf_link.specs.Links.{AreAsked, IsAskedAll, link_at}
+use Rattle.cf_types.specs.declared.forms.StrForm.{StrForm}
+use Rattle.cf_types.specs.declared.numbers.CfId.{CfId}
+use Rattle.cf_types.specs.declared.numbers.ConnId.{ConnId}
+use Rattle.cf_types.specs.declared.refusals.Refusal.{Refusal}
+use Rattle.cf_types.specs.declared.shell_commands.ShellCmd.{ShellCmd}
+use Rattle.cf_types.specs.declared.shell_commands.ShellCmd.TheVariants as cmd
+use Rattle.duplex_pair.specs.declared.lost.Lost.{Lost}
+use Rattle.engine_api.specs.declared.asks.Ask.{Ask}
+use Rattle.engine_api.specs.declared.asks.Ask.TheVariants as ask
+use Rattle.engine_api.specs.declared.asks.Reply.{Reply}
+use Rattle.engine_api.specs.declared.asks.Reply.TheVariants as reply
+use Rattle.engine_api.specs.Instances.{is_at}
+use Rattle.engine_api.specs.LinkAsks.{Asks, apart, asks_of, asks_of_command, asked_unless, has, links_asked, listed, marks_of, answers_to, reached}
+use Rattle.engine_api.specs.Machine.{Machine, CallOutcome, call_done, command_done, entered_machine, loss_step, room_of, unless, with_entered}
+use Rattle.engine_api.specs.Meaning.{Meaning}
+use Rattle.engine_api.specs.Rebuilds.{fresh_of}
+use Rattle.engine_api.specs.Shell.{Shell, ShellOutcome, call_cause, content_cause, mark_outcome, primary_loss, shell_cause, stands_at}
+use Rattle.plex_shell.specs.Losses.{reply_as}
+use Rattle.engine_api.proofs.AskLaws.{itself}
+use Rattle.struct_machine.specs.declared.marks.Mark.{Mark}
+use Rattle.struct_machine.specs.Kept.{is_copying, items_named, judged}
+use Rattle.struct_machine.specs.Turns.{AreTold, IsTurn, IsJudgedTurn, marks_in, behind_marks, lost_at, lost_by}
+
+module _ {C R I S : Type 0} (meaning : Meaning C R I S) (form : StrForm) where
+  -- one mark more
+  pub told_more : (start machine : Machine S) (cfs : List CfId) (marks : List Mark) (mark : Mark)
+      → machine ≡ behind_marks meaning form start cfs
+      → Path (Reply R) (reply.Shell (reply_as mark.lost)) (loss_step meaning form machine mark.cf).reply
+      → AreTold meaning form start cfs marks
+      → AreTold meaning form start (cfs ++ mark.cf ∷ []) (marks ++ mark ∷ [])
+  told_more start machine [] [] mark behind tells told =
+      (refl, tells ∙ ap (λ (m : Machine S). (loss_step meaning form m mark.cf).reply) behind, tt)
+  told_more start machine [] (m ∷ marks) mark behind tells told = absurd told
+  told_more start machine (cf ∷ cfs) [] mark behind tells told = absurd told
+  told_more start machine (cf ∷ cfs) (m ∷ marks) mark behind tells told =
+      (told.0, told.1, told_more (lost_at meaning form start cf) machine cfs marks mark behind tells told.2)
+
+  -- the marks of both, one after the other
+  pub behind_both : (machine one two : Machine S) (first second : Option CfId)
+      → one ≡ behind_marks meaning form machine (listed first) → two ≡ behind_marks meaning form one (listed second)
+      → two ≡ behind_marks meaning form machine (listed first ++ listed second)
+  behind_both machine one two first second is other =
+      other ∙ ap (λ (m : Machine S). behind_marks meaning form m (listed second)) is
+      ∙ sym (fold-append (lost_at meaning form) machine (listed first) (listed second))
+
+  -- of two instances the second one stands behind the loss of the first
+  pub second_stands : (machine now : Machine S) (first second : Option CfId)
+      → IfSome first (λ cf. machine.shell.instances.primary ≡ Some cf)
+      → IfSome second (λ cf. machine.shell.instances.secondary ≡ Some cf)
+      → now ≡ behind_marks meaning form machine (listed first)
+      → IfSome second (λ cf. stands_at now.shell cf ≡ true)
+  second_stands machine now first None is other behind = tt
+  second_stands machine now None (Some two) is other behind =
+      subst (λ (m : Machine S). stands_at m.shell two ≡ true) (sym behind)
+      (ap (λ (o : Option CfId). first_at || (is_at two o || fresh_at)) other
+      ∙ ap (λ (b : Bool). first_at || (b || fresh_at)) (itself two) ∙ or_second first_at)
+    where
+      first_at : Bool
+      first_at = is_at two machine.shell.instances.primary
+
+      fresh_at : Bool
+      fresh_at = is_at two (fresh_of machine.shell.rebuild)
+
+      or_second : (b : Bool) → b || true ≡ true
+      or_second true = refl
+      or_second false = refl
+  second_stands machine now (Some one) (Some two) is other behind =
+      subst (λ (m : Machine S). stands_at m.shell two ≡ true) (sym behind)
+      (ap (λ (o : Option CfId). is_at two o || rest) left ∙ ap (λ (b : Bool). b || rest) (itself two))
+    where
+      shell : Shell
+      shell = machine.shell
+
+      after : Shell
+      after = (mark_outcome form one shell).shell
+
+      rest : Bool
+      rest = is_at two after.instances.secondary || is_at two (fresh_of after.rebuild)
+
+      go : (b : Bool) (second : Option CfId) (others : ShellOutcome) → b ≡ true → second ≡ Some two
+          → (if b then primary_loss form one second shell else others).shell.instances.primary ≡ Some two
+      go true second others there at =
+          ap (λ (o : Option CfId). (primary_loss form one o shell).shell.instances.primary) at
+      go false second others there at = absurd (cc)
+
+      left : after.instances.primary ≡ Some two
+      left = go (is_at one shell.instances.primary) shell.instances.secondary _ (ap (is_at one) is ∙ itself one) other
+
+  -- ---- a whole turn
+
+  module _ {L : Type 0} (calls : L → Option ℕ) (downs : L → Option (List ℕ)) (faults : L → ℕ) where
+    pub turn_made : (old new : Machine S) (before after : Links L) (by : ConnId) (call : Ask C) (asks : Asks)
+        (lost : Lost) (marks : List Mark) (reply : Reply R)
+        → asks ≡ links_asked meaning form old by call
+        → marks_in lost ≡ marks_of (has (marks_in lost)) asks
+        → AreAsked calls downs faults (answers_to (has (marks_in lost)) asks) before after
+        → AreTold meaning form old (marks_in lost) marks
+        → Path (CallOutcome R S) (record { reply = reply; machine = new })
+        (judged meaning form (behind_marks meaning form old (marks_in lost)) by call)
+        → IsJudgedTurn calls downs faults meaning form old new before after by call marks reply
+    turn_made old new before after by call asks lost marks reply asked marked links told done =
+        let down : CfId → Bool = has (marks_in lost) in
+        let same : marks_in lost ≡ lost_by meaning form down old by call =
+        marked ∙ ap (λ (it : Asks). marks_of down it) asked in
+        record {
+          down = down;
+          told = subst (λ (cfs : List CfId). AreTold meaning form old cfs marks) same told;
+          done = done ∙ ap (λ (cfs : List CfId). judged meaning form (behind_marks meaning form old cfs) by call) same;
+          links =
+              subst (λ (it : Asks). AreAsked calls downs faults (answers_to down it) before after) asked links;
+        }
+
+    -- one that asks no link
+    pub turn_quiet : (old new : Machine S) (before after : Links L) (by : ConnId) (call : Ask C) (marks : List Mark)
+        (reply : Reply R) → (links_asked meaning form old by call).links ≡ []
+        → after ≡ before → marks ≡ []
+        → Path (CallOutcome R S) (record { reply = reply; machine = new }) (judged meaning form old by call)
+        → IsJudgedTurn calls downs faults meaning form old new before after by call marks reply
+    turn_quiet old new before after by call marks reply none same unmarked done = record {
+      down = λ cf. false;
+      told =
+          subst₂ (λ (cfs : List CfId) (m : List Mark). AreTold meaning form old cfs m)
+          (sym (nothing (links_asked meaning form old by call) none)) (sym unmarked) tt;
+      done =
+          done ∙ ap (λ (cfs : List CfId). judged meaning form (behind_marks meaning form old cfs) by call)
+          (sym (nothing (links_asked meaning form old by call) none));
+      links = record {
+        asked = λ cf is.
+            subst (λ (all : List Bool). IsAskedAll calls downs faults all (link_at before cf) (link_at after cf))
+            (sym (unasked (links_asked meaning form old by call) none cf))
+            (ap (λ (l : Links L). link_at l cf) same);
+        others = λ cf is. unasked (links_asked meaning form old by call) none cf;
+      };
+    }
+      where
+        nothing : (asks : Asks) → asks.links ≡ [] → marks_of (λ (cf : CfId). false) asks ≡ []
+        nothing asks none =
+            ap (λ (cfs : List CfId). filter (λ (cf : CfId). false) (reached asks.stops (λ (cf : CfId). false) cfs)) none
+
+        unasked : (asks : Asks) → asks.links ≡ [] → (cf : CfId) → answers_to (λ (c : CfId). false) asks cf ≡ []
+        unasked asks none cf =
+            ap (λ (cfs : List CfId). if has (reached asks.stops (λ (c : CfId). false) cfs) cf then false ∷ [] else [])
+            none
+
+    -- once it has come
+    pub turn_entered : (old new : Machine S) (before after : Links L) (by : ConnId) (call : Ask C) (marks : List Mark)
+        (reply : Reply R) (came : Machine S) → came ≡ entered_machine new
+        → IsJudgedTurn calls downs faults meaning form old new before after by call marks reply
+        → IsTurn calls downs faults meaning (record { form = form; machine = old; links = before })
+        (record { form = form; machine = came; links = after }) by call marks reply
+    turn_entered old new before after by call marks reply came is turn = record {
+      down = turn.down;
+      told = turn.told;
+      done =
+          ap (λ (m : Machine S). (let o : CallOutcome R S = record { reply = reply; machine = m } in o)) is
+          ∙ ap with_entered turn.done;
+      asked = turn.links;
+    }
+
+  -- what asks no link
+  pub refused_asks : (machine : Machine S) (by : ConnId) (call : Ask C) (refusal : Refusal)
+      → call_cause form (room_of meaning form machine) machine.shell by call ≡ Some refusal
+      → (links_asked meaning form machine by call).links ≡ []
+  refused_asks machine by call refusal is =
+      ap (λ (cause : Option Refusal). (asked_unless cause (asks_of machine.shell call)).links) is
+
+  pub command_asks : (machine : Machine S) (by : ConnId) (command : ShellCmd) → is_copying command ≡ false
+      → (links_asked meaning form machine by (ask.Shell command)).links ≡ []
+  command_asks machine by command other = go (shell_cause form (room_of meaning form machine) machine.shell by command)
+    where
+      nothing : (command : ShellCmd) → is_copying command ≡ false → (asks_of_command machine.shell command).links ≡ []
+      nothing (cmd.Copy n) other = absurd (cc)
+      nothing _ other = refl
+
+      go : (cause : Option Refusal) → (asked_unless cause (asks_of_command machine.shell command)).links ≡ []
+      go None = ap apart (nothing command other)
+      go (Some refusal) = refl
+
+  -- what a command on the content asks, and COPY
+  pub content_asks : (machine : Machine S) (by : ConnId) (call : Ask C) (command : C) (first second : Option CfId)
+      → call ≡ ask.Content command → content_cause machine.shell by ≡ None
+      → first ≡ machine.shell.instances.primary → second ≡ machine.shell.instances.secondary
+      → Path Asks (record { links = apart (listed first ++ listed second); stops = false })
+      (links_asked meaning form machine by call)
+  content_asks machine by call command first second is accepted one two =
+      (λ i. record { links = apart (listed (one i) ++ listed (two i)); stops = false })
+      ∙ sym (ap (links_asked meaning form machine by) is
+      ∙ ap (λ (cause : Option Refusal). asked_unless cause (asks_of machine.shell (ask.Content command))) accepted)
+
+  pub copy_asks : (machine : Machine S) (by : ConnId) (call : Ask C) (n : ℕ) (shell : Shell)
+      → call ≡ ask.Shell (cmd.Copy n)
+      → shell_cause form (room_of meaning form machine) machine.shell by (cmd.Copy n) ≡ None → shell ≡ machine.shell
+      → Path Asks
+      (record { links = apart (listed shell.instances.primary ++ listed (fresh_of shell.rebuild)); stops = true })
+      (links_asked meaning form machine by call)
+  copy_asks machine by call n shell is accepted same =
+      ap (λ (s : Shell). (let asks : Asks = record {
+        links = apart (listed s.instances.primary ++ listed (fresh_of s.rebuild));
+        stops = true;
+      } in asks)) same
+      ∙ sym (ap (links_asked meaning form machine by) is
+      ∙ ap (λ (cause : Option Refusal). asked_unless cause (asks_of_command machine.shell (cmd.Copy n))) accepted)
+
+  -- a refused call changes nothing, and one that isn't refused does what it does
+  pub refused_done : (machine : Machine S) (by : ConnId) (call : Ask C) (refusal : Refusal)
+      → call_cause form (room_of meaning form machine) machine.shell by call ≡ Some refusal
+      → Path (CallOutcome R S) (record { reply = reply.Refused refusal; machine = machine })
+      (judged meaning form machine by call)
+  refused_done machine by call refusal is =
+      sym (ap (λ (cause : Option Refusal). unless meaning form cause machine (call_done meaning form machine by call))
+      is)
+
+  pub command_judged : (machine : Machine S) (by : ConnId) (command : ShellCmd)
+      → shell_cause form (room_of meaning form machine) machine.shell by command ≡ None
+      → command_done meaning form machine by command ≡ judged meaning form machine by (ask.Shell command)
+  command_judged machine by command accepted =
+      sym (ap (λ (cause : Option Refusal). unless meaning form cause machine
+      (command_done meaning form machine by command)) accepted)
+
+pub copy_is : (command : ShellCmd) → is_copying command ≡ true → command ≡ cmd.Copy (items_named command)
+copy_is (cmd.Copy n) is = refl
+copy_is _ is = absurd (cc)
+
+pub ok_map : {T F : Type 0} (result : Result T F) (P Q : T → Type 0) → ((x : T) → P x → Q x) → IfOk result P
+    → IfOk result Q
+ok_map (Ok x) P Q more is = more x is
+ok_map (Err fault) P Q more is = tt

@@ -1,0 +1,57 @@
+-- A command on the content leaves the instances where they stand.
+use Rattle.std.proofs.Common.{◌≡◌, List, ◌∙◌, subst, rules}
+use Rattle.cf_types.specs.declared.effects.BitChange.{BitChange}
+use Rattle.cf_types.specs.Gains.{Gains}
+use Rattle.duplex_pair.specs.Pairs.{bits_of, content_of, letters_by}
+use Rattle.struct_machine.specs.Content.{kept_of}
+use Rattle.struct_machine.proofs.ChangeLaws.{gains_held}
+use Rattle.struct_machine.proofs.KeptLaws.{answered_some, content_alone, content_held, content_same, kept_content}
+use Rattle.struct_machine.proofs.doing.apply.Goals as goal
+
+pub apply-answer-requires-clause-stands : goal.apply-answer-requires-clause-stands
+apply-answer-requires-clause-stands g c κs within =
+    content_held g.E.Engine.meaning c.args.form.now c.args.shell.now (kept_of g.E.Engine.held c.args.content.now)
+    c.requires.of_form c.args.by c.requires.accepted
+
+pub apply-answer-requires-clause-alone : goal.apply-answer-requires-clause-alone
+apply-answer-requires-clause-alone g c κs within =
+    content_alone g.E.Engine.meaning c.args.form.now c.args.shell.now (kept_of g.E.Engine.held c.args.content.now)
+    c.requires.of_form c.args.by c.requires.accepted
+
+pub returns-clause-done : goal.returns-clause-done
+returns-clause-done g c =
+    let kept = kept_of g.E.Engine.held c.args.content.now in
+    let of = c.requires.of_form in
+    let sent : c.items.result.now ≡ letters_by g.E.Engine.meaning c.args.by c.args.cmd.now kept.held = search rules in
+    rw c.content_reply.ensures
+    (content_same g.E.Engine.meaning c.args.form.now c.args.shell.now c.post_all.new.shell kept
+    (kept_of g.E.Engine.held c.apply-answer.new.self) c.items.result.now c.args.by c.args.cmd.now
+    c.apply-answer.result of
+    (content_held g.E.Engine.meaning c.args.form.now c.args.shell.now kept of c.args.by c.requires.accepted)
+    c.post_all.ensures.shell sent c.apply-answer.ensures.step
+    (content_alone g.E.Engine.meaning c.args.form.now c.args.shell.now kept of c.args.by c.requires.accepted)
+    c.apply-answer.ensures.fresh)
+
+pub returns-clause-bits : goal.returns-clause-bits
+returns-clause-bits g c =
+    let kept = kept_of g.E.Engine.held c.args.content.now in
+    let now = content_of g.E.Engine.held c.apply-answer.new.self.pair in
+    let stands = content_held g.E.Engine.meaning c.args.form.now c.args.shell.now kept c.requires.of_form c.args.by
+    c.requires.accepted in
+    gains_held g.E.Engine.meaning c.args.form.now kept.held now c.apply-answer.new.out.bits.items stands
+    (answered_some g.E.Engine.meaning c.args.form.now c.args.by c.args.cmd.now c.apply-answer.result kept.held now
+    c.apply-answer.ensures.step ∙ stands)
+    (subst (λ (names : List BitChange). Gains (bits_of g.E.Engine.meaning kept.held) (bits_of g.E.Engine.meaning now)
+    names
+    c.apply-answer.new.out.bits.items) c.requires.unnamed c.apply-answer.ensures.bits)
+
+pub returns-clause-of_form : goal.returns-clause-of_form
+returns-clause-of_form g c =
+    let kept = kept_of g.E.Engine.held c.args.content.now in
+    let of = c.requires.of_form in
+    kept_content g.E.Engine.meaning c.args.form.now c.args.shell.now c.post_all.new.shell kept
+    (kept_of g.E.Engine.held c.apply-answer.new.self) c.items.result.now c.args.by c.args.cmd.now
+    c.apply-answer.result of
+    c.post_all.ensures.form c.post_all.ensures.shell c.apply-answer.ensures.step c.apply-answer.ensures.places
+    (content_alone g.E.Engine.meaning c.args.form.now c.args.shell.now kept of c.args.by c.requires.accepted)
+    c.apply-answer.ensures.fresh

@@ -1,0 +1,27 @@
+-- One mark more tells what becomes of the machine behind the marks before it.
+use Rattle.std.proofs.Common.{List, sym, ap, subst, append-nil}
+use Rattle.cf_types.specs.declared.numbers.CfId.{CfId}
+use Rattle.cf_types.specs.declared.shell_commands.ShellReply.{ShellReply}
+use Rattle.engine_api.specs.declared.asks.Reply.{Reply}
+use Rattle.engine_api.specs.declared.asks.Reply.TheVariants as reply
+use Rattle.struct_machine.specs.Content.{kept_of}
+use Rattle.struct_machine.specs.Kept.{machine_of}
+use Rattle.struct_machine.specs.Turns.{AreTold}
+use Rattle.struct_machine.proofs.TurnLaws.{told_more}
+use Rattle.struct_machine.proofs.losing.mark.Goals as goal
+
+pub returns-in-Some-clause-told : goal.returns-in-Some-clause-told
+returns-in-Some-clause-told g c = λ start cfs behind told.
+    rw (c.in-Some.is, c.push.ensures)
+    (told_more g.E.Engine.meaning c.args.form.now start
+    (machine_of g.E.Engine.meaning c.args.form.now c.args.shell.now (kept_of g.E.Engine.held c.args.content.now)) cfs
+    c.args.marks.now (record { cf = c.in-Some.cf; lost = c.lose-told.result }) behind
+    (ap (λ (answer : ShellReply). (let r : Reply g.row.E-Reply.Denot = reply.Shell answer in r))
+    c.lose-told.ensures.told) told)
+
+pub returns-in-None-clause-told : goal.returns-in-None-clause-told
+returns-in-None-clause-told g c = λ start cfs behind told.
+    rw c.in-None.is
+    (subst (λ (l : List CfId). AreTold g.E.Engine.meaning c.args.form.now start l c.args.marks.now) (sym (append-nil
+    cfs))
+    told)

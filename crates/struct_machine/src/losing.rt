@@ -1,0 +1,113 @@
+//! What links tell before a call is done.
+ghost use Rattle.std.specs.Prelude.{◌≡◌, ◌≤◌, ◌+◌, ◌++◌, IfSome, List, false, true, length};
+ghost use Rattle.cf_types.specs.declared.effects.Effects.{Effects};
+ghost use Rattle.cf_types.specs.declared.numbers.CfId.{CfId};
+ghost use Rattle.cf_types.specs.Forms.{IsFacility};
+ghost use Rattle.duplex_pair.specs.Pairs.{content_of, AreReady};
+ghost use Rattle.engine_api.specs.LinkAsks.{listed};
+ghost use Rattle.engine_api.specs.Machine.{Machine};
+ghost use Rattle.engine_api.specs.Meaning.{Wish};
+ghost use Rattle.engine_api.specs.Shell.{mark_outcome, stands_at};
+ghost use Rattle.plex_shell.specs.Losses.{reply_as};
+ghost use Rattle.struct_machine.specs.Marks.{is_failure};
+ghost use Rattle.struct_machine.specs.Content.{kept_of};
+ghost use Rattle.struct_machine.specs.Kept.{AreOf, machine_of};
+ghost use Rattle.struct_machine.specs.Turns.{AreTold, behind_marks, lost_at};
+ghost use Rattle.struct_machine.specs.Losses.{IsEnding, kept_without};
+ghost use Rattle.struct_machine.specs.declared.marks.TheConstants.{MARKS};
+
+use crate::content::Content;
+use crate::marks::{Marks, is_failure};
+use cf_link::Link;
+use cf_types::{CfId, StrForm};
+use engine_api::Engine;
+use plex_shell::{ACT_LETTERS, LostAs, Shell};
+
+/// What stands in a facility is lost, where one is named: it is marked, and the instance ends. Room
+/// for the letters was taken. Whether the structure failed is told.
+pub(crate) fn mark<E: Engine, L: Link>(
+    form: &StrForm,
+    shell: &mut Shell,
+    content: &mut Content<E, L>,
+    marks: &mut Marks,
+    lost: Option<CfId>,
+) -> bool
+    requires of_form { AreOf E.meaning form.now shell.old (kept_of E.held content.old) }
+    requires facility { IfSome lost IsFacility }
+    requires there { IfSome lost (λ cf. stands_at shell.old.shell cf ≡ true) }
+    requires letters { ACT_LETTERS ≤ shell.old.room }
+    requires room { length marks.old + length (listed lost) ≤ MARKS }
+    ensures machine { machine_of E.meaning form.now shell.new (kept_of E.held content.new)
+        ≡ behind_marks E.meaning form.now
+        (machine_of E.meaning form.now shell.old (kept_of E.held content.old)) (listed lost) }
+    ensures told { (start : Machine E.State) (cfs : List CfId)
+        → machine_of E.meaning form.now shell.old (kept_of E.held content.old)
+        ≡ behind_marks E.meaning form.now start cfs
+        → AreTold E.meaning form.now start cfs marks.old
+        → AreTold E.meaning form.now start (cfs ++ listed lost) marks.new }
+    ensures count { length marks.new ≡ length marks.old + length (listed lost) }
+    ensures of_form { AreOf E.meaning form.now shell.new (kept_of E.held content.new) }
+    ensures links { content.new.pair.links ≡ content.old.pair.links }
+    ensures letters { shell.old.room ≤ shell.new.room + ACT_LETTERS }
+    ensures ready { (wish : Wish E.Cmd) (out : Effects)
+        → AreReady E.is_ready content.old.pair wish out
+        → AreReady E.is_ready content.new.pair wish out }
+    ensures same { result ≡ false
+        → content_of E.held content.new.pair ≡ content_of E.held content.old.pair }
+{
+    match lost {
+        Some(cf) => {
+            let told = lose(form, shell, content, cf);
+            marks.push(cf, told);
+            is_failure(told)
+        }
+        None => false,
+    }
+}
+
+/// A link has told that what stands in a facility is lost. Of two instances the other one is left;
+/// a rebuild that loses its new instance stops; and without any instance the structure fails.
+pub(crate) fn lose<E: Engine, L: Link>(
+    form: &StrForm,
+    shell: &mut Shell,
+    content: &mut Content<E, L>,
+    cf: CfId,
+) -> LostAs
+    requires of_form { AreOf E.meaning form.now shell.old (kept_of E.held content.old) }
+    requires facility { IsFacility cf }
+    requires there { stands_at shell.old.shell cf ≡ true }
+    requires letters { ACT_LETTERS ≤ shell.old.room }
+    ensures machine { machine_of E.meaning form.now shell.new (kept_of E.held content.new)
+        ≡ lost_at E.meaning form.now
+        (machine_of E.meaning form.now shell.old (kept_of E.held content.old)) cf }
+    ensures told { reply_as result ≡ (mark_outcome form.now cf shell.old.shell).reply }
+    ensures of_form { AreOf E.meaning form.now shell.new (kept_of E.held content.new) }
+    ensures links { content.new.pair.links ≡ content.old.pair.links }
+    ensures letters { shell.old.room ≤ shell.new.room + ACT_LETTERS }
+    ensures ready { (wish : Wish E.Cmd) (out : Effects)
+        → AreReady E.is_ready content.old.pair wish out
+        → AreReady E.is_ready content.new.pair wish out }
+    ensures same { is_failure result ≡ false
+        → content_of E.held content.new.pair ≡ content_of E.held content.old.pair }
+{
+    let _ = form;
+    let told = shell.lost(cf);
+    end_lost(content, cf, told);
+    told
+}
+
+// What becomes of the instances.
+fn end_lost<E: Engine, L: Link>(content: &mut Content<E, L>, cf: CfId, told: LostAs)
+    requires ending { IsEnding told cf (kept_of E.held content.old) }
+    ensures kept { kept_of E.held content.new ≡ kept_without told cf (kept_of E.held content.old) }
+    ensures links { content.new.pair.links ≡ content.old.pair.links }
+    ensures ready { (wish : Wish E.Cmd) (out : Effects)
+        → AreReady E.is_ready content.old.pair wish out
+        → AreReady E.is_ready content.new.pair wish out }
+{
+    match told {
+        LostAs::Simplex { .. } => content.drop_at(cf),
+        LostAs::Stopped { .. } => content.drop_fresh(),
+        LostAs::FailedNow => content.drop_all(),
+    }
+}

@@ -1,0 +1,14 @@
+pub mod TieLaws
+pub mod PlaceLaws
+pub mod BinLaws
+pub mod OpLaws
+pub mod RunLaws
+pub mod KeyLaws
+pub mod NodeLaws
+pub mod SpotLaws
+pub mod ViewLaws
+pub mod TableLaws
+pub mod SortLaws
+pub mod CountedLaws
+pub mod RankLaws
+pub mod PassLaws
