@@ -192,7 +192,7 @@ class Run:
         verb = ["run", "--jobs", str(jobs), "--", "serial"] if crate.name == PROGRAM else ["lib", "--jobs", str(jobs)]
         with open(log, "wb") as it:
             self.process = subprocess.Popen(
-                ["rt", *verb],
+                [sys.executable, f"{os.path.dirname(os.path.realpath(__file__))}/rt.py", *verb],
                 cwd=f"{lane.folder}/crates/{crate.name}",
                 stdin=subprocess.DEVNULL,
                 stdout=it,

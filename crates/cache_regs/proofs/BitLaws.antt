@@ -1,82 +1,21 @@
 -- The bits that change when registrations come and end.
-use Rattle.std.proofs.Common.{◌≡◌, ℕ, Bool, true, false, not, ◌&&◌, ◌||◌, ◌==◌, List, [], ◌∷◌, ◌++◌, filter, map, append-nil, refl, sym, ap, ◌∙◌, subst₂, inl, inr, ◌⊎◌, arith}
-use Rattle.std.specs.List.{list_any, list_all}
+use Rattle.std.proofs.Common.{◌≡◌, ℕ, Bool, true, false, not, ◌&&◌, ◌||◌, ◌==◌, List, [], ◌∷◌, ◌++◌, filter, append-nil, refl, sym, ap, ◌∙◌, subst₂, inl, inr, ◌⊎◌, arith}
+use Rattle.std.specs.List.{list_any}
 use Rattle.std.proofs.lemmas.Bool.{and_parts, false≢true, eqb-true, eq-eqb}
 use Rattle.std.proofs.lemmas.Bool.Decides.{nat_tests}
 use Rattle.std.proofs.lemmas.Map.Views.{any-filter_same}
 use Rattle.cf_types.specs.declared.names.Name16.{Name16}
 use Rattle.cf_types.specs.declared.numbers.ConnId.{ConnId}
 use Rattle.cf_types.specs.declared.effects.BitChange.{BitChange}
-use Rattle.cf_types.specs.Gains.{Gains, bits_told, difference}
+use Rattle.cf_types.specs.Gains.{Gains}
 use Rattle.cf_types.proofs.GainsLaws.{Falls, gains_none, gains_one, gains_then}
-use Rattle.list_laws.specs.Pairwise.{pairwise}
-use Rattle.list_laws.proofs.FilterLaws.{any-filter, none-filter, none_from_all, list_all_weaker}
+use Rattle.list_laws.proofs.FilterLaws.{any-filter}
 use Rattle.list_laws.proofs.InsertionLaws.{list_any-insertion, list_any-insertion_kept}
 use Rattle.cache_regs.specs.declared.registrations.Registration.{Registration}
 use Rattle.cache_regs.specs.Registrations.{is_of, is_at, is_for, is_replaced, regs_with, stands, stands_before}
-use Rattle.cache_regs.specs.Ends.{clear_change}
 use Rattle.cache_regs.specs.Places.{with_reg, set_changes}
-use Rattle.cache_regs.proofs.RegLaws.{places_apart}
 
--- ---- registrations end
-
-same_place : (c i d j k n : ℕ) → (c == k) && (i == n) ≡ true → not ((d == c) && (j == i)) ≡ true
-    → not ((d == k) && (j == n)) ≡ true
-same_place c i d j k n h e = grind (arith, nat_tests)
-
--- where one stands at an index, no later one does
-none_later : (reg : Registration) (regs : List Registration) (conn : ConnId) (index : ℕ) → pairwise stands_before
-    (reg ∷ regs) ≡ true
-    → is_at conn index reg ≡ true → stands regs conn index ≡ false
-none_later reg regs conn index ordered here =
-    none_from_all (is_at conn index) regs
-    (list_all_weaker (stands_before reg) (λ other. not (is_at conn index other))
-    (λ other h. same_place reg.conn.0 reg.index other.conn.0 other.index conn.0 index here (places_apart reg other h))
-    regs
-    (and_parts (list_all (stands_before reg) regs) (pairwise stands_before regs) ordered).0)
-
-ended_step : (p : Registration → Bool) (conn : ConnId) (index : ℕ) (a b : Bool) (reg : Registration)
-    (regs : List Registration)
-    → is_at conn index reg ≡ a → p reg ≡ b → (a ≡ true → stands regs conn index ≡ false)
-    → bits_told (map clear_change (filter p regs)) conn index ≡ difference (stands regs conn index)
-    (stands (filter (λ r. not (p r)) regs) conn index)
-    → bits_told (map clear_change (filter p (reg ∷ regs))) conn index
-    ≡ difference (stands (reg ∷ regs) conn index) (stands (filter (λ r. not (p r)) (reg ∷ regs)) conn index)
-ended_step p conn index true true reg regs e f none ih =
-    let gone : stands (filter (λ r. not (p r)) regs) conn index ≡ false = none-filter (is_at conn index)
-    (λ r. not (p r)) regs (none refl) in
-    let quiet : bits_told (map clear_change (filter p regs)) conn index ≡ [] = ih ∙ rw (none refl, gone) refl in
-    rw (f, e, gone, quiet) refl
-ended_step p conn index true false reg regs e f none ih =
-    let gone : stands (filter (λ r. not (p r)) regs) conn index ≡ false = none-filter (is_at conn index)
-    (λ r. not (p r)) regs (none refl) in
-    let quiet : bits_told (map clear_change (filter p regs)) conn index ≡ [] = ih ∙ rw (none refl, gone) refl in
-    rw (f, e, quiet) refl
-ended_step p conn index false true reg regs e f none ih = rw (f, e) ih
-ended_step p conn index false false reg regs e f none ih = rw (f, e) ih
-
-ended_told : (p : Registration → Bool) (conn : ConnId) (index : ℕ) (regs : List Registration)
-    → pairwise stands_before regs ≡ true
-    → bits_told (map clear_change (filter p regs)) conn index ≡ difference (stands regs conn index)
-    (stands (filter (λ r. not (p r)) regs) conn index)
-ended_told p conn index [] h = refl
-ended_told p conn index (reg ∷ regs) h =
-    ended_step p conn index (is_at conn index reg) (p reg) reg regs refl refl (none_later reg regs conn index h)
-    (ended_told p conn index regs (and_parts (list_all (stands_before reg) regs) (pairwise stands_before regs) h).1)
-
--- each registration that ends clears its bit
-pub gains_ended : (p : Registration → Bool) (regs : List Registration) (bits : List BitChange)
-    → pairwise stands_before regs ≡ true
-    → Gains (stands regs) (stands (filter (λ reg. not (p reg)) regs)) bits (bits ++ map clear_change (filter p regs))
-gains_ended p regs bits h =
-    record {
-      added = map clear_change (filter p regs);
-      behind = refl;
-      exactly = λ conn index. ended_told p conn index
-          regs h;
-    }
-
--- ---- one registration comes
+-- ---- one registration goes or comes
 
 same_test : (a b c d x y : ℕ) → (a == c) && (b == d) ≡ true → not ((a == x) && (b == y)) ≡ not ((x == c) && (y == d))
 same_test a b c d x y e = grind (arith, nat_tests)
@@ -109,6 +48,19 @@ self a b = grind (arith, nat_tests)
 pub stands_with-here : (new : Registration) (regs : List Registration) → stands (with_reg new regs) new.conn new.index
     ≡ true
 stands_with-here new regs = stands_with new regs new.conn new.index ∙ rw (self new.conn.0 new.index) refl
+
+-- a registration that stood goes, and its bit is cleared
+pub gains_taken : (conn : ConnId) (index : ℕ) (regs after : List Registration) (told later : List BitChange)
+    → after ≡ filter (λ reg. not (is_at conn index reg)) regs → stands regs conn index ≡ true
+    → later ≡ told ++ record { conn = conn; index = index; bit = false } ∷ []
+    → Gains (stands regs) (stands after) told later
+gains_taken conn index regs after told later is stood put =
+    let left = filter (λ reg. not (is_at conn index reg)) regs in
+    let gone : stands left conn index ≡ false = stands_elsewhere regs conn conn index index
+    ∙ rw (self conn.0 index) refl in
+    let one = gains_one conn index (stands regs) (stands left) told
+    (λ e. false≢true (sym gone ∙ sym e ∙ stood)) (λ c i e. stands_elsewhere regs conn c index i ∙ rw e refl) in
+    rw (put, is) (rw gone at one)
 
 -- where the bit stood, nothing changes
 same_pair : (new : Registration) (regs : List Registration) (conn : ConnId) (i : ℕ) (b : Bool)

@@ -1,3 +1,9 @@
 pub mod NameLaws
 pub mod RegLaws
 pub mod BitLaws
+mod OrderLaws
+mod MapLaws
+mod AgreeLaws
+mod EndLaws
+mod ListedLaws
+mod KeptLaws

@@ -33,7 +33,7 @@ pub places_apart : (reg other : Registration) → stands_before reg other ≡ tr
     ≡ true
 places_apart reg other h = before_apart reg.conn.0 reg.index other.conn.0 other.index h
 
-finds_place : (reg : Registration) → FindsPlace stands_before (λ other. stands_before other reg)
+pub finds_place : (reg : Registration) → FindsPlace stands_before (λ other. stands_before other reg)
     (λ other. not (is_at reg.conn reg.index other)) reg
 finds_place reg =
     record {

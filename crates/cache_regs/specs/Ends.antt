@@ -1,23 +1,39 @@
--- Which registrations a call ends, and what is told of it.
-use Rattle.std.specs.Prelude.{Bool, true, false, not, ◌&&◌, ◌==◌, List, filter, map}
+-- Registrations end, and their bits are told.
+use Rattle.std.specs.Prelude.{◌≡◌, ℕ, ◌+◌, ◌≤◌, Bool, false, not, ◌&&◌, ◌==◌, nat_lt, List, length, filter, Option, Some, None}
 use Rattle.cf_types.specs.declared.effects.BitChange.{BitChange}
+use Rattle.cf_types.specs.declared.names.Name16.{Name16}
+use Rattle.cf_types.specs.declared.numbers.ConnId.{ConnId}
+use Rattle.cf_types.specs.Gains.{Gains}
 use Rattle.cache_regs.specs.declared.registrations.Registration.{Registration}
-use Rattle.cache_regs.specs.declared.ends.Ends.{Ends}
-use Rattle.cache_regs.specs.declared.ends.Ends.TheVariants.{Elsewhere, Name, Conn, All}
-use Rattle.cache_regs.specs.Registrations.{is_of, is_for, ends_with_name}
+use Rattle.cache_regs.specs.Registrations.{is_of, is_for, stands, ends_with_name}
 
-abbrev pub is_ended : Ends → Registration → Bool
-is_ended (Elsewhere conn index name) reg = is_for conn name reg && not (reg.index == index)
-is_ended (Name name spare) reg = ends_with_name name spare reg
-is_ended (Conn conn) reg = is_of conn reg
-is_ended All reg = true
+-- a connector's for a name, but not at this index
+abbrev pub is_elsewhere : ConnId → ℕ → Name16 → Registration → Bool
+is_elsewhere conn index name reg = is_for conn name reg && not (reg.index == index)
 
-abbrev pub regs_ended : Ends → List Registration → List Registration
-regs_ended ends regs = filter (λ reg. not (is_ended ends reg)) regs
+-- a connector's below an index
+abbrev pub is_below : ConnId → ℕ → Registration → Bool
+is_below conn index reg = is_of conn reg && nat_lt reg.index index
 
--- the bit of a registration that ends is clear_change
-abbrev pub clear_change : Registration → BitChange
-clear_change reg = record { conn = reg.conn; index = reg.index; bit = false }
+-- whether a connector is the one that is spared
+abbrev pub spares : Option ConnId → ConnId → Bool
+spares None conn = false
+spares (Some spared) conn = conn.0 == spared.0
 
-abbrev pub changes_of : Ends → List Registration → List BitChange
-changes_of ends regs = map clear_change (filter (is_ended ends) regs)
+-- of those that end with a name, a connector's, and those of the connectors below one
+abbrev pub ends_of : Name16 → Option ConnId → ConnId → Registration → Bool
+ends_of name spare conn reg = ends_with_name name spare reg && is_of conn reg
+
+abbrev pub ends_below : Name16 → Option ConnId → ℕ → Registration → Bool
+ends_below name spare conn reg = ends_with_name name spare reg && nat_lt reg.conn.0 conn
+
+-- there is room to tell of the ends
+abbrev pub FitsEnds : (Registration → Bool) → List Registration → ℕ → Type 0
+FitsEnds ends regs room = length regs ≤ room + length (filter (λ reg. not (ends reg)) regs)
+
+-- those that end are gone, and the bit of each was told
+pub record HasEnded (ends : Registration → Bool) (before after : List Registration) (told later : List BitChange)
+    (room left : ℕ) : Type 0 where
+  pub gone : after ≡ filter (λ reg. not (ends reg)) before
+  pub bits : Gains (stands before) (stands after) told later
+  pub counted : left + length before ≡ room + length after

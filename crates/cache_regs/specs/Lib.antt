@@ -1,4 +1,5 @@
 pub mod Registrations
+pub mod Maps
 pub mod Registry
 pub mod Ends
 pub mod Places

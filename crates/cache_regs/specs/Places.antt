@@ -1,6 +1,7 @@
--- A registration comes in the place of what stands at its index, and what is told of it.
-use Rattle.std.specs.Prelude.{true, not, if◌then◌else◌, List, [], ◌∷◌, filter}
+-- A registration comes in the place of what stands at its index, and what is told of it; what stands at an index.
+use Rattle.std.specs.Prelude.{ℕ, true, not, Option, Some, None, if◌then◌else◌, List, [], ◌∷◌, filter}
 use Rattle.cf_types.specs.declared.effects.BitChange.{BitChange}
+use Rattle.cf_types.specs.declared.names.Name16.{Name16}
 use Rattle.list_laws.specs.Insertions.{insertion}
 use Rattle.cache_regs.specs.declared.registrations.Registration.{Registration}
 use Rattle.cache_regs.specs.Registrations.{is_at, stands, stands_before}
@@ -16,3 +17,8 @@ set_change reg = record { conn = reg.conn; index = reg.index; bit = true }
 -- where its bit stands already, nothing is told
 abbrev pub set_changes : Registration → List Registration → List BitChange
 set_changes new regs = if stands regs new.conn new.index then [] else set_change new ∷ []
+
+-- the index with the name there, if there is one
+abbrev pub named_at : ℕ → Option Name16 → List (ℕ × Name16)
+named_at index None = []
+named_at index (Some name) = (index, name) ∷ []

@@ -1,6 +1,7 @@
 -- Registrations with room for more.
-use Rattle.std.specs.Prelude.{ℕ, List, min, ◌-◌, ◌<◌}
-use Rattle.std.specs.Vec.{vec_len, vec_capacity}
+use Rattle.std.specs.Prelude.{ℕ, Bool, IsTrue, nat_lt, List, length, min, ◌-◌, ◌<◌}
+use Rattle.std.specs.List.{list_all}
+use Rattle.cf_types.specs.declared.limits.TheConstants.{CALLERS}
 use Rattle.cache_regs.specs.declared.registrations.Registration.{Registration}
 use Rattle.cache_regs.specs.declared.regs.Regs.TheInside.{Inside}
 use Rattle.cache_regs.specs.Registrations.{IsRegistry}
@@ -14,12 +15,21 @@ pub record Registry : Type 0 where
 abbrev pub registry : Inside → Registry
 registry a =
     record {
-      regs = a.regs.items;
+      regs = a.maps.regs;
       len = a.len;
-      room = min (vec_capacity a.regs - vec_len a.regs) (4294967295 - vec_len a.regs);
+      room = min a.maps.room (4294967295 - length a.maps.regs);
     }
+
+-- of a caller; at an index of a vector
+abbrev pub is_callers : Registration → Bool
+is_callers reg = nat_lt reg.conn.0 CALLERS
+
+abbrev pub is_within : ℕ → Registration → Bool
+is_within len reg = nat_lt reg.index len
 
 -- fewer than 2^32, so that their number is one of 32 bits
 pub record IsKept (a : Inside) : Type 0 where
-  pub registry : IsRegistry a.regs.items
-  pub few : vec_len a.regs < 4294967296
+  pub registry : IsRegistry a.maps.regs
+  pub callers : IsTrue (list_all is_callers a.maps.regs)
+  pub within : IsTrue (list_all (is_within a.len) a.maps.regs)
+  pub few : length a.maps.regs < 4294967296

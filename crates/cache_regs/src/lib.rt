@@ -3,6 +3,7 @@
 #![tactic(auto)]
 
 mod ends;
+mod maps;
 mod registrations;
 mod regs;
 

@@ -1,15 +1,18 @@
-ghost use Rattle.std.specs.Prelude.{◌≡◌, ◌+◌, ◌≤◌, ◌<◌, ◌++◌, ◌∷◌, [], IfOk, OnOk, length, map, filter};
-ghost use Rattle.std.specs.List.{list_any, prefix_len, insert};
-ghost use Rattle.std.specs.Vec.{vec_len, vec_capacity};
+ghost use Rattle.std.specs.Prelude.{◌≡◌, ◌+◌, ◌≤◌, ◌<◌, ◌++◌, ◌∷◌, [], false, true, IsTrue, IfOk, OnOk, length, map, filter};
+ghost use Rattle.std.specs.List.{list_any, list_all};
 ghost use Rattle.cf_types.specs.Forms.{IsCaller};
 ghost use Rattle.cf_types.specs.Gains.{Gains};
 ghost use Rattle.list_laws.specs.Pairwise.{pairwise};
-ghost use Rattle.cache_regs.specs.Registrations.{is_for, is_of, registered_at, index_for, stands, stands_before, regs_for, regs_of, regs_with, regs_without, regs_without_name, ends_with_name};
-ghost use Rattle.cache_regs.specs.Places.{with_reg, set_changes};
+ghost use Rattle.cache_regs.specs.Registrations.{is_at, is_for, is_of, registered_at, index_for, stands, stands_before, regs_for, regs_of, regs_with, regs_without, regs_without_name, ends_with_name, names_apart};
+ghost use Rattle.cache_regs.specs.Registry.{is_callers, is_within};
+ghost use Rattle.cache_regs.specs.Ends.{is_elsewhere, ends_of};
+ghost use Rattle.cache_regs.specs.Places.{with_reg, set_changes, named_at};
 ghost use Rattle.cache_regs.specs.declared.registrations.Registration.{Registration};
 
-use crate::ends::{Ends, count_ended, end};
+use crate::ends::{end_all, end_conn, end_elsewhere, end_name, is_spared};
+use crate::maps::Maps;
 use crate::registrations::Registration;
+use cf_types::limits::CALLERS;
 use cf_types::{BitChange, ConnId, Effects, Name16, NoMemory};
 use std::alloc::Global;
 use std::marker::Model;
@@ -18,7 +21,7 @@ use std::marker::Model;
 /// one connector, of indexes, with how many bits a vector has, and how many more there is room for.
 #[derive(Drop)]
 pub struct Regs {
-    regs: Vec<Registration>,
+    maps: Maps,
     len: u32,
 }
 
@@ -32,55 +35,43 @@ impl Model for Regs {
     ghost invariant = { IsKept };
 }
 
-// How many registrations there are for a name.
-fn count_for(regs: &[Registration], name: &Name16) -> u32
-    requires { length regs.now < 4294967296 }
-    ensures { result ≡ length (regs_for name.now regs.now) }
+// How many registrations of a connector end with a name: one or none.
+fn count_of(maps: &Maps, name: &Name16, spare: Option<ConnId>, conn: ConnId) -> u32
+    requires { IsTrue (pairwise names_apart maps.now.regs) }
+    ensures count { result ≡ length (filter (ends_of name.now spare conn) maps.now.regs) }
+    ensures few { result ≤ 1 }
 {
-    regs.iter().filter(|reg| reg.name == *name).count() as u32
+    if is_spared(spare, conn) {
+        return 0;
+    }
+    if maps.is_registered(conn, name) {
+        return 1;
+    }
+    0
 }
 
-// Whether a connector is registered at an index.
-fn is_taken(regs: &[Registration], conn: ConnId, index: u32) -> bool
-    ensures { result ≡ stands regs.now conn index }
+// How many registrations end with a name.
+fn count_name(maps: &Maps, name: &Name16, spare: Option<ConnId>) -> u32
+    requires apart { IsTrue (pairwise names_apart maps.now.regs) }
+    requires callers { IsTrue (list_all is_callers maps.now.regs) }
+    ensures { result ≡ length (filter (ends_with_name name.now spare) maps.now.regs) }
 {
-    regs.iter()
-        .any(|reg| reg.conn == conn && reg.index == index)
-}
-
-// Whether a registration stands before another.
-fn is_before(reg: &Registration, other: &Registration) -> bool
-    ensures { result ≡ stands_before reg.now other.now }
-{
-    reg.conn.0 < other.conn.0 || (reg.conn.0 == other.conn.0 && reg.index < other.index)
-}
-
-// Where a registration stands.
-fn place_of(regs: &[Registration], new: &Registration) -> usize
-    ensures { result ≡ prefix_len (λ reg. stands_before reg new.now) regs.now }
-{
-    regs.iter().take_while(|reg| is_before(reg, new)).count()
-}
-
-// Puts a registration at a place, where there is room for it.
-fn insert_at(regs: &mut Vec<Registration>, at: usize, new: Registration)
-    requires place { at ≤ vec_len regs.old }
-    requires room { vec_len regs.old < vec_capacity regs.old }
-    ensures items { regs.new.items ≡ insert regs.old.items at new }
-    ensures len { vec_len regs.new ≡ vec_len regs.old + 1 }
-    ensures capacity { vec_capacity regs.old ≤ vec_capacity regs.new }
-{
-    let _ = regs.insert(at, new);
+    let mut count = 0;
+    for conn in 0..CALLERS {
+        count += count_of(maps, name, spare, ConnId(conn));
+    }
+    count
 }
 
 // Tells of the bit that a registration sets, where it doesn't stand yet.
-fn tell_set(regs: &[Registration], new: &Registration, out: &mut Effects)
+fn tell_set(maps: &Maps, new: &Registration, out: &mut Effects)
     requires { 1 ≤ out.old.bits.room }
-    ensures bits { out.new.bits.items ≡ out.old.bits.items ++ set_changes new.now regs.now }
+    ensures bits { out.new.bits.items
+        ≡ out.old.bits.items ++ set_changes new.now maps.now.regs }
     ensures room { out.old.bits.room ≤ out.new.bits.room + 1 }
     ensures mail { out.new.mail ≡ out.old.mail }
 {
-    if !is_taken(regs, new.conn, new.index) {
+    if !maps.stands(new.conn, new.index) {
         out.bits.push(BitChange {
             conn: new.conn,
             index: new.index,
@@ -90,56 +81,74 @@ fn tell_set(regs: &[Registration], new: &Registration, out: &mut Effects)
 }
 
 // Ends what stands at the index of a registration, and puts it there.
-fn replace(regs: &mut Vec<Registration>, new: Registration)
-    requires { vec_len regs.old < vec_capacity regs.old }
-    ensures regs { regs.new.items ≡ with_reg new regs.old.items }
-    ensures more { vec_len regs.new ≤ vec_len regs.old + 1 }
-    ensures capacity { vec_capacity regs.old ≤ vec_capacity regs.new }
+fn replace(maps: &mut Maps, new: Registration)
+    requires nowhere { list_any (is_elsewhere new.conn new.index new.name) maps.old.regs ≡ false }
+    requires place { 1 ≤ maps.old.room }
+    ensures regs { maps.new.regs ≡ with_reg new maps.old.regs }
+    ensures more { length maps.new.regs ≤ length maps.old.regs + 1 }
+    ensures place { maps.old.room ≤ maps.new.room + 1 }
 {
-    regs.retain(|reg| !(reg.conn == new.conn && reg.index == new.index));
-    let at = place_of(regs, &new);
-    insert_at(regs, at, new);
+    maps.take(new.conn, new.index);
+    maps.put(new);
 }
 
 // Puts a registration in the place of what stands at its index, and tells of its bit.
 #[tactic(auto, using(crate::proofs::BitLaws::gains_set))]
-fn put(regs: &mut Vec<Registration>, new: Registration, out: &mut Effects)
-    requires place { vec_len regs.old < vec_capacity regs.old }
+fn put(maps: &mut Maps, new: Registration, out: &mut Effects)
+    requires nowhere { list_any (is_elsewhere new.conn new.index new.name) maps.old.regs ≡ false }
+    requires place { 1 ≤ maps.old.room }
     requires room { 1 ≤ out.old.bits.room }
-    ensures regs { regs.new.items ≡ with_reg new regs.old.items }
-    ensures bits { Gains (stands regs.old.items) (stands regs.new.items) out.old.bits.items
+    ensures regs { maps.new.regs ≡ with_reg new maps.old.regs }
+    ensures bits { Gains (stands maps.old.regs) (stands maps.new.regs) out.old.bits.items
         out.new.bits.items }
     ensures room { out.old.bits.room ≤ out.new.bits.room + 1 }
     ensures mail { out.new.mail ≡ out.old.mail }
-    ensures more { vec_len regs.new ≤ vec_len regs.old + 1 }
-    ensures capacity { vec_capacity regs.old ≤ vec_capacity regs.new }
+    ensures more { length maps.new.regs ≤ length maps.old.regs + 1 }
+    ensures place { maps.old.room ≤ maps.new.room + 1 }
 {
-    tell_set(regs, &new, out);
-    replace(regs, new);
+    tell_set(maps, &new, out);
+    replace(maps, new);
 }
 
-// One registration more.
-fn push(list: &mut Vec<(u32, Name16)>, reg: &Registration) -> Result<(), NoMemory>
-    ensures { OnOk result (list.new.items ≡ list.old.items ++ (reg.now.index, reg.now.name) ∷ []) }
+// One name more.
+fn push(list: &mut Vec<(u32, Name16)>, index: u32, name: Name16) -> Result<(), NoMemory>
+    ensures { OnOk result (list.new.items ≡ list.old.items ++ (index, name) ∷ []) }
 {
-    list.push((reg.index, reg.name))?;
+    list.push((index, name))?;
     Ok(())
 }
 
-// The registrations of a connector, by index.
+// The name at an index more, if there is one.
+fn push_at(
+    list: &mut Vec<(u32, Name16)>,
+    maps: &Maps,
+    conn: ConnId,
+    index: u32,
+) -> Result<(), NoMemory>
+    ensures { OnOk result (list.new.items
+        ≡ list.old.items ++ named_at index (registered_at maps.now.regs conn index)) }
+{
+    match maps.at(conn, index) {
+        Some(name) => push(list, index, name),
+        None => Ok(()),
+    }
+}
+
+// The registrations of a connector at the indexes below a length.
 fn indexes(
     alloc: Global,
-    regs: &[Registration],
+    maps: &Maps,
+    len: u32,
     conn: ConnId,
 ) -> Result<Vec<(u32, Name16)>, NoMemory>
+    requires ordered { IsTrue (pairwise stands_before maps.now.regs) }
+    requires within { IsTrue (list_all (is_within len) maps.now.regs) }
     ensures { IfOk result (λ list. list.items ≡ map (λ (reg : Registration). (reg.index, reg.name))
-        (regs_of conn regs.now)) }
+        (regs_of conn maps.now.regs)) }
 {
     let mut list = Vec::new(alloc);
-    for reg in regs {
-        if reg.conn == conn {
-            push(&mut list, reg)?;
-        }
+    for index in 0..len {
+        push_at(&mut list, maps, conn, index)?;
     }
     Ok(list)
 }
@@ -152,19 +161,19 @@ impl Regs {
         ensures len { IfOk result (λ regs. regs.len ≡ len) }
     {
         Ok(Regs {
-            regs: Vec::new(alloc),
+            maps: Maps::new(alloc),
             len,
         })
     }
 
     /// The same registrations once more.
-    pub fn copy(&self, alloc: Global) -> Result<Regs, NoMemory>
+    pub fn copy(&self, _alloc: Global) -> Result<Regs, NoMemory>
         ensures regs { IfOk result (λ regs. regs.regs ≡ self.now.regs) }
         ensures len { IfOk result (λ regs. regs.len ≡ self.now.len) }
     {
-        let regs = Vec::from_slice(alloc, self.regs.as_slice())?;
+        let maps = self.maps.copy()?;
         Ok(Regs {
-            regs,
+            maps,
             len: self.len,
         })
     }
@@ -173,7 +182,7 @@ impl Regs {
     pub fn total(&self) -> usize
         ensures { result ≡ length self.now.regs }
     {
-        self.regs.len()
+        self.maps.len()
     }
 
     /// The indexes at which a connector is registered, in their order, with the names. Only want of
@@ -182,57 +191,49 @@ impl Regs {
         ensures { IfOk result (λ list. list.items
             ≡ map (λ (reg : Registration). (reg.index, reg.name)) (regs_of conn self.now.regs)) }
     {
-        indexes(alloc, self.regs.as_slice(), conn)
+        indexes(alloc, &self.maps, self.len, conn)
     }
 
     /// The name for which a connector is registered at an index.
     pub fn at(&self, conn: ConnId, index: u32) -> Option<Name16>
         ensures { result ≡ registered_at self.now.regs conn index }
     {
-        self.regs
-            .iter()
-            .find(|reg| reg.conn == conn && reg.index == index)
-            .map(|reg| reg.name)
+        self.maps.at(conn, index)
     }
 
     /// The index at which a connector is registered for a name.
     pub fn index_of(&self, conn: ConnId, name: &Name16) -> Option<u32>
         ensures { result ≡ index_for self.now.regs conn name.now }
     {
-        self.regs
-            .iter()
-            .find(|reg| reg.conn == conn && reg.name == *name)
-            .map(|reg| reg.index)
+        self.maps.index_of(conn, name)
     }
 
     /// Whether a connector is registered for a name.
     pub fn is_registered(&self, conn: ConnId, name: &Name16) -> bool
         ensures { result ≡ list_any (is_for conn name.now) self.now.regs }
     {
-        self.regs
-            .iter()
-            .any(|reg| reg.conn == conn && reg.name == *name)
+        self.maps.is_registered(conn, name)
     }
 
     /// How many registrations there are for a name, but for those of the connector that is spared.
     pub fn count(&self, name: &Name16, spare: Option<ConnId>) -> u32
         ensures { result ≡ length (filter (ends_with_name name.now spare) self.now.regs) }
     {
-        count_ended(&self.regs, Ends::Name { name: *name, spare })
+        count_name(&self.maps, name, spare)
     }
 
     /// How many registrations there are for a name.
     pub fn count_all(&self, name: &Name16) -> u32
         ensures { result ≡ length (regs_for name.now self.now.regs) }
     {
-        count_for(&self.regs, name)
+        count_name(&self.maps, name, None)
     }
 
     /// Whether the bit of a connector's vector at an index stands.
     pub fn stands(&self, conn: ConnId, index: u32) -> bool
         ensures { result ≡ stands self.now.regs conn index }
     {
-        is_taken(&self.regs, conn, index)
+        self.maps.stands(conn, index)
     }
 
     /// Takes room for one more registration, and room in the effects for what one command tells:
@@ -245,12 +246,12 @@ impl Regs {
         ensures told { out.new.bits.items ≡ out.old.bits.items }
         ensures mail { out.new.mail ≡ out.old.mail }
     {
-        if self.regs.len() >= u32::MAX as usize {
+        let count = self.maps.len();
+        if count >= u32::MAX as usize {
             return Err(NoMemory);
         }
-        self.regs.reserve(1)?;
-        let count = self.regs.len() + 3;
-        out.bits.reserve(count)
+        self.maps.reserve()?;
+        out.bits.reserve(count + 3)
     }
 
     /// Registers a connector for a name at an index. Its registration at that index, and its
@@ -269,8 +270,8 @@ impl Regs {
         ensures more { length self.new.regs ≤ length self.old.regs + 1 }
         ensures place { self.old.room ≤ self.new.room + 1 }
     {
-        end(&mut self.regs, Ends::Elsewhere { conn, index, name }, out);
-        put(&mut self.regs, Registration { conn, index, name }, out);
+        end_elsewhere(&mut self.maps, conn, index, &name, out);
+        put(&mut self.maps, Registration { conn, index, name }, out);
     }
 
     /// Ends the registrations for a name, but those of the connector that is spared; answers how
@@ -288,9 +289,9 @@ impl Regs {
         ensures fewer { length self.new.regs + result ≡ length self.old.regs }
         ensures place { self.old.room ≤ self.new.room }
     {
-        let before = self.regs.len();
-        end(&mut self.regs, Ends::Name { name: *name, spare }, out);
-        (before - self.regs.len()) as u32
+        let before = self.maps.len();
+        end_name(&mut self.maps, name, spare, out);
+        (before - self.maps.len()) as u32
     }
 
     /// Ends the registrations of a connector. The bit of each is cleared.
@@ -303,7 +304,7 @@ impl Regs {
         ensures mail { out.new.mail ≡ out.old.mail }
         ensures place { self.old.room ≤ self.new.room }
     {
-        end(&mut self.regs, Ends::Conn { conn }, out);
+        end_conn(&mut self.maps, self.len, conn, out);
     }
 
     /// Ends all registrations. The bit of each is cleared.
@@ -316,6 +317,6 @@ impl Regs {
         ensures mail { out.new.mail ≡ out.old.mail }
         ensures place { self.old.room ≤ self.new.room }
     {
-        end(&mut self.regs, Ends::All, out);
+        end_all(&mut self.maps, out);
     }
 }

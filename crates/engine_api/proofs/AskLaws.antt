@@ -216,14 +216,6 @@ reached_few stops d (x ∷ xs) = go (d x) stops (reached_few stops d xs)
 pub marks_few : (down : CfId → Bool) (asks : Asks) → length (marks_of down asks) ≤ length asks.links
 marks_few down asks = reached_few asks.stops down asks.links
 
--- no link that is down, no mark
-pub no_marks : (asks : Asks) → marks_of (λ cf. false) asks ≡ []
-no_marks asks = none (reached_in (λ cf. false) asks)
-  where
-    none : (xs : List CfId) → filter (λ cf. false) xs ≡ []
-    none [] = refl
-    none (x ∷ xs) = none xs
-
 filter_few : (p : CfId → Bool) (xs : List CfId) → length (filter p xs) ≤ length xs
 filter_few p [] = omega arith
 filter_few p (x ∷ xs) = go (p x) (filter_few p xs)

@@ -33,14 +33,6 @@ module _ {C R I S : Type 0} (meaning : Meaning C R I S) (is_kind : Kind → Bool
   -- ---- what follows
 
   module _ (laws : FrontLaws) where
-    -- the end of registrations leaves the items
-    pub items-forgotten : (shape : Shape) (caps : Caps) (state : S) → IsContent shape caps state
-        → meaning.items shape (meaning.forget state) ≡ meaning.items shape state
-    items-forgotten shape caps state is =
-        ap (meaning.items shape) (sym (laws.made_again shape caps state is))
-        ∙ laws.items_front shape caps state (meaning.items shape state) [] is
-        (sym (append-nil (meaning.items shape state)))
-
     -- a content whose items fit another capacity is one there, without its registrations
     pub content-moved : (shape : Shape) (caps other : Caps) (state : S) → IsTrue (is_kind shape.kind)
         → IsContent shape caps state → Fits shape.kind (meaning.need (meaning.items shape state)) other
@@ -67,12 +59,6 @@ module _ {C R I S : Type 0} (meaning : Meaning C R I S) (is_kind : Kind → Bool
           subst (IsContent shape caps) placed_so
           (laws.content_front shape next.at caps next.whole (meaning.items shape state ++ item ∷ []) next.others kind
           next.content split fits)
-
-      pub items-placed : meaning.items shape (meaning.place shape state item) ≡ meaning.items shape state ++ item ∷ []
-      items-placed =
-          ap (meaning.items shape) (sym placed_so)
-          ∙ laws.items_front shape next.at next.whole (meaning.items shape state ++ item ∷ []) next.others next.content
-          split
 
   -- ---- from laws on one item
 

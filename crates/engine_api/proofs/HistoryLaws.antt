@@ -1,33 +1,24 @@
 -- Legal histories: what one more turn does to one, and what is known of each of its entries.
-use Rattle.std.proofs.Common.{◌≡◌, ℕ, zero, suc, ◌+◌, ◌<◌, ◌≤◌, ◌==◌, inl, inr, Bool, true, false, List, [], ◌∷◌, ◌++◌, length, take, filter, map, slice_get, Some, refl, sym, ap, subst, ◌∙◌, arith, append_assoc, append-nil, length-append, fold}
+use Rattle.std.proofs.Common.{◌≡◌, ℕ, zero, suc, ◌+◌, ◌<◌, ◌≤◌, inl, inr, List, [], ◌∷◌, ◌++◌, length, take, slice_get, Some, refl, sym, ap, subst, ◌∙◌, arith, append_assoc, append-nil, length-append, fold}
 use Rattle.std.proofs.lemmas.List as lists
 use Rattle.std.proofs.lemmas.List.{take-append-le, length-take, map-append}
 use Rattle.std.proofs.lemmas.List.Sums.{fold_push}
-use Rattle.std.proofs.lemmas.List.Elements.{filter-append, filter_map-append, Contains-append_left}
+use Rattle.std.proofs.lemmas.List.Elements.{filter_map-append}
 use Rattle.cf_types.specs.declared.numbers.CfId.{CfId}
-use Rattle.cf_types.specs.declared.numbers.ConnId.{ConnId}
-use Rattle.engine_api.specs.declared.asks.Ask.{Ask}
 use Rattle.engine_api.specs.declared.asks.What.{What}
 use Rattle.engine_api.specs.declared.asks.What.TheVariants as what
 use Rattle.engine_api.specs.declared.histories.Entry.{Entry}
 use Rattle.cf_types.specs.declared.forms.StrForm.{StrForm}
 use Rattle.engine_api.specs.Meaning.{Meaning}
 use Rattle.engine_api.specs.Machine.{opening, step}
-use Rattle.engine_api.specs.History.{Call, Turn, call_of, calls, numbers, IsCall, IsUnmarked, IsPoint, machine_after, replay, next_reply, next_mark, next_entry, with_mark, with_marks, with_call, marks_by, after_turn, IsLegal, IsNext, IsNextAs, IsEachNext, Continues}
-use Rattle.engine_api.specs.LinkAsks.{links_asked}
-use Rattle.engine_api.proofs.AskLaws.{no_marks}
-use Rattle.engine_api.proofs.Pushed.{pushed_cases, Each, each_none, each_push, cut_push}
+use Rattle.engine_api.specs.History.{Call, Turn, call_of, calls, machine_after, replay, next_mark, next_entry, with_mark, with_marks, marks_by, after_turn, IsLegal, IsNext, IsNextAs, IsEachNext, Continues}
+use Rattle.engine_api.proofs.Pushed.{Each, each_none, each_push, cut_push}
 
 -- ---- calls
 
 module _ {C R : Type 0} where
   pub calls-append : (xs ys : List (Entry C R)) → calls (xs ++ ys) ≡ calls xs ++ calls ys
   calls-append xs ys = filter_map-append call_of xs ys
-
-  pub unmarked_push : (history : List (Entry C R)) (entry : Entry C R) → IsUnmarked history → IsCall entry
-      → IsUnmarked (history ++ entry ∷ [])
-  unmarked_push [] entry all one = (one, tt)
-  unmarked_push (first ∷ others) entry all one = (all.0, unmarked_push others entry all.1 one)
 
 module _ {C R I S : Type 0} (meaning : Meaning C R I S) (form : StrForm) where
   pub replay-push : (history : List (Entry C R)) (entry : Entry C R)
@@ -108,42 +99,6 @@ module _ {C R I S : Type 0} (meaning : Meaning C R I S) (form : StrForm) where
       ∙ ap (λ (n : ℕ). n + 1) front
 
   -- ---- fronts
-
-  abbrev AreFrontsLegal : List (Entry C R) → Type 0
-  AreFrontsLegal history =
-      (i : ℕ) (entry : Entry C R) → slice_get history i ≡ Some entry → IsCall entry
-      → IsLegal meaning form (take (i + 1) history)
-
-  no_front : AreFrontsLegal []
-  no_front zero entry e is_call = absurd cc
-  no_front (suc i) entry e is_call = absurd cc
-
-  front_push : (history : List (Entry C R)) (added : Entry C R)
-      → (IsCall added → IsLegal meaning form (history ++ added ∷ []))
-      → AreFrontsLegal history → AreFrontsLegal (history ++ added ∷ [])
-  front_push history added whole fronts i entry e is_call =
-      elim (pushed_cases history added i entry e) [
-        | inl h ↦
-            let front : take (i + 1) (history ++ added ∷ []) ≡ take (i + 1) history =
-            take-append-le (i + 1) history (added ∷ []) (omega (arith, h.0)) in
-            rw front (fronts i entry h.1 is_call)
-        | inr h ↦
-            let all : take (i + 1) (history ++ added ∷ []) ≡ history ++ added ∷ [] =
-            lists.take_all (i + 1) (history ++ added ∷ []) (omega (arith, length-append history (added ∷ []), h.0))
-            in
-            rw all (whole (subst IsCall h.1 is_call))
-      ]
-
-  -- the entries up to a call, and with it, are legal
-  pub legal_front : (history : List (Entry C R)) → IsLegal meaning form history → (i : ℕ) (entry : Entry C R)
-      → slice_get history i ≡ Some entry → IsCall entry → IsLegal meaning form (take (i + 1) history)
-  legal_front history legal =
-      by_turns AreFrontsLegal no_front (λ h turn fine fronts.
-      let marks : List CfId = marks_by meaning form turn.down h turn.by turn.ask in
-      let marked : List (Entry C R) = with_marks meaning form h marks in
-      front_push marked (next_entry meaning form marked turn.by turn.ask) (λ _. legal_turn h turn fine)
-      (by_marks AreFrontsLegal (λ some cf. front_push some (next_mark meaning form some cf) (λ lost. absurd lost)) marks h
-      fronts)) history legal
 
   -- ---- calls
 
@@ -277,43 +232,7 @@ module _ {C R I S : Type 0} (meaning : Meaning C R I S) (form : StrForm) where
 
   -- ---- a call before which no mark stands
 
-  -- the call that it adds
-  abbrev pub next_call : List (Entry C R) → ConnId → Ask C → Call C R
-  next_call history by ask =
-      record { no = length history + 1; by = by; ask = ask; reply = next_reply meaning form history by ask }
-
-  pub calls-call : (history : List (Entry C R)) (by : ConnId) (ask : Ask C)
-      → calls (with_call meaning form history by ask) ≡ calls history ++ next_call history by ask ∷ []
-  calls-call history by ask = calls-append history (next_entry meaning form history by ask ∷ [])
-
-  -- it is a turn where no link is down
-  abbrev pub quiet_turn : ConnId → Ask C → Turn C
-  quiet_turn by ask = record { by = by; ask = ask; down = λ cf. false }
-
-  pub turn-quiet : (history : List (Entry C R)) (by : ConnId) (ask : Ask C)
-      → after_turn meaning form history (quiet_turn by ask) ≡ with_call meaning form history by ask
-  turn-quiet history by ask =
-      ap (λ (marks : List CfId). with_call meaning form (with_marks meaning form history marks) by ask)
-      (no_marks (links_asked meaning form (replay meaning form history) by ask))
-
-  -- it leaves a legal history legal
-  pub legal_call : (history : List (Entry C R)) (by : ConnId) (ask : Ask C) → IsLegal meaning form history
-      → IsLegal meaning form (with_call meaning form history by ask)
-  legal_call history by ask legal =
-      subst (IsLegal meaning form) (turn-quiet history by ask) (legal_turn history (quiet_turn by ask) legal)
-
   -- ---- points
-
-  numbers-append : (xs ys : List (Entry C R)) → numbers (xs ++ ys) ≡ numbers xs ++ numbers ys
-  numbers-append xs ys =
-      ap (map (λ (call : Call C R). call.no)) (calls-append xs ys) ∙ map-append (λ (call : Call C R). call.no)
-      (calls xs) (calls ys)
-
-  -- a point of a history is one of a longer history
-  pub point-append : (history others : List (Entry C R)) (n : ℕ) → IsPoint history n → IsPoint (history ++ others) n
-  point-append history others n (inl none) = inl none
-  point-append history others n (inr there) =
-      inr (rw (numbers-append history others) (Contains-append_left (numbers history) (numbers others) n there))
 
   -- ---- what continues a history
 
@@ -331,19 +250,6 @@ module _ {C R I S : Type 0} (meaning : Meaning C R I S) (form : StrForm) where
         subst (λ (h : List (Entry C R)). IsNext meaning form h other)
         (sym (append_assoc history (entry ∷ []) (take i others))) (each (suc i) other e)),
   )
-
-  each_continues : (history others : List (Entry C R)) → Continues meaning form history others
-      → FollowsEach history others
-  each_continues history [] goes zero entry e = absurd cc
-  each_continues history [] goes (suc i) entry e = absurd cc
-  each_continues history (first ∷ others) goes zero entry e =
-      let same : first ≡ entry = cc in
-      subst (λ (h : List (Entry C R)). IsNext meaning form h entry) (sym (append-nil history))
-      (subst (IsNext meaning form history) same goes.0)
-  each_continues history (first ∷ others) goes (suc i) entry e =
-      subst (λ (h : List (Entry C R)). IsNext meaning form h entry) (append_assoc history (first ∷ [])
-      (take i others))
-      (each_continues (history ++ first ∷ []) others goes.1 i entry e)
 
   -- each entry of a legal history continues those before it
   pub continues_legal : (history : List (Entry C R)) → IsLegal meaning form history → Continues meaning form

@@ -5,7 +5,7 @@ use Rattle.std.proofs.lemmas.Bool.{cases_lt}
 use Rattle.std.proofs.lemmas.Bool.Decides.{nat_tests}
 use Rattle.std.proofs.lemmas.List.{map-append}
 use Rattle.std.proofs.lemmas.List.Sums.{fold_push}
-use Rattle.std.proofs.lemmas.List.Elements.{filter-append, Contains-push, Contains-push_cases}
+use Rattle.std.proofs.lemmas.List.Elements.{filter-append, Contains-push_cases}
 use Rattle.cf_types.specs.declared.numbers.CfId.{CfId}
 use Rattle.engine_api.specs.declared.histories.Entry.{Entry}
 use Rattle.engine_api.specs.LinkAsks.{links_asked, Asks, marks_of}
@@ -131,15 +131,6 @@ module _ {C R I S : Type 0} (meaning : Meaning C R I S) (form : StrForm) where
       by_turns meaning form IsNumbered numbered_none (λ h turn fine was. numbered_turn h turn was) history legal
 
   -- ---- in place of "numbers are counts"
-
-  -- the end of a legal history is a point of it
-  pub end_point : (history : List (Entry C R)) → IsLegal meaning form history → IsPoint history (length history)
-  end_point history legal =
-      by_turns meaning form (λ h. IsPoint h (length h)) (inl refl) (λ h turn fine at.
-      let all : numbers (after_turn meaning form h turn) ≡ numbers h ++ number_added h turn ∷ [] =
-      ap (map (λ (call : Call C R). call.no)) (calls-turn meaning form h turn)
-      ∙ map-append (λ (call : Call C R). call.no) (calls h) (call_added meaning form h turn ∷ []) in
-      inr (rw (all, length-turn h turn) (Contains-push (numbers h) (number_added h turn)))) history legal
 
   -- numbers rise
   abbrev pub RisesTo : ℕ → List (Call C R) → ℕ → Type 0

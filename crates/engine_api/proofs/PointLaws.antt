@@ -69,10 +69,6 @@ some_has ms (x ∷ xs) cf some none =
     go false same none (inl some) next = next ms some none
     go false same none (inr some) next = rw (some.1, same) (next some.0 some.2 none)
 
-or_left : (b c : Bool) → c || b ≡ false → b ≡ false
-or_left b true e = absurd cc
-or_left b false e = e
-
 -- the marks that a call may have are those of links that answer as they say
 marks_back : (stops : Bool) (d : CfId → Bool) (ms xs : List CfId) → AreDistinct xs → AreSome ms xs
     → (stops ≡ true → length ms ≤ 1) → Agree xs d (has ms) → filter d (reached stops d xs) ≡ ms

@@ -1,5 +1,5 @@
 -- Who may ask what of a structure.
-use Rattle.std.specs.Prelude.{◌≡◌, ◌≤◌, IsTrue}
+use Rattle.std.specs.Prelude.{◌≡◌, ◌≤◌}
 use Rattle.cf_types.specs.declared.limits.TheConstants.{COPY_ITEMS}
 use Rattle.cf_types.specs.declared.numbers.ConnId.{ConnId}
 use Rattle.cf_types.specs.declared.shell_commands.ShellCmd.{ShellCmd}
@@ -7,7 +7,6 @@ use Rattle.cf_types.specs.declared.shell_commands.ShellCmd.TheVariants as cmd
 use Rattle.cf_types.specs.Forms.{IsConnector, IsCaller, IsFacility, IsCapacity}
 use Rattle.engine_api.specs.declared.asks.Ask.{Ask}
 use Rattle.engine_api.specs.declared.asks.Ask.TheVariants as ask
-use Rattle.engine_api.specs.Shell.{is_built}
 
 abbrev pub IsOperator : ConnId → Type 0
 IsOperator conn = conn.0 ≡ 0
@@ -37,8 +36,3 @@ MayCommand by cmd.DuplexStop = IsOperator by
 abbrev pub MayAsk : {C : Type 0} → ConnId → Ask C → Type 0
 MayAsk by (ask.Shell command) = MayCommand by command
 MayAsk by (ask.Content command) = IsConnector by
-
--- the commands that are built
-abbrev pub IsBuilt : {C : Type 0} → Ask C → Type 0
-IsBuilt (ask.Shell command) = IsTrue (is_built command)
-IsBuilt (ask.Content command) = Unit {0}

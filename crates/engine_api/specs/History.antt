@@ -28,11 +28,6 @@ pub record Turn (C : Type 0) : Type 0 where
   pub ask : Ask C
   pub down : CfId → Bool
 
--- an entry may tell a call
-abbrev pub IsCallAs : {C : Type 0} → What C → Type 0
-IsCallAs (what.Call ask) = Unit {0}
-IsCallAs (what.Lost cf) = ⊥
-
 module _ {C R : Type 0} where
   -- the call that an entry tells, if it tells one
   abbrev pub call_told : ℕ → ConnId → Reply R → What C → Option (Call C R)
@@ -44,14 +39,6 @@ module _ {C R : Type 0} where
 
   abbrev pub calls : List (Entry C R) → List (Call C R)
   calls history = filter_map call_of history
-
-  abbrev pub IsCall : Entry C R → Type 0
-  IsCall entry = IsCallAs entry.what
-
-  -- each entry tells a call, so that none tells a loss
-  abbrev pub IsUnmarked : List (Entry C R) → Type 0
-  IsUnmarked [] = Unit {0}
-  IsUnmarked (entry ∷ entries) = IsCall entry × IsUnmarked entries
 
   -- the calls of one caller, in order
   abbrev pub own : List (Entry C R) → ConnId → List (Call C R)

@@ -710,24 +710,3 @@ shell_done form room shell by (cmd.RestoreConn other cf) = restore_outcome shell
 shell_done form room shell by (cmd.Vary cf off) = vary_outcome form cf off shell
 shell_done form room shell by cmd.DuplexStart = duplex_outcome form shell by
 shell_done form room shell by cmd.DuplexStop = simplex_again shell.instances.secondary shell
-
--- ---- which commands are built, and who may give them
-
-abbrev pub is_built : ShellCmd → Bool
-is_built (cmd.Connect keep) = true
-is_built cmd.Disconnect = true
-is_built cmd.Fail = true
-is_built cmd.Next = true
-is_built cmd.Respond = true
-is_built (cmd.ForceConn other) = true
-is_built cmd.ForceStr = true
-is_built (cmd.RebuildStart caps) = true
-is_built cmd.RebuildStop = true
-is_built cmd.RebuildConnect = true
-is_built (cmd.Copy n) = true
-is_built cmd.RebuildComplete = true
-is_built (cmd.LoseConn other cf) = true
-is_built (cmd.RestoreConn other cf) = true
-is_built (cmd.Vary cf off) = true
-is_built cmd.DuplexStart = false
-is_built cmd.DuplexStop = false

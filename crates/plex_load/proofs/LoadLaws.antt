@@ -9,7 +9,7 @@ use Rattle.plex_script.specs.WellFormed.{IsWellFormed}
 use Rattle.plex_script.proofs.FormedLines.{script-formed}
 use Rattle.plex_script.proofs.ReadBack.{script-reads}
 use Rattle.plex_load.specs.Generated.{index_of, read, write, work, load_script}
-use Rattle.plex_load.specs.Loads.{IsBuiltAct, IsLoad}
+use Rattle.plex_load.specs.Loads.{IsLoad}
 use Rattle.plex_load.proofs.EachLine.{each_line, length-load}
 use Rattle.plex_load.proofs.LoadCalls.{load_calls}
 use Rattle.plex_load.proofs.LoadLimits.{load-keeps}
@@ -23,27 +23,12 @@ load-says n =
 pub load-formed : (n : ℕ) → IsWellFormed (load_script n)
 load-formed n = script-formed (script_text (load_script n)) (load_script n) (load-says n)
 
-built_work : (c i j : ℕ) → IsBuiltAct (work c i j)
-built_work c i j = at_test (i % 4 == 0) (i % 4 == 1)
-  where
-    at_test : (a b : Bool) → IsBuiltAct (cond a (act.Test j) (cond b (write c i j) (read j)))
-    at_test true b = tt
-    at_test false true = tt
-    at_test false false = tt
-
-pub load-built : (n : ℕ) → All (λ (line : Line). IsBuiltAct line.act) (load_script n).lines
-unfolding load_script
-load-built n =
-    each_line (λ (line : Line). IsBuiltAct line.act) (λ c low. refl)
-    (λ c i number low some short. built_work c i (index_of number)) n
-
 pub load-holds : (n : ℕ) → IsLoad (load_script n)
 load-holds n = record {
   limits = load-keeps n;
   formed = load-formed n;
   says = load-says n;
   lines = length-load n;
-  built = load-built n;
   calls = load_calls n;
 }
 

@@ -1,7 +1,6 @@
 -- What holds of each script that a number makes.
 use Rattle.std.specs.Prelude.{◌≡◌, ℕ, ◌+◌, ◌≤◌, ◌==◌, if◌then◌else◌, length, sum_by, All}
 use Rattle.cf_types.specs.declared.numbers.StrNo.{StrNo}
-use Rattle.engine_api.specs.Asking.{IsBuilt}
 use Rattle.plex_script.specs.declared.scripts.AnyAsk.{AnyAsk}
 use Rattle.plex_script.specs.declared.scripts.AnyAsk.TheVariants as any
 use Rattle.plex_script.specs.declared.scripts.Act.{Act}
@@ -13,21 +12,6 @@ use Rattle.plex_script.specs.Limits.{KeepsLimits}
 use Rattle.plex_script.specs.Printed.{script_text}
 use Rattle.plex_script.specs.Scripts.{IsScript}
 use Rattle.plex_script.specs.WellFormed.{IsWellFormed}
-
--- ---- what is built
-
-abbrev pub IsBuiltAsk : AnyAsk → Type 0
-IsBuiltAsk (any.Cache asked) = IsBuilt asked
-IsBuiltAsk (any.List asked) = IsBuilt asked
-IsBuiltAsk (any.Lock asked) = IsBuilt asked
-
-abbrev pub IsBuiltAct : Act → Type 0
-IsBuiltAct (act.Call asked) = IsBuiltAsk asked
-IsBuiltAct (act.Test index) = Unit {0}
-IsBuiltAct (act.TestWord word) = Unit {0}
-IsBuiltAct act.Post = Unit {0}
-IsBuiltAct act.Take = Unit {0}
-IsBuiltAct act.Events = Unit {0}
 
 -- ---- how much is called
 
@@ -46,5 +30,4 @@ pub record IsLoad (script : Script) : Type 0 where
   pub formed : IsWellFormed script
   pub says : IsScript (script_text script) script
   pub lines : length script.lines ≡ 4004
-  pub built : All (λ line. IsBuiltAct line.act) script.lines
   pub calls : (on : StrNo) → asks_of script on ≤ 3008

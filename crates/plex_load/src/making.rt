@@ -50,7 +50,7 @@ pub fn make(alloc: Global, n: u32) -> Result<Script, NoMemory>
     ensures script { IfOk result (λ script. script ≡ load_script n) }
 
     // It keeps the forms, the ranges and the limits of the language, and its printed text says it
-    // again; its commands are built, and its lines and closings make 3,008 calls at most.
+    // again; its lines and closings make 3,008 calls at most.
     ensures load { IfOk result IsLoad }
 {
     script(alloc, n)

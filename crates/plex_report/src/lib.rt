@@ -14,4 +14,4 @@ mod shell_text;
 mod spelled;
 mod spots;
 
-pub use report::{line, render};
+pub use report::{Report, line, render};

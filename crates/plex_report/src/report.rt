@@ -16,6 +16,7 @@ use cf_types::{NoMemory, Pref, StrForm};
 use engine_api::Entry;
 use plex_script::{AnyHistory, Script, Transcript};
 use std::alloc::Global;
+use std::marker::Model;
 
 // Puts the facilities with this number behind others.
 fn put_numbered(sorted: &mut Vec<Pref>, facilities: &[Pref], number: u8) -> Result<(), NoMemory>
@@ -200,36 +201,41 @@ fn behind_facilities(
     }
 }
 
-// The k-th line of the report, from 0, without its line feed.
+// The k-th line of the report, from 0, without its line feed. The facilities are those of the
+// script, by number.
 fn bare_line(
     alloc: Global,
     script: &Script,
+    facilities: &[Pref],
     histories: &[AnyHistory],
     transcripts: &[Transcript],
     k: usize,
 ) -> Result<Option<Vec<u8>>, NoMemory>
+    requires { facilities.now ≡ by_number script.now.facilities }
     ensures { IfOk result (λ line. option_map (λ v. v.items) line
         ≡ slice_get (report_lines script.now histories.now transcripts.now) k) }
 {
-    let facilities = by_number(alloc, script.facilities.items())?;
     if k < facilities.len() {
         return Ok(Some(facility_line(alloc, &facilities[k])?));
     }
     behind_facilities(alloc, script, histories, transcripts, k - facilities.len())
 }
 
-// The k-th line of the report, from 0, with its line feed.
+// The k-th line of the report, from 0, with its line feed. The facilities are those of the script,
+// by number.
 fn ended_line(
     alloc: Global,
     script: &Script,
+    facilities: &[Pref],
     histories: &[AnyHistory],
     transcripts: &[Transcript],
     k: usize,
 ) -> Result<Option<Vec<u8>>, NoMemory>
+    requires { facilities.now ≡ by_number script.now.facilities }
     ensures { IfOk result (λ line. option_map (λ v. v.items) line
         ≡ slice_get (map line_text (report_lines script.now histories.now transcripts.now)) k) }
 {
-    match bare_line(alloc, script, histories, transcripts, k)? {
+    match bare_line(alloc, script, facilities, histories, transcripts, k)? {
         None => Ok(None),
         Some(mut line) => {
             line.push(b'\n')?;
@@ -238,9 +244,82 @@ fn ended_line(
     }
 }
 
+/// A run's report, of which each line is made when it is asked for. Contracts see it as the list of
+/// its lines, each with its line feed.
+#[derive(Drop)]
+pub struct Report<'a> {
+    script: &'a Script,
+
+    // The script's facilities by number.
+    facilities: Vec<Pref>,
+
+    histories: &'a [AnyHistory],
+
+    transcripts: &'a [Transcript],
+}
+
+impl<'a> Model for Report<'a> {
+    ghost use Rattle.std.specs.Prelude.{◌≡◌, ℕ, List, map};
+    ghost use Rattle.plex_spell.specs.Words.{line_text};
+    ghost use Rattle.plex_report.specs.Report.{by_number, report_lines};
+
+    ghost Value = { List (List ℕ) };
+
+    ghost view = { λ report.
+        map line_text (report_lines report.script.now report.histories.now report.transcripts.now) };
+
+    ghost invariant = { λ report.
+        report.facilities.items ≡ by_number report.script.now.facilities };
+}
+
+impl<'a> Report<'a> {
+    /// The report of a script's run that left these histories and transcripts. It takes memory for
+    /// the facilities.
+    ///
+    /// # Errors
+    ///
+    /// `NoMemory` where there is no memory for the facilities.
+    pub fn new(
+        alloc: Global,
+        script: &'a Script,
+        histories: &'a [AnyHistory],
+        transcripts: &'a [Transcript],
+    ) -> Result<Report<'a>, NoMemory>
+        ensures { IfOk result (λ report. report
+            ≡ map line_text (report_lines script.now histories.now transcripts.now)) }
+    {
+        Ok(Report {
+            script,
+            facilities: by_number(alloc, script.facilities.items())?,
+            histories,
+            transcripts,
+        })
+    }
+
+    /// The k-th line, from 0, with its line feed; `None` exactly past the last. It walks over
+    /// structures, histories and transcripts, and not over what they hold, and takes memory for
+    /// this line alone.
+    ///
+    /// # Errors
+    ///
+    /// `NoMemory` where there is no memory for the line.
+    pub fn line(&self, alloc: Global, k: usize) -> Result<Option<Vec<u8>>, NoMemory>
+        ensures { IfOk result (λ line. option_map (λ v. v.items) line ≡ slice_get self.now k) }
+    {
+        ended_line(
+            alloc,
+            self.script,
+            &self.facilities,
+            self.histories,
+            self.transcripts,
+            k,
+        )
+    }
+}
+
 /// The k-th line of the report, from 0, with its line feed; `None` exactly past the last. It walks
 /// over structures, histories and transcripts, and not over what they hold, and takes memory for
-/// the facilities and for this line alone.
+/// the facilities and for this line alone. Whoever wants several lines makes a [`Report`] first.
 ///
 /// # Errors
 ///
@@ -255,7 +334,8 @@ pub fn line(
     ensures { IfOk result (λ line. option_map (λ v. v.items) line
         ≡ slice_get (map line_text (report_lines script.now histories.now transcripts.now)) k) }
 {
-    ended_line(alloc, script, histories, transcripts, k as usize)
+    let report = Report::new(alloc, script, histories, transcripts)?;
+    report.line(alloc, k as usize)
 }
 
 /// The whole report.
@@ -273,9 +353,10 @@ pub fn render(
     ensures { IfOk result (λ text. text.items
         ≡ report script.now histories.now transcripts.now) }
 {
+    let report = Report::new(alloc, script, histories, transcripts)?;
     let mut text = Vec::new(alloc);
     for k in 0..usize::MAX {
-        let Some(line) = ended_line(alloc, script, histories, transcripts, k)? else {
+        let Some(line) = report.line(alloc, k)? else {
             return Ok(text);
         };
         text.extend_from_slice(line.as_slice())?;

@@ -1,5 +1,7 @@
 pub mod Written
+pub mod Passing
 pub mod StatusLaws
+pub mod TextLaws
 pub mod Found
 pub mod RunnableLaws
 pub mod FullLaws

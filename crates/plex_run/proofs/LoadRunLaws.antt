@@ -1,5 +1,5 @@
 -- The run of a load: its script can be run, and fills no journal.
-use Rattle.std.proofs.Common.{◌≡◌, ℕ, ◌≤◌, ◌*◌, Option, Some, None, refl, subst, arith}
+use Rattle.std.proofs.Common.{◌≡◌, ℕ, ◌≤◌, ◌⊎◌, inr, Option, Some, None, refl, subst, arith}
 use Rattle.std.specs.Prelude.{Result, Ok, Err, IfOk}
 use Rattle.cf_types.specs.declared.names.Name16.{Name16}
 use Rattle.plex_script.specs.declared.scripts.Script.{Script}
@@ -12,7 +12,10 @@ use Rattle.plex_load.specs.Loads.{IsLoad}
 use Rattle.plex_run.specs.declared.way.Way.TheVariants as ways
 use Rattle.plex_run.specs.Wires.{Wires}
 use Rattle.plex_run.specs.Outcome.{CanFill, IsRun, IsRunOf, full_of, journal_limit}
-use Rattle.plex_run.specs.Loading.{IsLoadRun}
+use Rattle.plex_run.specs.Written.{Output, HasFailed, Writes, WritesFront, Gains}
+use Rattle.plex_run.specs.StatusLines.{memory_line}
+use Rattle.plex_run.specs.Loading.{IsLoadRun, EndsLoad, loading, summary_of}
+use Rattle.plex_run.proofs.TextLaws.{task_without_memory, task_told}
 use Rattle.plex_run.proofs.FullLaws.{AreWithin, can_fill}
 use Rattle.plex_run.proofs.OutcomeLaws.{AreFresh}
 use Rattle.plex_run.proofs.RunnableLaws.{runnable}
@@ -51,6 +54,24 @@ pub load_run : (links : Wires) (n : ℕ) (script : Script) (reading : Reading) �
 load_run links n script reading fresh within is load run =
     subst (λ (s : Script). IsRun links ways.OnThreads (script_text s) s reading × (full_of s reading ≡ None)) is
     (run_of_load links script reading fresh within load run)
+
+-- ---- ends
+
+-- there was no memory for the run
+pub load_without_memory : (links : Wires) (n : ℕ) (out : Output) (status : ℕ) → status ≡ 6 → Gains out memory_line
+    → EndsLoad links n out status
+load_without_memory links n out status six tells =
+    record { task = task_without_memory (loading links n) out status six tells; statuses = inr (inr six) }
+
+-- the summary of the run was written, as far as it was
+pub load_ends : (links : Wires) (n : ℕ) (reading : Reading) (out : Output) (status : ℕ) → IsLoadRun links n reading
+    → (status ≡ 0 → Writes out (summary_of n reading))
+    → (status ≡ 5 → HasFailed out × WritesFront out (summary_of n reading)) → (status ≡ 6 → Gains out memory_line)
+    → (status ≡ 0) ⊎ ((status ≡ 5) ⊎ (status ≡ 6)) → EndsLoad links n out status
+load_ends links n reading out status run whole front memory statuses = record {
+  task = task_told (loading links n) out status reading run refl tt whole front memory statuses;
+  statuses = statuses;
+}
 
 -- what follows of a value that is there
 pub IfOk-so : {T E : Type 0} (result : Result T E) (P Q : T → Type 0) → ((x : T) → P x → Q x) → IfOk result P

@@ -1,5 +1,5 @@
 -- Which texts are scripts, and what their status tells.
-use Rattle.std.proofs.Common.{◌≡◌, ◌≢◌, ℕ, ◌≤◌, ◌⊎◌, inl, inr, true, false, List, ◌++◌, length, Option, Some, None, refl, sym, ◌∙◌, subst, arith}
+use Rattle.std.proofs.Common.{◌≡◌, ◌≢◌, ℕ, ◌≤◌, ◌<◌, ◌⊎◌, inl, inr, true, false, List, length, Option, Some, None, refl, sym, ◌∙◌, subst, arith}
 use Rattle.std.specs.Prelude.{is_some}
 use Rattle.cf_types.specs.declared.numbers.CfId.{CfId}
 use Rattle.cf_link.specs.Links.{Telling}
@@ -14,15 +14,17 @@ use Rattle.plex_script.specs.declared.asks.AnyHistory.{AnyHistory}
 use Rattle.plex_script.specs.declared.transcripts.Transcript.{Transcript}
 use Rattle.serial_model.specs.Headline.{ShowsHistories}
 use Rattle.plex_valid.specs.Valid.{ShowsFresh}
-use Rattle.plex_reading.specs.Readings.{Reading, IsOnlyReading, report_of}
+use Rattle.plex_reading.specs.Readings.{Reading, IsOnlyReading}
 use Rattle.plex_run.specs.declared.way.Way.{Way}
 use Rattle.plex_run.specs.declared.way.Way.TheVariants as ways
-use Rattle.plex_run.specs.Written.{Output, Writes, WritesFront, Gains}
+use Rattle.plex_run.specs.Written.{Output}
 use Rattle.plex_run.specs.Wires.{Wires}
-use Rattle.plex_run.specs.StatusLines.{why_word, script_line, full_line, memory_line}
-use Rattle.plex_run.specs.Outcome.{IsRefused, IsRun, WritesRun, EndsRun, WritesReport, WritesFull, WritesReportFront, TellsNoMemory, EndsRight, IsSerialStatus, script_limit, journal_limit, full_of, full_in_run, serial_status, run_text}
+use Rattle.plex_run.specs.StatusLines.{why_word}
+use Rattle.plex_run.specs.Statuses.{EndsTask}
+use Rattle.plex_run.specs.Outcome.{IsRefused, IsRun, WritesRun, EndsRun, EndsRight, IsSerialStatus, IsTooLong, script_limit, script_word, running, journal_limit, full_of, full_in_run, run_status, serial_status}
 use Rattle.plex_run.proofs.FullLaws.{AreWithin, can_fill}
 use Rattle.plex_run.proofs.ReadingLaws.{one_reading}
+use Rattle.plex_run.proofs.TextLaws.{IsFair, memory_ends, done_ends}
 
 -- whatever a run shows, tests that tell VALID tell fresh copies
 abbrev pub AreFresh : Type 0
@@ -37,51 +39,13 @@ pub fault_told : (text : List ℕ) (line : ℕ) (why : Why) (told : List ℕ) (b
     → because ≡ faults.Script line why → TellsFault text because → told ≡ why_word why → IsRefused text line told
 fault_told text line why told because e tells spelled = (why, subst (TellsFault text) e tells, spelled)
 
-script_unrefused : (text : List ℕ) (script : Script) (line : ℕ) (told : List ℕ) → IsExclusive
-    → IsScript text script → IsRefused text line told → ⊥
-script_unrefused text script line told never says fault = never text script line fault.0 says fault.1
+-- a text within the limit isn't too long
+pub fits : (text : List ℕ) → length text ≤ script_limit → IsTooLong text → ⊥
+fits text short long = omega (arith, short, long)
 
--- ---- ends without a report
-
--- there was no memory
-pub memory_ends : (links : Wires) (by : Way) (text : List ℕ) (out : Output) (status : ℕ) → status ≡ 6 → TellsNoMemory links by text out
-    → EndsRight links by text out status
-memory_ends links by text out status six tells = record {
-  served = λ is. absurd (let wrong : 6 ≡ 0 = sym six ∙ is in omega (arith, wrong));
-  full = λ is. absurd (let wrong : 6 ≡ 8 = sym six ∙ is in omega (arith, wrong));
-  front = λ is. absurd (let wrong : 6 ≡ 5 = sym six ∙ is in omega (arith, wrong));
-  no_memory = λ is. tells;
-  refused = λ is. absurd (let wrong : 6 ≡ 3 = sym six ∙ is in omega (arith, wrong));
-  exact = λ read memory. absurd (memory six);
-  complete = λ turn read memory. absurd (memory six);
-  whole = λ read memory. absurd (memory six);
-}
-
--- a text is no script
-pub refused_ends : (links : Wires) (by : Way) (text : List ℕ) (line : ℕ) (told : List ℕ) (out : Output) (status : ℕ)
-    → IsExclusive → length text ≤ script_limit → IsRefused text line told
-    → (status ≡ 3 → Gains out (script_line line told)) → (status ≡ 6 → Gains out memory_line)
-    → (status ≡ 3) ⊎ (status ≡ 6) → EndsRight links by text out status
-refused_ends links by text line told out status never short refused wrote memory (inr six) =
-    memory_ends links by text out status six (inl (memory six))
-refused_ends links by text line told out status never short refused wrote memory (inl three) = record {
-  served = λ is. absurd (let wrong : 3 ≡ 0 = sym three ∙ is in omega (arith, wrong));
-  full = λ is. absurd (let wrong : 3 ≡ 8 = sym three ∙ is in omega (arith, wrong));
-  front = λ is. absurd (let wrong : 3 ≡ 5 = sym three ∙ is in omega (arith, wrong));
-  no_memory = λ is. absurd (let wrong : 3 ≡ 6 = sym three ∙ is in omega (arith, wrong));
-  refused = λ is. (line, told, refused, wrote is);
-  exact = λ read other. (
-    (
-      λ is. absurd (let wrong : 3 ≡ 7 = sym three ∙ is in omega (arith, wrong)),
-      λ long. absurd (omega (arith, short, long)),
-    ),
-    (λ is. (short, (line, told, refused)), λ un. three),
-  );
-  complete = λ turn read other script says fits told telling.
-      absurd (script_unrefused text script line _ never says refused);
-  whole = λ read other script says fits.
-      absurd (script_unrefused text script line told never says refused);
-}
+-- no text is a script and refused
+pub runs_fair : (links : Wires) (by : Way) → IsExclusive → IsFair (script_word links by)
+runs_fair links by never text line told says fault = never text says.0 line fault.0 says.1 fault.1
 
 -- ---- runs
 
@@ -90,52 +54,43 @@ none_of : {X : Type 0} (found : Option X) → is_some found ≡ false → found 
 none_of None e = refl
 none_of (Some x) e = absurd (cc)
 
-some_of : {X : Type 0} (found : Option X) → is_some found ≡ true → (x : X) × (found ≡ Some x)
-some_of None e = absurd (cc)
-some_of (Some x) e = (x, refl)
+above_seven : (status : ℕ) → (status ≡ 0) ⊎ ((status ≡ 8) ⊎ ((status ≡ 5) ⊎ (status ≡ 6))) → 7 < status → status ≡ 8
+above_seven status (inl e) above = absurd (omega (arith, e, above))
+above_seven status (inr (inl eight)) above = eight
+above_seven status (inr (inr (inl e))) above = absurd (omega (arith, e, above))
+above_seven status (inr (inr (inr e))) above = absurd (omega (arith, e, above))
+
+-- a run in which no journal got full has the status 0
+none_with : (script : Script) (reading : Reading) → full_of script reading ≡ None → run_status script reading ≡ 0
+none_with script reading none = rw none refl
 
 module _ (links : Wires) (by : Way) (text : List ℕ) (script : Script) (reading : Reading) (out : Output) (status : ℕ)
     (run : IsRun links by text script reading) (wrote : WritesRun script reading out status) where
   none_full : (status ≡ 0) ⊎ (status ≡ 5) → full_of script reading ≡ None
   none_full fine = none_of (full_of script reading) (wrote.none_full fine)
 
-  report_alone : (status ≡ 0) ⊎ (status ≡ 5) → run_text script reading ≡ report_of script reading
-  report_alone fine = rw (none_full fine) refl
+  fine_status : (status ≡ 0) ⊎ (status ≡ 5) → run_status script reading ≡ 0
+  fine_status fine = none_with script reading (none_full fine)
 
-  report_written : IsOnlyReading → status ≡ 0 → WritesReport links by text out
-  report_written only zero =
-      let none = none_full (inl zero) in
-      let one = one_reading text script reading run.says only run.shows run.marks none (wrote.short zero) in (
-        script,
-        (reading, run, none, one.0, one.1, subst (Writes out) (report_alone (inl zero)) (wrote.whole zero)),
-      )
+  full_status : status ≡ 8 → run_status script reading ≡ status
+  full_status eight =
+      let full : is_some (full_of script reading) ≡ true = (wrote.full eight).0 in
+      let same : run_status script reading ≡ 8 = rw full refl in same ∙ sym eight
 
-  full_written : status ≡ 8 → WritesFull links by text out
-  full_written eight =
-      let gains = wrote.full eight in
-      let some = some_of (full_of script reading) gains.0 in (
-        script,
-        (
-          reading,
-          (
-            some.0,
-            run,
-            some.1,
-            subst (λ full. Gains out (full_line full ++ report_of script reading)) some.1 gains.1,
-          ),
-        ),
-      )
-
-  front_written : status ≡ 5 → WritesReportFront links by text out
-  front_written five = (
-    script,
-    (
-      reading,
-      run,
-      none_full (inr five),
-      subst (WritesFront out) (report_alone (inr five)) (wrote.front five).1,
-    ),
-  )
+  -- what was written of a run is what is told of it
+  run_told : IsOnlyReading → (status ≡ 0) ⊎ ((status ≡ 8) ⊎ ((status ≡ 5) ⊎ (status ≡ 6)))
+      → EndsTask (running links by text) out status
+  run_told only statuses = record {
+    done = λ zero.
+        let one = one_reading text script reading run.says only run.shows run.marks (none_full (inl zero))
+        (wrote.short zero) in
+        ((script, reading), run, fine_status (inl zero), one, wrote.whole zero);
+    marked = λ above.
+        let eight : status ≡ 8 = above_seven status statuses above in
+        ((script, reading), run, full_status eight, (wrote.full eight).1);
+    front = λ five. ((wrote.front five).0, ((script, reading), run, fine_status (inr five), (wrote.front five).1));
+    no_memory = λ six. inr (refl, ((script, reading), run, wrote.broken_off six));
+  }
 
   module _ (turn : by ≡ ways.InTurn) (told : ℕ → CfId → Telling)
       (telling : links.telling told (length script.structures)) where
@@ -183,28 +138,19 @@ pub run_ends : (links : Wires) (by : Way) (text : List ℕ) (script : Script) (o
     → EndsRun links by script out status → (status ≡ 0) ⊎ ((status ≡ 8) ⊎ ((status ≡ 5) ⊎ (status ≡ 6)))
     → EndsRight links by text out status
 run_ends links by text script out status one never fresh within only short says (inl (six, gains)) statuses =
-    memory_ends links by text out status six (inl gains)
+    memory_ends (script_word links by) text out status six gains
 run_ends links by text script out status one never fresh within only short says (inr (reading, run_of, wrote)) statuses =
-    record {
-      served = report_written links by text script reading out status run wrote only;
-      full = full_written links by text script reading out status run wrote;
-      front = front_written links by text script reading out status run wrote;
-      no_memory = λ six. inr (script, (reading, run, wrote.broken_off six));
-      refused = λ is. absurd (not_three status statuses is);
-      exact = λ read memory. (
-        (λ is. absurd (not_seven status statuses is), λ long. absurd (omega (arith, short, long))),
-        (
-          λ is. absurd (not_three status statuses is),
-          λ un. absurd (script_unrefused text script un.1.0 un.1.1 never says un.1.2),
-        ),
-      );
-      complete = λ turn read memory other again fits told telling.
-          let same : script ≡ other = one text script other says again in
+    done_ends (script_word links by) text out status (runs_fair links by never) (fits text short) (script, says)
+    (run_told links by text script reading out status run wrote only statuses) (not_three status statuses)
+    (not_seven status statuses)
+    (λ memory. (
+      whole_status status statuses memory,
+      λ turn other again told telling.
+          (let same : script ≡ other = one text script other says again in
           subst (λ (s : Script). IsSerialStatus told s status) same
           (serial_right links by text script reading out status run wrote turn told
-          (subst (λ (s : Script). links.telling told (length s.structures)) (sym same) telling) statuses memory);
-      whole = λ read memory other again fits. whole_status status statuses memory;
-    }
+          (subst (λ (s : Script). links.telling told (length s.structures)) (sym same) telling) statuses memory)),
+    ))
   where
     run : IsRun links by text script reading
     run = record {

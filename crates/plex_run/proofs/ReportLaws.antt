@@ -1,75 +1,103 @@
--- A report that is written line by line.
-use Rattle.std.proofs.Common.{◌≡◌, ℕ, zero, suc, ◌+◌, ◌<◌, List, [], ◌∷◌, ◌++◌, length, length-append, take, drop, map, Option, None, Some, refl, sym, ap, ◌∙◌, subst, arith}
-use Rattle.std.specs.List.{flat_map, slice_get}
+-- A report whose lines are put one after another.
+use Rattle.std.proofs.Common.{◌≡◌, ℕ, add-one, zero, suc, ◌+◌, ◌<◌, List, [], ◌∷◌, ◌++◌, length, length-append, take, drop, map, Option, None, Some, append-nil, unwrap_or, refl, sym, ap, ◌∙◌, subst, append_assoc, arith}
+use Rattle.std.specs.List.{concat, flat_map, slice_get}
 use Rattle.std.specs.Io.KnownBytes.{Appends}
-use Rattle.std.proofs.KnownBytes.{Appends-trans}
-use Rattle.std.proofs.lemmas.Grind.{flat_map-append}
+use Rattle.std.proofs.lemmas.List.Folds.{concat-append}
 use Rattle.std.proofs.lemmas.List.{take-append-drop}
 use Rattle.plex_spell.specs.Words.{line_text}
-use Rattle.plex_report.proofs.LinesAt.{text_more}
 use Rattle.plex_run.specs.Written.{GainsPrefix}
-use Rattle.plex_run.proofs.Written.{GainsPrefix-part, GainsPrefix-after, GainsPrefix-before}
+use Rattle.plex_run.specs.Pieces.{PassesOn}
+use Rattle.plex_run.proofs.Written.{GainsPrefix-before}
+use Rattle.plex_run.proofs.Passing.{passes-both, passed-all, passed-part, passed-front}
 
 -- the text of so many lines
 abbrev text_of : ℕ → List (List ℕ) → List ℕ
-text_of k lines = flat_map line_text (take k lines)
+text_of k lines = concat (take k lines)
 
-cut_at : (lines : List (List ℕ)) (k : ℕ)
-    → flat_map line_text lines ≡ text_of k lines ++ flat_map line_text (drop k lines)
+cut_at : (lines : List (List ℕ)) (k : ℕ) → concat lines ≡ text_of k lines ++ concat (drop k lines)
 cut_at lines k =
-    sym (ap (λ (l : List (List ℕ)). flat_map line_text l) (take-append-drop k lines))
-    ∙ flat_map-append line_text (take k lines) (drop k lines)
+    sym (ap (λ (l : List (List ℕ)). concat l) (take-append-drop k lines)) ∙ concat-append (take k lines) (drop k lines)
 
-all_lines : (lines : List (List ℕ)) (k : ℕ) → slice_get (map line_text lines) k ≡ None → take k lines ≡ lines
+all_lines : (lines : List (List ℕ)) (k : ℕ) → slice_get lines k ≡ None → take k lines ≡ lines
 all_lines [] zero past = refl
 all_lines [] (suc k) past = refl
 all_lines (line ∷ lines) zero past = absurd (cc)
 all_lines (line ∷ lines) (suc k) past = ap (λ (l : List (List ℕ)). line ∷ l) (all_lines lines k past)
 
--- past the last line the whole text is written
-pub text_whole : (lines : List (List ℕ)) (k : ℕ) → slice_get (map line_text lines) k ≡ None
-    → text_of k lines ≡ flat_map line_text lines
-text_whole lines k past = ap (λ (l : List (List ℕ)). flat_map line_text l) (all_lines lines k past)
+-- past the last line it is the whole text
+text_whole : (lines : List (List ℕ)) (k : ℕ) → slice_get lines k ≡ None → text_of k lines ≡ concat lines
+text_whole lines k past = ap (λ (l : List (List ℕ)). concat l) (all_lines lines k past)
 
-pub all_written : (old new : Option (List ℕ)) (lines : List (List ℕ)) (k : ℕ) → Appends old new (text_of k lines)
-    → slice_get (map line_text lines) k ≡ None → Appends old new (flat_map line_text lines)
-all_written old new lines k gains past = subst (Appends old new) (text_whole lines k past) gains
+text_more : (lines : List (List ℕ)) (k : ℕ) (line : List ℕ) → slice_get lines k ≡ Some line
+    → text_of (k + 1) lines ≡ text_of k lines ++ line
+text_more lines k line h = rw add-one (one_more lines k line h)
+  where
+    one_more : (lines : List (List ℕ)) (k : ℕ) (line : List ℕ) → slice_get lines k ≡ Some line
+        → text_of (suc k) lines ≡ text_of k lines ++ line
+    one_more [] k line h = cc
+    one_more (l ∷ ls) zero line h = append-nil l ∙ ap (λ o. unwrap_or o []) h
+    one_more (l ∷ ls) (suc k) line h =
+        ap (λ t. l ++ t) (one_more ls k line h) ∙ sym (append_assoc l (text_of k ls) line)
+
+module _ (old mid new : Option (List ℕ)) (before after : List ℕ) (lines : List (List ℕ)) (k : ℕ)
+    (passed : PassesOn old mid before after (text_of k lines)) where
+  -- past the last line, and what stood in the piece was written
+  pub all_written : slice_get lines k ≡ None → Appends mid new after → Appends old new (before ++ concat lines)
+  all_written past gained =
+      subst (λ text. Appends old new (before ++ text)) (text_whole lines k past)
+      (passed-all old mid new before after (text_of k lines) passed gained)
+
+  -- a front of what stood in the piece was written
+  pub text_front : GainsPrefix mid new after → GainsPrefix old new (before ++ concat lines)
+  text_front part =
+      subst (GainsPrefix old new)
+      (append_assoc before (text_of k lines) (concat (drop k lines)) ∙ ap (λ l. before ++ l) (sym (cut_at lines k)))
+      (GainsPrefix-before old new (before ++ text_of k lines) (concat (drop k lines))
+      (passed-part old mid new before after (text_of k lines) passed part))
+
+  -- and so it is with a front of the next line
+  pub text_front_more : (line : List ℕ) → slice_get lines k ≡ Some line → GainsPrefix mid new (after ++ line)
+      → GainsPrefix old new (before ++ concat lines)
+  text_front_more line next part =
+      let front : GainsPrefix old new (before ++ text_of (k + 1) lines) =
+      subst (λ text. GainsPrefix old new (before ++ text)) (sym (text_more lines k line next))
+      (passed-front old mid new before after (text_of k lines) line passed part) in
+      subst (GainsPrefix old new)
+      (append_assoc before (text_of (k + 1) lines) (concat (drop (k + 1) lines))
+      ∙ ap (λ l. before ++ l) (sym (cut_at lines (k + 1))))
+      (GainsPrefix-before old new (before ++ text_of (k + 1) lines) (concat (drop (k + 1) lines)) front)
+
+  -- one more line
+  pub text_longer : (line more : List ℕ) → slice_get lines k ≡ Some line → PassesOn mid new after more line
+      → PassesOn old new before more (text_of (k + 1) lines)
+  text_longer line more next passes =
+      subst (PassesOn old new before more) (sym (text_more lines k line next))
+      (passes-both old mid new before after more (text_of k lines) line passed passes)
 
 pub all_short : (lines : List (List ℕ)) (k n m : ℕ) → n ≡ length (text_of k lines) → n < m
-    → slice_get (map line_text lines) k ≡ None → length (flat_map line_text lines) < m
+    → slice_get lines k ≡ None → length (concat lines) < m
 all_short lines k n m is low past =
-    let same : length (text_of k lines) ≡ length (flat_map line_text lines) =
+    let same : length (text_of k lines) ≡ length (concat lines) =
     ap (λ (l : List ℕ). length l) (text_whole lines k past) in
     omega (arith, is, low, same)
 
--- so many lines are a front of the text
-pub text_front : (old new : Option (List ℕ)) (lines : List (List ℕ)) (k : ℕ) → Appends old new (text_of k lines)
-    → GainsPrefix old new (flat_map line_text lines)
-text_front old new lines k gains =
-    GainsPrefix-part old new (text_of k lines) (flat_map line_text (drop k lines)) (flat_map line_text lines)
-    (cut_at lines k) gains
-
--- and so they are with a front of the next one
-pub text_front_more : (old mid new : Option (List ℕ)) (lines : List (List ℕ)) (k : ℕ) (line : List ℕ)
-    → slice_get (map line_text lines) k ≡ Some line → Appends old mid (text_of k lines) → GainsPrefix mid new line
-    → GainsPrefix old new (flat_map line_text lines)
-text_front_more old mid new lines k line next before part =
-    let both : GainsPrefix old new (text_of k lines ++ line) =
-    GainsPrefix-after old mid new (text_of k lines) line before part in
-    let front : GainsPrefix old new (text_of (k + 1) lines) =
-    subst (GainsPrefix old new) (sym (text_more lines k line next)) both in
-    subst (GainsPrefix old new) (sym (cut_at lines (k + 1)))
-    (GainsPrefix-before old new (text_of (k + 1) lines) (flat_map line_text (drop (k + 1) lines)) front)
-
--- one more line
-pub text_longer : (old mid new : Option (List ℕ)) (lines : List (List ℕ)) (k : ℕ) (line : List ℕ)
-    → slice_get (map line_text lines) k ≡ Some line → Appends old mid (text_of k lines) → Appends mid new line
-    → Appends old new (text_of (k + 1) lines)
-text_longer old mid new lines k line next before after =
-    subst (Appends old new) (sym (text_more lines k line next))
-    (Appends-trans old mid new (text_of k lines) line before after)
-
-pub length_longer : (lines : List (List ℕ)) (k : ℕ) (line : List ℕ) → slice_get (map line_text lines) k ≡ Some line
+pub length_longer : (lines : List (List ℕ)) (k : ℕ) (line : List ℕ) → slice_get lines k ≡ Some line
     → length (text_of (k + 1) lines) ≡ length (text_of k lines) + length line
 length_longer lines k line next =
     ap (λ (l : List ℕ). length l) (text_more lines k line next) ∙ length-append (text_of k lines) line
+
+-- ---- whole reports
+
+-- the texts of the lines are the text of the report
+pub report_text : (texts lines : List (List ℕ)) → texts ≡ map line_text lines → concat texts ≡ flat_map line_text lines
+report_text texts lines same = ap (λ (l : List (List ℕ)). concat l) same ∙ each lines
+  where
+    each : (lines : List (List ℕ)) → concat (map line_text lines) ≡ flat_map line_text lines
+    each [] = refl
+    each (line ∷ lines) = ap (λ l. line_text line ++ l) (each lines)
+
+-- and so it is behind a heading
+pub headed_text : (heading head : List ℕ) (texts lines : List (List ℕ)) → heading ≡ head → texts ≡ map line_text lines
+    → heading ++ concat texts ≡ head ++ flat_map line_text lines
+headed_text heading head texts lines is same =
+    ap (λ l. l ++ concat texts) is ∙ ap (λ l. head ++ l) (report_text texts lines same)

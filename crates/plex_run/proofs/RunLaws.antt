@@ -1,5 +1,5 @@
 -- What the runs on one thread and on many leave is what a run leaves.
-use Rattle.std.proofs.Common.{◌≡◌, ℕ, List, length, Option, Some, slice_get, Result, Ok, Err, IfOk, sym, ap, ◌∙◌, arith}
+use Rattle.std.proofs.Common.{◌≡◌, ℕ, List, length, Option, Result, Ok, Err, IfOk, sym, ap, ◌∙◌, arith}
 use Rattle.std.proofs.lemmas.Option.{slice_get_within}
 use Rattle.list_laws.proofs.TableLaws.{get_within}
 use Rattle.cf_types.specs.declared.memory.NoMemory.{NoMemory}

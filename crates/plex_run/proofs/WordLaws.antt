@@ -1,7 +1,8 @@
 -- Words that ask for a load.
 use Rattle.std.proofs.Common.{◌≡◌, ℕ, List, [], ◌∷◌, length, get_or, map, Some, sym, ap, ◌∙◌, subst, arith}
 use Rattle.std.specs.Prelude.{codes, String, string_bytes}
-use Rattle.plex_run.specs.Loading.{IsLoading, number_said}
+use Rattle.plex_run.specs.declared.way.Work.TheVariants as works
+use Rattle.plex_run.specs.Words.{Say, number_said}
 
 -- a list of two
 two_of : {X : Type 0} (xs : List X) (a b : X) → length xs ≡ 2 → a ≡ get_or xs 0 a → b ≡ get_or xs 1 b
@@ -14,7 +15,7 @@ two_of (x ∷ y ∷ z ∷ more) a b two first second = absurd (omega (arith, two
 module _ {A : Type 0} (words : List (String A)) (word numeral : String A) (n : ℕ) (two : length words ≡ 2)
     (first : word ≡ get_or words 0 word) (second : numeral ≡ get_or words 1 numeral) where
   -- what both have to be
-  pub asks_load : string_bytes word ≡ codes "load" → number_said (string_bytes numeral) ≡ Some n → IsLoading words n
+  pub asks_load : string_bytes word ≡ codes "load" → number_said (string_bytes numeral) ≡ Some n → Say words (works.Load n)
   asks_load load said = (
     string_bytes numeral,
     ap (λ (ws : List (String A)). map string_bytes ws) (two_of words word numeral two first second)
@@ -23,7 +24,7 @@ module _ {A : Type 0} (words : List (String A)) (word numeral : String A) (n : �
   )
 
   -- and what they are
-  pub is_asked : IsLoading words n
+  pub is_asked : Say words (works.Load n)
       → (string_bytes word ≡ codes "load") × (number_said (string_bytes numeral) ≡ Some n)
   is_asked loading =
       let same : string_bytes word ∷ string_bytes numeral ∷ [] ≡ codes "load" ∷ loading.0 ∷ [] =

@@ -1,9 +1,11 @@
 -- Work that words ask for is of one kind.
-use Rattle.std.proofs.Common.{◌≡◌, ℕ, ◌⊎◌, inl, inr, Option, None, Some, sym, ap, subst, ◌∙◌, arith}
+use Rattle.std.proofs.Common.{◌≡◌, ℕ, ◌⊎◌, inl, inr, List, Option, None, Some, sym, ap, subst, ◌∙◌, arith}
+use Rattle.std.specs.Prelude.{String}
 use Rattle.plex_run.specs.declared.way.Way.{Way}
 use Rattle.plex_run.specs.declared.way.Way.TheVariants as ways
 use Rattle.plex_run.specs.declared.way.Work.{Work}
 use Rattle.plex_run.specs.declared.way.Work.TheVariants as works
+use Rattle.plex_run.specs.Words.{Say}
 use Rattle.plex_run.specs.Wires.{Wires}
 use Rattle.plex_run.specs.Written.{Output}
 use Rattle.plex_run.specs.Loading.{EndsLoad}
@@ -29,19 +31,19 @@ pub not_script : (work : Option Work) (said : Work) (way : Way) (n : ℕ) → wo
 not_script work said way n is script load =
     let same : Some (works.Script way) ≡ Some (works.Load n) = sym (is ∙ ap Some script) ∙ load in cc
 
--- where no work is found, the words say none
-pub nothing_said : (work : Option Work) (Serial Threads Locks : Type 0) (Loading : ℕ → Type 0) → work ≡ None
-    → (Serial → work ≡ Some (works.Script ways.InTurn)) → (Threads → work ≡ Some (works.Script ways.OnThreads))
-    → (Locks → work ≡ Some works.Locks) → ((n : ℕ) → Loading n → work ≡ Some (works.Load n))
-    → Serial ⊎ (Threads ⊎ (Locks ⊎ ((n : ℕ) × Loading n))) → ⊥
-nothing_said work Serial Threads Locks Loading none serial threads locks load (inl one) =
-    not_none work (works.Script ways.InTurn) none (serial one)
-nothing_said work Serial Threads Locks Loading none serial threads locks load (inr (inl one)) =
-    not_none work (works.Script ways.OnThreads) none (threads one)
-nothing_said work Serial Threads Locks Loading none serial threads locks load (inr (inr (inl one))) =
-    not_none work works.Locks none (locks one)
-nothing_said work Serial Threads Locks Loading none serial threads locks load (inr (inr (inr one))) =
-    not_none work (works.Load one.0) none (load one.0 one.1)
+-- where no work is found, the words ask for none
+pub nothing_said : {A : Type 0} (words : List (String A)) (work : Option Work) → work ≡ None
+    → (Say words (works.Script ways.InTurn) → work ≡ Some (works.Script ways.InTurn))
+    → (Say words (works.Script ways.OnThreads) → work ≡ Some (works.Script ways.OnThreads))
+    → ((n : ℕ) → Say words (works.Load n) → work ≡ Some (works.Load n))
+    → (Say words works.Locks → work ≡ Some works.Locks) → (said : Work) × Say words said → ⊥
+nothing_said words work none serial threads load locks (said, asked) = by_work said asked
+  where
+    by_work : (it : Work) → Say words it → ⊥
+    by_work (works.Script ways.InTurn) it = not_none work (works.Script ways.InTurn) none (serial it)
+    by_work (works.Script ways.OnThreads) it = not_none work (works.Script ways.OnThreads) none (threads it)
+    by_work (works.Load n) it = not_none work (works.Load n) none (load n it)
+    by_work works.Locks it = not_none work works.Locks none (locks it)
 
 -- the statuses of a load
 pub not_two : (status : ℕ) → (status ≡ 0) ⊎ ((status ≡ 5) ⊎ (status ≡ 6)) → status ≡ 2 → ⊥

@@ -72,3 +72,7 @@ OnErr-so (Err e) P Q so p = so p
 pub OnOk-so : {T E : Type 0} (result : Result T E) (P Q : Type 0) → (P → Q) → OnOk result P → OnOk result Q
 OnOk-so (Ok x) P Q so p = so p
 OnOk-so (Err e) P Q so p = tt
+
+pub OnOk-always : {T E : Type 0} (result : Result T E) (P : Type 0) → P → OnOk result P
+OnOk-always (Ok x) P p = p
+OnOk-always (Err e) P p = tt

@@ -1,7 +1,10 @@
+pub mod Words
+pub mod Pieces
 pub mod Written
 pub mod Wires
 pub mod Full
 pub mod StatusLines
+pub mod Statuses
 pub mod Outcome
 pub mod Loading
 pub mod Locks

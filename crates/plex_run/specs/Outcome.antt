@@ -1,5 +1,5 @@
 -- What a run of the program means: which script came in, what goes out, and what each status says.
-use Rattle.std.specs.Prelude.{◌≡◌, ◌≢◌, ◌⊎◌, ◌↔◌, ℕ, ◌≤◌, ◌<◌, ◌==◌, if◌then◌else◌, List, [], ◌∷◌, ◌++◌, ◌^◌, length, map, slice_get, Option, None, Some, IfSome, is_some, codes, String, string_bytes, nat_eq, true, false, IsTrue}
+use Rattle.std.specs.Prelude.{◌≡◌, ◌⊎◌, ℕ, ◌≤◌, ◌<◌, ◌==◌, if◌then◌else◌, List, [], ◌∷◌, ◌++◌, ◌^◌, length, slice_get, Option, None, Some, IfSome, is_some, codes, nat_eq, true, false, IsTrue}
 use Rattle.std.specs.List.{list_any}
 use Rattle.cf_io.specs.declared.read_end.ReadEnd.{ReadEnd}
 use Rattle.cf_io.specs.declared.read_end.ReadEnd.TheVariants as ends
@@ -24,7 +24,8 @@ use Rattle.plex_run.specs.declared.way.Way.TheVariants as ways
 use Rattle.plex_run.specs.Written.{Output, HasFailed, Writes, WritesFront, Gains, BreaksOff}
 use Rattle.plex_run.specs.Wires.{Wires}
 use Rattle.plex_run.specs.Full.{full_structure}
-use Rattle.plex_run.specs.StatusLines.{why_word, script_line, full_line, memory_line, too_long_line}
+use Rattle.plex_run.specs.Statuses.{Task, Word, EndsText}
+use Rattle.plex_run.specs.StatusLines.{why_word, full_line, memory_line, too_long_line}
 
 -- the greatest length of a script, in bytes
 abbrev pub script_limit : ℕ
@@ -33,19 +34,6 @@ script_limit = SCRIPT_LIMIT
 -- a journal with so many entries takes no call
 abbrev pub journal_limit : ℕ
 journal_limit = JOURNAL_LIMIT
-
--- the words are the one word `serial`
-abbrev pub IsSerial : {A : Type 0} → List (String A) → Type 0
-IsSerial words = map string_bytes words ≡ codes "serial" ∷ []
-
--- the words are the one word `threads`
-abbrev pub IsThreads : {A : Type 0} → List (String A) → Type 0
-IsThreads words = map string_bytes words ≡ codes "threads" ∷ []
-
--- the words say this way of running a script
-abbrev pub Say : {A : Type 0} → List (String A) → Way → Type 0
-Say words ways.InTurn = IsSerial words
-Say words ways.OnThreads = IsThreads words
 
 -- the statuses of the program
 abbrev pub IsStatus : ℕ → Type 0
@@ -71,10 +59,6 @@ read_status ends.NoMemory = 6
 abbrev pub IsRefused : List ℕ → ℕ → List ℕ → Type 0
 IsRefused text line told = (why : Why) × IsFault text line why × (told ≡ why_word why)
 
--- the text is no script
-abbrev pub IsUnserved : List ℕ → Type 0
-IsUnserved text = (line : ℕ) × (told : List ℕ) × IsRefused text line told
-
 -- ---- runs
 
 -- the first structure whose journal got full in a run
@@ -91,6 +75,10 @@ CanFill script full =
 abbrev pub run_text : Script → Reading → List ℕ
 run_text script reading = full_line (full_of script reading) ++ report_of script reading
 
+-- the status of a run where no write fails: 8 where a journal got full
+abbrev pub run_status : Script → Reading → ℕ
+run_status script reading = if is_some (full_of script reading) then 8 else 0
+
 -- what the run on one thread leaves, over links that tell this
 abbrev pub serial_reading : (ℕ → CfId → Telling) → Script → Reading
 serial_reading told script =
@@ -102,7 +90,7 @@ full_in_run told script = full_of script (serial_reading told script)
 
 -- the status of the run on one thread, where no write fails
 abbrev pub serial_status : (ℕ → CfId → Telling) → Script → ℕ
-serial_status told script = if is_some (full_in_run told script) then 8 else 0
+serial_status told script = run_status script (serial_reading told script)
 
 -- legal histories of the structures, each caller's calls in them once and in their order, and tests that tell what
 -- stood
@@ -160,46 +148,23 @@ pub record IsRun (links : Wires) (by : Way) (text : List ℕ) (script : Script) 
   pub can_fill : CanFill script (full_of script reading)
   pub in_turn : by ≡ ways.InTurn → IsSerialOver links script reading
 
--- the report of a run in which no journal got full was written, whole and nothing else. Each caller's work was done,
--- and of no other reading of the script could it have been the report, whatever the tests in it tell.
-abbrev pub WritesReport : Wires → Way → List ℕ → Output → Type 0
-WritesReport links by text out =
-    (script : Script) × ((reading : Reading) × IsRun links by text script reading × (full_of script reading ≡ None)
-    × IsReading script reading × IsTheReading script reading × Writes out (report_of script reading))
-
--- a run's report was written behind the line of the first structure whose journal got full; whole and nothing else,
--- unless a write failed, and then a front of both
-abbrev pub WritesFull : Wires → Way → List ℕ → Output → Type 0
-WritesFull links by text out =
-    (script : Script) × ((reading : Reading) × ((name : Name16) × IsRun links by text script reading
-    × (full_of script reading ≡ Some name) × Gains out (full_line (Some name) ++ report_of script reading)))
-
--- a front of the report of a run in which no journal got full was written
-abbrev pub WritesReportFront : Wires → Way → List ℕ → Output → Type 0
-WritesReportFront links by text out =
-    (script : Script) × ((reading : Reading) × IsRun links by text script reading × (full_of script reading ≡ None)
-    × WritesFront out (report_of script reading))
-
--- that there was no memory was told, alone or behind a front of what is written of a run
-abbrev pub TellsNoMemory : Wires → Way → List ℕ → Output → Type 0
-TellsNoMemory links by text out =
-    Gains out memory_line
-    ⊎ ((script : Script) × ((reading : Reading) × IsRun links by text script reading
-    × BreaksOff out (run_text script reading) memory_line))
+-- what comes of a text that says a script: a run of it in this way, told by its report, behind the line of the first
+-- structure whose journal got full. Where all of a report was written and no journal got full, each caller's work was
+-- done, and of no other reading of the script could it have been the report, whatever the tests in it tell.
+abbrev pub running : Wires → Way → List ℕ → Task
+running links by text =
+    record {
+      Outcome = Script × Reading;
+      Comes = λ it. IsRun links by text it.0 it.1;
+      status = λ it. run_status it.0 it.1;
+      told = λ it. run_text it.0 it.1;
+      Seals = λ it. IsReading it.0 it.1 × IsTheReading it.0 it.1;
+      in_parts = true;
+    }
 
 -- a line was written, whatever stands before it: whole, unless a write failed, and then a front of both
 abbrev pub EndsWith : Output → List ℕ → Type 0
 EndsWith out line = (front : List ℕ) × Gains out (front ++ line)
-
--- the first faulty line of the text was told, and why
-abbrev pub WritesRefusal : List ℕ → Output → Type 0
-WritesRefusal text out =
-    (line : ℕ) × (told : List ℕ) × IsRefused text line told × Gains out (script_line line told)
-
--- 7 is the status of exactly the texts that are too long, and 3 of exactly the others that are no script
-abbrev pub IsExact : List ℕ → ℕ → Type 0
-IsExact text status =
-    ((status ≡ 7) ↔ (script_limit < length text)) × ((status ≡ 3) ↔ ((length text ≤ script_limit) × IsUnserved text))
 
 -- the status is that of the run on one thread: 8 where a journal got full, and else 0, or 5
 abbrev pub IsSerialStatus : (ℕ → CfId → Telling) → Script → ℕ → Type 0
@@ -209,23 +174,29 @@ IsSerialStatus told script status =
 -- a script, run in turn over links that tell which calls are down, has that status
 abbrev pub IsComplete : Wires → List ℕ → ℕ → Type 0
 IsComplete links text status =
-    (script : Script) → IsScript text script → length text ≤ script_limit → (told : ℕ → CfId → Telling)
+    (script : Script) → IsScript text script → (told : ℕ → CfId → Telling)
     → links.telling told (length script.structures) → IsSerialStatus told script status
 
--- a script has the status 0, or 5, or 8 where a journal got full
-abbrev pub IsRunWhole : List ℕ → ℕ → Type 0
-IsRunWhole text status =
-    (script : Script) → IsScript text script → length text ≤ script_limit
-    → (status ≡ 0) ⊎ ((status ≡ 5) ⊎ (status ≡ 8))
+-- a script has the status 0, or 5, or 8 where a journal got full; and in turn that of the run on one thread
+abbrev pub IsRunWhole : Wires → Way → List ℕ → ℕ → Type 0
+IsRunWhole links by text status =
+    ((status ≡ 0) ⊎ ((status ≡ 5) ⊎ (status ≡ 8))) × (by ≡ ways.InTurn → IsComplete links text status)
 
--- the run of a text in this way ends so: what each status says of the text and of what was written, and which status
--- it is where no read failed and there was memory
-pub record EndsRight (links : Wires) (by : Way) (text : List ℕ) (out : Output) (status : ℕ) : Type 0 where
-  pub served : status ≡ 0 → WritesReport links by text out
-  pub full : status ≡ 8 → WritesFull links by text out
-  pub front : status ≡ 5 → WritesReportFront links by text out
-  pub no_memory : status ≡ 6 → TellsNoMemory links by text out
-  pub refused : status ≡ 3 → WritesRefusal text out
-  pub exact : status ≢ 4 → status ≢ 6 → IsExact text status
-  pub complete : by ≡ ways.InTurn → status ≢ 4 → status ≢ 6 → IsComplete links text status
-  pub whole : status ≢ 4 → status ≢ 6 → IsRunWhole text status
+-- a text is longer than a script may be
+abbrev pub IsTooLong : List ℕ → Type 0
+IsTooLong text = script_limit < length text
+
+-- a word for which the script that comes is run in this way
+abbrev pub script_word : Wires → Way → Word
+script_word links by =
+    record {
+      IsTooLong = IsTooLong;
+      Refuses = IsRefused;
+      Takes = λ text. (script : Script) × IsScript text script;
+      task = running links by;
+      Settles = IsRunWhole links by;
+    }
+
+-- the run of a text in this way ends so
+abbrev pub EndsRight : Wires → Way → List ℕ → Output → ℕ → Type 0
+EndsRight links by text out status = EndsText (script_word links by) text out status

@@ -5,6 +5,7 @@
 mod full;
 mod loading;
 mod locks;
+mod pieces;
 mod program;
 mod running;
 mod status_lines;

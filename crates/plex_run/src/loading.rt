@@ -69,6 +69,7 @@ fn summed<K: Sink>(alloc: Global, n: u32, finished: &Finished, sink: &mut K) -> 
 /// Runs the load of `n`: the script that `n` makes (`plex_load::make`) is run on threads over these
 /// links, which are put back, and its summary (`plex_load::summary`) is written. Tells the status:
 /// 0, 5 or 6.
+#[tactic(auto, using(crate::proofs::LoadRunLaws::load_without_memory, crate::proofs::LoadRunLaws::load_ends))]
 pub(crate) fn loaded<R: Threads + Wait + Sync, K: Sink, L: Link, G: Gate>(
     rt: &R,
     alloc: Global,

@@ -5,12 +5,15 @@ ghost use Rattle.std.specs.Vec.{vec_len};
 ghost use Rattle.cf_types.specs.declared.limits.TheConstants.{LINKS};
 ghost use Rattle.cf_io.specs.Count.{Rises};
 ghost use Rattle.plex_run.specs.declared.way.Way.{Way};
+ghost use Rattle.plex_run.specs.declared.way.Work.{Work};
+ghost use Rattle.plex_run.specs.declared.way.Work.TheVariants as works;
 ghost use Rattle.plex_run.specs.Wires.{wires};
 ghost use Rattle.plex_run.specs.StatusLines.{script_line, memory_line};
 ghost use Rattle.plex_run.specs.Written.{output, HasFailed, Gains};
-ghost use Rattle.plex_run.specs.Outcome.{IsSerial, IsThreads, Say, IsStatus, status_line, script_limit, EndsWith, EndsRight};
-ghost use Rattle.plex_run.specs.Loading.{IsLoading, EndsLoad};
-ghost use Rattle.plex_run.specs.Locks.{IsLocks, EndsLocks};
+ghost use Rattle.plex_run.specs.Words.{Say};
+ghost use Rattle.plex_run.specs.Outcome.{IsStatus, status_line, script_limit, EndsWith, EndsRight};
+ghost use Rattle.plex_run.specs.Loading.{EndsLoad};
+ghost use Rattle.plex_run.specs.Locks.{EndsLocks};
 
 use crate::loading::loaded;
 use crate::locks::locked_in;
@@ -131,8 +134,9 @@ fn judged<R: Threads + Wait + Sync, K: Sink, L: Link, G: Gate>(
 /// With 3 the line is the first faulty one, and why is LATE, SYNTAX, LIMIT, UNKNOWN, TWICE or
 /// SPACE; or else, with `locks`, the first that lock words can't do, and NOTWORDS. With 8 the structure is the first in
 /// the policy whose journal got full. Lines are counted from 1. The causes are tried in the order
-/// 2, 4, 7, 3, 8, 5; want of memory may stand in place of any but 2. Memory is taken for one line
-/// of the report at a time. A load has 0, 5 or 6, and locks don't have 8; with 6 nothing stands before
+/// 2, 4, 7, 3, 8, 5; want of memory may stand in place of any but 2. The report goes out in pieces
+/// of 32,768 bytes at most, and a longer line alone; memory is taken for one piece, before anything
+/// is written, and for one line at a time. A load has 0, 5 or 6, and locks don't have 8; with 6 nothing stands before
 /// their line.
 pub fn run<R: Threads + Wait + Sync, S: Source, K: Sink, L: Link, G: Gate>(
     rt: &R,
@@ -163,16 +167,18 @@ pub fn run<R: Threads + Wait + Sync, S: Source, K: Sink, L: Link, G: Gate>(
     // Where no read failed and there was memory, the text decides which status it is: 7 where it is
     // too long, 3 where it is no script, and else 0, 5 or 8; with `serial`, and links that tell
     // which calls are down, it is 8 exactly where the run on one thread meets a full journal.
-    ensures headline { (way : Way) → Say words.now way → IfSome (S.left source.old)
-        (λ text. EndsRight (wires L.calls L.downs L.faults links.old.items links.new.items)
-        way text (output K.held K.faults sink.old sink.new) result) }
+    ensures headline { (way : Way) → Say words.now (works.Script way)
+        → IfSome (S.left source.old) (λ text. EndsRight (wires L.calls L.downs L.faults
+        links.old.items links.new.items) way text (output K.held K.faults sink.old sink.new)
+        result) }
 
     // With `load` and a number the summary of a run of the script that it makes is written: with 0
     // whole and nothing else, and with 5 a front of it. That run is one on threads, as above, whose
     // script is what its text says, and no journal got full in it. Nothing is read.
-    ensures load { (n : ℕ) → IsLoading words.now n → EndsLoad (wires L.calls L.downs L.faults
-        links.old.items links.new.items) n (output K.held K.faults sink.old sink.new) result }
-    ensures load_unread { (n : ℕ) → IsLoading words.now n → source.new ≡ source.old }
+    ensures load { (n : ℕ) → Say words.now (works.Load n) → EndsLoad (wires L.calls L.downs
+        L.faults links.old.items links.new.items) n (output K.held K.faults sink.old sink.new)
+        result }
+    ensures load_unread { (n : ℕ) → Say words.now (works.Load n) → source.new ≡ source.old }
 
     // With `locks` what became of the script's locks is written: with 0 whole and nothing else, and
     // with 5 a front of it. The text says that script, which lock words can do whole. Each
@@ -182,12 +188,11 @@ pub fn run<R: Threads + Wait + Sync, S: Source, K: Sink, L: Link, G: Gate>(
     // the end has the value of what the outcomes leave held, and these locks are compatible. Where
     // no read failed and there was memory, the text decides: 7 where it is too long, 3 where it is
     // no script that lock words can do whole, and else 0 or 5.
-    ensures locks { IsLocks words.now → IfSome (S.left source.old)
+    ensures locks { Say words.now works.Locks → IfSome (S.left source.old)
         (λ text. EndsLocks text (output K.held K.faults sink.old sink.new) result) }
 
     // The other causes, and what is written where the source doesn't tell its bytes.
-    ensures usage { (result ≡ 2) ↔ (IsSerial words.now ⊎ (IsThreads words.now
-        ⊎ (IsLocks words.now ⊎ ((n : ℕ) × IsLoading words.now n))) → ⊥) }
+    ensures usage { (result ≡ 2) ↔ ((work : Work) × Say words.now work → ⊥) }
     ensures read_fault { result ≡ 4 → Rises (S.faults source.old) (S.faults source.new) }
     ensures write_fault { result ≡ 5 → HasFailed (output K.held K.faults sink.old sink.new) }
     ensures no_memory { result ≡ 6 → EndsWith (output K.held K.faults sink.old sink.new)
@@ -199,10 +204,10 @@ pub fn run<R: Threads + Wait + Sync, S: Source, K: Sink, L: Link, G: Gate>(
     ensures statuses { IsStatus result }
 
     // A text that is judged was read to its end. With faulty words nothing is read.
-    ensures at_end { (way : Way) → Say words.now way
+    ensures at_end { (way : Way) → Say words.now (works.Script way)
         → (result ≡ 0) ⊎ ((result ≡ 3) ⊎ ((result ≡ 5) ⊎ (result ≡ 8)))
         → IsAtEnd (S.left source.new) }
-    ensures locks_at_end { IsLocks words.now
+    ensures locks_at_end { Say words.now works.Locks
         → (result ≡ 0) ⊎ ((result ≡ 3) ⊎ (result ≡ 5)) → IsAtEnd (S.left source.new) }
     ensures unread { result ≡ 2 → source.new ≡ source.old }
 

@@ -26,6 +26,7 @@ use std::sync::Wait;
 use std::thread::Threads;
 
 // Runs a script in this way over these links, which come back.
+#[tactic(auto, using(crate::proofs::RunLaws::serial_run_is, crate::proofs::RunLaws::threads_run_is))]
 fn run_by<R: Threads + Wait + Sync, L: Link, G: Gate>(
     rt: &R,
     alloc: Global,

@@ -1,8 +1,6 @@
 //! What the program does, and which words say so.
 ghost use Rattle.std.specs.Prelude.{◌≡◌, ◌≢◌, ◌⊎◌, ◌↔◌, ℕ, Some, None, codes, string_bytes};
-ghost use Rattle.plex_run.specs.Outcome.{IsSerial, IsThreads};
-ghost use Rattle.plex_run.specs.Loading.{IsLoading, number_said};
-ghost use Rattle.plex_run.specs.Locks.{IsLocks};
+ghost use Rattle.plex_run.specs.Words.{number_said, Say};
 ghost use Rattle.plex_run.specs.declared.way.Way.{Way};
 ghost use Rattle.plex_run.specs.declared.way.Way.TheVariants as ways;
 ghost use Rattle.plex_run.specs.declared.way.Work.TheVariants as works;
@@ -20,7 +18,7 @@ pub enum Way {
 
 /// What the words ask for.
 #[derive(Clone, Copy)]
-pub(crate) enum Work {
+pub enum Work {
     /// The script that comes in is run in this way.
     Script(Way),
     /// The script that this number makes is run on threads.
@@ -69,10 +67,12 @@ fn work_of_two(word: &String, numeral: &String) -> Option<Work>
 
 /// What the words ask for, where they ask for anything.
 pub(crate) fn work_of(words: &[String]) -> Option<Work>
-    ensures in_turn { (result ≡ Some (works.Script ways.InTurn)) ↔ IsSerial words.now }
-    ensures on_threads { (result ≡ Some (works.Script ways.OnThreads)) ↔ IsThreads words.now }
-    ensures load { (n : ℕ) → (result ≡ Some (works.Load n)) ↔ IsLoading words.now n }
-    ensures locks { (result ≡ Some works.Locks) ↔ IsLocks words.now }
+    ensures in_turn { (result ≡ Some (works.Script ways.InTurn))
+        ↔ Say words.now (works.Script ways.InTurn) }
+    ensures on_threads { (result ≡ Some (works.Script ways.OnThreads))
+        ↔ Say words.now (works.Script ways.OnThreads) }
+    ensures load { (n : ℕ) → (result ≡ Some (works.Load n)) ↔ Say words.now (works.Load n) }
+    ensures locks { (result ≡ Some works.Locks) ↔ Say words.now works.Locks }
 {
     match words {
         [word] => work_of_word(word),

@@ -1,16 +1,18 @@
 //! What a sink is told of a run.
 ghost use Rattle.std.specs.Prelude.{◌≡◌, ◌⊎◌, ◌≤◌, ◌<◌, ◌++◌, ◌^◌, length, Err, OnOk, OnErr, IfSome};
+ghost use Rattle.std.specs.List.{concat};
 ghost use Rattle.plex_reading.specs.Readings.{report_of};
 ghost use Rattle.plex_run.specs.declared.writing.Unwritten.TheVariants as reason;
 ghost use Rattle.plex_run.specs.StatusLines.{full_line, memory_line, too_long_line};
 ghost use Rattle.plex_run.specs.Written.{output, HasFailed, Writes, WritesFront, Gains};
 ghost use Rattle.plex_run.specs.Outcome.{reading_of, read_status, status_line};
 
+use crate::pieces::Piece;
 use crate::status_lines::full_line;
 use cf_io::{ReadEnd, Sink, write_all};
 use cf_types::{Name16, NoMemory};
 use plex_floor::Finished;
-use plex_report::line;
+use plex_report::Report;
 use plex_script::Script;
 use std::alloc::Global;
 
@@ -81,13 +83,12 @@ pub(crate) fn say_unread<K: Sink>(end: ReadEnd, sink: &mut K) -> u8
     }
 }
 
-// Writes a text.
-fn write_text<K: Sink>(sink: &mut K, text: &[u8]) -> Result<(), Unwritten>
+/// Writes a text.
+pub(crate) fn write_text<K: Sink>(sink: &mut K, text: &[u8]) -> Result<(), Unwritten>
     ensures whole { OnOk result (Writes (output K.held K.faults sink.old sink.new) text.now) }
     ensures front { OnErr result
         (WritesFront (output K.held K.faults sink.old sink.new) text.now) }
-    ensures cause { result ≡ Err reason.Failed
-        → HasFailed (output K.held K.faults sink.old sink.new) }
+    ensures cause { OnErr result (HasFailed (output K.held K.faults sink.old sink.new)) }
     ensures faults { K.faults sink.old ≤ K.faults sink.new }
 {
     match write_all(sink, text) {
@@ -96,38 +97,60 @@ fn write_text<K: Sink>(sink: &mut K, text: &[u8]) -> Result<(), Unwritten>
     }
 }
 
-// Writes the report of a run, with memory for one line at a time.
-#[tactic(auto, using(crate::proofs::ReportLaws::all_written, crate::proofs::ReportLaws::all_short, crate::proofs::ReportLaws::text_front, crate::proofs::ReportLaws::text_front_more, crate::proofs::ReportLaws::text_longer, crate::proofs::ReportLaws::length_longer))]
-fn write_report<K: Sink>(
+// Writes what stands in the piece, and the report behind it, with memory for one line at a time.
+#[tactic(auto, using(crate::proofs::ReportLaws::text_longer, crate::proofs::ReportLaws::length_longer))]
+fn write_lines<K: Sink>(
     alloc: Global,
-    script: &Script,
-    finished: &Finished,
+    report: &Report<'_>,
+    piece: &mut Piece,
     sink: &mut K,
 ) -> Result<(), Unwritten>
     ensures whole { OnOk result (Writes (output K.held K.faults sink.old sink.new)
-        (report_of script.now (reading_of finished.now))) }
-    ensures short { OnOk result
-        (length (report_of script.now (reading_of finished.now)) < 2 ^ 64) }
+        (piece.old.bytes.items ++ concat report.now)) }
+    ensures short { OnOk result (length (concat report.now) < 2 ^ 64) }
     ensures front { OnErr result (WritesFront (output K.held K.faults sink.old sink.new)
-        (report_of script.now (reading_of finished.now))) }
+        (piece.old.bytes.items ++ concat report.now)) }
     ensures cause { result ≡ Err reason.Failed
         → HasFailed (output K.held K.faults sink.old sink.new) }
     ensures faults { K.faults sink.old ≤ K.faults sink.new }
 {
-    let histories = finished.histories.items();
-    let transcripts = finished.transcripts.items();
     let mut bytes = 0u64;
-    for k in 0..u32::MAX {
-        let Some(text) = line(alloc, script, histories, transcripts, k)? else {
-            return Ok(());
+    for k in 0..usize::MAX {
+        let Ok(line) = report.line(alloc, k) else {
+            return Err(piece.break_off(sink));
         };
-        bytes = bytes
-            .checked_add(text.len() as u64)
-            .ok_or(Unwritten::NoMemory)?;
-        write_text(sink, &text)?;
+        let Some(text) = line else {
+            return piece.flush(sink);
+        };
+        let Some(sum) = bytes.checked_add(text.len() as u64) else {
+            return Err(piece.break_off(sink));
+        };
+        bytes = sum;
+        piece.put(sink, &text)?;
     }
     // No memory holds what a report of so many lines tells.
-    Err(Unwritten::NoMemory)
+    Err(piece.break_off(sink))
+}
+
+// Writes a heading and the report behind it. The memory for a piece of the report is taken first.
+fn write_headed<K: Sink>(
+    alloc: Global,
+    heading: &[u8],
+    report: &Report<'_>,
+    sink: &mut K,
+) -> Result<(), Unwritten>
+    ensures whole { OnOk result (Writes (output K.held K.faults sink.old sink.new)
+        (heading.now ++ concat report.now)) }
+    ensures short { OnOk result (length (concat report.now) < 2 ^ 64) }
+    ensures front { OnErr result (WritesFront (output K.held K.faults sink.old sink.new)
+        (heading.now ++ concat report.now)) }
+    ensures cause { result ≡ Err reason.Failed
+        → HasFailed (output K.held K.faults sink.old sink.new) }
+    ensures faults { K.faults sink.old ≤ K.faults sink.new }
+{
+    let mut piece = Piece::new(alloc)?;
+    write_text(sink, heading)?;
+    write_lines(alloc, report, &mut piece, sink)
 }
 
 /// Writes what a run left: the line of the structure whose journal got full, if one did, and the
@@ -150,6 +173,8 @@ pub(crate) fn write_run<K: Sink>(
     ensures faults { K.faults sink.old ≤ K.faults sink.new }
 {
     let heading = full_line(alloc, full)?;
-    write_text(sink, &heading)?;
-    write_report(alloc, script, finished, sink)
+    let histories = finished.histories.items();
+    let transcripts = finished.transcripts.items();
+    let report = Report::new(alloc, script, histories, transcripts)?;
+    write_headed(alloc, &heading, &report, sink)
 }

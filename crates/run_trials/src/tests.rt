@@ -1,3 +1,4 @@
+mod faults;
 mod gates;
 mod journals;
 mod links;

@@ -5,3 +5,4 @@ pub mod ShownLaws
 pub mod TurnLaws
 pub mod KeptLaws
 pub mod ToldLaws
+pub mod ReplyLaws

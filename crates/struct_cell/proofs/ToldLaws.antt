@@ -39,7 +39,7 @@ module _ {C R : Type 0} where
   )
 
   -- the calls of one caller among commits are those of the history
-  own_calls : (owner : ℕ) (all : List (Call C R))
+  pub own_calls : (owner : ℕ) (all : List (Call C R))
       → calls_in owner (map commit_of all) ≡ map own_call_of (filter (λ call. call.by.0 == owner) all)
   own_calls owner [] = refl
   own_calls owner (call ∷ all) = by_owner (call.by.0 == owner) refl (own_calls owner all)

@@ -1,5 +1,5 @@
 -- What a call does to its caller's pass.
-use Rattle.std.specs.Prelude.{◌≡◌, ◌≤◌, ◌++◌, ◌∷◌, []}
+use Rattle.std.specs.Prelude.{◌≡◌, ℕ, ◌≤◌, ◌==◌, ◌++◌, ◌∷◌, [], List, Option, find, option_map}
 use Rattle.engine_api.specs.declared.asks.Ask.{Ask}
 use Rattle.engine_api.specs.declared.asks.Reply.{Reply}
 use Rattle.engine_api.specs.declared.told.Told.{Told}
@@ -19,3 +19,10 @@ pub record IsLater {C R : Type 0} (before after : PassSeen (About C R)) : Type 0
   pub known : before.known ≤ after.known
   pub sure : before.sure ≤ after.sure
   pub same : after ≡ record before { known = after.known; sure = after.sure }
+
+-- ---- replies
+
+module _ {C R : Type 0} where
+  -- the reply to the call of this number, where it is among a caller's calls
+  abbrev pub reply_to : ℕ → List (ℕ × About C R) → Option (Reply R)
+  reply_to number mine = option_map (λ it. it.1.1) (find (λ it. it.0 == number) mine)

@@ -14,7 +14,7 @@ ghost use Rattle.rebuild_shell.specs.Capacities.{fresh_caps};
 ghost use Rattle.vec_words.specs.Logged.{count_of};
 ghost use Rattle.vec_words.specs.Tokens.{new_pass, learned_pass};
 ghost use Rattle.struct_cell.specs.Cells.{own_call_of, IsCell};
-ghost use Rattle.struct_cell.specs.Calls.{IsAnswered, IsLater};
+ghost use Rattle.struct_cell.specs.Calls.{IsAnswered, IsLater, reply_to};
 ghost use Rattle.struct_cell.specs.Limits.{AreMadeBelow};
 ghost use Rattle.struct_cell.specs.Telling.{IsTold};
 ghost use Rattle.struct_machine.specs.StructureView.{copied_items};
@@ -27,8 +27,9 @@ use crate::touched::Touched;
 use crate::words::store_words;
 use cf_link::{Link, Links};
 use cf_turn::KeyLock;
-use cf_types::StrForm;
+use cf_types::{NoMemory, StrForm};
 use engine_api::{Ask, Engine, Entry, History, Reply, Told, What};
+use reply_copy::{TryClone, own_reply};
 use std::alloc::Global;
 use std::marker::Model;
 use std::sync::Wait;
@@ -192,6 +193,57 @@ impl<E: Engine, L: Link> Cell<E, L> {
             reply,
         });
         Ok(told)
+    }
+
+    /// The reply to a call of the pass's owner, by the call's number: a copy of the one in the
+    /// journal. `None` where no call of the owner's has that number. It waits for its turn, by which
+    /// the pass may have seen more complete.
+    ///
+    /// # Errors
+    ///
+    /// `NoMemory` for the copy; then the pass is as it was, and the reply may be asked for again.
+    pub fn reply(
+        &self,
+        rt: &impl Wait,
+        alloc: Global,
+        pass: &mut Pass<(Ask<E::Cmd>, Reply<E::Reply>)>,
+        no: u32,
+    ) -> Result<Option<Reply<E::Reply>>, NoMemory>
+    where
+        E::Reply: TryClone,
+        requires pass { pass.old.table ≡ self.now.words }
+        ensures reply { IfOk result (λ reply. reply ≡ reply_to no pass.old.mine) }
+        ensures later { IsLater pass.old pass.new }
+        ensures no_memory { IfErr result (λ _. pass.new ≡ pass.old) }
+    {
+        let (mut inside, ticket) = self.lock.take(rt);
+        let reply = self.copy_own(alloc, &mut inside, pass, no);
+        self.lock.give(ticket, inside);
+        reply
+    }
+
+    // The copy, under the lock.
+    fn copy_own(
+        &self,
+        alloc: Global,
+        inside: &mut Inside<E, L>,
+        pass: &mut Pass<(Ask<E::Cmd>, Reply<E::Reply>)>,
+        no: u32,
+    ) -> Result<Option<Reply<E::Reply>>, NoMemory>
+    where
+        E::Reply: TryClone,
+        requires cell { IsCell L.calls L.downs L.faults E.meaning self.now inside.old.limit
+            inside.old.machine inside.old.touched inside.old.journal.items inside.old.seat }
+        requires pass { pass.old.table ≡ self.now.words }
+        ensures cell { IsCell L.calls L.downs L.faults E.meaning self.now inside.new.limit
+            inside.new.machine inside.new.touched inside.new.journal.items inside.new.seat }
+        ensures reply { IfOk result (λ reply. reply ≡ reply_to no pass.old.mine) }
+        ensures later { IsLater pass.old pass.new }
+        ensures no_memory { IfErr result (λ _. pass.new ≡ pass.old) }
+    {
+        let reply = own_reply(alloc, inside.journal.as_slice(), pass.owner(), no)?;
+        self.vectors.learn(&mut inside.seat, pass);
+        Ok(reply)
     }
 
     // Why a call isn't made where the journal is full. The pass learns how many entries it has.

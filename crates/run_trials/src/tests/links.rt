@@ -59,7 +59,7 @@ fn links_of(alloc: Global, one: &[u64], two: &[u64]) -> Result<Vec<ListLink>, Al
     let mut links = Vec::new(alloc);
     links.push(link(alloc, one)?)?;
     links.push(link(alloc, two)?)?;
-    while links.len() < LINKS {
+    for _ in 2..LINKS {
         links.push(link(alloc, &[])?)?;
     }
     Ok(links)
@@ -162,23 +162,33 @@ fn no_instance_is_lost(rt: HostRuntime) -> Result<(), Fail> {
     Ok(())
 }
 
-/// The histories where one link is down at its first, second, third or fourth call.
-const ONE_LOST: [&str; 4] = [
-    "\n3 SYS LOST CF1 -> SIMPLEX CF2\n4 A WRITE P1 0 v CHANGED 1 -> OK\n\
-     5 A READ P1 0 -> DATA v CHANGED\n6 A CASTOUT P1 -> DATA v\n7 A UNLOCK P1 -> OK UNCHANGED\n",
-    "\n3 A WRITE P1 0 v CHANGED 1 -> OK\n4 SYS LOST CF1 -> SIMPLEX CF2\n\
-     5 A READ P1 0 -> DATA v CHANGED\n6 A CASTOUT P1 -> DATA v\n7 A UNLOCK P1 -> OK UNCHANGED\n",
-    "\n3 A WRITE P1 0 v CHANGED 1 -> OK\n4 A READ P1 0 -> DATA v CHANGED\n\
-     5 SYS LOST CF1 -> SIMPLEX CF2\n6 A CASTOUT P1 -> DATA v\n7 A UNLOCK P1 -> OK UNCHANGED\n",
-    "\n3 A WRITE P1 0 v CHANGED 1 -> OK\n4 A READ P1 0 -> DATA v CHANGED\n\
-     5 A CASTOUT P1 -> DATA v\n6 SYS LOST CF1 -> SIMPLEX CF2\n7 A UNLOCK P1 -> OK UNCHANGED\n",
+/// The call at which one link is down, and the history then.
+const ONE_LOST: [(u64, &str); 4] = [
+    (
+        1,
+        "\n3 SYS LOST CF1 -> SIMPLEX CF2\n4 A WRITE P1 0 v CHANGED 1 -> OK\n\
+         5 A READ P1 0 -> DATA v CHANGED\n6 A CASTOUT P1 -> DATA v\n7 A UNLOCK P1 -> OK UNCHANGED\n",
+    ),
+    (
+        2,
+        "\n3 A WRITE P1 0 v CHANGED 1 -> OK\n4 SYS LOST CF1 -> SIMPLEX CF2\n\
+         5 A READ P1 0 -> DATA v CHANGED\n6 A CASTOUT P1 -> DATA v\n7 A UNLOCK P1 -> OK UNCHANGED\n",
+    ),
+    (
+        3,
+        "\n3 A WRITE P1 0 v CHANGED 1 -> OK\n4 A READ P1 0 -> DATA v CHANGED\n\
+         5 SYS LOST CF1 -> SIMPLEX CF2\n6 A CASTOUT P1 -> DATA v\n7 A UNLOCK P1 -> OK UNCHANGED\n",
+    ),
+    (
+        4,
+        "\n3 A WRITE P1 0 v CHANGED 1 -> OK\n4 A READ P1 0 -> DATA v CHANGED\n\
+         5 A CASTOUT P1 -> DATA v\n6 SYS LOST CF1 -> SIMPLEX CF2\n7 A UNLOCK P1 -> OK UNCHANGED\n",
+    ),
 ];
 
 #[test]
 fn the_first_instance_is_lost_at_each_call(rt: HostRuntime) -> Result<(), Fail> {
-    let mut call = 0;
-    for history in &ONE_LOST {
-        call += 1;
+    for (call, history) in ONE_LOST {
         let ran = ran_over(&rt, rt.alloc(), "serial", FOUR_CALLS, &[call], &[])?;
         assert!(rt;
             ran.shows(history) && ran.shows("\nGBP TEST 0 VALID 7\n"),
@@ -201,27 +211,37 @@ fn the_second_instance_is_lost_at_each_call(rt: HostRuntime) -> Result<(), Fail>
     Ok(())
 }
 
-/// The histories where both links are down at their first, second, third or fourth calls.
-const BOTH_AT_ONCE: [&str; 4] = [
-    "\n3 SYS LOST CF1 -> SIMPLEX CF2\n4 SYS LOST CF2 -> FAILED\n\
-     5 A WRITE P1 0 v CHANGED 1 -> REFUSED 74 LOSTFACILITY CF2\n\
-     6 A READ P1 0 -> REFUSED 75 STRUCTUREFAILED\n7 A CASTOUT P1 -> REFUSED 75 STRUCTUREFAILED\n\
-     8 A UNLOCK P1 -> REFUSED 75 STRUCTUREFAILED\n",
-    "\n4 SYS LOST CF1 -> SIMPLEX CF2\n5 SYS LOST CF2 -> FAILED\n\
-     6 A READ P1 0 -> REFUSED 74 LOSTFACILITY CF2\n7 A CASTOUT P1 -> REFUSED 75 STRUCTUREFAILED\n\
-     8 A UNLOCK P1 -> REFUSED 75 STRUCTUREFAILED\n",
-    "\n5 SYS LOST CF1 -> SIMPLEX CF2\n6 SYS LOST CF2 -> FAILED\n\
-     7 A CASTOUT P1 -> REFUSED 74 LOSTFACILITY CF2\n\
-     8 A UNLOCK P1 -> REFUSED 75 STRUCTUREFAILED\n",
-    "\n6 SYS LOST CF1 -> SIMPLEX CF2\n7 SYS LOST CF2 -> FAILED\n\
-     8 A UNLOCK P1 -> REFUSED 74 LOSTFACILITY CF2\n",
+/// The call at which both links are down, and the history then.
+const BOTH_AT_ONCE: [(u64, &str); 4] = [
+    (
+        1,
+        "\n3 SYS LOST CF1 -> SIMPLEX CF2\n4 SYS LOST CF2 -> FAILED\n\
+         5 A WRITE P1 0 v CHANGED 1 -> REFUSED 74 LOSTFACILITY CF2\n\
+         6 A READ P1 0 -> REFUSED 75 STRUCTUREFAILED\n7 A CASTOUT P1 -> REFUSED 75 STRUCTUREFAILED\n\
+         8 A UNLOCK P1 -> REFUSED 75 STRUCTUREFAILED\n",
+    ),
+    (
+        2,
+        "\n4 SYS LOST CF1 -> SIMPLEX CF2\n5 SYS LOST CF2 -> FAILED\n\
+         6 A READ P1 0 -> REFUSED 74 LOSTFACILITY CF2\n7 A CASTOUT P1 -> REFUSED 75 STRUCTUREFAILED\n\
+         8 A UNLOCK P1 -> REFUSED 75 STRUCTUREFAILED\n",
+    ),
+    (
+        3,
+        "\n5 SYS LOST CF1 -> SIMPLEX CF2\n6 SYS LOST CF2 -> FAILED\n\
+         7 A CASTOUT P1 -> REFUSED 74 LOSTFACILITY CF2\n\
+         8 A UNLOCK P1 -> REFUSED 75 STRUCTUREFAILED\n",
+    ),
+    (
+        4,
+        "\n6 SYS LOST CF1 -> SIMPLEX CF2\n7 SYS LOST CF2 -> FAILED\n\
+         8 A UNLOCK P1 -> REFUSED 74 LOSTFACILITY CF2\n",
+    ),
 ];
 
 #[test]
 fn both_instances_are_lost_at_one_call(rt: HostRuntime) -> Result<(), Fail> {
-    let mut call = 0;
-    for history in &BOTH_AT_ONCE {
-        call += 1;
+    for (call, history) in BOTH_AT_ONCE {
         let ran = ran_over(&rt, rt.alloc(), "serial", FOUR_CALLS, &[call], &[call])?;
         assert!(rt;
             ran.shows(history) && ran.shows("\nGBP TEST 0 INVALID 8\n"),

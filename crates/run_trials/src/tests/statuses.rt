@@ -12,7 +12,8 @@ use std::sync::Wait;
 use std::test::Fail;
 use std::thread::Threads;
 
-fn source_of(
+/// A source of these lines behind a policy, which fails at these reads.
+pub(super) fn source_of(
     alloc: Global,
     policy: &str,
     lines: &str,
@@ -29,7 +30,8 @@ fn source_of(
     })
 }
 
-fn sink_of(alloc: Global, piece: usize, fails: &[u64]) -> Result<MemSink, Fail>
+/// A sink that takes so many bytes at once, and fails at these writes.
+pub(super) fn sink_of(alloc: Global, piece: usize, fails: &[u64]) -> Result<MemSink, Fail>
     requires { 0 < piece }
 {
     Ok(MemSink::new(alloc, 4096, piece, Vec::from_slice(alloc, fails)?)?)
@@ -48,17 +50,17 @@ fn steady(alloc: Global) -> Result<Vec<Steady>, AllocError>
     vec![in alloc; Steady; 64]
 }
 
-// The status of a run by this word over these lines behind a policy, into this sink.
-fn run_into<R: Threads + Wait + Sync>(
+/// The status of a run by this word over what the source has left, into this sink.
+pub(super) fn run_into<R: Threads + Wait + Sync>(
     rt: &R,
     alloc: Global,
     word: &str,
-    mut source: MemSource,
+    source: &mut MemSource,
     sink: &mut MemSink,
 ) -> Result<u8, Fail> {
     let words = words_of(alloc, word)?;
     let mut links = steady(alloc)?;
-    Ok(run(rt, alloc, &words, &mut source, sink, &mut links, &OpenGate))
+    Ok(run(rt, alloc, &words, source, sink, &mut links, &OpenGate))
 }
 
 // The status of a run by this word over these lines behind the policy, and what it wrote.
@@ -68,9 +70,9 @@ fn ran<R: Threads + Wait + Sync>(
     word: &str,
     lines: &str,
 ) -> Result<(u8, Vec<u8>), Fail> {
-    let source = source_of(alloc, POLICY, lines, &[])?;
+    let mut source = source_of(alloc, POLICY, lines, &[])?;
     let mut sink = sink_of(alloc, 64, &[])?;
-    let status = run_into(rt, alloc, word, source, &mut sink)?;
+    let status = run_into(rt, alloc, word, &mut source, &mut sink)?;
     Ok((status, sink.bytes))
 }
 
@@ -87,9 +89,9 @@ fn policy_alone(rt: HostRuntime) -> Result<(), Fail> {
 
 #[test]
 fn failing_sink(rt: HostRuntime) -> Result<(), Fail> {
-    let source = source_of(rt.alloc(), POLICY, "", &[])?;
+    let mut source = source_of(rt.alloc(), POLICY, "", &[])?;
     let mut sink = sink_of(rt.alloc(), 10, &[2])?;
-    let status = run_into(&rt, rt.alloc(), "serial", source, &mut sink)?;
+    let status = run_into(&rt, rt.alloc(), "serial", &mut source, &mut sink)?;
     assert!(rt; status == 5 && sink.bytes.as_slice() == b"FACILITY C".as_slice());
     Ok(())
 }
@@ -101,21 +103,21 @@ fn full_journal_and_a_failing_sink(rt: HostRuntime) -> Result<(), Fail> {
     let events = b"A GBP EVENTS\n".repeat(rt.alloc(), 65_536)?;
     source.bytes.extend_from_slice(events.as_slice())?;
     let mut sink = sink_of(rt.alloc(), 64, &[2])?;
-    let status = run_into(&rt, rt.alloc(), "serial", source, &mut sink)?;
+    let status = run_into(&rt, rt.alloc(), "serial", &mut source, &mut sink)?;
     assert!(rt; status == 8 && sink.bytes.as_slice() == b"JOURNALFULL GBP 65536\n".as_slice());
     Ok(())
 }
 
 #[test]
 fn no_facility_is_large_enough(rt: HostRuntime) -> Result<(), Fail> {
-    let source = source_of(
+    let mut source = source_of(
         rt.alloc(),
         "FACILITY CF1 100\nSTRUCTURE GBP CACHE 8 8 4 64 DELETE\nPREF GBP CF1 10\nCONNECTOR A\n",
         "A GBP CONNECT DELETE\n",
         &[],
     )?;
     let mut sink = sink_of(rt.alloc(), 64, &[])?;
-    let status = run_into(&rt, rt.alloc(), "serial", source, &mut sink)?;
+    let status = run_into(&rt, rt.alloc(), "serial", &mut source, &mut sink)?;
     assert!(rt; status == 0);
     assert!(rt;
         sink.bytes.as_slice().ends_with(
@@ -128,7 +130,7 @@ fn no_facility_is_large_enough(rt: HostRuntime) -> Result<(), Fail> {
 
 #[test]
 fn one_connection_at_most(rt: HostRuntime) -> Result<(), Fail> {
-    let source = source_of(
+    let mut source = source_of(
         rt.alloc(),
         "FACILITY CF1 100\nSTRUCTURE GBP CACHE 8 8 1 64 DELETE\nPREF GBP CF1 40\n\
          CONNECTOR A\nCONNECTOR B\n",
@@ -136,7 +138,7 @@ fn one_connection_at_most(rt: HostRuntime) -> Result<(), Fail> {
         &[],
     )?;
     let mut sink = sink_of(rt.alloc(), 64, &[])?;
-    let status = run_into(&rt, rt.alloc(), "serial", source, &mut sink)?;
+    let status = run_into(&rt, rt.alloc(), "serial", &mut source, &mut sink)?;
     assert!(rt; status == 0);
     assert!(rt;
         sink.bytes.as_slice().ends_with(
@@ -206,16 +208,16 @@ fn oversized_source(rt: HostRuntime) -> Result<(), Fail> {
     let mut source = source_of(rt.alloc(), "", "", &[])?;
     source.bytes = vec![in rt.alloc(); b'*'; 1_048_577]?;
     let mut sink = sink_of(rt.alloc(), 64, &[])?;
-    let status = run_into(&rt, rt.alloc(), "serial", source, &mut sink)?;
+    let status = run_into(&rt, rt.alloc(), "serial", &mut source, &mut sink)?;
     assert!(rt; status == 7 && sink.bytes.as_slice() == b"TOOLONG 1048576\n".as_slice());
     Ok(())
 }
 
 #[test]
 fn failing_source(rt: HostRuntime) -> Result<(), Fail> {
-    let source = source_of(rt.alloc(), POLICY, "", &[1])?;
+    let mut source = source_of(rt.alloc(), POLICY, "", &[1])?;
     let mut sink = sink_of(rt.alloc(), 64, &[])?;
-    let status = run_into(&rt, rt.alloc(), "serial", source, &mut sink)?;
+    let status = run_into(&rt, rt.alloc(), "serial", &mut source, &mut sink)?;
     assert!(rt; status == 4 && sink.bytes.as_slice() == b"FAULT READ\n".as_slice());
     Ok(())
 }

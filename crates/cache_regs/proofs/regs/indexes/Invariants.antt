@@ -1,9 +1,8 @@
-use Rattle.std.proofs.Common.{◌≡◌, ◌++◌, drop, map}
+use Rattle.std.proofs.Common.{◌≡◌, map, filter}
 use Rattle.cache_regs.specs.declared.registrations.Registration.{Registration}
-use Rattle.cache_regs.specs.Registrations.{regs_of}
+use Rattle.cache_regs.specs.Ends.{is_below}
 use Rattle.cache_regs.proofs.regs.indexes.Given as goal
 
-abbrev pub invariant-loop-reg : goal.invariant-loop-reg
-invariant-loop-reg l =
-    l.list.items ++ map (λ (reg : Registration). (reg.index, reg.name)) (regs_of l.conn (drop l.reg-index l.regs))
-    ≡ map (λ (reg : Registration). (reg.index, reg.name)) (regs_of l.conn l.regs)
+abbrev pub invariant-loop-index : goal.invariant-loop-index
+invariant-loop-index l =
+    l.list.items ≡ map (λ (reg : Registration). (reg.index, reg.name)) (filter (is_below l.conn l.index) l.maps.regs)

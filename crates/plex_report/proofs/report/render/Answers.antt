@@ -1,4 +1,4 @@
-use Rattle.std.proofs.Common.{◌≡◌, ◌++◌, Some, map, sym, ap, ◌∙◌}
+use Rattle.std.proofs.Common.{◌≡◌, ◌++◌, ℕ, List, Some, map, sym, ap, ◌∙◌}
 use Rattle.std.specs.List.{slice_get}
 use Rattle.plex_spell.specs.Words.{line_text}
 use Rattle.plex_report.specs.Report.{report_lines}
@@ -10,7 +10,8 @@ loop-k-preserved c =
     let lines = report_lines c.args.script.now c.args.histories.now c.args.transcripts.now in
     let items = c.in-Some.line.items in
     let line : slice_get (map line_text lines) c.loop-k.k ≡ Some items =
-    sym (rw c.in-Some.is at c.in_ok-line.ensures) in
+    ap (λ (l : List (List ℕ)). slice_get l c.loop-k.k) (sym c.in_ok-report.ensures)
+    ∙ sym (rw c.in-Some.is at c.in_ok-line.ensures) in
     c.in_ok-extend_from_slice.ensures.items
     ∙ ap (λ s. c.loop-k.text.items ++ s) c.as_slice.ensures.value
     ∙ ap (λ t. t ++ items) c.loop-k.invariant

@@ -3,7 +3,9 @@ use Rattle.plex_run.specs.Wires.{wires}
 use Rattle.plex_run.specs.Written.{output, Gains}
 use Rattle.plex_run.specs.StatusLines.{why_word, script_line}
 use Rattle.plex_run.proofs.RunnableLaws.{runnable}
-use Rattle.plex_run.proofs.OutcomeLaws.{fault_told, refused_ends, run_ends}
+use Rattle.plex_run.specs.Outcome.{script_word}
+use Rattle.plex_run.proofs.TextLaws.{refused_ends}
+use Rattle.plex_run.proofs.OutcomeLaws.{fault_told, fits, run_ends, runs_fair}
 use Rattle.plex_run.proofs.program.judged.Goals as goal
 
 pub returns-in-Err-Script-clause-ends : goal.returns-in-Err-Script-clause-ends
@@ -13,9 +15,10 @@ returns-in-Err-Script-clause-ends g c =
     let out = output g.K.Sink.held g.K.Sink.faults c.args.sink.now c.refused.new.sink in
     let wrote : c.refused.result ≡ 3 → Gains out (script_line c.in-Err-Script.line c.why_text.result.now) =
     rw c.in-Err-Script.field-0-is at c.refused.ensures.refused in
-    refused_ends (wires g.L.Link.calls g.L.Link.downs g.L.Link.faults c.args.links.now.items c.args.links.now.items)
-    c.args.way c.args.text.now c.in-Err-Script.line c.why_text.result.now out c.refused.result
-    c.never_both.ensures c.requires.text
+    let links =
+    wires g.L.Link.calls g.L.Link.downs g.L.Link.faults c.args.links.now.items c.args.links.now.items in
+    refused_ends (script_word links c.args.way) c.args.text.now c.in-Err-Script.line c.why_text.result.now out
+    c.refused.result (runs_fair links c.args.way c.never_both.ensures) (fits c.args.text.now c.requires.text)
     (fault_told _ _ _ _ _ c.in-Err-Script.field-0-is c.in-Err-Script.ensures.fault spelled)
     wrote c.refused.ensures.no_memory c.refused.ensures.statuses
 

@@ -1,40 +1,44 @@
-use Rattle.std.proofs.Common.{◌≡◌, ◌∙◌, subst}
-use Rattle.std.proofs.KnownBytes.{Appends-trans}
-use Rattle.std.specs.Io.KnownBytes.{Appends}
+use Rattle.std.proofs.Common.{◌≡◌, ◌++◌, ◌<◌, ◌^◌, length, ℕ, List, map, ◌∙◌, subst}
+use Rattle.std.specs.List.{concat}
+use Rattle.plex_spell.specs.Words.{line_text}
+use Rattle.plex_report.specs.Report.{report_lines}
 use Rattle.plex_reading.specs.Readings.{report_of}
 use Rattle.plex_run.specs.StatusLines.{full_line}
 use Rattle.plex_run.specs.Outcome.{reading_of}
-use Rattle.plex_run.specs.Written.{GainsPrefix}
-use Rattle.plex_run.proofs.Written.{GainsPrefix-after, GainsPrefix-before, OnErr-always, OnErr-so, OnOk-so}
+use Rattle.plex_run.specs.Written.{output, Writes, WritesFront}
+use Rattle.plex_run.proofs.Written.{OnErr-so, OnOk-so}
+use Rattle.plex_run.proofs.ReportLaws.{report_text, headed_text}
 use Rattle.plex_run.proofs.writing.write_run.Goals as goal
-
-pub returns-in_err-write_text-clause-front : goal.returns-in_err-write_text-clause-front
-returns-in_err-write_text-clause-front g c =
-    let spelled : c.deref.result.now ≡ full_line c.args.full = c.deref.ensures.value ∙ c.in_ok-heading.ensures in
-    let front : GainsPrefix (g.K.Sink.held c.args.sink.now) (g.K.Sink.held c.write_text.new.sink)
-    (full_line c.args.full) =
-    subst (GainsPrefix (g.K.Sink.held c.args.sink.now) (g.K.Sink.held c.write_text.new.sink)) spelled
-    c.in_err-write_text.ensures.front in
-    OnErr-always _ _ (GainsPrefix-before _ _ (full_line c.args.full)
-    (report_of c.args.script.now (reading_of c.args.finished.now)) front)
 
 pub returns-clause-whole : goal.returns-clause-whole
 returns-clause-whole g c =
-    let spelled : c.deref.result.now ≡ full_line c.args.full = c.deref.ensures.value ∙ c.in_ok-heading.ensures in
-    let heading : Appends (g.K.Sink.held c.args.sink.now) (g.K.Sink.held c.write_text.new.sink)
-    (full_line c.args.full) =
-    subst (Appends (g.K.Sink.held c.args.sink.now) (g.K.Sink.held c.write_text.new.sink)) spelled
-    c.in_ok-write_text.ensures.whole in
-    OnOk-so c.write_report.result _ _ (Appends-trans _ (g.K.Sink.held c.write_text.new.sink) _ (full_line c.args.full)
-    (report_of c.args.script.now (reading_of c.args.finished.now)) heading) c.write_report.ensures.whole
+    let finished = c.args.finished.now in
+    let lines = report_lines c.args.script.now finished.histories finished.transcripts in
+    let same : c.deref.result.now ++ concat c.in_ok-report.report ≡ full_line c.args.full
+    ++ report_of c.args.script.now (reading_of finished) =
+    headed_text _ _ _ lines (c.deref.ensures.value ∙ c.in_ok-heading.ensures)
+    (rw (c.items-histories.ensures, c.items-transcripts.ensures) at c.in_ok-report.ensures) in
+    OnOk-so c.write_headed.result _ _
+    (subst (Writes (output g.K.Sink.held g.K.Sink.faults c.args.sink.now c.write_headed.new.sink)) same)
+    c.write_headed.ensures.whole
+
+pub returns-clause-short : goal.returns-clause-short
+returns-clause-short g c =
+    let finished = c.args.finished.now in
+    let lines = report_lines c.args.script.now finished.histories finished.transcripts in
+    let same : concat c.in_ok-report.report ≡ report_of c.args.script.now (reading_of finished) =
+    report_text _ lines (rw (c.items-histories.ensures, c.items-transcripts.ensures) at c.in_ok-report.ensures) in
+    OnOk-so c.write_headed.result _ _ (subst (λ (text : List ℕ). length text < 2 ^ 64) same)
+    c.write_headed.ensures.short
 
 pub returns-clause-front : goal.returns-clause-front
 returns-clause-front g c =
-    let spelled : c.deref.result.now ≡ full_line c.args.full = c.deref.ensures.value ∙ c.in_ok-heading.ensures in
-    let heading : Appends (g.K.Sink.held c.args.sink.now) (g.K.Sink.held c.write_text.new.sink)
-    (full_line c.args.full) =
-    subst (Appends (g.K.Sink.held c.args.sink.now) (g.K.Sink.held c.write_text.new.sink)) spelled
-    c.in_ok-write_text.ensures.whole in
-    OnErr-so c.write_report.result _ _ (GainsPrefix-after _ (g.K.Sink.held c.write_text.new.sink) _
-    (full_line c.args.full) (report_of c.args.script.now (reading_of c.args.finished.now)) heading)
-    c.write_report.ensures.front
+    let finished = c.args.finished.now in
+    let lines = report_lines c.args.script.now finished.histories finished.transcripts in
+    let same : c.deref.result.now ++ concat c.in_ok-report.report ≡ full_line c.args.full
+    ++ report_of c.args.script.now (reading_of finished) =
+    headed_text _ _ _ lines (c.deref.ensures.value ∙ c.in_ok-heading.ensures)
+    (rw (c.items-histories.ensures, c.items-transcripts.ensures) at c.in_ok-report.ensures) in
+    OnErr-so c.write_headed.result _ _
+    (subst (WritesFront (output g.K.Sink.held g.K.Sink.faults c.args.sink.now c.write_headed.new.sink)) same)
+    c.write_headed.ensures.front

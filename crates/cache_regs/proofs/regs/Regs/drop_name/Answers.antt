@@ -1,14 +1,57 @@
-use Rattle.std.proofs.Common.{not, arith}
+use Rattle.std.proofs.Common.{◌≡◌, ◌≤◌, ◌+◌, ◌-◌, min, not, length, filter, sym, subst, arith}
+use Rattle.list_laws.proofs.FilterLaws.{list_all-filter}
 use Rattle.cache_regs.specs.declared.registrations.Registration.{Registration}
 use Rattle.cache_regs.specs.Registrations.{ends_with_name}
+use Rattle.cache_regs.specs.Registry.{Registry, is_callers, is_within}
 use Rattle.cache_regs.proofs.RegLaws.{registry-filter}
+use Rattle.cache_regs.proofs.EndLaws.{fits_few, left_counted}
 use Rattle.cache_regs.proofs.regs.Regs.drop_name.Goals as goal
+
+pub end_name-requires-clause-room : goal.end_name-requires-clause-room
+end_name-requires-clause-room c =
+    fits_few (ends_with_name c.args.name.now c.args.spare) c.self.inside.maps.regs c.args.out.now.bits.room
+    (subst (λ (r : Registry). length (filter (ends_with_name c.args.name.now c.args.spare) r.regs)
+    ≤ c.args.out.now.bits.room) (sym c.self.view_is) c.requires)
 
 pub invariant_of-self : goal.invariant_of-self
 invariant_of-self c =
+    let stays = λ (reg : Registration). not (ends_with_name c.args.name.now c.args.spare reg) in
+    let fewer = (left_counted (ends_with_name c.args.name.now c.args.spare) _ _ _ _ _ _ c.end_name.ensures.ended).0 in
     record {
-      registry = rw c.end.ensures.regs (registry-filter
-          (λ (reg : Registration). not (ends_with_name c.args.name.now c.args.spare reg)) c.self.inside.regs.items
+      registry = rw c.end_name.ensures.ended.gone (registry-filter stays c.self.inside.maps.regs
           c.self.invariant.registry);
-      few = omega (arith, c.end.ensures.fewer, c.self.invariant.few);
+      callers = rw c.end_name.ensures.ended.gone (list_all-filter is_callers stays c.self.inside.maps.regs
+          c.self.invariant.callers);
+      within = rw c.end_name.ensures.ended.gone (list_all-filter (is_within c.self.inside.len) stays
+          c.self.inside.maps.regs c.self.invariant.within);
+      few = omega (arith, fewer, c.self.invariant.few);
     }
+
+pub overflow_sub-result : goal.overflow_sub-result
+overflow_sub-result c =
+    let fewer = (left_counted (ends_with_name c.args.name.now c.args.spare) _ _ _ _ _ _ c.end_name.ensures.ended).0 in
+    omega (arith, fewer, c.len.ensures, c.len-before.ensures)
+
+pub returns-clause-count : goal.returns-clause-count
+returns-clause-count c =
+    let fewer = (left_counted (ends_with_name c.args.name.now c.args.spare) _ _ _ _ _ _ c.end_name.ensures.ended).0 in
+    subst (λ (r : Registry). c.len-before.result - c.len.result ≡ length
+    (filter (ends_with_name c.args.name.now c.args.spare) r.regs)) c.self.view_is
+    (omega (arith, fewer, c.len.ensures, c.len-before.ensures))
+
+pub returns-clause-room : goal.returns-clause-room
+returns-clause-room c =
+    let left = left_counted (ends_with_name c.args.name.now c.args.spare) _ _ _ _ _ _ c.end_name.ensures.ended in
+    omega (arith, left.0, left.1, c.len.ensures, c.len-before.ensures)
+
+pub returns-clause-fewer : goal.returns-clause-fewer
+returns-clause-fewer c =
+    let fewer = (left_counted (ends_with_name c.args.name.now c.args.spare) _ _ _ _ _ _ c.end_name.ensures.ended).0 in
+    subst (λ (r : Registry). length c.end_name.new.maps.regs + (c.len-before.result - c.len.result) ≡ length r.regs)
+    c.self.view_is (omega (arith, fewer, c.len.ensures, c.len-before.ensures))
+
+pub returns-clause-place : goal.returns-clause-place
+returns-clause-place c =
+    let fewer = (left_counted (ends_with_name c.args.name.now c.args.spare) _ _ _ _ _ _ c.end_name.ensures.ended).0 in
+    subst (λ (r : Registry). r.room ≤ min c.end_name.new.maps.room (4294967295 - length c.end_name.new.maps.regs))
+    c.self.view_is (omega (arith, fewer, c.end_name.ensures.place))

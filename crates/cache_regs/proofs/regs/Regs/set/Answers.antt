@@ -1,39 +1,69 @@
-use Rattle.std.proofs.Common.{◌≡◌, ◌≤◌, ap, sym, subst, arith}
+use Rattle.std.proofs.Common.{◌≡◌, ◌≤◌, ◌<◌, ◌+◌, ◌-◌, min, length, ap, sym, subst, arith}
+use Rattle.std.proofs.lemmas.Bool.{lt-ltb}
+use Rattle.list_laws.specs.Insertions.{insertion}
+use Rattle.list_laws.proofs.FilterLaws.{none_filtered}
 use Rattle.cache_regs.specs.declared.registrations.Registration.{Registration}
 use Rattle.cache_regs.specs.Registrations.{stands_before, regs_with}
-use Rattle.list_laws.specs.Insertions.{insertion}
-use Rattle.cache_regs.specs.Registry.{Registry}
+use Rattle.cache_regs.specs.Registry.{Registry, is_callers, is_within}
+use Rattle.cache_regs.specs.Ends.{is_elsewhere}
 use Rattle.cache_regs.proofs.RegLaws.{one_elsewhere, filter-replaced, registry-with}
 use Rattle.cache_regs.proofs.BitLaws.{gains_with}
+use Rattle.cache_regs.proofs.EndLaws.{fits_few, left_few, left_counted}
+use Rattle.cache_regs.proofs.KeptLaws.{all_with}
 use Rattle.cache_regs.proofs.regs.Regs.set.Goals as goal
 
-pub end-requires-clause-room : goal.end-requires-clause-room
-end-requires-clause-room c =
-    let few = one_elsewhere c.args.conn c.args.index c.args.name c.self.inside.regs.items
+pub end_elsewhere-requires : goal.end_elsewhere-requires
+end_elsewhere-requires c =
+    let few = one_elsewhere c.args.conn c.args.index c.args.name c.self.inside.maps.regs
     c.self.invariant.registry.one_for_name in
-    omega (arith, few, c.requires.room)
+    fits_few (is_elsewhere c.args.conn c.args.index c.args.name) c.self.inside.maps.regs c.args.out.now.bits.room
+    (omega (arith, few, c.requires.room))
+
+pub put-requires-clause-nowhere : goal.put-requires-clause-nowhere
+put-requires-clause-nowhere c =
+    rw c.end_elsewhere.ensures.ended.gone (none_filtered (is_elsewhere c.args.conn c.args.index c.args.name)
+    c.self.inside.maps.regs)
+
+pub put-requires-clause-place : goal.put-requires-clause-place
+put-requires-clause-place c =
+    let place : 1 ≤ _ = subst (λ (r : Registry). 1 ≤ r.room) (sym c.self.view_is) c.requires.place in
+    omega (arith, place, c.end_elsewhere.ensures.place)
 
 pub put-requires-clause-room : goal.put-requires-clause-room
 put-requires-clause-room c =
-    let few = one_elsewhere c.args.conn c.args.index c.args.name c.self.inside.regs.items
+    let few = one_elsewhere c.args.conn c.args.index c.args.name c.self.inside.maps.regs
     c.self.invariant.registry.one_for_name in
-    omega (arith, few, c.requires.room, c.end.ensures.room)
+    let left = left_few (is_elsewhere c.args.conn c.args.index c.args.name) _ _ _ _ _ _ 1 c.end_elsewhere.ensures.ended
+    few in
+    omega (arith, left, c.requires.room)
 
-set_there : (c : goal.After-put) → c.put.new.regs.items ≡ regs_with c.args.conn c.args.index c.args.name
-    c.self.inside.regs.items
+set_there : (c : goal.After-put) → c.put.new.maps.regs ≡ regs_with c.args.conn c.args.index c.args.name
+    c.self.inside.maps.regs
 set_there c =
     let new : Registration = record { conn = c.args.conn; index = c.args.index; name = c.args.name } in
-    rw (c.put.ensures.regs, c.end.ensures.regs)
+    rw (c.put.ensures.regs, c.end_elsewhere.ensures.ended.gone)
     (ap (insertion (λ (reg : Registration). stands_before reg new) new) (filter-replaced c.args.conn c.args.index
-    c.args.name c.self.inside.regs.items))
+    c.args.name c.self.inside.maps.regs))
+
+set_more : (c : goal.After-put) → length c.put.new.maps.regs ≤ length c.self.inside.maps.regs + 1
+set_more c =
+    let fewer = (left_counted (is_elsewhere c.args.conn c.args.index c.args.name) _ _ _ _ _ _
+    c.end_elsewhere.ensures.ended).0 in
+    omega (arith, c.put.ensures.more, fewer)
 
 pub invariant_of-self : goal.invariant_of-self
 invariant_of-self c =
     let place : 1 ≤ _ = subst (λ (r : Registry). 1 ≤ r.room) (sym c.self.view_is) c.requires.place in
+    let more = set_more c in
     record {
-      registry = rw (set_there c) (registry-with c.args.conn c.args.index c.args.name c.self.inside.regs.items
+      registry = rw (set_there c) (registry-with c.args.conn c.args.index c.args.name c.self.inside.maps.regs
           c.self.invariant.registry);
-      few = omega (arith, place, c.put.ensures.more, c.end.ensures.fewer);
+      callers = rw (set_there c) (all_with is_callers c.args.conn c.args.index c.args.name c.self.inside.maps.regs
+          (lt-ltb c.args.conn.0 65 (omega (arith, c.requires.caller))) c.self.invariant.callers);
+      within = rw (set_there c) (all_with (is_within c.self.inside.len) c.args.conn c.args.index c.args.name
+          c.self.inside.maps.regs (lt-ltb c.args.index c.self.inside.len (subst (λ (r : Registry). c.args.index < r.len)
+          (sym c.self.view_is) c.requires.index)) c.self.invariant.within);
+      few = omega (arith, place, more);
     }
 
 pub returns-clause-regs : goal.returns-clause-regs
@@ -42,14 +72,26 @@ returns-clause-regs c = rw (← c.self.view_is) (set_there c)
 pub returns-clause-bits : goal.returns-clause-bits
 returns-clause-bits c =
     let new : Registration = record { conn = c.args.conn; index = c.args.index; name = c.args.name } in
-    let first = rw c.end.ensures.regs at c.end.ensures.bits in
-    let second = rw (c.put.ensures.regs, c.end.ensures.regs) at c.put.ensures.bits in
-    rw (← c.self.view_is, c.put.ensures.regs, c.end.ensures.regs)
-    (gains_with new c.self.inside.regs.items c.args.out.now.bits.items c.end.new.out.bits.items
+    let first = rw c.end_elsewhere.ensures.ended.gone at c.end_elsewhere.ensures.ended.bits in
+    let second = rw (c.put.ensures.regs, c.end_elsewhere.ensures.ended.gone) at c.put.ensures.bits in
+    rw (← c.self.view_is, c.put.ensures.regs, c.end_elsewhere.ensures.ended.gone)
+    (gains_with new c.self.inside.maps.regs c.args.out.now.bits.items c.end_elsewhere.new.out.bits.items
     c.put.new.out.bits.items first second)
 
 pub returns-clause-room : goal.returns-clause-room
 returns-clause-room c =
-    let few = one_elsewhere c.args.conn c.args.index c.args.name c.self.inside.regs.items
+    let few = one_elsewhere c.args.conn c.args.index c.args.name c.self.inside.maps.regs
     c.self.invariant.registry.one_for_name in
-    omega (arith, few, c.put.ensures.room, c.end.ensures.room)
+    let left = left_few (is_elsewhere c.args.conn c.args.index c.args.name) _ _ _ _ _ _ 1 c.end_elsewhere.ensures.ended
+    few in
+    omega (arith, left, c.put.ensures.room)
+
+pub returns-clause-more : goal.returns-clause-more
+returns-clause-more c =
+    subst (λ (r : Registry). length c.put.new.maps.regs ≤ length r.regs + 1) c.self.view_is (set_more c)
+
+pub returns-clause-place : goal.returns-clause-place
+returns-clause-place c =
+    let more = set_more c in
+    subst (λ (r : Registry). r.room ≤ min c.put.new.maps.room (4294967295 - length c.put.new.maps.regs) + 1)
+    c.self.view_is (omega (arith, more, c.put.ensures.place, c.end_elsewhere.ensures.place))

@@ -1,0 +1,272 @@
+-- Two maps that agree, with one registration less or more.
+use Rattle.std.proofs.Common.{◌≡◌, ℕ, Bool, true, false, not, ◌&&◌, cond, List, [], ◌∷◌, Option, Some, None, is_some, option_map, IfSome, find, refl, sym, ap, ◌∙◌, subst}
+use Rattle.std.specs.List.{list_any, list_all, IsDistinct}
+use Rattle.std.specs.Map.{keys_of, lookup}
+use Rattle.std.proofs.lemmas.Bool.{and_parts, false≢true}
+use Rattle.cf_types.specs.declared.names.Name16.{Name16}
+use Rattle.cf_types.specs.declared.numbers.ConnId.{ConnId}
+use Rattle.list_laws.specs.Insertions.{insertion}
+use Rattle.list_laws.specs.Pairwise.{pairwise}
+use Rattle.list_laws.proofs.InsertionLaws.{find-insertion_past, find-insertion_here}
+use Rattle.list_laws.proofs.FilterLaws.{all_from_none, all_found, any_is_found, found_passes}
+use Rattle.list_laws.proofs.PairwiseLaws.{pairwise-insertion}
+use Rattle.cache_regs.specs.declared.registrations.Registration.{Registration}
+use Rattle.cache_regs.specs.Registrations.{is_at, is_for, index_for, stands, stands_before}
+use Rattle.cache_regs.specs.Maps.{place_eq, named_eq, at_place, at_name, regs_in, WritesPlace, WritesName, IsAgreed, IsAloneFor}
+use Rattle.cache_regs.proofs.RegLaws.{finds_place, places_apart}
+use Rattle.cache_regs.proofs.MapLaws.{place_laws, named_laws, same_place, same_named, registration, same_regs, find_in, ordered_in, none_found, same_filter}
+
+kept : {X : Type 0} (b : Bool) (o : Option X) (x : X) → cond b None o ≡ Some x → (b ≡ false) × (o ≡ Some x)
+kept true o x h = absurd (cc)
+kept false o x h = (refl, h)
+
+-- keys of which the parts are the same
+places_same : (c d : ConnId) (i j : ℕ) → place_eq (c.0, i) (d.0, j) ≡ false → c.0 ≡ d.0 → i ≡ j → ⊥
+places_same c d i j h e f =
+    false≢true (sym h ∙ ap (λ k. place_eq (c.0, i) (k, j)) (sym e) ∙ ap (λ k. place_eq (c.0, i) (c.0, k)) (sym f)
+    ∙ place_laws.refl (c.0, i))
+
+names_same : (c d : ConnId) (n m : Name16) → named_eq (c.0, n.0) (d.0, m.0) ≡ false → c.0 ≡ d.0 → n ≡ m → ⊥
+names_same c d n m h e f =
+    false≢true (sym h ∙ ap (λ k. named_eq (c.0, n.0) (k, m.0)) (sym e)
+    ∙ ap (λ (k : Name16). named_eq (c.0, n.0) (c.0, k.0)) (sym f) ∙ named_laws.refl (c.0, n.0))
+
+abbrev name_of : List ℕ → Name16
+name_of bytes = record { 0 = bytes }
+
+module _ (places after : List ((ℕ × ℕ) × Name16)) (names later : List ((ℕ × List ℕ) × ℕ)) (c : ConnId) (i : ℕ)
+    (n : Name16) (agreed : IsAgreed places names) (unique : IsDistinct place_eq (keys_of after)) where
+  -- a registration goes from both
+  pub removed_agreed : at_place places c i ≡ Some n → WritesPlace places c i None after
+      → WritesName names c n None later → IsAgreed after later
+  removed_agreed there first second =
+      record {
+        unique = unique;
+        named = λ d j m h. (let old = kept _ _ m (sym (first (d.0, j)) ∙ h) in
+            second (d.0, m.0) ∙ name_stays (named_eq (c.0, n.0) (d.0, m.0)) d j m old.0 old.1 refl);
+        placed = λ d m j h. (let old = kept _ _ j (sym (second (d.0, m.0)) ∙ h) in
+            first (d.0, j) ∙ place_stays (place_eq (c.0, i) (d.0, j)) d j m old.0 (agreed.placed d m j old.1) refl);
+      }
+    where
+      name_stays : (b : Bool) (d : ConnId) (j : ℕ) (m : Name16) → place_eq (c.0, i) (d.0, j) ≡ false
+          → at_place places d j ≡ Some m → named_eq (c.0, n.0) (d.0, m.0) ≡ b
+          → cond b None (at_name names d m) ≡ Some j
+      name_stays true d j m other h e =
+          let same = same_named (c.0, n.0) (d.0, m.0) e in
+          let one : Some i ≡ Some j = sym (agreed.named c i n there) ∙ ap (λ k. lookup (named_eq k) names) same
+          ∙ agreed.named d j m h in
+          let index : i ≡ j = cc in absurd (places_same c d i j other (ap (λ k. k.0) same) index)
+      name_stays false d j m other h e = agreed.named d j m h
+
+      place_stays : (b : Bool) (d : ConnId) (j : ℕ) (m : Name16) → named_eq (c.0, n.0) (d.0, m.0) ≡ false
+          → at_place places d j ≡ Some m → place_eq (c.0, i) (d.0, j) ≡ b
+          → cond b None (at_place places d j) ≡ Some m
+      place_stays true d j m other h e =
+          let same = same_place (c.0, i) (d.0, j) e in
+          let one : Some n ≡ Some m = sym there ∙ ap (λ k. lookup (place_eq k) places) same ∙ h in
+          let name : n ≡ m = cc in absurd (names_same c d n m other (ap (λ k. k.0) same) name)
+      place_stays false d j m other h e = h
+
+  module _ (no_place : at_place places c i ≡ None) (no_name : at_name names c n ≡ None)
+      (first : WritesPlace places c i (Some n) after) (second : WritesName names c n (Some i) later) where
+    -- a registration comes to both
+    pub added_agreed : IsAgreed after later
+    added_agreed =
+        record {
+          unique = unique;
+          named = λ d j m h. second (d.0, m.0) ∙ named_now (place_eq (c.0, i) (d.0, j))
+              (named_eq (c.0, n.0) (d.0, m.0)) d j m refl refl (sym (first (d.0, j)) ∙ h);
+          placed = λ d m j h. first (d.0, j) ∙ placed_now (place_eq (c.0, i) (d.0, j))
+              (named_eq (c.0, n.0) (d.0, m.0)) d j m refl refl (sym (second (d.0, m.0)) ∙ h);
+        }
+      where
+        named_now : (a b : Bool) (d : ConnId) (j : ℕ) (m : Name16) → place_eq (c.0, i) (d.0, j) ≡ a
+            → named_eq (c.0, n.0) (d.0, m.0) ≡ b
+            → cond a (Some n) (at_place places d j) ≡ Some m → cond b (Some i) (at_name names d m) ≡ Some j
+        named_now true true d j m e f h = ap (λ (k : ℕ × ℕ). Some k.1) (same_place (c.0, i) (d.0, j) e)
+        named_now true false d j m e f h =
+            let name : n ≡ m = cc in
+            absurd (names_same c d n m f (ap (λ (k : ℕ × ℕ). k.0) (same_place (c.0, i) (d.0, j) e)) name)
+        named_now false true d j m e f h =
+            let was : Some j ≡ None = sym (agreed.named d j m h)
+            ∙ ap (λ k. lookup (named_eq k) names) (sym (same_named (c.0, n.0) (d.0, m.0) f)) ∙ no_name in absurd (cc)
+        named_now false false d j m e f h = agreed.named d j m h
+
+        placed_now : (a b : Bool) (d : ConnId) (j : ℕ) (m : Name16) → place_eq (c.0, i) (d.0, j) ≡ a
+            → named_eq (c.0, n.0) (d.0, m.0) ≡ b
+            → cond b (Some i) (at_name names d m) ≡ Some j → cond a (Some n) (at_place places d j) ≡ Some m
+        placed_now true true d j m e f h =
+            ap (λ (k : ℕ × List ℕ). Some (name_of k.1)) (same_named (c.0, n.0) (d.0, m.0) f)
+        placed_now false true d j m e f h =
+            let place : i ≡ j = cc in
+            absurd (places_same c d i j e (ap (λ (k : ℕ × List ℕ). k.0) (same_named (c.0, n.0) (d.0, m.0) f)) place)
+        placed_now true false d j m e f h =
+            let was : Some m ≡ None = sym (agreed.placed d m j h)
+            ∙ ap (λ k. lookup (place_eq k) places) (sym (same_place (c.0, i) (d.0, j) e)) ∙ no_place in absurd (cc)
+        placed_now false false d j m e f h = agreed.placed d m j h
+
+    pub added_regs : regs_in after ≡ insertion (λ other. stands_before other (registration c i n)) (registration c i n)
+        (regs_in places)
+    added_regs =
+        let reg : Registration = registration c i n in
+        let none : list_any (is_at c i) (regs_in places) ≡ false
+        = none_found (is_at c i) (regs_in places) (find_in places agreed.unique c i
+        ∙ ap (option_map (registration c i)) no_place) in
+        same_regs (regs_in after) _ (ordered_in after unique)
+        (pairwise-insertion stands_before (λ other. stands_before other reg) (λ other. not (is_at c i other)) reg
+        (regs_in places)
+        (finds_place reg) (all_from_none (is_at c i) (regs_in places) none) (ordered_in places agreed.unique))
+        (λ d j. find_in after unique d j ∙ ap (option_map (registration d j)) (first (d.0, j))
+        ∙ there (place_eq (c.0, i) (d.0, j)) d j refl none)
+      where
+        there : (b : Bool) (d : ConnId) (j : ℕ) → place_eq (c.0, i) (d.0, j) ≡ b
+            → list_any (is_at c i) (regs_in places) ≡ false
+            → option_map (registration d j) (cond b (Some n) (at_place places d j))
+            ≡ find (is_at d j) (insertion (λ other. stands_before other (registration c i n)) (registration c i n)
+            (regs_in places))
+        there true d j e none =
+            subst (λ (k : ℕ × ℕ). Some (registration (record { 0 = k.0 }) k.1 n)
+            ≡ find (is_at (record { 0 = k.0 }) k.1) (insertion (λ other. stands_before other (registration c i n))
+            (registration c i n) (regs_in places)))
+            (same_place (c.0, i) (d.0, j) e)
+            (sym (find-insertion_here (is_at c i) (λ other. stands_before other (registration c i n))
+            (registration c i n) (regs_in places) (place_laws.refl (c.0, i)) none))
+        there false d j e none =
+            sym (find_in places agreed.unique d j)
+            ∙ sym (find-insertion_past (is_at d j) (λ other. stands_before other (registration c i n))
+            (registration c i n) (regs_in places) e)
+
+-- nothing is taken where nothing is
+pub unchanged_regs : (es : List ((ℕ × ℕ) × Name16)) (conn : ConnId) (index : ℕ) → at_place es conn index ≡ None
+    → WritesPlace es conn index None es
+unchanged_regs es conn index none q = go (place_eq (conn.0, index) q) refl
+  where
+    go : (b : Bool) → place_eq (conn.0, index) q ≡ b → lookup (place_eq q) es ≡ cond b None (lookup (place_eq q) es)
+    go true e = ap (λ k. lookup (place_eq k) es) (sym (same_place (conn.0, index) q e)) ∙ none
+    go false e = refl
+
+-- ---- by name
+
+find_self_step : (b : Bool) (x reg : Registration) (xs : List Registration) → stands_before x reg ≡ true
+    → is_at reg.conn reg.index x ≡ b
+    → find (is_at reg.conn reg.index) xs ≡ Some reg → cond b (Some x) (find (is_at reg.conn reg.index) xs) ≡ Some reg
+find_self_step true x reg xs h e ih =
+    absurd (false≢true (sym (ap not (place_laws.symm (reg.conn.0, reg.index) (x.conn.0, x.index) ∙ e))
+    ∙ places_apart x reg h))
+find_self_step false x reg xs h e ih = ih
+
+-- what is found is what is at its own place
+find_self : (p : Registration → Bool) (xs : List Registration) (reg : Registration) → pairwise stands_before xs ≡ true
+    → find p xs ≡ Some reg → find (is_at reg.conn reg.index) xs ≡ Some reg
+find_self p [] reg h f = absurd (cc)
+find_self p (x ∷ xs) reg h f =
+    let parts = and_parts (list_all (stands_before x) xs) (pairwise stands_before xs) h in
+    go (p x) parts.0 parts.1 f (λ g. find_self p xs reg parts.1 g)
+  where
+    go : (b : Bool) → list_all (stands_before x) xs ≡ true → pairwise stands_before xs ≡ true
+        → cond b (Some x) (find p xs) ≡ Some reg
+        → (find p xs ≡ Some reg → find (is_at reg.conn reg.index) xs ≡ Some reg)
+        → cond (is_at reg.conn reg.index x) (Some x) (find (is_at reg.conn reg.index) xs) ≡ Some reg
+    go true all rest e ih =
+        let same : x ≡ reg = cc in
+        subst (λ (k : Registration). cond (is_at reg.conn reg.index k) (Some k) (find (is_at reg.conn reg.index) xs)
+        ≡ Some reg) (sym same)
+        (ap (λ b. cond b (Some reg) (find (is_at reg.conn reg.index) xs)) (place_laws.refl (reg.conn.0, reg.index)))
+    go false all rest e ih =
+        find_self_step (is_at reg.conn reg.index x) x reg xs (all_found p (stands_before x) xs reg all e) refl (ih e)
+
+same_bool : (a b : Bool) → (a ≡ true → b ≡ true) → (b ≡ true → a ≡ true) → a ≡ b
+same_bool true b f g = sym (f refl)
+same_bool false true f g = g refl
+same_bool false false f g = refl
+
+module _ (places : List ((ℕ × ℕ) × Name16)) (names : List ((ℕ × List ℕ) × ℕ)) (agreed : IsAgreed places names) where
+  -- what a connector has for a name is what it has at that index
+  at_or_for : (c : ConnId) (n : Name16) (i : ℕ) → at_name names c n ≡ Some i
+      → (d : ConnId) (j : ℕ) (m : Name16) → at_place places d j ≡ Some m
+      → is_at c i (registration d j m) ≡ is_for c n (registration d j m)
+  at_or_for c n i there d j m h =
+      same_bool (is_at c i (registration d j m)) (is_for c n (registration d j m))
+      (λ e. (let same = same_place (d.0, j) (c.0, i) e in
+      let one : Some m ≡ Some n = sym h ∙ ap (λ k. lookup (place_eq k) places) same ∙ agreed.placed c n i there in
+      let name : m ≡ n = cc in
+      ap (λ k. named_eq (k, m.0) (c.0, n.0)) (ap (λ (k : ℕ × ℕ). k.0) same)
+      ∙ ap (λ (k : Name16). named_eq (c.0, k.0) (c.0, n.0)) name ∙ named_laws.refl (c.0, n.0)))
+      (λ e. (let same = same_named (d.0, m.0) (c.0, n.0) e in
+      let one : Some j ≡ Some i = sym (agreed.named d j m h) ∙ ap (λ k. lookup (named_eq k) names) same ∙ there in
+      let index : j ≡ i = cc in
+      ap (λ k. place_eq (k, j) (c.0, i)) (ap (λ (k : ℕ × List ℕ). k.0) same)
+      ∙ ap (λ k. place_eq (c.0, k) (c.0, i)) index ∙ place_laws.refl (c.0, i)))
+
+  pub alone_for : (c : ConnId) (n : Name16) (i : ℕ) → at_name names c n ≡ Some i → IsAloneFor c n i (regs_in places)
+  alone_for c n i there q =
+      same_filter (λ reg. not (is_at c i reg && q reg)) (λ reg. not (is_for c n reg && q reg)) places agreed.unique
+      (λ d j m h. ap (λ b. not (b && q (registration d j m))) (at_or_for c n i there d j m h))
+
+  pub alone_found : (c : ConnId) (n : Name16) (o : Option ℕ) → o ≡ at_name names c n
+      → IfSome o (λ index. IsAloneFor c n index (regs_in places))
+  alone_found c n None e = tt
+  alone_found c n (Some i) e = alone_for c n i (sym e)
+
+  -- a place that is free, and a name that is
+  pub free_place : (c : ConnId) (i : ℕ) → stands (regs_in places) c i ≡ false → at_place places c i ≡ None
+  free_place c i h = go (at_place places c i) refl
+    where
+      go : (o : Option Name16) → at_place places c i ≡ o → o ≡ None
+      go None e = refl
+      go (Some n) e =
+          absurd (false≢true (sym (ap not (place_laws.refl (c.0, i)))
+          ∙ all_found (is_at c i) (λ reg. not (is_at c i reg)) (regs_in places) (registration c i n)
+          (all_from_none (is_at c i) (regs_in places) h)
+          (find_in places agreed.unique c i ∙ ap (option_map (registration c i)) e)))
+
+  pub free_name : (c : ConnId) (n : Name16) → list_any (is_for c n) (regs_in places) ≡ false → at_name names c n ≡ None
+  free_name c n h = go (at_name names c n) refl
+    where
+      go : (o : Option ℕ) → at_name names c n ≡ o → o ≡ None
+      go None e = refl
+      go (Some i) e =
+          absurd (false≢true (sym (ap not (named_laws.refl (c.0, n.0)))
+          ∙ all_found (is_at c i) (λ reg. not (is_for c n reg)) (regs_in places) (registration c i n)
+          (all_from_none (is_for c n) (regs_in places) h)
+          (find_in places agreed.unique c i ∙ ap (option_map (registration c i)) (agreed.placed c n i e))))
+
+  -- what is found for a name is what the map has
+  found_entry : (p : Registration → Bool) (reg : Registration) → find p (regs_in places) ≡ Some reg
+      → at_name names reg.conn reg.name ≡ Some reg.index
+  found_entry p reg h =
+      agreed.named reg.conn reg.index reg.name (entry (at_place places reg.conn reg.index)
+      (sym (find_in places agreed.unique reg.conn reg.index)
+      ∙ find_self p (regs_in places) reg (ordered_in places agreed.unique) h))
+    where
+      entry : (o : Option Name16) → option_map (registration reg.conn reg.index) o ≡ Some reg → o ≡ Some reg.name
+      entry None e = absurd (cc)
+      entry (Some m) e =
+          let same : registration reg.conn reg.index m ≡ reg = cc in ap (λ (r : Registration). Some r.name) same
+
+  pub index_law : (c : ConnId) (n : Name16) → at_name names c n ≡ index_for (regs_in places) c n
+  index_law c n = go (at_name names c n) refl (find (is_for c n) (regs_in places)) refl
+    where
+      named_now : (reg : Registration) → find (is_for c n) (regs_in places) ≡ Some reg → at_name names c n ≡ Some reg.index
+      named_now reg f =
+          ap (λ k. lookup (named_eq k) names) (sym (same_named (reg.conn.0, reg.name.0) (c.0, n.0)
+          (found_passes (is_for c n) (regs_in places) reg f))) ∙ found_entry (is_for c n) reg f
+
+      go : (o : Option ℕ) → at_name names c n ≡ o → (f : Option Registration) → find (is_for c n) (regs_in places) ≡ f
+          → o ≡ option_map (λ reg. reg.index) f
+      go o e (Some reg) f = sym e ∙ named_now reg f
+      go None e None f = refl
+      go (Some i) e None f =
+          absurd (none_is_some (sym (sym e ∙ free_name c n (none_found (is_for c n) (regs_in places) f))))
+        where
+          none_is_some : None ≡ Some i → ⊥
+          none_is_some h = absurd (cc)
+
+  some_index : (o : Option Registration) → is_some (option_map (λ reg. reg.index) o) ≡ is_some o
+  some_index None = refl
+  some_index (Some reg) = refl
+
+  pub named_law : (c : ConnId) (n : Name16) → is_some (at_name names c n) ≡ list_any (is_for c n) (regs_in places)
+  named_law c n =
+      ap is_some (index_law c n) ∙ some_index (find (is_for c n) (regs_in places))
+      ∙ sym (any_is_found (is_for c n) (regs_in places))

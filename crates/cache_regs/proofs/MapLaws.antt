@@ -1,0 +1,236 @@
+-- The entries of a map by connector and index, in order.
+use Rattle.std.proofs.Common.{◌≡◌, ℕ, zero, suc, ◌+◌, Bool, true, false, not, ◌&&◌, ◌||◌, cond, nat_lt, nat_eq, ◌==◌, List, [], ◌∷◌, Option, Some, None, is_some, option_map, length, slice_get, filter, find, refl, sym, ap, ◌∙◌, subst, arith}
+use Rattle.std.specs.List.{list_any, list_all, IsDistinct}
+use Rattle.std.specs.Map.{keys_of, lookup}
+use Rattle.std.specs.Cmp.{IsEquivalence, nat_eq_equiv, and_equiv, on_equiv}
+use Rattle.std.specs.Cmp.Lexicographic.{nat_list_eq_equiv, pointwise, bytes_decides}
+use Rattle.std.proofs.lemmas.Bool.{and_parts, and_from, eqb-true, eq-eqb}
+use Rattle.std.proofs.lemmas.Bool.Decides.{nat_tests}
+use Rattle.std.proofs.lemmas.Map.{lookup-none}
+use Rattle.std.proofs.lemmas.Map.Entries.{none_past_head, option_filter}
+use Rattle.cf_types.specs.declared.names.Name16.{Name16}
+use Rattle.cf_types.specs.declared.numbers.ConnId.{ConnId}
+use Rattle.list_laws.specs.Pairwise.{pairwise}
+use Rattle.list_laws.proofs.InsertionLaws.{length-insertion, find-insertion_past, find-insertion_here}
+use Rattle.list_laws.proofs.FilterLaws.{any_is_found, all_from_none, find_none, none_from_all, list_all_weaker}
+use Rattle.list_laws.proofs.PairwiseLaws.{pairwise-filter, pairwise-insertion}
+use Rattle.cache_regs.specs.declared.registrations.Registration.{Registration}
+use Rattle.cache_regs.specs.Registrations.{is_at, registered_at, stands, stands_before}
+use Rattle.cache_regs.specs.Maps.{place_eq, named_eq, at_place, reg_of, regs_in, WritesPlace}
+use Rattle.cache_regs.proofs.RegLaws.{finds_place, places_apart}
+use Rattle.cache_regs.proofs.OrderLaws.{ordered_same}
+
+pub place_laws : IsEquivalence place_eq
+place_laws = and_equiv (on_equiv (λ (x : ℕ × ℕ). x.0) nat_eq_equiv) (on_equiv (λ (x : ℕ × ℕ). x.1) nat_eq_equiv)
+
+pub named_laws : IsEquivalence named_eq
+named_laws =
+    and_equiv (on_equiv (λ (x : ℕ × List ℕ). x.0) nat_eq_equiv) (on_equiv (λ (x : ℕ × List ℕ). x.1) nat_list_eq_equiv)
+
+pub same_place : (j k : ℕ × ℕ) → place_eq j k ≡ true → j ≡ k
+same_place j k e =
+    let parts = and_parts (nat_eq j.0 k.0) (nat_eq j.1 k.1) e in
+    let first : j.0 ≡ k.0 = eqb-true j.0 k.0 parts.0 in
+    let second : j.1 ≡ k.1 = eqb-true j.1 k.1 parts.1 in λ n. (first n, second n)
+
+pub same_named : (j k : ℕ × List ℕ) → named_eq j k ≡ true → j ≡ k
+same_named j k e =
+    let parts = and_parts (nat_eq j.0 k.0) (pointwise nat_eq j.1 k.1) e in
+    let first : j.0 ≡ k.0 = eqb-true j.0 k.0 parts.0 in
+    let second : j.1 ≡ k.1 = (bytes_decides j.1 k.1).0 parts.1 in λ n. (first n, second n)
+
+abbrev pub registration : ConnId → ℕ → Name16 → Registration
+registration conn index name = record { conn = conn; index = index; name = name }
+
+-- ---- the order
+
+before_apart : (c i d j : ℕ) → nat_lt c d || ((c == d) && nat_lt i j) ≡ true
+    → ((c == d) && (i == j) ≡ false) × ((d == c) && (j == i) ≡ false)
+before_apart c i d j h = (grind (arith, nat_tests), grind (arith, nat_tests))
+
+before_one_way : (c i d j : ℕ) → nat_lt c d || ((c == d) && nat_lt i j) ≡ true
+    → nat_lt d c || ((d == c) && nat_lt j i) ≡ true → ⊥
+before_one_way c i d j h g = grind (arith, nat_tests)
+
+-- two lists in order are equal where each place has the same registration
+pub same_regs : (xs ys : List Registration) → pairwise stands_before xs ≡ true → pairwise stands_before ys ≡ true
+    → ((conn : ConnId) (index : ℕ) → find (is_at conn index) xs ≡ find (is_at conn index) ys) → xs ≡ ys
+same_regs xs ys h g f =
+    ordered_same (λ (reg : Registration). (reg.conn.0, reg.index)) place_eq stands_before
+    same_place
+    (λ k. and_from (nat_eq k.0 k.0) (nat_eq k.1 k.1) (eq-eqb k.0 k.0 refl) (eq-eqb k.1 k.1 refl))
+    (λ x y b. before_apart x.conn.0 x.index y.conn.0 y.index b)
+    (λ x y b e. before_one_way x.conn.0 x.index y.conn.0 y.index b e) xs ys h g
+    (λ k. f (record { 0 = k.0 }) k.1)
+
+-- ---- the entries in order
+
+pub none_found : (p : Registration → Bool) (xs : List Registration) → find p xs ≡ None → list_any p xs ≡ false
+none_found p xs h = any_is_found p xs ∙ ap is_some h
+
+tail_unique : (e : (ℕ × ℕ) × Name16) (es : List ((ℕ × ℕ) × Name16)) → IsDistinct place_eq (keys_of (e ∷ es))
+    → IsDistinct place_eq (keys_of es)
+unfolding IsDistinct
+tail_unique e es u = u.1
+
+pub length-in : (es : List ((ℕ × ℕ) × Name16)) → length (regs_in es) ≡ length es
+length-in [] = refl
+length-in (e ∷ es) =
+    let more = length-insertion (λ other. stands_before other (reg_of e)) (reg_of e) (regs_in es) in
+    let rest = length-in es in omega (arith, more, rest)
+
+-- what is found at a place is the entry there
+pub find_in : (es : List ((ℕ × ℕ) × Name16)) → IsDistinct place_eq (keys_of es) → (conn : ConnId) (index : ℕ)
+    → find (is_at conn index) (regs_in es) ≡ option_map (registration conn index) (at_place es conn index)
+find_in [] u conn index = refl
+find_in (e ∷ es) u conn index =
+    go (place_eq (conn.0, index) e.0) refl (find_in es (tail_unique e es u) conn index)
+  where
+    go : (b : Bool) → place_eq (conn.0, index) e.0 ≡ b
+        → find (is_at conn index) (regs_in es) ≡ option_map (registration conn index) (at_place es conn index)
+        → find (is_at conn index) (regs_in (e ∷ es)) ≡ option_map (registration conn index)
+        (cond (place_eq (conn.0, index) e.0) (Some e.1) (at_place es conn index))
+    go true h ih =
+        let none = ih ∙ ap (option_map (registration conn index)) (lookup-none (place_eq (conn.0, index)) es
+        (none_past_head place_laws (conn.0, index) e es u h)) in
+        find-insertion_here (is_at conn index) (λ other. stands_before other (reg_of e)) (reg_of e) (regs_in es)
+        (sym (place_laws.symm (conn.0, index) e.0) ∙ h) (none_found (is_at conn index) (regs_in es) none)
+        ∙ ap (λ (k : ℕ × ℕ). Some (registration (record { 0 = k.0 }) k.1 e.1)) (sym (same_place (conn.0, index) e.0 h))
+        ∙ ap (λ b. option_map (registration conn index) (cond b (Some e.1) (at_place es conn index))) (sym h)
+    go false h ih =
+        find-insertion_past (is_at conn index) (λ other. stands_before other (reg_of e)) (reg_of e) (regs_in es)
+        (sym (place_laws.symm (conn.0, index) e.0) ∙ h) ∙ ih
+        ∙ ap (λ b. option_map (registration conn index) (cond b (Some e.1) (at_place es conn index))) (sym h)
+
+pub ordered_in : (es : List ((ℕ × ℕ) × Name16)) → IsDistinct place_eq (keys_of es)
+    → pairwise stands_before (regs_in es) ≡ true
+ordered_in [] u = refl
+ordered_in (e ∷ es) u =
+    let tail = tail_unique e es u in
+    let none = find_in es tail (reg_of e).conn (reg_of e).index ∙ ap (option_map (registration (reg_of e).conn e.0.1))
+    (lookup-none (place_eq e.0) es (none_past_head place_laws e.0 e es u (place_laws.refl e.0))) in
+    pairwise-insertion stands_before (λ other. stands_before other (reg_of e))
+    (λ other. not (is_at (reg_of e).conn (reg_of e).index other)) (reg_of e) (regs_in es)
+    (finds_place (reg_of e))
+    (all_from_none (is_at (reg_of e).conn (reg_of e).index) (regs_in es)
+    (none_found (is_at (reg_of e).conn (reg_of e).index) (regs_in es) none))
+    (ordered_in es tail)
+
+-- ---- what a filter leaves
+
+-- one at most is at a place
+filter_step : (q : Registration → Bool) (conn : ConnId) (index : ℕ) (a b : Bool) (x : Registration)
+    (xs : List Registration) → is_at conn index x ≡ a → q x ≡ b
+    → (a ≡ true → find (is_at conn index) xs ≡ None)
+    → find (is_at conn index) (filter q xs) ≡ option_filter q (find (is_at conn index) xs)
+    → find (is_at conn index) (cond b (x ∷ filter q xs) (filter q xs)) ≡ option_filter q
+    (cond a (Some x) (find (is_at conn index) xs))
+filter_step q conn index true true x xs e f none ih = rw (e, f) refl
+filter_step q conn index true false x xs e f none ih = ih ∙ ap (option_filter q) (none refl) ∙ rw f refl
+filter_step q conn index false true x xs e f none ih = rw e ih
+filter_step q conn index false false x xs e f none ih = ih
+
+-- what stands before all others is alone at its place
+none_behind : (x : Registration) (xs : List Registration) (conn : ConnId) (index : ℕ)
+    → list_all (stands_before x) xs ≡ true → is_at conn index x ≡ true → find (is_at conn index) xs ≡ None
+none_behind x xs conn index all e =
+    subst (λ (k : ℕ × ℕ). find (is_at (record { 0 = k.0 }) k.1) xs ≡ None)
+    (same_place (x.conn.0, x.index) (conn.0, index) e)
+    (find_none (is_at x.conn x.index) xs (none_from_all (is_at x.conn x.index) xs
+    (list_all_weaker (stands_before x) (λ y. not (is_at x.conn x.index y)) (λ y b. places_apart x y b) xs all)))
+
+pub find-kept : (q : Registration → Bool) (xs : List Registration) → pairwise stands_before xs ≡ true
+    → (conn : ConnId) (index : ℕ)
+    → find (is_at conn index) (filter q xs) ≡ option_filter q (find (is_at conn index) xs)
+find-kept q [] h conn index = refl
+find-kept q (x ∷ xs) h conn index =
+    let parts = and_parts (list_all (stands_before x) xs) (pairwise stands_before xs) h in
+    filter_step q conn index (is_at conn index x) (q x) x xs refl refl (λ e. none_behind x xs conn index parts.0 e)
+    (find-kept q xs parts.1 conn index)
+
+-- ---- one registration less
+
+removed_at : (b : Bool) (c d : ConnId) (i j : ℕ) (o : Option Name16) → place_eq (c.0, i) (d.0, j) ≡ b
+    → option_map (registration d j) (cond b None o)
+    ≡ option_filter (λ reg. not (is_at c i reg)) (option_map (registration d j) o)
+removed_at true c d i j None h = refl
+removed_at true c d i j (Some n) h = rw (place_laws.symm (d.0, j) (c.0, i) ∙ h) refl
+removed_at false c d i j None h = refl
+removed_at false c d i j (Some n) h = rw (place_laws.symm (d.0, j) (c.0, i) ∙ h) refl
+
+pub removed_regs : (es fs : List ((ℕ × ℕ) × Name16)) (conn : ConnId) (index : ℕ) → IsDistinct place_eq (keys_of es)
+    → IsDistinct place_eq (keys_of fs) → WritesPlace es conn index None fs
+    → regs_in fs ≡ filter (λ reg. not (is_at conn index reg)) (regs_in es)
+removed_regs es fs conn index u v updates =
+    same_regs (regs_in fs) (filter (λ reg. not (is_at conn index reg)) (regs_in es)) (ordered_in fs v)
+    (pairwise-filter stands_before (λ reg. not (is_at conn index reg)) (regs_in es) (ordered_in es u))
+    (λ d j. find_in fs v d j ∙ ap (option_map (registration d j)) (updates (d.0, j))
+    ∙ removed_at (place_eq (conn.0, index) (d.0, j)) conn d index j (at_place es d j) refl
+    ∙ ap (option_filter (λ reg. not (is_at conn index reg))) (sym (find_in es u d j))
+    ∙ sym (find-kept (λ reg. not (is_at conn index reg)) (regs_in es) (ordered_in es u) d j))
+
+-- two filters that agree at each entry
+filter_at : (q r : Registration → Bool) (d : ConnId) (j : ℕ) (o : Option Name16)
+    → ((m : Name16) → o ≡ Some m → q (registration d j m) ≡ r (registration d j m))
+    → option_filter q (option_map (registration d j) o) ≡ option_filter r (option_map (registration d j) o)
+filter_at q r d j None h = refl
+filter_at q r d j (Some m) h = rw (h m refl) refl
+
+pub same_filter : (q r : Registration → Bool) (es : List ((ℕ × ℕ) × Name16)) → IsDistinct place_eq (keys_of es)
+    → ((d : ConnId) (j : ℕ) (m : Name16) → at_place es d j ≡ Some m → q (registration d j m) ≡ r (registration d j m))
+    → filter q (regs_in es) ≡ filter r (regs_in es)
+same_filter q r es u h =
+    let order = ordered_in es u in
+    same_regs (filter q (regs_in es)) (filter r (regs_in es)) (pairwise-filter stands_before q (regs_in es) order)
+    (pairwise-filter stands_before r (regs_in es) order)
+    (λ d j. find-kept q (regs_in es) order d j ∙ ap (option_filter q) (find_in es u d j)
+    ∙ filter_at q r d j (at_place es d j) (h d j) ∙ ap (option_filter r) (sym (find_in es u d j))
+    ∙ sym (find-kept r (regs_in es) order d j))
+
+name_at : (conn : ConnId) (index : ℕ) (o : Option Name16)
+    → option_map (λ (reg : Registration). reg.name) (option_map (registration conn index) o) ≡ o
+name_at conn index None = refl
+name_at conn index (Some n) = refl
+
+pub at_law : (es : List ((ℕ × ℕ) × Name16)) → IsDistinct place_eq (keys_of es) → (conn : ConnId) (index : ℕ)
+    → at_place es conn index ≡ registered_at (regs_in es) conn index
+at_law es u conn index =
+    sym (ap (option_map (λ (reg : Registration). reg.name)) (find_in es u conn index)
+    ∙ name_at conn index (at_place es conn index))
+
+some_at : (conn : ConnId) (index : ℕ) (o : Option Name16) → is_some (option_map (registration conn index) o) ≡ is_some o
+some_at conn index None = refl
+some_at conn index (Some n) = refl
+
+pub stands_law : (es : List ((ℕ × ℕ) × Name16)) → IsDistinct place_eq (keys_of es) → (conn : ConnId) (index : ℕ)
+    → is_some (at_place es conn index) ≡ stands (regs_in es) conn index
+stands_law es u conn index =
+    sym (any_is_found (is_at conn index) (regs_in es) ∙ ap is_some (find_in es u conn index)
+    ∙ some_at conn index (at_place es conn index))
+
+-- an entry's place has a registration
+pub entry_stands : (es : List ((ℕ × ℕ) × Name16)) → IsDistinct place_eq (keys_of es) → (k : ℕ) (place : ℕ × ℕ)
+    (name : Name16) → Some (place, name) ≡ slice_get es k
+    → stands (regs_in es) (record { 0 = place.0 }) place.1 ≡ true
+entry_stands es u k place name h =
+    sym (stands_law es u (record { 0 = place.0 }) place.1) ∙ there es k h
+  where
+    found : (b : Bool) (n : Name16) (o : Option Name16) → is_some o ≡ true → is_some (cond b (Some n) o) ≡ true
+    found true n o e = refl
+    found false n o e = e
+
+    there : (es : List ((ℕ × ℕ) × Name16)) (k : ℕ) → Some (place, name) ≡ slice_get es k
+        → is_some (lookup (place_eq place) es) ≡ true
+    there [] k h = absurd (cc)
+    there (e ∷ es) zero h =
+        let same : e ≡ (place, name) = cc in
+        ap (λ b. is_some (cond b (Some e.1) (lookup (place_eq place) es)))
+        (ap (λ (x : (ℕ × ℕ) × Name16). place_eq place x.0) same ∙ place_laws.refl place)
+    there (e ∷ es) (suc k) h =
+        found (place_eq place e.0) e.1 (lookup (place_eq place) es) (there es k h)
+
+pub removed_len : (es fs : List ((ℕ × ℕ) × Name16)) (n : ℕ) → length fs + n ≡ length es
+    → length (regs_in fs) + n ≡ length (regs_in es)
+removed_len es fs n h =
+    let old = length-in es in
+    let new = length-in fs in omega (arith, old, new, h)

@@ -1,0 +1,7 @@
+use Rattle.std.proofs.Common.{◌≡◌, ◌≤◌, length, filter}
+use Rattle.cache_regs.specs.Ends.{ends_below}
+use Rattle.cache_regs.proofs.regs.count_name.Given as goal
+
+abbrev pub invariant-loop-conn : goal.invariant-loop-conn
+invariant-loop-conn l =
+    (l.count ≡ length (filter (ends_below l.name l.spare l.conn) l.maps.regs)) × (l.count ≤ l.conn)

@@ -1,0 +1,41 @@
+use Rattle.std.proofs.Common.{◌≡◌, None, Some, rules}
+use Rattle.std.specs.List.{slice_get}
+use Rattle.plex_run.proofs.Written.{OnErr-always, OnErr-so, OnOk-always, OnOk-so}
+use Rattle.plex_run.proofs.ReportLaws.{all_written, all_short, text_front, text_front_more}
+use Rattle.plex_run.proofs.writing.write_lines.Goals as goal
+
+pub returns-in_default-clause-front : goal.returns-in_default-clause-front
+returns-in_default-clause-front g c =
+    text_front _ _ _ _ _ c.args.report.now c.loop-k.k c.loop-k.invariant.passed c.break_off.ensures.front
+
+pub returns-in_default-line-clause-whole : goal.returns-in_default-line-clause-whole
+returns-in_default-line-clause-whole g c =
+    let past : slice_get c.args.report.now c.loop-k.k ≡ None = search rules in
+    OnOk-so c.flush.result _ _
+    (all_written _ _ _ _ _ c.args.report.now c.loop-k.k c.loop-k.invariant.passed past) c.flush.ensures.whole
+
+pub returns-in_default-line-clause-short : goal.returns-in_default-line-clause-short
+returns-in_default-line-clause-short g c =
+    let past : slice_get c.args.report.now c.loop-k.k ≡ None = search rules in
+    OnOk-always _ _ (all_short c.args.report.now c.loop-k.k c.loop-k.bytes _ c.loop-k.invariant.bytes
+    c.loop-k.invariant.small past)
+
+pub returns-in_default-line-clause-front : goal.returns-in_default-line-clause-front
+returns-in_default-line-clause-front g c =
+    OnErr-so c.flush.result _ _
+    (text_front _ _ _ _ _ c.args.report.now c.loop-k.k c.loop-k.invariant.passed) c.flush.ensures.front
+
+pub returns-in_default-checked_add-clause-front : goal.returns-in_default-checked_add-clause-front
+returns-in_default-checked_add-clause-front g c =
+    text_front _ _ _ _ _ c.args.report.now c.loop-k.k c.loop-k.invariant.passed
+    c.break_off-in_default-checked_add.ensures.front
+
+pub returns-in_err-put-clause-front : goal.returns-in_err-put-clause-front
+returns-in_err-put-clause-front g c =
+    let next : slice_get c.args.report.now c.loop-k.k ≡ Some c.deref.result.now = search rules in
+    OnErr-always _ _ (text_front_more _ _ _ _ _ c.args.report.now c.loop-k.k c.loop-k.invariant.passed
+    c.deref.result.now next c.in_err-put.ensures.front)
+
+pub returns-clause-front : goal.returns-clause-front
+returns-clause-front g c =
+    text_front _ _ _ _ _ c.args.report.now c.loop-k.k c.loop-k.invariant.passed c.break_off-2.ensures.front

@@ -1,0 +1,138 @@
+-- The entry of a number in a journal, and the call of that number among its caller's calls: both have the same reply.
+use Rattle.std.proofs.Common.{◌≡◌, ℕ, zero, suc, ◌+◌, ◌-◌, ◌<◌, ◌≤◌, ◌==◌, Bool, true, false, List, [], ◌∷◌, map, None, Some, Option, refl, sym, ap, subst, ◌∙◌, arith}
+use Rattle.std.specs.Prelude.{option_and_then, slice_get}
+use Rattle.std.proofs.lemmas.Bool.Decides.{nat_tests}
+use Rattle.cf_types.specs.declared.forms.StrForm.{StrForm}
+use Rattle.cf_types.specs.declared.numbers.ConnId.{ConnId}
+use Rattle.engine_api.specs.declared.asks.Ask.{Ask}
+use Rattle.engine_api.specs.declared.asks.Reply.{Reply}
+use Rattle.engine_api.specs.declared.asks.What.{What}
+use Rattle.engine_api.specs.declared.asks.What.TheVariants as what
+use Rattle.engine_api.specs.declared.histories.Entry.{Entry}
+use Rattle.engine_api.specs.Meaning.{Meaning}
+use Rattle.engine_api.specs.History.{calls, own}
+use Rattle.engine_api.proofs.HistoryLaws.{number_legal}
+use Rattle.struct_machine.specs.StructureView.{StructureView}
+use Rattle.vec_words.specs.Logged.{calls_in, calls_of}
+use Rattle.vec_words.specs.Tokens.{SeatSeen}
+use Rattle.struct_cell.specs.declared.inside.CellKey.{CellKey}
+use Rattle.reply_copy.specs.Journals.{reply_for, reply_at}
+use Rattle.struct_cell.specs.Calls.{reply_to}
+use Rattle.struct_cell.specs.Cells.{About, own_call_of, IsCell}
+use Rattle.struct_cell.specs.Touches.{TouchedWords}
+use Rattle.struct_cell.proofs.ToldLaws.{own_calls}
+
+module _ {C R : Type 0} where
+  -- entries whose numbers count on from behind so many
+  abbrev CountFrom : ℕ → List (Entry C R) → Type 0
+  CountFrom before [] = Unit {0}
+  CountFrom before (entry ∷ entries) = (entry.no ≡ before + 1) × CountFrom (before + 1) entries
+
+  count_from : (before : ℕ) (entries : List (Entry C R))
+      → ((i : ℕ) (entry : Entry C R) → slice_get entries i ≡ Some entry → entry.no ≡ before + i + 1)
+      → CountFrom before entries
+  count_from before [] each = tt
+  count_from before (entry ∷ entries) each = (
+    (let here : entry.no ≡ before + 0 + 1 = each 0 entry refl in omega (arith, here)),
+    count_from (before + 1) entries
+        (λ i other is. (let there : other.no ≡ before + suc i + 1 = each (suc i) other is in omega (arith, there))),
+  )
+
+  -- a caller's calls, of these entries
+  abbrev heard : ConnId → List (Entry C R) → List (ℕ × About C R)
+  heard owner entries = map own_call_of (own entries owner)
+
+  -- no call has a number up to where the entries begin
+  none_below : (owner : ConnId) (number before : ℕ) (entries : List (Entry C R)) → CountFrom before entries
+      → number ≤ before → reply_to number (heard owner entries) ≡ None
+  none_below owner number before [] count low = refl
+  none_below owner number before (entry ∷ entries) count low =
+      by_what entry.what refl (none_below owner number (before + 1) entries count.1 (omega (arith, low)))
+    where
+      by_owner : (asked : Ask C) (b : Bool) → entry.by.0 == owner.0 ≡ b → entry.what ≡ what.Call asked
+          → reply_to number (heard owner entries) ≡ None
+          → reply_to number (heard owner (entry ∷ entries)) ≡ None
+      by_owner asked true mine is rest =
+          let here : entry.no ≡ before + 1 = count.0 in
+          let other : entry.no == number ≡ false = grind (arith, nat_tests) in
+          rw (is, mine, other) rest
+      by_owner asked false mine is rest = rw (is, mine) rest
+
+      by_what : (told : What C) → entry.what ≡ told → reply_to number (heard owner entries) ≡ None
+          → reply_to number (heard owner (entry ∷ entries)) ≡ None
+      by_what (what.Call asked) is rest = by_owner asked (entry.by.0 == owner.0) refl is rest
+      by_what (what.Lost cf) is rest = rw is rest
+
+  -- the reply of an entry for a caller, and that of the caller's call with its number
+  reply_there : (owner : ConnId) (before : ℕ) (entries : List (Entry C R)) (i : ℕ) → CountFrom before entries
+      → reply_to (before + i + 1) (heard owner entries) ≡ option_and_then (reply_for owner) (slice_get entries i)
+  reply_there owner before [] i count = refl
+  reply_there owner before (entry ∷ entries) zero count =
+      by_what entry.what refl
+      (none_below owner (before + 0 + 1) (before + 1) entries count.1 (omega arith))
+    where
+      by_owner : (asked : Ask C) (b : Bool) → entry.by.0 == owner.0 ≡ b → entry.what ≡ what.Call asked
+          → reply_to (before + 0 + 1) (heard owner entries) ≡ None
+          → reply_to (before + 0 + 1) (heard owner (entry ∷ entries)) ≡ reply_for owner entry
+      by_owner asked true mine is rest =
+          let here : entry.no ≡ before + 1 = count.0 in
+          let same : entry.no == before + 0 + 1 ≡ true = grind (arith, nat_tests) in
+          rw (is, mine, same) refl
+      by_owner asked false mine is rest = rw (is, mine) rest
+
+      by_what : (told : What C) → entry.what ≡ told → reply_to (before + 0 + 1) (heard owner entries) ≡ None
+          → reply_to (before + 0 + 1) (heard owner (entry ∷ entries)) ≡ reply_for owner entry
+      by_what (what.Call asked) is rest = by_owner asked (entry.by.0 == owner.0) refl is rest
+      by_what (what.Lost cf) is rest = rw is rest
+  reply_there owner before (entry ∷ entries) (suc i) count =
+      by_what entry.what refl
+      (let later : (before + 1) + i + 1 ≡ before + suc i + 1 = omega arith in
+      subst (λ (n : ℕ). reply_to n (heard owner entries)
+      ≡ option_and_then (reply_for owner) (slice_get entries i)) later
+      (reply_there owner (before + 1) entries i count.1))
+    where
+      by_owner : (asked : Ask C) (b : Bool) → entry.by.0 == owner.0 ≡ b → entry.what ≡ what.Call asked
+          → reply_to (before + suc i + 1) (heard owner entries)
+          ≡ option_and_then (reply_for owner) (slice_get entries i)
+          → reply_to (before + suc i + 1) (heard owner (entry ∷ entries))
+          ≡ option_and_then (reply_for owner) (slice_get entries i)
+      by_owner asked true mine is rest =
+          let here : entry.no ≡ before + 1 = count.0 in
+          let other : entry.no == before + suc i + 1 ≡ false = grind (arith, nat_tests) in
+          rw (is, mine, other) rest
+      by_owner asked false mine is rest = rw (is, mine) rest
+
+      by_what : (told : What C) → entry.what ≡ told
+          → reply_to (before + suc i + 1) (heard owner entries)
+          ≡ option_and_then (reply_for owner) (slice_get entries i)
+          → reply_to (before + suc i + 1) (heard owner (entry ∷ entries))
+          ≡ option_and_then (reply_for owner) (slice_get entries i)
+      by_what (what.Call asked) is rest = by_owner asked (entry.by.0 == owner.0) refl is rest
+      by_what (what.Lost cf) is rest = rw is rest
+
+  -- the same by the number
+  reply_numbered : (owner : ConnId) (entries : List (Entry C R)) (number : ℕ) → CountFrom 0 entries
+      → reply_to number (heard owner entries) ≡ reply_at entries owner number
+  reply_numbered owner entries zero count = none_below owner 0 0 entries count (omega arith)
+  reply_numbered owner entries (suc i) count =
+      let same : 0 + i + 1 ≡ suc i = omega arith in
+      let back : suc i - 1 ≡ i = omega arith in
+      let some : suc i == 0 ≡ false = grind (arith, nat_tests) in
+      rw (some, back) (subst (λ (n : ℕ). reply_to n (heard owner entries)
+      ≡ option_and_then (reply_for owner) (slice_get entries i)) same (reply_there owner 0 entries i count))
+
+module _ {C R I S L : Type 0} (asks : L → Option ℕ) (downs : L → Option (List ℕ)) (faults : L → ℕ)
+    (meaning : Meaning C R I S) (key : CellKey C R L) (limit : ℕ) (standing : StructureView S L)
+    (touched : TouchedWords)
+    (journal : List (Entry C R)) (seat : SeatSeen (About C R))
+    (cell : IsCell asks downs faults meaning key limit standing touched journal seat) where
+  -- of a cell's journal the entry of a number has for a caller what the caller's call of that number was replied
+  pub reply_own : (owner : ConnId) (mine : List (ℕ × About C R)) (number : ℕ) → mine ≡ calls_of owner.0 seat.log
+      → reply_at journal owner number ≡ reply_to number mine
+  reply_own owner mine number is =
+      let all : mine ≡ heard owner journal =
+      is ∙ ap (calls_in owner.0) cell.commits ∙ own_calls owner.0 (calls journal) in
+      sym (ap (reply_to number) all ∙ reply_numbered owner journal number
+      (count_from 0 journal (λ i entry there.
+      (let no : entry.no ≡ i + 1 = number_legal meaning key.form journal cell.legal i entry there in
+      omega (arith, no)))))
