@@ -46,7 +46,7 @@ abbrev pub other_than : Name16 → Option CacheItem → Option CacheItem
 other_than name None = None
 other_than name (Some row) = if is_row_of name row then None else Some row
 
--- what is reclaimed for a request at this place of the order, unless the request's own row stands there
+-- what is reclaimed for a command at this place of the order, unless the command's own row stands there
 abbrev pub victim_at : Request → List CacheItem → ℕ → Option Reclaimable
 victim_at request rows k =
     option_map reclaimable_of (other_than request.name (slice_get (reclaimed_for request.stg rows) k))

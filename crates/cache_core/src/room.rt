@@ -91,7 +91,7 @@ pub(crate) fn room_refusal(caps: Caps, rows: &Rows, request: &Request) -> Option
     }
 }
 
-// The row that is reclaimed at a place (from 0) for a request; none where that is the request's
+// The row that is reclaimed at a place (from 0) for a command; none where that is the command's
 // own, or past the end.
 fn victim_at(rows: &Rows, request: &Request, k: u32) -> Option<Reclaimable>
     ensures { result ≡ victim_at request.now rows.now.rows k }

@@ -67,7 +67,7 @@ order_all p request rows h =
     (list_all-filter p (has_storage request.stg) reclaimable each)
     (list_all-filter p (λ row. not (has_storage request.stg row)) reclaimable each)
 
--- the rows that go are apart, each is the one of its name, and none has the request's name
+-- the rows that go are apart, each is the one of its name, and none has the command's name
 pub record Goes (caps : Caps) (request : Request) (rows : List CacheItem) : Type 0 where
   pub found : OnesFound (gone caps request rows) rows
   pub apart : pairwise names_apart (gone caps request rows) ≡ true
@@ -92,7 +92,7 @@ goes caps request rows is =
           (λ row h. (and_parts (not (is_changed row)) (not (is_row_of request.name row)) h).0));
     }
 
--- the request's name isn't among them
+-- the command's name isn't among them
 pub request_spared : (caps : Caps) (request : Request) (rows : List CacheItem) → IsDirectory rows
     → is_among (victims caps request rows) request.name ≡ false
 request_spared caps request rows is =

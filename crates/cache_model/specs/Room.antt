@@ -13,7 +13,7 @@ use Rattle.cache_model.specs.Rows.{is_row_of, is_changed, has_storage, elements_
 abbrev pub is_reclaimable : Name16 → CacheItem → Bool
 is_reclaimable name row = not (is_changed row) && not (is_row_of name row)
 
--- first those of the request's storage class, then the others, each from least recently used
+-- first those of the command's storage class, then the others, each from least recently used
 abbrev pub reclaim_order : Request → List CacheItem → List CacheItem
 reclaim_order request rows =
     let reclaimable = filter (is_reclaimable request.name) rows in

@@ -24,7 +24,7 @@ pub(crate) fn request(by: ConnId, r: Resource, excl: bool, rec: Option<Adjunct>)
     }
 }
 
-// Whether the request is granted at once: all other owners are compatible, whoever waits.
+// Whether a command is granted at once: all other owners are compatible, whoever waits.
 fn is_at_once(locks: &Locks, w: &Waiter) -> bool
     ensures { result ≡ alter.at_once w.now locks.now.content }
 {

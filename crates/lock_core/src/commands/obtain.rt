@@ -30,7 +30,7 @@ fn is_awaited(locks: &Locks, r: &Resource) -> bool
     locks.queue.first(r).is_some()
 }
 
-// Whether the request is granted at once: nobody waits, and all other owners are compatible.
+// Whether a command is granted at once: nobody waits, and all other owners are compatible.
 fn is_at_once(locks: &Locks, w: &Waiter) -> bool
     ensures { result ≡ obtain.at_once w.now locks.now.content }
 {
