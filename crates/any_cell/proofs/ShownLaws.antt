@@ -25,7 +25,7 @@ use Rattle.struct_cell.specs.declared.inside.CellKey.{CellKey}
 use Rattle.struct_cell.specs.Cells.{About, own_call_of}
 use Rattle.struct_cell.specs.Limits.{AreMadeBelow}
 use Rattle.struct_cell.specs.Telling.{IsTold}
-use Rattle.any_model.specs.Types.{StrType}
+use Rattle.run_model.specs.Types.{StrType}
 use Rattle.any_cell.specs.Passes.{PassShown, call_by, heard_by, shown_as, unused_pass}
 use Rattle.any_cell.specs.Cells.{CellShown, keyed_as, IsPassOf}
 

@@ -25,8 +25,8 @@ use Rattle.plex_script.specs.declared.asks.AnyHistory.{AnyHistory}
 use Rattle.plex_script.specs.declared.asks.AnyHistory.TheVariants as history
 use Rattle.plex_script.specs.Heard.{AnyCall, any_call, any_calls, own_calls}
 use Rattle.vec_words.specs.Tokens.{WordTable}
-use Rattle.any_model.specs.Types.{StrType}
-use Rattle.any_model.specs.Kinds.{IsAnyLegal, any_answers}
+use Rattle.run_model.specs.Types.{StrType}
+use Rattle.run_model.specs.Kinds.{IsAnyLegal, any_answers}
 use Rattle.any_cell.specs.Passes.{PassShown, unused_pass}
 use Rattle.any_cell.specs.Cells.{CellShown}
 

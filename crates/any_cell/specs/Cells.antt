@@ -15,7 +15,7 @@ use Rattle.struct_cell.specs.declared.inside.CellKey.{CellKey}
 use Rattle.struct_cell.specs.Telling.{IsTold}
 use Rattle.any_cell.specs.declared.any_cell.AnyCell.{AnyCell}
 use Rattle.any_cell.specs.declared.any_cell.AnyCell.TheVariants as cell
-use Rattle.any_model.specs.Types.{StrType, OfCache, OfList, OfLock, type_of_ask}
+use Rattle.run_model.specs.Types.{StrType, OfCache, OfList, OfLock, type_of_ask}
 use Rattle.any_cell.specs.Passes.{PassShown, NoteShown}
 
 -- a cell: the type of its structure, and what of it never changes

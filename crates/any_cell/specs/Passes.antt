@@ -17,7 +17,7 @@ use Rattle.any_cell.specs.declared.any_pass.AnyPasses.{AnyPasses}
 use Rattle.any_cell.specs.declared.any_pass.AnyPasses.TheVariants as passes
 use Rattle.any_cell.specs.declared.any_note.AnyNote.{AnyNote}
 use Rattle.any_cell.specs.declared.any_note.AnyNote.TheVariants as note
-use Rattle.any_model.specs.Types.{StrType, OfCache, OfList, OfLock}
+use Rattle.run_model.specs.Types.{StrType, OfCache, OfList, OfLock}
 
 -- a pass: the type of its structure, its words, its owner, the number that it knows, the number that it saw complete,
 -- its owner's answered calls with what was told of each, and its tests

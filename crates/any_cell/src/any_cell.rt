@@ -8,8 +8,8 @@ ghost use Rattle.plex_script.specs.Heard.{any_calls, any_length, own_calls};
 ghost use Rattle.struct_cell.specs.declared.refused.CallRefused.TheVariants as refused;
 ghost use Rattle.vec_words.specs.Logged.{words_of, indices_of, sight};
 ghost use Rattle.struct_cell.specs.Limits.{AreMadeBelow};
-ghost use Rattle.any_model.specs.Kinds.{MayAskAny, IsAnyLegal, IsAnyPoint, any_answers, any_numbers};
-ghost use Rattle.any_model.specs.Types.{type_of_kind, type_of_history};
+ghost use Rattle.run_model.specs.Kinds.{MayAskAny, IsAnyLegal, IsAnyPoint, any_answers, any_numbers};
+ghost use Rattle.run_model.specs.Types.{type_of_kind, type_of_history};
 ghost use Rattle.any_cell.specs.Passes.{IsLater, pass_shown, passes_shown, type_of_passes, room_of, note_shown, note_of, unused_pass, with_call};
 ghost use Rattle.any_cell.specs.Cells.{IsPassOf, IsNoteOf, IsAskOf, IsAnyTold, cell_shown};
 

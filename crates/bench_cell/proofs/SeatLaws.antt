@@ -13,7 +13,7 @@ use Rattle.plex_script.specs.declared.scripts.Script.{Script}
 use Rattle.plex_script.specs.declared.scripts.AnyAsk.{AnyAsk}
 use Rattle.plex_script.specs.declared.scripts.AnyAsk.TheVariants as any_ask
 use Rattle.struct_cell.specs.declared.refused.CallRefused.{CallRefused}
-use Rattle.any_model.specs.Types.{type_of_kind}
+use Rattle.run_model.specs.Types.{type_of_kind}
 use Rattle.any_cell.specs.Passes.{with_call}
 use Rattle.any_cell.specs.Cells.{CellShown, IsAskOf}
 use Rattle.desk_model.specs.Desks.{DeskShown, IsLaterOn, pass_at, with_pass}

@@ -5,7 +5,7 @@ use Rattle.cf_types.specs.declared.forms.StrForm.{StrForm}
 use Rattle.cf_types.specs.declared.numbers.StrNo.{StrNo}
 use Rattle.cf_types.specs.Forms.{IsForm, IsConnector}
 use Rattle.plex_script.specs.declared.scripts.Script.{Script}
-use Rattle.any_model.specs.Types.{OfCache}
+use Rattle.run_model.specs.Types.{OfCache}
 use Rattle.any_cell.specs.Cells.{CellShown}
 use Rattle.desk_model.specs.Desks.{DeskShown}
 use Rattle.desk_model.specs.Boards.{BoardShown, IsDeskOf, cell_on}

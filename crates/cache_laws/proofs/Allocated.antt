@@ -8,9 +8,9 @@ use Rattle.engine_api.specs.History.{replay}
 use Rattle.engine_api.specs.Meaning.{Meaning}
 use Rattle.cf_types.specs.declared.refusals.Refusal.TheVariants as refusal
 use Rattle.engine_api.specs.Shell.{Shell, unless_active, if_lost, if_failed, content_cause}
-use Rattle.rebuild_shell.proofs.CauseLaws.{third_none, not_so}
-use Rattle.rebuild_shell.proofs.MemberLaws.{manned-replay}
-use Rattle.rebuild_shell.proofs.StepLaws.{active_of, active_member, first_none, somebody_member}
+use Rattle.shell_laws.proofs.CauseLaws.{third_none, not_so}
+use Rattle.shell_laws.proofs.MemberLaws.{manned-replay}
+use Rattle.shell_laws.proofs.StepLaws.{active_of, active_member, first_none, somebody_member}
 
 module _ {C R I S : Type 0} (meaning : Meaning C R I S) (form : StrForm) where
   -- a command on the content that the shell doesn't refuse finds an instance, and leaves it

@@ -8,7 +8,7 @@ use Rattle.cache_model.specs.Contents.{Content, IsContent}
 use Rattle.cache_model.specs.Meaning.{cache_meaning}
 use Rattle.cache_model.proofs.ContentLaws.{content-done}
 use Rattle.cache_model.proofs.EngineLaws.{content-nothing, leave-content, content-moved, need-front, need-leave}
-use Rattle.rebuild_shell.proofs.CapacityLaws.{ContentLaws, held-replay}
+use Rattle.shell_laws.proofs.CapacityLaws.{ContentLaws, held-replay}
 use Rattle.cache_laws.specs.Histories.{CacheHistory, IsWithin}
 
 abbrev IsContentAt : Shape → Caps → Content → Type 0

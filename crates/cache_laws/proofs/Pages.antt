@@ -31,10 +31,10 @@ use Rattle.cache_model.specs.Runs.Deed.{Calls, Leaves, Forgets}
 use Rattle.cache_model.specs.Step.{cause, done}
 use Rattle.cache_model.specs.Uncast.{Uncast, Uncasts, uncast_cast, uncast_unlocked, uncast_unless, uncast_after, Kept}
 use Rattle.cache_model.proofs.UncastLaws.{AllKept, deed-kept}
-use Rattle.replay_laws.specs.Accepted.{accepted_as}
-use Rattle.replay_laws.proofs.Moves.{Move, stands_in}
-use Rattle.replay_laws.proofs.Moves.Move.{Same, Left, Returned, Forgotten, Cleared}
-use Rattle.replay_laws.proofs.Changes.{shell_change, loss_change}
+use Rattle.shell_laws.specs.Accepted.{accepted_as}
+use Rattle.shell_laws.proofs.Moves.{Move, stands_in}
+use Rattle.shell_laws.proofs.Moves.Move.{Same, Left, Returned, Forgotten, Cleared}
+use Rattle.shell_laws.proofs.Changes.{shell_change, loss_change}
 use Rattle.cache_laws.specs.Histories.{CacheEntry, CacheHistory, Accepted, acceptance_of, is_accepted, is_allocated, IsLegalCache, StaysAllocated, content_after}
 use Rattle.cache_laws.specs.Uncast.{Page, page_in, page_written, is_changed_write, deletes, casts_out, unlocks, HasNone, is_cast_out, IsUncast, HasPage, IsAnswered}
 use Rattle.cache_laws.proofs.Allocated.{stands-content}

@@ -15,8 +15,8 @@ use Rattle.cache_model.specs.Runs.{Copy, Copies, Deed, after_deed, copies_done, 
 use Rattle.cache_model.specs.Runs.Deed.{Calls, Leaves, Forgets}
 use Rattle.cache_model.specs.Step.{cause, done, reply as answer_to}
 use Rattle.cache_model.proofs.CopyLaws.{Fresh, AllFresh, each_weaker, deed-fresh}
-use Rattle.replay_laws.proofs.Keeping.{IsQuiet, IsTraced}
-use Rattle.replay_laws.proofs.ReplayLaws.{traced-replay, legal-answered}
+use Rattle.shell_laws.proofs.Keeping.{IsQuiet, IsTraced}
+use Rattle.shell_laws.proofs.ReplayLaws.{traced-replay, legal-answered}
 use Rattle.cache_laws.specs.Copies.{copy_at, copy_of, copy_brought, copy_held}
 use Rattle.cache_laws.specs.Histories.{CacheEntry, CacheHistory, Accepted, acceptance_of, content_after}
 use Rattle.cache_laws.proofs.UniqueLaws.{orderly-kept}

@@ -24,8 +24,8 @@ use Rattle.cache_model.specs.Step.{done}
 use Rattle.cache_model.proofs.ContentLaws.{orderly-content}
 use Rattle.cache_model.proofs.EngineLaws.{content-nothing}
 use Rattle.cache_model.proofs.OrderLaws.{orderly-deed}
-use Rattle.replay_laws.proofs.Keeping.{IsKept}
-use Rattle.replay_laws.proofs.ReplayLaws.{kept-replay}
+use Rattle.shell_laws.proofs.Keeping.{IsKept}
+use Rattle.shell_laws.proofs.ReplayLaws.{kept-replay}
 use Rattle.cache_laws.specs.Histories.{CacheHistory, content_after}
 use Rattle.cache_laws.specs.Unique.{IsUnique}
 

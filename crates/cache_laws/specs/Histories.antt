@@ -9,7 +9,7 @@ use Rattle.engine_api.specs.declared.histories.Entry.{Entry}
 use Rattle.engine_api.specs.History.{IsLegal, replay}
 use Rattle.cache_model.specs.Contents.{Content, IsContent}
 use Rattle.cache_model.specs.Meaning.{cache_meaning}
-use Rattle.replay_laws.specs.Accepted.{Accepted as AcceptedOf, accepted_as}
+use Rattle.shell_laws.specs.Accepted.{Accepted as AcceptedOf, accepted_as}
 
 abbrev pub CacheEntry : Type 0
 CacheEntry = Entry CacheCmd CacheReply

@@ -11,10 +11,10 @@ use Rattle.cf_link.specs.declared.links.Links.{Links}
 use Rattle.plex_script.specs.declared.asks.AnyHistory.{AnyHistory}
 use Rattle.plex_script.specs.declared.scripts.Script.{Script}
 use Rattle.plex_script.specs.Heard.{any_calls, any_length, own_calls}
-use Rattle.any_model.specs.Types.{type_of_kind, type_of_history}
+use Rattle.run_model.specs.Types.{type_of_kind, type_of_history}
 use Rattle.any_cell.specs.Passes.{PassShown, NoteShown, unused_pass}
 use Rattle.struct_cell.specs.Limits.{AreMadeBelow}
-use Rattle.any_model.specs.Kinds.{IsAnyLegal, IsAnyPoint, any_numbers, any_answers}
+use Rattle.run_model.specs.Kinds.{IsAnyLegal, IsAnyPoint, any_numbers, any_answers}
 use Rattle.any_cell.specs.Cells.{CellShown, IsNoteOf, IsAnyTold}
 use Rattle.desk_model.specs.Desks.{DeskShown, Fixed, fixed_of, pass_at}
 

@@ -4,7 +4,7 @@ use Rattle.atomic_table.specs.Seated.{TableId}
 use Rattle.cf_types.specs.declared.numbers.ConnId.{ConnId}
 use Rattle.cf_types.specs.declared.numbers.StrNo.{StrNo}
 use Rattle.vec_words.specs.Tokens.{WordTable}
-use Rattle.any_model.specs.Types.{StrType, OfCache}
+use Rattle.run_model.specs.Types.{StrType, OfCache}
 use Rattle.any_cell.specs.Passes.{PassShown, IsLater, unused_pass}
 
 pub record DeskShown : Type 0 where

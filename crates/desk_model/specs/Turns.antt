@@ -21,7 +21,7 @@ use Rattle.plex_script.specs.declared.transcripts.Transcript.{Transcript}
 use Rattle.plex_script.specs.Agent.{first_step, step_after, asked_by, shell_ask}
 use Rattle.plex_script.specs.Heard.{is_linked}
 use Rattle.vec_words.specs.Logged.{indices_of, sight}
-use Rattle.any_model.specs.Kinds.{MayAskAny}
+use Rattle.run_model.specs.Kinds.{MayAskAny}
 use Rattle.any_cell.specs.Passes.{PassShown, with_call}
 use Rattle.any_cell.specs.Cells.{CellShown, IsAskOf}
 use Rattle.desk_model.specs.Desks.{DeskShown, pass_at, with_pass, IsLaterOn}

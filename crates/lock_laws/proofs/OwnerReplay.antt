@@ -25,8 +25,8 @@ use Rattle.lock_model.proofs.CommandLaws.{none_hold, content-done}
 use Rattle.lock_model.proofs.DepartureLaws.{led_departed, content-returned}
 use Rattle.lock_model.proofs.EngineLaws.{content-nothing}
 use Rattle.lock_model.proofs.OwnerLaws.{compatible-interests}
-use Rattle.replay_laws.proofs.Keeping.{IsKept}
-use Rattle.replay_laws.proofs.ReplayLaws.{kept-replay}
+use Rattle.shell_laws.proofs.Keeping.{IsKept}
+use Rattle.shell_laws.proofs.ReplayLaws.{kept-replay}
 use Rattle.lock_laws.specs.Applied.{Deed, IsHeldAfter, after_deed, content_applied}
 use Rattle.lock_laws.specs.Applied.Deed.{Calls, Leaves, Returns}
 use Rattle.lock_laws.specs.Histories.{LockHistory, content_after}

@@ -3,6 +3,7 @@ mod data;
 mod lists;
 mod loads;
 mod locks;
+mod pools;
 mod reading;
 mod shells;
 mod writing;

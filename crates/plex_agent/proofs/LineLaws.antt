@@ -13,7 +13,7 @@ use Rattle.cf_types.specs.declared.numbers.ConnId.{ConnId}
 use Rattle.plex_script.specs.declared.scripts.Act.{Act}
 use Rattle.plex_script.specs.declared.scripts.Act.TheVariants as act
 use Rattle.plex_script.specs.declared.scripts.Line.{Line}
-use Rattle.any_model.specs.Types.{type_of_kind}
+use Rattle.run_model.specs.Types.{type_of_kind}
 use Rattle.any_cell.specs.Cells.{CellShown}
 use Rattle.desk_model.specs.Boards.{BoardShown, IsStarted, new_desk}
 use Rattle.desk_model.specs.Desks.{DeskShown}

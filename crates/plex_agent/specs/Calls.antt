@@ -13,7 +13,7 @@ use Rattle.plex_script.specs.declared.transcripts.AgentEnd.{AgentEnd}
 use Rattle.plex_script.specs.declared.transcripts.AgentEnd.TheVariants as ended
 use Rattle.plex_script.specs.declared.transcripts.Shown.{Shown}
 use Rattle.plex_script.specs.Agent.{step_after, asked_by}
-use Rattle.any_model.specs.Kinds.{MayAskAny}
+use Rattle.run_model.specs.Kinds.{MayAskAny}
 use Rattle.any_cell.specs.Passes.{with_call}
 use Rattle.any_cell.specs.Cells.{CellShown, IsAskOf}
 use Rattle.desk_model.specs.Desks.{DeskShown, pass_at, with_pass}

@@ -6,8 +6,8 @@ use Rattle.cf_types.specs.declared.numbers.ConnId.{ConnId}
 use Rattle.plex_script.specs.declared.scripts.Act.{Act}
 use Rattle.plex_script.specs.declared.scripts.Act.TheVariants as act
 use Rattle.plex_script.specs.declared.scripts.Line.{Line}
-use Rattle.any_model.specs.Types.{type_of_kind, type_of_ask}
-use Rattle.any_model.specs.Kinds.{MayAskAny}
+use Rattle.run_model.specs.Types.{type_of_kind, type_of_ask}
+use Rattle.run_model.specs.Kinds.{MayAskAny}
 
 -- a caller may do this at a structure of this kind; the operator has no vector to test
 abbrev pub MayActAt : Kind → ConnId → Act → Type 0

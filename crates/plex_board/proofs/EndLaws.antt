@@ -9,7 +9,7 @@ use Rattle.any_cell.specs.declared.any_pass.AnyPasses.{AnyPasses}
 use Rattle.any_cell.specs.Passes.{PassShown, passes_shown}
 use Rattle.any_cell.specs.Cells.{CellShown, IsAnyTold}
 use Rattle.cf_link.specs.Links.{AreAsked}
-use Rattle.any_model.specs.Kinds.{IsAnyPoint, any_answers}
+use Rattle.run_model.specs.Kinds.{IsAnyPoint, any_answers}
 use Rattle.desk_model.specs.Boards.{IsClosed, IsAccount, AreEachAsked, four_of}
 use Rattle.plex_board.specs.Rests.{HomeShown, home_shown, homes_shown, IsHomeOf, AreHomes, AreEnded}
 use Rattle.plex_board.proofs.OpenLaws.{ended-step}

@@ -6,7 +6,7 @@ use Rattle.std.proofs.lemmas.List.Elements.{All-push, All-nil, All-cons, All-hea
 use Rattle.std.proofs.lemmas.Option.{slice_get_within}
 use Rattle.cf_types.specs.declared.numbers.ConnId.{ConnId}
 use Rattle.plex_script.specs.declared.asks.AnyHistory.{AnyHistory}
-use Rattle.any_model.specs.Types.{OfCache}
+use Rattle.run_model.specs.Types.{OfCache}
 use Rattle.any_cell.specs.Passes.{PassShown}
 use Rattle.any_cell.specs.Cells.{CellShown, IsPassOf}
 use Rattle.desk_model.specs.Desks.{DeskShown, fixed_of}

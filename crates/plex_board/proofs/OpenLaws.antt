@@ -7,7 +7,7 @@ use Rattle.cf_types.specs.declared.forms.StrForm.{StrForm}
 use Rattle.cf_link.specs.declared.links.Links.{Links}
 use Rattle.plex_script.specs.declared.asks.AnyHistory.{AnyHistory}
 use Rattle.any_cell.specs.declared.any_pass.AnyPasses.{AnyPasses}
-use Rattle.any_model.specs.Types.{StrType, type_of_kind}
+use Rattle.run_model.specs.Types.{StrType, type_of_kind}
 use Rattle.any_cell.specs.Passes.{PassShown, unused_pass, passes_shown, type_of_passes, room_of}
 use Rattle.any_cell.specs.Cells.{CellShown, IsPassOf}
 use Rattle.vec_words.specs.Tokens.{WordTable}

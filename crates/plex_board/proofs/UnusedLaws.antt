@@ -12,7 +12,7 @@ use Rattle.cf_link.specs.declared.links.Links.{Links}
 use Rattle.cf_link.specs.Links.{AreAsked}
 use Rattle.plex_script.specs.declared.asks.AnyHistory.{AnyHistory}
 use Rattle.plex_script.specs.Heard.{any_calls, own_calls}
-use Rattle.any_model.specs.Kinds.{any_answers}
+use Rattle.run_model.specs.Kinds.{any_answers}
 use Rattle.any_cell.specs.Passes.{PassShown, unused_pass}
 use Rattle.any_cell.specs.Cells.{CellShown}
 use Rattle.any_cell.proofs.UnusedLaws.{unused_links}

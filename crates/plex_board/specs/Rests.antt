@@ -4,7 +4,7 @@ use Rattle.std.specs.Vec.{vec_capacity}
 use Rattle.cf_types.specs.declared.limits.TheConstants.{STRUCTURES, CONNECTORS}
 use Rattle.plex_script.specs.declared.asks.AnyHistory.{AnyHistory}
 use Rattle.any_cell.specs.declared.any_pass.AnyPasses.{AnyPasses}
-use Rattle.any_model.specs.Types.{StrType}
+use Rattle.run_model.specs.Types.{StrType}
 use Rattle.any_cell.specs.Passes.{PassShown, passes_shown, type_of_passes, room_of}
 use Rattle.any_cell.specs.Cells.{CellShown, IsPassOf}
 use Rattle.plex_board.specs.declared.rest.Rest.{Rest}

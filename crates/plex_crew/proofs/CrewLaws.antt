@@ -13,8 +13,8 @@ use Rattle.plex_script.specs.declared.scripts.Line.{Line}
 use Rattle.plex_script.specs.declared.scripts.Script.{Script}
 use Rattle.plex_script.specs.declared.transcripts.AgentEnd.TheVariants as ended
 use Rattle.plex_script.specs.declared.transcripts.Transcript.{Transcript}
-use Rattle.serial_model.specs.Headline.{ShowsHistories}
-use Rattle.serial_model.specs.Runnable.{IsRunnable}
+use Rattle.run_model.specs.Headline.{ShowsHistories}
+use Rattle.run_model.specs.Runnable.{IsRunnable}
 use Rattle.desk_model.specs.Desks.{DeskShown}
 use Rattle.desk_model.specs.Boards.{BoardShown, IsDeskOf, AreClosed, new_desk}
 use Rattle.desk_model.specs.Turns.{AtWork}

@@ -2,9 +2,9 @@
 ghost use Rattle.std.specs.Prelude.{◌≡◌, ◌≢◌, ◌≤◌, IfOk, OnErr, All, length};
 ghost use Rattle.std.specs.Vec.{vec_len};
 ghost use Rattle.plex_script.specs.declared.transcripts.AgentEnd.TheVariants as ended;
-ghost use Rattle.serial_model.specs.Runnable.{IsRunnable};
-ghost use Rattle.serial_model.specs.Headline.{ShowsHistories};
-ghost use Rattle.serial_model.specs.RunLinks.{AreRunLinks};
+ghost use Rattle.run_model.specs.Runnable.{IsRunnable};
+ghost use Rattle.run_model.specs.Headline.{ShowsHistories};
+ghost use Rattle.run_model.specs.RunLinks.{AreRunLinks};
 ghost use Rattle.desk_model.specs.Boards.{links_of};
 ghost use Rattle.plex_floor.specs.Played.{IsBoardOf};
 ghost use Rattle.plex_crew.specs.Crews.{crew_of};

@@ -24,11 +24,11 @@ use Rattle.plex_script.specs.declared.scripts.Line.{Line}
 use Rattle.plex_script.specs.declared.scripts.Script.{Script}
 use Rattle.plex_script.specs.declared.asks.AnyHistory.{AnyHistory}
 use Rattle.plex_script.specs.declared.transcripts.Transcript.{Transcript}
-use Rattle.any_model.specs.Kinds.{IsAskOf}
-use Rattle.serial_model.specs.Runnable.{IsRunnable, IsRunnableLine, IsRunnableAct}
-use Rattle.serial_model.specs.RunLinks.{AreTelling, AreRunLinks}
-use Rattle.serial_model.specs.Serial.{serial_run}
-use Rattle.any_model.specs.Types.{type_of_kind, type_of_ask}
+use Rattle.run_model.specs.Kinds.{IsAskOf}
+use Rattle.run_model.specs.Runnable.{IsRunnable, IsRunnableLine, IsRunnableAct}
+use Rattle.run_model.specs.RunLinks.{AreTelling, AreRunLinks}
+use Rattle.run_model.specs.Serial.{serial_run}
+use Rattle.run_model.specs.Types.{type_of_kind, type_of_ask}
 use Rattle.any_cell.specs.Passes.{unused_pass}
 use Rattle.any_cell.specs.Cells.{CellShown}
 use Rattle.desk_model.specs.Desks.{DeskShown, fixed_of}
@@ -39,7 +39,7 @@ use Rattle.plex_floor.specs.Standing.{AreDesksOf, IsFloorOf, IsPlayable}
 use Rattle.plex_floor.specs.Played.{IsBoardOf, IsPlayed}
 use Rattle.serial_exact.proofs.ExactLaw.{exact}
 use Rattle.serial_exact.proofs.LinkRuns.{run_links, run_told, links_size}
-use Rattle.serial_model.specs.Headline.{ShowsHistories}
+use Rattle.run_model.specs.Headline.{ShowsHistories}
 use Rattle.serve_laws.proofs.Schedules.{serial_shows}
 
 -- a script that may be run states a policy

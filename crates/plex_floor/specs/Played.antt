@@ -2,7 +2,7 @@
 use Rattle.std.specs.Prelude.{◌≡◌, ℕ, List, length, map, All}
 use Rattle.plex_script.specs.declared.scripts.Script.{Script}
 use Rattle.plex_script.specs.declared.transcripts.Transcript.{Transcript}
-use Rattle.serial_model.specs.Serial.{connectors}
+use Rattle.run_model.specs.Serial.{connectors}
 use Rattle.desk_model.specs.Desks.{DeskShown}
 use Rattle.desk_model.specs.Boards.{BoardShown, IsStarted}
 use Rattle.desk_model.specs.Floors.{Floor, Plays}

@@ -7,7 +7,7 @@ use Rattle.plex_script.specs.declared.scripts.Act.TheVariants as act
 use Rattle.plex_script.specs.declared.scripts.Line.{Line}
 use Rattle.plex_script.specs.declared.transcripts.AgentEnd.TheVariants as ended
 use Rattle.plex_script.specs.declared.transcripts.Transcript.{Transcript}
-use Rattle.any_model.specs.Kinds.{numbers_from}
+use Rattle.run_model.specs.Kinds.{numbers_from}
 use Rattle.any_cell.specs.Passes.{NoteShown}
 use Rattle.desk_model.specs.Desks.{DeskShown}
 use Rattle.desk_model.specs.Boards.{BoardShown, IsDeskOf, IsTrayOf}

@@ -11,7 +11,7 @@ ghost use Rattle.desk_model.specs.Boards.{new_desk, cell_on, note_in};
 ghost use Rattle.desk_model.specs.Turns.{Turns, Posts};
 ghost use Rattle.desk_model.specs.Callers.{IsLineFor, DepartsEach};
 ghost use Rattle.desk_model.specs.Floors.{PlaysAct, PlaysLine, PlaysLines, ClosesOne, ClosesAll, Plays, new_floor, with_worker, heard_from_last, heard_all, worker_of, is_working, worker_after_take};
-ghost use Rattle.serial_model.specs.Serial.{connectors};
+ghost use Rattle.run_model.specs.Serial.{connectors};
 ghost use Rattle.plex_floor.specs.Standing.{IsFloorOf, HasMemory, IsTurn, IsPlayable, conns_from};
 
 use crate::beginnings::{Beginning, begin};
@@ -38,7 +38,7 @@ pub struct Floor {
 impl Model for Floor {
     ghost use Rattle.std.specs.Prelude.{◌≡◌, length};
     ghost use Rattle.desk_model.specs.Floors.{Floor};
-    ghost use Rattle.serial_model.specs.Serial.{connectors};
+    ghost use Rattle.run_model.specs.Serial.{connectors};
     ghost use Rattle.plex_floor.specs.Standing.{at_work};
 
     ghost Value = { Floor };

@@ -17,9 +17,9 @@ use Rattle.plex_script.specs.declared.transcripts.AgentEnd.TheVariants as ended
 use Rattle.plex_script.specs.declared.transcripts.Shown.{Shown}
 use Rattle.plex_script.specs.declared.transcripts.Transcript.{Transcript}
 use Rattle.plex_script.specs.Heard.{length_on}
-use Rattle.serial_model.specs.Headline.{EndsRight, ShowsHistories}
-use Rattle.plex_bounds.specs.Bounds.{IsWithinScript, most_entries}
-use Rattle.plex_reading.specs.Readings.{Reading}
+use Rattle.run_model.specs.Headline.{EndsRight, ShowsHistories}
+use Rattle.run_laws.specs.Bounds.{IsWithinScript, most_entries}
+use Rattle.run_laws.specs.Readings.{Reading}
 use Rattle.plex_run.specs.Full.{ends_full_at, is_full_at}
 use Rattle.plex_run.specs.Outcome.{CanFill, ShowsRun, full_of, journal_limit}
 

@@ -4,9 +4,9 @@ use Rattle.std.specs.Prelude.{Result, Ok, Err, IfOk}
 use Rattle.cf_types.specs.declared.names.Name16.{Name16}
 use Rattle.plex_script.specs.declared.scripts.Script.{Script}
 use Rattle.plex_script.specs.Printed.{script_text}
-use Rattle.serial_model.specs.Runnable.{IsRunnable}
-use Rattle.plex_bounds.specs.Bounds.{most_calls}
-use Rattle.plex_reading.specs.Readings.{Reading}
+use Rattle.run_model.specs.Runnable.{IsRunnable}
+use Rattle.run_laws.specs.Bounds.{most_calls}
+use Rattle.run_laws.specs.Readings.{Reading}
 use Rattle.plex_load.specs.Generated.{load_script}
 use Rattle.plex_load.specs.Loads.{IsLoad}
 use Rattle.plex_run.specs.declared.way.Way.TheVariants as ways

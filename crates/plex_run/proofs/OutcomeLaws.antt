@@ -12,9 +12,9 @@ use Rattle.plex_script.specs.Scripts.{IsScript}
 use Rattle.plex_script.specs.Laws.{SaysOne, IsExclusive}
 use Rattle.plex_script.specs.declared.asks.AnyHistory.{AnyHistory}
 use Rattle.plex_script.specs.declared.transcripts.Transcript.{Transcript}
-use Rattle.serial_model.specs.Headline.{ShowsHistories}
-use Rattle.plex_valid.specs.Valid.{ShowsFresh}
-use Rattle.plex_reading.specs.Readings.{Reading, IsOnlyReading}
+use Rattle.run_model.specs.Headline.{ShowsHistories}
+use Rattle.run_laws.specs.Valid.{ShowsFresh}
+use Rattle.run_laws.specs.Readings.{Reading, IsOnlyReading}
 use Rattle.plex_run.specs.declared.way.Way.{Way}
 use Rattle.plex_run.specs.declared.way.Way.TheVariants as ways
 use Rattle.plex_run.specs.Written.{Output}

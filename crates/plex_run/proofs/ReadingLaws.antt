@@ -13,9 +13,9 @@ use Rattle.plex_script.specs.declared.transcripts.AgentEnd.TheVariants as ended
 use Rattle.plex_script.specs.declared.transcripts.Transcript.{Transcript}
 use Rattle.plex_script.specs.Heard.{length_on}
 use Rattle.plex_script.specs.Scripts.{IsScript}
-use Rattle.serial_model.specs.Headline.{ShowsHistories, EndsRight}
-use Rattle.plex_reading.specs.Readings.{Reading, IsReading, IsTheReading, IsOnlyReading, report_of}
-use Rattle.plex_reading.proofs.Tests.{is_reading}
+use Rattle.run_model.specs.Headline.{ShowsHistories, EndsRight}
+use Rattle.run_laws.specs.Readings.{Reading, IsReading, IsTheReading, IsOnlyReading, report_of}
+use Rattle.run_laws.proofs.Tests.{is_reading}
 use Rattle.plex_run.specs.Full.{ends_full_at, is_full_at, full_structure}
 use Rattle.plex_run.specs.Outcome.{ShowsRun, AreMarked, full_of, journal_limit}
 use Rattle.plex_run.proofs.RunnableLaws.{none_mapped}

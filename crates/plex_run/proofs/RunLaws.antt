@@ -8,12 +8,12 @@ use Rattle.cf_link.specs.Links.{Telling}
 use Rattle.plex_script.specs.declared.asks.AnyHistory.{AnyHistory}
 use Rattle.plex_script.specs.declared.scripts.Script.{Script}
 use Rattle.plex_script.specs.declared.transcripts.Transcript.{Transcript}
-use Rattle.serial_model.specs.Headline.{ShowsHistories}
-use Rattle.serial_model.specs.RunLinks.{AreTelling, AreRunLinks}
-use Rattle.serial_model.specs.Serial.{serial_run}
+use Rattle.run_model.specs.Headline.{ShowsHistories}
+use Rattle.run_model.specs.RunLinks.{AreTelling, AreRunLinks}
+use Rattle.run_model.specs.Serial.{serial_run}
 use Rattle.plex_floor.specs.declared.runs.Finished.{Finished}
-use Rattle.plex_reading.specs.Readings.{Reading}
-use Rattle.plex_reading.proofs.MarkLaws.{marks_facilities}
+use Rattle.run_laws.specs.Readings.{Reading}
+use Rattle.run_laws.proofs.MarkLaws.{marks_facilities}
 use Rattle.plex_run.specs.declared.way.Way.{Way}
 use Rattle.plex_run.specs.declared.way.Way.TheVariants as ways
 use Rattle.plex_run.specs.Wires.{wires}

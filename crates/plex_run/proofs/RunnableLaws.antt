@@ -13,9 +13,9 @@ use Rattle.plex_script.specs.declared.scripts.Line.{Line}
 use Rattle.plex_script.specs.declared.scripts.Script.{Script}
 use Rattle.plex_script.specs.LineWords.{is_ask_of}
 use Rattle.plex_script.specs.WellFormed.{IsWellFormed, IsLineOf, IsActOf, MayAskAny}
-use Rattle.any_model.specs.Kinds.{IsAskOf}
-use Rattle.serial_model.specs.Runnable.{IsRunnable, IsRunnableLine, IsRunnableAct}
-use Rattle.any_model.specs.Kinds as kinds
+use Rattle.run_model.specs.Kinds.{IsAskOf}
+use Rattle.run_model.specs.Runnable.{IsRunnable, IsRunnableLine, IsRunnableAct}
+use Rattle.run_model.specs.Kinds as kinds
 
 -- ---- lists
 

@@ -12,12 +12,12 @@ use Rattle.plex_script.specs.declared.faults.Why.{Why}
 use Rattle.plex_script.specs.declared.asks.AnyHistory.{AnyHistory}
 use Rattle.plex_script.specs.declared.scripts.Script.{Script}
 use Rattle.plex_script.specs.Scripts.{IsScript, IsFault}
-use Rattle.serial_model.specs.Serial.{serial_run}
-use Rattle.serial_model.specs.Headline.{ShowsHistories}
-use Rattle.plex_valid.specs.Valid.{ShowsFresh}
-use Rattle.plex_bounds.specs.Bounds.{most_entries}
+use Rattle.run_model.specs.Serial.{serial_run}
+use Rattle.run_model.specs.Headline.{ShowsHistories}
+use Rattle.run_laws.specs.Valid.{ShowsFresh}
+use Rattle.run_laws.specs.Bounds.{most_entries}
 use Rattle.plex_floor.specs.declared.runs.Finished.{Finished}
-use Rattle.plex_reading.specs.Readings.{Reading, IsReading, IsTheReading, MarksFacilities, report_of}
+use Rattle.run_laws.specs.Readings.{Reading, IsReading, IsTheReading, MarksFacilities, report_of}
 use Rattle.plex_run.specs.declared.program.TheConstants.{SCRIPT_LIMIT, JOURNAL_LIMIT}
 use Rattle.plex_run.specs.declared.way.Way.{Way}
 use Rattle.plex_run.specs.declared.way.Way.TheVariants as ways

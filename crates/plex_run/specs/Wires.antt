@@ -4,7 +4,7 @@ use Rattle.cf_types.specs.declared.forms.StrForm.{StrForm}
 use Rattle.cf_types.specs.declared.numbers.CfId.{CfId}
 use Rattle.cf_link.specs.Links.{Telling}
 use Rattle.plex_script.specs.declared.asks.AnyHistory.{AnyHistory}
-use Rattle.serial_model.specs.RunLinks.{AreTelling, AreRunLinks}
+use Rattle.run_model.specs.RunLinks.{AreTelling, AreRunLinks}
 
 -- whether the links of so many structures tell this, and whether they were asked as the histories of structures of these
 -- forms tell

@@ -2,8 +2,8 @@
 ghost use Rattle.std.specs.Prelude.{◌≡◌, ◌⊎◌, true, false, is_some, ◌≤◌, ◌<◌, ◌^◌, length, IfOk};
 ghost use Rattle.std.specs.Vec.{vec_len};
 ghost use Rattle.cf_types.specs.declared.limits.TheConstants.{LINKS};
-ghost use Rattle.serial_model.specs.Runnable.{IsRunnable};
-ghost use Rattle.plex_reading.specs.Readings.{report_of};
+ghost use Rattle.run_model.specs.Runnable.{IsRunnable};
+ghost use Rattle.run_laws.specs.Readings.{report_of};
 ghost use Rattle.plex_run.specs.Wires.{wires};
 ghost use Rattle.plex_run.specs.StatusLines.{memory_line};
 ghost use Rattle.plex_run.specs.Written.{output, HasFailed, Writes, WritesFront, Gains, BreaksOff};

@@ -1,7 +1,7 @@
 //! What a sink is told of a run.
 ghost use Rattle.std.specs.Prelude.{◌≡◌, ◌⊎◌, ◌≤◌, ◌<◌, ◌++◌, ◌^◌, length, Err, OnOk, OnErr, IfSome};
 ghost use Rattle.std.specs.List.{concat};
-ghost use Rattle.plex_reading.specs.Readings.{report_of};
+ghost use Rattle.run_laws.specs.Readings.{report_of};
 ghost use Rattle.plex_run.specs.declared.writing.Unwritten.TheVariants as reason;
 ghost use Rattle.plex_run.specs.StatusLines.{full_line, memory_line, too_long_line};
 ghost use Rattle.plex_run.specs.Written.{output, HasFailed, Writes, WritesFront, Gains};

@@ -12,7 +12,7 @@ use Rattle.cf_types.specs.declared.forms.StrForm.{StrForm}
 use Rattle.cf_link.specs.declared.links.Links.{Links}
 use Rattle.vec_words.specs.Tokens.{WordTable}
 use Rattle.any_cell.specs.declared.any_pass.AnyPass.{AnyPass}
-use Rattle.any_model.specs.Types.{StrType, type_of_kind}
+use Rattle.run_model.specs.Types.{StrType, type_of_kind}
 use Rattle.any_cell.specs.Passes.{PassShown, unused_pass}
 use Rattle.any_cell.specs.Cells.{CellShown, IsPassOf}
 

@@ -1,7 +1,7 @@
 -- What a station has beside its structure's cell.
 use Rattle.std.specs.Prelude.{◌≡◌, ℕ}
 use Rattle.cf_types.specs.declared.forms.Kind.{Kind}
-use Rattle.any_model.specs.Types.{type_of_kind}
+use Rattle.run_model.specs.Types.{type_of_kind}
 use Rattle.any_cell.specs.Passes.{NoteShown}
 use Rattle.any_cell.specs.Cells.{CellShown, IsNoteOf}
 

@@ -34,8 +34,8 @@ use Rattle.list_model.specs.Commands.Write as write
 use Rattle.list_model.specs.Step.{causes, cause, done}
 use Rattle.list_model.proofs.ContentLaws.{none_hold, the_record-in}
 use Rattle.list_model.proofs.ListLaws.{with-all, each-records, one-records, all-without, all-map}
-use Rattle.replay_laws.proofs.Keeping.{IsTraced}
-use Rattle.replay_laws.proofs.ReplayLaws.{traced-replay, legal-answered}
+use Rattle.shell_laws.proofs.Keeping.{IsTraced}
+use Rattle.shell_laws.proofs.ReplayLaws.{traced-replay, legal-answered}
 use Rattle.record_laws.specs.Histories.{Told, ListEntry, ListHistory, told_by, told_in, IsLegalList, content_after}
 use Rattle.record_laws.specs.Applied.{Deed, IsHeldAfter, after_deed, opened, told_reply, told_of, told_from, told_then, content_applied}
 use Rattle.record_laws.specs.Applied.Deed.{Calls, Leaves, Returns}

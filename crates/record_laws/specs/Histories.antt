@@ -7,7 +7,7 @@ use Rattle.engine_api.specs.declared.histories.Entry.{Entry}
 use Rattle.engine_api.specs.History.{IsLegal, replay}
 use Rattle.list_model.specs.Contents.{Content}
 use Rattle.list_model.specs.Meaning.{list_meaning}
-use Rattle.replay_laws.specs.Accepted.{Accepted as AcceptedOf, accepted_as}
+use Rattle.shell_laws.specs.Accepted.{Accepted as AcceptedOf, accepted_as}
 
 abbrev pub ListEntry : Type 0
 ListEntry = Entry ListCmd ListReply

@@ -11,10 +11,10 @@ use Rattle.plex_script.specs.declared.transcripts.Shown.{Shown}
 use Rattle.plex_script.specs.declared.transcripts.Shown.TheVariants as shown
 use Rattle.plex_script.specs.declared.transcripts.Transcript.{Transcript}
 use Rattle.plex_script.specs.Heard.{any_length}
-use Rattle.any_model.specs.Kinds.{IsAnyPoint, any_take, any_stands, any_word, end_of}
-use Rattle.any_model.proofs.SeamLaws.{IsFrontOf}
-use Rattle.serial_model.specs.Numbers.{shown_on, seen_on}
-use Rattle.serial_model.specs.Serial.{with_shown, test_shown, word_shown, post_made, take_made}
+use Rattle.run_model.specs.Kinds.{IsAnyPoint, any_take, any_stands, any_word, end_of}
+use Rattle.run_model.proofs.SeamLaws.{IsFrontOf}
+use Rattle.run_model.specs.Numbers.{shown_on, seen_on}
+use Rattle.run_model.specs.Serial.{with_shown, test_shown, word_shown, post_made, take_made}
 use Rattle.vec_words.specs.declared.logged.Sight.{Sight}
 use Rattle.vec_words.specs.Logged.{sight, indices_of}
 use Rattle.any_cell.specs.Passes.{PassShown, NoteShown, note_of}

@@ -11,8 +11,8 @@ use Rattle.plex_script.specs.declared.transcripts.AgentEnd.TheVariants as ended
 use Rattle.plex_script.specs.declared.transcripts.Shown.{Shown}
 use Rattle.plex_script.specs.declared.transcripts.Transcript.{Transcript}
 use Rattle.plex_script.specs.Heard.{AnyCall}
-use Rattle.any_model.specs.Kinds.{any_take, end_of}
-use Rattle.serial_model.specs.Numbers.{shown_on, seen_on}
+use Rattle.run_model.specs.Kinds.{any_take, end_of}
+use Rattle.run_model.specs.Numbers.{shown_on, seen_on}
 use Rattle.any_cell.specs.Passes.{PassShown, NoteShown}
 use Rattle.serial_exact.proofs.Spots.{conn, str, put, put_all, same_number, other_number, Spot}
 

@@ -18,11 +18,11 @@ use Rattle.plex_script.specs.declared.asks.AnyHistory.TheVariants as history
 use Rattle.plex_script.specs.declared.scripts.Line.{Line}
 use Rattle.plex_script.specs.declared.scripts.Script.{Script}
 use Rattle.plex_script.specs.Heard.{AnyCall}
-use Rattle.any_model.specs.Kinds.{IsOfKind, AreAnyAsTold, no_calls, numbers_from, any_take, any_numbers}
-use Rattle.any_model.proofs.HistoryLaws.{take_none}
-use Rattle.serial_model.specs.Serial.{start, connectors}
-use Rattle.serial_model.specs.Runnable.{IsRunnable, IsRunnableLine}
-use Rattle.any_model.specs.Types.{type_of_kind, type_of_history}
+use Rattle.run_model.specs.Kinds.{IsOfKind, AreAnyAsTold, no_calls, numbers_from, any_take, any_numbers}
+use Rattle.run_model.proofs.HistoryLaws.{take_none}
+use Rattle.run_model.specs.Serial.{start, connectors}
+use Rattle.run_model.specs.Runnable.{IsRunnable, IsRunnableLine}
+use Rattle.run_model.specs.Types.{type_of_kind, type_of_history}
 use Rattle.any_cell.specs.Passes.{PassShown, unused_pass}
 use Rattle.any_cell.specs.Cells.{CellShown}
 use Rattle.desk_model.specs.Desks.{pass_at, no_pass}

@@ -20,8 +20,8 @@ use Rattle.plex_script.specs.declared.transcripts.Transcript.{Transcript}
 use Rattle.plex_script.specs.Agent.{step_after, most_asks, asked_by}
 use Rattle.plex_script.proofs.StepLaws.{rests, fewer_asks, some_goes}
 use Rattle.plex_script.specs.Heard.{any_length}
-use Rattle.any_model.specs.Kinds.{any_take, any_told, end_of}
-use Rattle.serial_model.specs.Serial.{Run, stopped_at, steps_made}
+use Rattle.run_model.specs.Kinds.{any_take, any_told, end_of}
+use Rattle.run_model.specs.Serial.{Run, stopped_at, steps_made}
 use Rattle.any_cell.specs.Passes.{PassShown, IsLater, with_call}
 use Rattle.desk_model.specs.Turns.{Steps, call_item}
 use Rattle.serial_exact.proofs.Spots.{conn, str, put, put_same, put_other, Spot, moved, called}

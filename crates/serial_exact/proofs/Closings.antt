@@ -16,10 +16,10 @@ use Rattle.plex_script.specs.declared.transcripts.Transcript.{Transcript}
 use Rattle.plex_script.specs.Agent.{shell_ask}
 use Rattle.plex_script.specs.Heard.{AnyCall, any_calls, own_calls, is_linked}
 use Rattle.std.proofs.lemmas.Bool.{cases_eq}
-use Rattle.any_model.specs.Kinds.{IsAnyPoint, any_take, end_of}
-use Rattle.any_model.proofs.SeamLaws.{IsFrontOf}
-use Rattle.serial_model.specs.Serial as serial
-use Rattle.serial_model.specs.Serial.{Run, is_done, after_departure, after_closing, all_steps_made}
+use Rattle.run_model.specs.Kinds.{IsAnyPoint, any_take, end_of}
+use Rattle.run_model.proofs.SeamLaws.{IsFrontOf}
+use Rattle.run_model.specs.Serial as serial
+use Rattle.run_model.specs.Serial.{Run, is_done, after_departure, after_closing, all_steps_made}
 use Rattle.any_cell.specs.Passes.{PassShown}
 use Rattle.any_cell.specs.Cells.{CellShown, IsAnyTold}
 use Rattle.desk_model.specs.Desks.{pass_at, with_pass}

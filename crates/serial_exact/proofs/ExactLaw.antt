@@ -12,11 +12,11 @@ use Rattle.plex_script.specs.declared.scripts.Script.{Script}
 use Rattle.plex_script.specs.declared.transcripts.AgentEnd.TheVariants as ended
 use Rattle.plex_script.specs.declared.transcripts.Transcript.{Transcript}
 use Rattle.plex_script.specs.Heard.{any_calls, any_length, own_calls}
-use Rattle.any_model.specs.Kinds.{AreAnyAsTold, any_take, end_of}
-use Rattle.any_model.proofs.HistoryLaws.{calls_rise, same_calls, take_all}
-use Rattle.any_model.proofs.SeamLaws.{end_length}
-use Rattle.serial_model.specs.Serial.{Run, start, connectors, after_line, after_closing, serial_run}
-use Rattle.serial_model.specs.Runnable.{IsRunnable}
+use Rattle.run_model.specs.Kinds.{AreAnyAsTold, any_take, end_of}
+use Rattle.run_model.proofs.HistoryLaws.{calls_rise, same_calls, take_all}
+use Rattle.run_model.proofs.SeamLaws.{end_length}
+use Rattle.run_model.specs.Serial.{Run, start, connectors, after_line, after_closing, serial_run}
+use Rattle.run_model.specs.Runnable.{IsRunnable}
 use Rattle.any_cell.specs.Cells.{CellShown, IsAnyTold}
 use Rattle.desk_model.specs.Desks.{DeskShown, pass_at}
 use Rattle.desk_model.specs.Boards.{BoardShown, IsStarted, IsAccount, AreClosed}

@@ -9,8 +9,8 @@ use Rattle.engine_api.specs.declared.told.Told.{Told}
 use Rattle.plex_script.specs.declared.scripts.AnyAsk.{AnyAsk}
 use Rattle.plex_script.specs.declared.asks.AnyHistory.{AnyHistory}
 use Rattle.plex_script.specs.Heard.{AnyCall, any_calls, any_length}
-use Rattle.any_model.specs.Kinds.{IsAnyLegal, AreAnyAsTold, any_take, any_next, any_told, any_numbers, end_of, last_number}
-use Rattle.any_model.proofs.SeamLaws.{IsNextOf, next_call, IsFrontOf, front_of, numbers_of, numbers_any, IsBefore}
+use Rattle.run_model.specs.Kinds.{IsAnyLegal, AreAnyAsTold, any_take, any_next, any_told, any_numbers, end_of, last_number}
+use Rattle.run_model.proofs.SeamLaws.{IsNextOf, next_call, IsFrontOf, front_of, numbers_of, numbers_any, IsBefore}
 use Rattle.struct_cell.specs.Limits.{AreMadeBelow}
 use Rattle.any_cell.specs.Passes.{PassShown, with_call, note_of}
 use Rattle.any_cell.specs.Cells.{IsAnyTold}

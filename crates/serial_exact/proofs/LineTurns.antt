@@ -14,8 +14,8 @@ use Rattle.plex_script.specs.declared.transcripts.Shown.TheVariants as shown
 use Rattle.plex_script.specs.declared.transcripts.Transcript.{Transcript}
 use Rattle.plex_script.specs.declared.asks.AnyHistory.{AnyHistory}
 use Rattle.vec_words.specs.Logged.{sight, indices_of}
-use Rattle.serial_model.specs.Numbers.{shown_on}
-use Rattle.serial_model.specs.Serial.{Run, act_made, all_steps_made, with_shown, post_made, take_made}
+use Rattle.run_model.specs.Numbers.{shown_on}
+use Rattle.run_model.specs.Serial.{Run, act_made, all_steps_made, with_shown, post_made, take_made}
 use Rattle.any_cell.specs.Passes.{PassShown, NoteShown, note_of}
 use Rattle.desk_model.specs.Notes.{with_any_note}
 use Rattle.desk_model.specs.Desks.{DeskShown, pass_at, with_pass, no_pass}

@@ -19,9 +19,9 @@ use Rattle.list_model.specs.Meaning.{list_meaning}
 use Rattle.lock_model.specs.Meaning.{lock_meaning}
 use Rattle.plex_script.specs.declared.asks.AnyHistory.{AnyHistory}
 use Rattle.plex_script.specs.declared.asks.AnyHistory.TheVariants as history
-use Rattle.any_model.specs.Kinds.{IsAnyLegal, AreAnyAsTold, any_answers, any_marks_at}
-use Rattle.any_model.proofs.ToldLaws.{links_told}
-use Rattle.serial_model.specs.RunLinks.{link_place, AreTelling, IsLinkOf, AreRunLinks}
+use Rattle.run_model.specs.Kinds.{IsAnyLegal, AreAnyAsTold, any_answers, any_marks_at}
+use Rattle.run_model.proofs.ToldLaws.{links_told}
+use Rattle.run_model.specs.RunLinks.{link_place, AreTelling, IsLinkOf, AreRunLinks}
 use Rattle.any_cell.specs.Cells.{CellShown}
 use Rattle.desk_model.specs.Boards.{BoardShown, AreEachAsked, AreLinksAsked, four_of, links_of}
 

@@ -15,11 +15,11 @@ use Rattle.plex_script.specs.declared.transcripts.AgentEnd.TheVariants as ended
 use Rattle.plex_script.specs.declared.transcripts.Shown.TheVariants as shown
 use Rattle.plex_script.specs.declared.transcripts.Transcript.{Transcript}
 use Rattle.plex_script.specs.Heard.{any_length}
-use Rattle.any_model.specs.Kinds.{IsAnyPoint, any_take, any_next, end_of, last_number}
-use Rattle.any_model.proofs.HistoryLaws.{calls_rise}
-use Rattle.any_model.proofs.SeamLaws.{IsFrontOf, point_end}
-use Rattle.serial_model.specs.Numbers.{shown_on, seen_on}
-use Rattle.serial_model.specs.Serial.{Run, shown_to, stopped_at, transcript_of, transcript_at}
+use Rattle.run_model.specs.Kinds.{IsAnyPoint, any_take, any_next, end_of, last_number}
+use Rattle.run_model.proofs.HistoryLaws.{calls_rise}
+use Rattle.run_model.proofs.SeamLaws.{IsFrontOf, point_end}
+use Rattle.run_model.specs.Numbers.{shown_on, seen_on}
+use Rattle.run_model.specs.Serial.{Run, shown_to, stopped_at, transcript_of, transcript_at}
 use Rattle.any_cell.specs.Passes.{PassShown, with_call, IsLater}
 use Rattle.any_cell.specs.Cells.{IsAnyTold}
 use Rattle.list_laws.proofs.TableLaws.{set_same}

@@ -8,7 +8,7 @@ use Rattle.cf_types.specs.declared.numbers.StrNo.{StrNo}
 use Rattle.engine_api.specs.declared.told.Told.{Told}
 use Rattle.plex_script.specs.declared.scripts.AnyAsk.{AnyAsk}
 use Rattle.plex_script.specs.Heard.{AnyCall, own_calls}
-use Rattle.any_model.specs.Kinds.{Rising}
+use Rattle.run_model.specs.Kinds.{Rising}
 use Rattle.any_cell.specs.Passes.{PassShown, NoteShown, with_call}
 
 abbrev pub conn : ℕ → ConnId

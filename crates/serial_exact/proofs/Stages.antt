@@ -8,10 +8,10 @@ use Rattle.std.proofs.lemmas.Bool.{cases_eq}
 use Rattle.plex_script.specs.declared.asks.AnyHistory.{AnyHistory}
 use Rattle.plex_script.specs.declared.transcripts.AgentEnd.TheVariants as ended
 use Rattle.plex_script.specs.declared.transcripts.Transcript.{Transcript}
-use Rattle.any_model.specs.Kinds.{IsAnyLegal, AreAnyAsTold, IsAnyPoint, any_take, any_numbers, end_of}
+use Rattle.run_model.specs.Kinds.{IsAnyLegal, AreAnyAsTold, IsAnyPoint, any_take, any_numbers, end_of}
 use Rattle.struct_cell.specs.Limits.{AreMadeBelow}
-use Rattle.serial_model.specs.Numbers.{seen_on}
-use Rattle.serial_model.specs.Serial.{Run}
+use Rattle.run_model.specs.Numbers.{seen_on}
+use Rattle.run_model.specs.Serial.{Run}
 use Rattle.list_laws.proofs.TableLaws.{get-set_same, get-set_other}
 use Rattle.any_cell.specs.Passes.{PassShown}
 use Rattle.serial_exact.proofs.Spots.{str, put, put_all, put_same, put_other, Spot, IsKnown}

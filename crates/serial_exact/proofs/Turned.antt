@@ -5,7 +5,7 @@ use Rattle.std.proofs.lemmas.List.{get_or-set_same, get_or-set_other, set-get_or
 use Rattle.cf_types.specs.declared.numbers.ConnId.{ConnId}
 use Rattle.plex_script.specs.declared.transcripts.AgentEnd.TheVariants as ended
 use Rattle.plex_script.specs.declared.transcripts.Transcript.{Transcript}
-use Rattle.serial_model.specs.Serial.{Run}
+use Rattle.run_model.specs.Serial.{Run}
 use Rattle.any_cell.specs.Passes.{PassShown, NoteShown, note_of}
 use Rattle.desk_model.specs.Notes.{with_note}
 use Rattle.desk_model.specs.Desks.{DeskShown, pass_at, with_pass, no_pass}

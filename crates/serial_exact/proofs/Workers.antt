@@ -11,7 +11,7 @@ use Rattle.plex_script.specs.declared.transcripts.AgentEnd.TheVariants as ended
 use Rattle.plex_script.specs.declared.transcripts.Shown.{Shown}
 use Rattle.plex_script.specs.declared.transcripts.Transcript.{Transcript}
 use Rattle.plex_script.specs.Agent.{most_asks}
-use Rattle.serial_model.specs.Serial.{all_steps_made}
+use Rattle.run_model.specs.Serial.{all_steps_made}
 use Rattle.any_cell.specs.Passes.{PassShown, IsLater}
 use Rattle.desk_model.specs.Desks.{DeskShown, pass_at, with_pass, no_pass}
 use Rattle.desk_model.specs.Boards.{note_in}

@@ -17,7 +17,7 @@ use Rattle.plex_script.specs.Agent.{first_step, call_of}
 use Rattle.plex_script.specs.Heard.{calls_on}
 use Rattle.plex_script.specs.Follows.{RunsUpTo, ShowsAct}
 use Rattle.any_cell.specs.Passes.{PassShown}
-use Rattle.any_model.specs.Kinds.{Rising}
+use Rattle.run_model.specs.Kinds.{Rising}
 use Rattle.desk_model.specs.Desks.{pass_at}
 use Rattle.desk_model.specs.Turns.{AtWork, Tests, TestsWord, ShowsOnly, RunsOut, Acts}
 use Rattle.serve_laws.specs.Ends.{ShowsUpTo}

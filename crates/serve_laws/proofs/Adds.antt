@@ -22,16 +22,16 @@ use Rattle.plex_script.specs.declared.transcripts.Shown.{Shown}
 use Rattle.plex_script.specs.declared.transcripts.Shown.TheVariants as shown
 use Rattle.plex_script.specs.Heard.{AnyCall}
 use Rattle.plex_script.specs.Follows.{numbers_on, surest_on}
-use Rattle.serial_model.specs.Numbers.{seen_on}
-use Rattle.serial_model.specs.Headline.{TellsBit, TellsWord, place_of}
+use Rattle.run_model.specs.Numbers.{seen_on}
+use Rattle.run_model.specs.Headline.{TellsBit, TellsWord, place_of}
 use Rattle.vec_words.specs.declared.logged.Sight.{Sight}
 use Rattle.vec_words.specs.Logged.{bit_in, sight, indices_of}
 use Rattle.struct_cell.specs.Telling.{IsTold}
 use Rattle.any_cell.specs.Passes.{PassShown, IsLater, with_call}
 use Rattle.any_cell.specs.Cells.{IsAnyTold}
 use Rattle.desk_model.proofs.SightLaws.{told_past, each_sight, bit_in_word}
-use Rattle.any_model.specs.Kinds.{AnyTells}
-use Rattle.any_model.proofs.WordLaws.{all_bits}
+use Rattle.run_model.specs.Kinds.{AnyTells}
+use Rattle.run_model.proofs.WordLaws.{all_bits}
 use Rattle.serve_laws.proofs.Fronts.{itself, front_same, front_more}
 use Rattle.serve_laws.proofs.Passes.{Caller, IsOf, IsShown, IsWithin, Adds}
 

@@ -14,7 +14,7 @@ use Rattle.plex_script.specs.Agent.{first_step, call_of}
 use Rattle.plex_script.specs.Heard.{calls_on, length_on}
 use Rattle.plex_script.specs.Follows.{RunsUpTo, ShowsLines}
 use Rattle.any_cell.specs.Cells.{CellShown}
-use Rattle.any_model.specs.Kinds.{Rising}
+use Rattle.run_model.specs.Kinds.{Rising}
 use Rattle.desk_model.specs.Desks.{DeskShown, pass_at}
 use Rattle.desk_model.specs.Boards.{BoardShown, cell_on}
 use Rattle.desk_model.specs.Turns.{AtWork, Acts, Turns, is_done_as}

@@ -9,8 +9,8 @@ use Rattle.plex_script.specs.declared.asks.AnyHistory.{AnyHistory}
 use Rattle.plex_script.specs.declared.transcripts.Shown.{Shown}
 use Rattle.plex_script.specs.Heard.{AnyCall, own_calls, calls_on, length_on}
 use Rattle.plex_script.specs.Follows.{number_on, numbers_on, sure_on, surest_on, IsNote}
-use Rattle.serial_model.specs.Numbers.{shown_on, seen_on}
-use Rattle.serial_model.specs.Headline.{TellsOf, place_of}
+use Rattle.run_model.specs.Numbers.{shown_on, seen_on}
+use Rattle.run_model.specs.Headline.{TellsOf, place_of}
 use Rattle.any_cell.specs.Passes.{PassShown, IsLater}
 use Rattle.any_cell.specs.Cells.{IsAnyTold}
 use Rattle.serve_laws.proofs.Fronts.{IsFront, front_same, front_then, take_front}

@@ -18,9 +18,9 @@ use Rattle.plex_script.specs.declared.scripts.Script.{Script}
 use Rattle.plex_script.specs.declared.asks.AnyHistory.{AnyHistory}
 use Rattle.plex_script.specs.declared.transcripts.AgentEnd.TheVariants as ended
 use Rattle.plex_script.specs.declared.transcripts.Shown.TheVariants as shown
-use Rattle.any_model.specs.Kinds.{numbers_from}
-use Rattle.serial_model.specs.Serial.{connectors}
-use Rattle.serial_model.specs.Headline.{ShowsHistories}
+use Rattle.run_model.specs.Kinds.{numbers_from}
+use Rattle.run_model.specs.Serial.{connectors}
+use Rattle.run_model.specs.Headline.{ShowsHistories}
 use Rattle.any_cell.specs.Passes.{PassShown, NoteShown, IsLater, note_of, unused_pass}
 use Rattle.any_cell.specs.Cells.{CellShown}
 use Rattle.desk_model.specs.Notes.{with_note, with_any_note}

@@ -18,10 +18,10 @@ use Rattle.plex_script.specs.declared.transcripts.Shown.{Shown}
 use Rattle.plex_script.specs.declared.transcripts.Transcript.{Transcript}
 use Rattle.plex_script.specs.Heard.{AnyCall, any_calls, any_length, own_calls, calls_of, calls_on, length_of, length_on}
 use Rattle.plex_script.specs.Follows.{AgreesWith, numbers_on}
-use Rattle.serial_model.specs.Headline.{TestsTell, EndsRight, IsHistoryOf, ShowsHistories}
+use Rattle.run_model.specs.Headline.{TestsTell, EndsRight, IsHistoryOf, ShowsHistories}
 use Rattle.any_cell.specs.Cells.{CellShown, IsAnyTold}
-use Rattle.any_model.specs.Kinds.{Rising}
-use Rattle.any_model.proofs.HistoryLaws.{calls_rise}
+use Rattle.run_model.specs.Kinds.{Rising}
+use Rattle.run_model.proofs.HistoryLaws.{calls_rise}
 use Rattle.desk_model.specs.Desks.{DeskShown, no_pass, pass_at}
 use Rattle.desk_model.specs.Boards.{BoardShown, IsStarted, IsClosed, IsAccount, AreClosed, new_desk}
 use Rattle.desk_model.specs.Turns.{AtWork}

@@ -15,7 +15,7 @@ use Rattle.plex_script.specs.Agent.{step_after, asked_by}
 use Rattle.plex_script.specs.Heard.{AnyCall, call_numbered, calls_on, length_on}
 use Rattle.plex_script.specs.Follows.{IsHeard, Runs, RunsUpTo}
 use Rattle.any_cell.specs.Passes.{PassShown, with_call}
-use Rattle.any_model.specs.Kinds.{Rising}
+use Rattle.run_model.specs.Kinds.{Rising}
 use Rattle.desk_model.specs.Desks.{DeskShown, pass_at, with_pass}
 use Rattle.desk_model.specs.Turns.{AtWork, call_item, Steps, Halts, EndsAt, Asks}
 use Rattle.serve_laws.proofs.Fronts.{own_heard}

@@ -10,7 +10,7 @@ ghost use Rattle.engine_api.specs.History.{calls, numbers, own, replay, IsLegal,
 ghost use Rattle.engine_api.specs.Meaning.{items_of};
 ghost use Rattle.engine_api.specs.Rebuilds.{fresh_of};
 ghost use Rattle.engine_api.specs.Shapes.{shape_of};
-ghost use Rattle.rebuild_shell.specs.Capacities.{fresh_caps};
+ghost use Rattle.shell_laws.specs.Capacities.{fresh_caps};
 ghost use Rattle.vec_words.specs.Logged.{count_of};
 ghost use Rattle.vec_words.specs.Tokens.{new_pass, learned_pass};
 ghost use Rattle.struct_cell.specs.Cells.{own_call_of, IsCell};

@@ -22,8 +22,8 @@ use Rattle.rebuild_copy.specs.Filling.{Fresh, caps_or, emptied, with_copied}
 use Rattle.struct_machine.specs.Content.{lacking_in}
 use Rattle.rebuild_core.specs.declared.rebuild.Rebuild.{Rebuild}
 use Rattle.rebuild_core.specs.Stages.{is_response}
-use Rattle.rebuild_shell.specs.Capacities.{fresh_caps}
-use Rattle.rebuild_shell.proofs.LossLaws.{vary-cases}
+use Rattle.shell_laws.specs.Capacities.{fresh_caps}
+use Rattle.shell_laws.proofs.LossLaws.{vary-cases}
 use Rattle.struct_machine.specs.Deeds.{fresh_left, fresh_before, makes_empty, makes_second}
 use Rattle.struct_machine.specs.Kept.{copied_in, caps_of}
 

@@ -27,14 +27,14 @@ use Rattle.engine_api.specs.Shell.{Shell, ShellOutcome, Leaver, is_kept, shell_c
 use Rattle.plex_shell.specs.ShellView.{ShellView}
 use Rattle.rebuild_copy.specs.Filling.{Fresh}
 use Rattle.struct_machine.specs.Content.{Kept, lacking_in}
-use Rattle.rebuild_shell.specs.Capacities.{AreFitting, caps_behind, fresh_behind, fresh_caps}
-use Rattle.rebuild_shell.specs.Filling.{IsFilled, IsFilling}
-use Rattle.rebuild_shell.specs.Members.{IsManned}
-use Rattle.rebuild_shell.proofs.DeedLaws.{capacities-command, fitting-command}
-use Rattle.rebuild_shell.proofs.FillingLaws.{filled-step, departure_empties, forced_empties}
-use Rattle.rebuild_shell.proofs.MemberLaws.{manned-step}
+use Rattle.shell_laws.specs.Capacities.{AreFitting, caps_behind, fresh_behind, fresh_caps}
+use Rattle.shell_laws.specs.Filling.{IsFilled, IsFilling}
+use Rattle.shell_laws.specs.Members.{IsManned}
+use Rattle.shell_laws.proofs.DeedLaws.{capacities-command, fitting-command}
+use Rattle.shell_laws.proofs.FillingLaws.{filled-step, departure_empties, forced_empties}
+use Rattle.shell_laws.proofs.MemberLaws.{manned-step}
 use Rattle.struct_machine.proofs.ToldLaws.{manned-told, filled-told}
-use Rattle.rebuild_shell.proofs.StepLaws.{done}
+use Rattle.shell_laws.proofs.StepLaws.{done}
 use Rattle.struct_machine.specs.Deeds.{Spares, AreSpares, AreAdmitted, MayMake, MayAdd, MayDrop, fresh_left, fresh_before, kept_past, places_past, makes_second, held_past, HasNone}
 use Rattle.struct_machine.specs.Kept.{AreOf, IsOf, machine_of, state_in, left_in, copied_in, caps_of}
 use Rattle.cf_types.specs.Gains.{Gains}

@@ -24,12 +24,12 @@ use Rattle.engine_api.specs.Shell.{Shell, ShellOutcome, facility_of, failed_outc
 use Rattle.engine_api.proofs.AskLaws.{itself}
 use Rattle.plex_shell.specs.ShellView.{ShellView}
 use Rattle.rebuild_core.specs.declared.rebuild.Rebuild.{Rebuild}
-use Rattle.rebuild_shell.specs.Members.{IsManned}
-use Rattle.rebuild_shell.proofs.CauseLaws.{fourth_none}
+use Rattle.shell_laws.specs.Members.{IsManned}
+use Rattle.shell_laws.proofs.CauseLaws.{fourth_none}
 use Rattle.cf_types.specs.Forms.{IsFacility}
 use Rattle.rebuild_copy.specs.Filling.{with_copied}
-use Rattle.rebuild_shell.specs.Capacities.{fresh_caps}
-use Rattle.rebuild_shell.specs.Filling.{IsFilled}
+use Rattle.shell_laws.specs.Capacities.{fresh_caps}
+use Rattle.shell_laws.specs.Filling.{IsFilled}
 use Rattle.struct_machine.specs.Content.{Kept, lacking_in}
 use Rattle.struct_machine.specs.Kept.{AreOf, IsOf, caps_of, copied_in, copy_reply, judged, machine_of, state_in}
 use Rattle.struct_machine.proofs.BeforeLaws.{copied_caps, copied_more, nothing_lacks}

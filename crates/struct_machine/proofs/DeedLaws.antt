@@ -21,10 +21,10 @@ use Rattle.engine_api.specs.Shell.{Shell, Leaver, caps_in, caps_made, ShellOutco
 use Rattle.rebuild_core.specs.declared.rebuild.Rebuild.{Rebuild}
 use Rattle.rebuild_core.specs.Stages.{is_response}
 use Rattle.rebuild_copy.specs.Filling.{Fresh, caps_or, emptied}
-use Rattle.rebuild_shell.specs.Capacities.{caps_behind, fresh_behind, fresh_caps}
+use Rattle.shell_laws.specs.Capacities.{caps_behind, fresh_behind, fresh_caps}
 use Rattle.struct_machine.specs.Deeds.{fresh_made, fresh_past, held_back, held_made, held_switched, held_past}
 use Rattle.struct_machine.specs.Kept.{copied_in, caps_of, state_in, left_in, IsOf}
-use Rattle.rebuild_shell.proofs.LossLaws.{vary-cases}
+use Rattle.shell_laws.proofs.LossLaws.{vary-cases}
 
 -- who departs is a caller
 pub leaver_caller : (shell : Shell) (by : ConnId) (command : ShellCmd) (who : Leaver) → MayCommand by command

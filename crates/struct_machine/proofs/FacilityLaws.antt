@@ -17,9 +17,9 @@ use Rattle.rebuild_core.specs.declared.passed.Passed.{Passed}
 use Rattle.rebuild_core.specs.declared.passed.Passed.TheVariants.{No, Into, Ended}
 use Rattle.rebuild_core.specs.declared.rebuild.Rebuild.{Rebuild}
 use Rattle.rebuild_core.specs.Stages.{outcome_of, rebuild_emptied, rebuild_left, rebuild_without, with_place, without_owing}
-use Rattle.rebuild_reading.specs.Steps.{rebuild_next, rebuild_given}
-use Rattle.rebuild_reading.specs.Tellings.{Telling, is_awaited}
-use Rattle.rebuild_reading.specs.Tellings.Telling.{Starts, Places, Completes, Responds, Stops, Departs, Forces, Fails, Nothing}
+use Rattle.shell_laws.specs.Steps.{rebuild_next, rebuild_given}
+use Rattle.shell_laws.specs.Tellings.{Telling, is_awaited}
+use Rattle.shell_laws.specs.Tellings.Telling.{Starts, Places, Completes, Responds, Stops, Departs, Forces, Fails, Nothing}
 
 -- ---- places of a form
 

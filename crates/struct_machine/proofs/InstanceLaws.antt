@@ -26,12 +26,12 @@ use Rattle.engine_api.specs.Shell.{Shell, ShellOutcome, candidates, complete_out
 use Rattle.engine_api.proofs.ShellLaws.{conns-unless_gone}
 use Rattle.rebuild_core.specs.declared.rebuild.Rebuild.{Rebuild}
 use Rattle.rebuild_core.specs.Stages.{is_response, outcome_of, rebuild_onward, rebuild_without, with_place, without_owing}
-use Rattle.rebuild_shell.specs.Members.{IsManned, IsPaired}
-use Rattle.rebuild_shell.proofs.CauseLaws.{idle_rebuild, past_first, past_second, third_none}
-use Rattle.rebuild_shell.proofs.PairLaws.{change-command, paired-change}
-use Rattle.rebuild_shell.proofs.PlaceLaws.{no_switch, placed_for, switch_copy}
-use Rattle.rebuild_shell.proofs.StepLaws.{acting, connect_stage, done, first_none, tells_command}
-use Rattle.rebuild_reading.specs.Tellings.{mark_telling, telling}
+use Rattle.shell_laws.specs.Members.{IsManned, IsPaired}
+use Rattle.shell_laws.proofs.CauseLaws.{idle_rebuild, past_first, past_second, third_none}
+use Rattle.shell_laws.proofs.PairLaws.{change-command, paired-change}
+use Rattle.shell_laws.proofs.PlaceLaws.{no_switch, placed_for, switch_copy}
+use Rattle.shell_laws.proofs.StepLaws.{acting, connect_stage, done, first_none, tells_command}
+use Rattle.shell_laws.specs.Tellings.{mark_telling, telling}
 use Rattle.struct_machine.specs.Deeds.{places_past, at_left, at_made, at_switched}
 use Rattle.struct_machine.proofs.FacilityLaws.{found_facility, facility_next, InFacility, IsPlaceTold}
 

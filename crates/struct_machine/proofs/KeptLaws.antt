@@ -23,13 +23,13 @@ use Rattle.cf_types.specs.Forms.{IsForm, IsFacility}
 use Rattle.cf_types.specs.Mailboxes.{with_letters}
 use Rattle.cf_types.specs.declared.refusals.Refusal.{Refusal}
 use Rattle.cf_types.specs.declared.refusals.Refusal.TheVariants as refusal
-use Rattle.rebuild_shell.specs.Capacities.{fresh_caps}
-use Rattle.rebuild_shell.specs.Filling.{IsFilled}
-use Rattle.rebuild_shell.specs.Members.{IsManned, IsBare}
-use Rattle.rebuild_shell.proofs.CapacityLaws.{none_fresh_then}
-use Rattle.rebuild_shell.proofs.CauseLaws.{not_so, third_none}
-use Rattle.rebuild_shell.proofs.MemberLaws.{manned-members, manned-opening}
-use Rattle.rebuild_shell.proofs.StepLaws.{active_member, active_of, first_none, somebody_member}
+use Rattle.shell_laws.specs.Capacities.{fresh_caps}
+use Rattle.shell_laws.specs.Filling.{IsFilled}
+use Rattle.shell_laws.specs.Members.{IsManned, IsBare}
+use Rattle.shell_laws.proofs.CapacityLaws.{none_fresh_then}
+use Rattle.shell_laws.proofs.CauseLaws.{not_so, third_none}
+use Rattle.shell_laws.proofs.MemberLaws.{manned-members, manned-opening}
+use Rattle.shell_laws.proofs.StepLaws.{active_member, active_of, first_none, somebody_member}
 use Rattle.std.proofs.lemmas.Bool.{false_from_ne_true}
 use Rattle.struct_machine.proofs.ToldLaws.{manned-told, filled-told}
 use Rattle.struct_machine.specs.Content.{ContentView, Kept, kept_of, nothing_kept, lacking_in}

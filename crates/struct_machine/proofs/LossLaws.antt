@@ -18,14 +18,14 @@ use Rattle.plex_shell.specs.ShellView.{ShellView}
 use Rattle.plex_shell.specs.declared.lost_as.LostAs.{LostAs}
 use Rattle.plex_shell.specs.declared.lost_as.LostAs.TheVariants as told
 use Rattle.rebuild_core.specs.declared.rebuild.Rebuild.{Rebuild}
-use Rattle.rebuild_shell.specs.Capacities.{fresh_caps}
-use Rattle.rebuild_shell.specs.Filling.{IsFilled}
-use Rattle.rebuild_shell.specs.Members.{IsManned}
-use Rattle.rebuild_shell.proofs.DeedLaws.{capacities-loss}
-use Rattle.rebuild_shell.proofs.FillingLaws.{filled-loss}
-use Rattle.rebuild_shell.proofs.LossLaws.{loss-cases}
-use Rattle.rebuild_shell.proofs.MemberLaws.{manned-loss}
-use Rattle.rebuild_shell.proofs.StepLaws.{rebuild-loss}
+use Rattle.shell_laws.specs.Capacities.{fresh_caps}
+use Rattle.shell_laws.specs.Filling.{IsFilled}
+use Rattle.shell_laws.specs.Members.{IsManned}
+use Rattle.shell_laws.proofs.DeedLaws.{capacities-loss}
+use Rattle.shell_laws.proofs.FillingLaws.{filled-loss}
+use Rattle.shell_laws.proofs.LossLaws.{loss-cases}
+use Rattle.shell_laws.proofs.MemberLaws.{manned-loss}
+use Rattle.shell_laws.proofs.StepLaws.{rebuild-loss}
 use Rattle.struct_machine.specs.Marks.{is_failure}
 use Rattle.struct_machine.specs.Content.{Kept}
 use Rattle.struct_machine.specs.Deeds.{at_left}

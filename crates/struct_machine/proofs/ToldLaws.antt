@@ -6,8 +6,8 @@ use Rattle.cf_types.specs.Mailboxes.{Mailboxes}
 use Rattle.engine_api.specs.Machine.{Machine}
 use Rattle.engine_api.specs.Meaning.{Meaning}
 use Rattle.engine_api.specs.Shell.{Shell}
-use Rattle.rebuild_shell.specs.Filling.{IsFilled}
-use Rattle.rebuild_shell.specs.Members.{IsManned}
+use Rattle.shell_laws.specs.Filling.{IsFilled}
+use Rattle.shell_laws.specs.Members.{IsManned}
 
 abbrev pub told_with : Mailboxes → Option CfId → Shell → Shell
 told_with mail lost shell = record shell { mail = mail; lost = lost }

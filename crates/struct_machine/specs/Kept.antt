@@ -20,9 +20,9 @@ use Rattle.engine_api.specs.Shapes.{shape_of}
 use Rattle.engine_api.specs.Shell.{call_cause}
 use Rattle.plex_shell.specs.ShellView.{ShellView}
 use Rattle.rebuild_copy.specs.Filling.{Fresh}
-use Rattle.rebuild_shell.specs.Capacities.{fresh_caps}
-use Rattle.rebuild_shell.specs.Filling.{IsFilled}
-use Rattle.rebuild_shell.specs.Members.{IsManned}
+use Rattle.shell_laws.specs.Capacities.{fresh_caps}
+use Rattle.shell_laws.specs.Filling.{IsFilled}
+use Rattle.shell_laws.specs.Members.{IsManned}
 use Rattle.struct_machine.specs.Content.{Kept}
 
 -- what a call answers, and the machine that it leaves, before it counts as one that has come

@@ -5,7 +5,7 @@ ghost use Rattle.engine_api.specs.Asking.{MayAsk};
 ghost use Rattle.engine_api.specs.Meaning.{items_of};
 ghost use Rattle.engine_api.specs.Rebuilds.{fresh_of};
 ghost use Rattle.engine_api.specs.Shapes.{shape_of};
-ghost use Rattle.rebuild_shell.specs.Capacities.{fresh_caps};
+ghost use Rattle.shell_laws.specs.Capacities.{fresh_caps};
 ghost use Rattle.struct_machine.specs.Changes.{IsUntouched};
 ghost use Rattle.struct_machine.specs.Turns.{IsTurn};
 ghost use Rattle.struct_machine.specs.StructureView.{new_structure, stands_at, copied_items};

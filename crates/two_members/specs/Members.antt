@@ -8,8 +8,8 @@ use Rattle.plex_script.specs.declared.asks.AnyHistory.{AnyHistory}
 use Rattle.plex_script.specs.declared.scripts.Script.{Script}
 use Rattle.vec_words.specs.declared.logged.Sight.{Sight}
 use Rattle.vec_words.specs.declared.logged.Tested.{Tested}
-use Rattle.any_model.specs.Types.{OfCache}
-use Rattle.any_model.specs.Kinds.{IsAnyLegal}
+use Rattle.run_model.specs.Types.{OfCache}
+use Rattle.run_model.specs.Kinds.{IsAnyLegal}
 use Rattle.any_cell.specs.Cells.{CellShown, IsAnyTold}
 use Rattle.desk_model.specs.Desks.{DeskShown, pass_at}
 use Rattle.desk_model.specs.Boards.{BoardShown, IsDeskOf, cell_on}

@@ -1,6 +1,6 @@
 //! What each member does at its desk.
 ghost use Rattle.std.specs.Prelude.{◌≡◌, IfOk, false};
-ghost use Rattle.any_model.specs.Kinds.{MayAskAny};
+ghost use Rattle.run_model.specs.Kinds.{MayAskAny};
 ghost use Rattle.plex_script.specs.declared.scripts.AnyAsk.TheVariants as any;
 ghost use Rattle.two_members.specs.Members.{IsMember, Stays, HasTested};
 

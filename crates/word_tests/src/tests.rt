@@ -1,3 +1,4 @@
+mod locks;
 mod turns;
 mod words;
 mod worlds;

@@ -1,6 +1,6 @@
 use Rattle.std.proofs.Common.{◌≡◌, ◌++◌, Option, subst}
 use Rattle.cf_types.specs.declared.names.Name16.{Name16}
-use Rattle.plex_reading.specs.Readings.{report_of}
+use Rattle.run_laws.specs.Readings.{report_of}
 use Rattle.plex_run.specs.StatusLines.{full_line, memory_line}
 use Rattle.plex_run.specs.Outcome.{reading_of, full_of, run_text}
 use Rattle.plex_run.specs.Written.{output, GainsPrefix}

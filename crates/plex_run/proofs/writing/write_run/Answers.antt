@@ -2,7 +2,7 @@ use Rattle.std.proofs.Common.{◌≡◌, ◌++◌, ◌<◌, ◌^◌, length, ℕ
 use Rattle.std.specs.List.{concat}
 use Rattle.plex_spell.specs.Words.{line_text}
 use Rattle.plex_report.specs.Report.{report_lines}
-use Rattle.plex_reading.specs.Readings.{report_of}
+use Rattle.run_laws.specs.Readings.{report_of}
 use Rattle.plex_run.specs.StatusLines.{full_line}
 use Rattle.plex_run.specs.Outcome.{reading_of}
 use Rattle.plex_run.specs.Written.{output, Writes, WritesFront}

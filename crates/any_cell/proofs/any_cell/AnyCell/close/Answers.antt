@@ -5,8 +5,8 @@ use Rattle.lock_model.specs.Meaning.{lock_meaning}
 use Rattle.engine_api.specs.History.{calls, numbers, IsPoint}
 use Rattle.plex_script.specs.declared.scripts.AnyAsk.TheVariants as ask
 use Rattle.plex_script.specs.declared.asks.AnyHistory.TheVariants as history
-use Rattle.any_model.specs.Kinds.{any_answers}
-use Rattle.any_model.specs.Types.{OfCache, OfList, OfLock}
+use Rattle.run_model.specs.Kinds.{any_answers}
+use Rattle.run_model.specs.Types.{OfCache, OfList, OfLock}
 use Rattle.any_cell.specs.Passes.{passes_shown}
 use Rattle.any_cell.specs.Cells.{cell_shown}
 use Rattle.any_cell.proofs.ShownLaws.{shown_tables, shown_callers, shown_mine, shown_tests, shown_known, shown_room, shown_links}

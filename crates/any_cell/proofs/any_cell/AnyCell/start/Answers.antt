@@ -1,7 +1,7 @@
 use Rattle.std.proofs.Common.{rules, ◌+◌}
 use Rattle.plex_script.specs.declared.scripts.AnyAsk.TheVariants as ask
 use Rattle.vec_words.specs.Tokens.{new_pass}
-use Rattle.any_model.specs.Types.{OfCache, OfList, OfLock}
+use Rattle.run_model.specs.Types.{OfCache, OfList, OfLock}
 use Rattle.any_cell.proofs.ShownLaws.{shown_new, room_for}
 use Rattle.any_cell.proofs.any_cell.AnyCell.start.Goals as goal
 

@@ -1,5 +1,0 @@
-use Rattle.board_trials.specs.Seats.{IsSeat}
-use Rattle.board_trials.proofs.tests.races.write_again.Given as goal
-
-abbrev pub invariant-loop-made : goal.invariant-loop-made
-invariant-loop-made g l = IsSeat l.board l.desk

@@ -1,3 +1,0 @@
-pub mod ShareLaws
-pub mod CountLaws
-pub mod BoundLaws

@@ -1,7 +1,0 @@
-use Rattle.rebuild_shell.proofs.FillingLaws.{filled-replay}
-use Rattle.rebuild_shell.proofs.laws.fills_in_copy_alone.Goals as goal
-
-pub returns : goal.returns
-returns g c = record {
-  filled = filled-replay g.E.Engine.meaning c.args.form.now c.args.history.now;
-}

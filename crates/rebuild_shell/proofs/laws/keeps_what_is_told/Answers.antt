@@ -1,5 +1,0 @@
-use Rattle.rebuild_shell.proofs.HistoryLaws.{rebuild-told}
-use Rattle.rebuild_shell.proofs.laws.keeps_what_is_told.Goals as goal
-
-pub returns : goal.returns
-returns g c = record { told = rebuild-told g.E.Engine.meaning c.args.form.now c.args.history.now c.requires.answered }

@@ -1,8 +1,0 @@
-use Rattle.rebuild_shell.proofs.LossLaws.{loss-keeps, vary-keeps}
-use Rattle.rebuild_shell.proofs.laws.loss_of_the_new_keeps_the_content.Goals as goal
-
-pub returns : goal.returns
-returns g c = record {
-  mark = loss-keeps g.E.Engine.meaning c.args.form.now;
-  vary = vary-keeps g.E.Engine.meaning c.args.form.now;
-}

@@ -1,7 +1,0 @@
-use Rattle.rebuild_shell.proofs.MemberLaws.{manned-replay}
-use Rattle.rebuild_shell.proofs.laws.members_are_active.Goals as goal
-
-pub returns : goal.returns
-returns g c = record {
-  members = (manned-replay g.E.Engine.meaning c.args.form.now c.args.history.now).members;
-}

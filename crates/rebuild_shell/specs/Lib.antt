@@ -1,4 +1,0 @@
-pub mod History
-pub mod Members
-pub mod Filling
-pub mod Capacities

@@ -1,0 +1,74 @@
+-- No history is longer than the lines of the script and the closings make it.
+use Rattle.std.proofs.Common.{◌≡◌, ℕ, zero, suc, ◌+◌, ◌≤◌, ◌<◌, List, length, Option, Some, None, slice_get, refl, ap, subst, ◌∙◌, arith}
+use Rattle.std.proofs.lemmas.List.{length-map}
+use Rattle.std.proofs.lemmas.Option.{slice_get_within}
+use Rattle.list_laws.proofs.TableLaws.{get_within}
+use Rattle.cf_types.specs.declared.numbers.ConnId.{ConnId}
+use Rattle.cf_types.specs.declared.numbers.StrNo.{StrNo}
+use Rattle.plex_script.specs.declared.asks.AnyHistory.{AnyHistory}
+use Rattle.plex_script.specs.declared.scripts.Line.{Line}
+use Rattle.plex_script.specs.declared.scripts.Script.{Script}
+use Rattle.plex_script.specs.declared.transcripts.AgentEnd.{AgentEnd}
+use Rattle.plex_script.specs.declared.transcripts.AgentEnd.TheVariants as ended
+use Rattle.plex_script.specs.declared.transcripts.Shown.{Shown}
+use Rattle.plex_script.specs.declared.transcripts.Transcript.{Transcript}
+use Rattle.plex_script.specs.Heard.{AnyCall, any_calls, calls_of, calls_on, length_of, own_calls}
+use Rattle.plex_script.specs.Follows.{AgreesWith, lines_of}
+use Rattle.run_model.proofs.HistoryLaws.{length_calls}
+use Rattle.run_model.specs.Headline.{EndsRight, ShowsHistories}
+use Rattle.run_laws.specs.Bounds.{IsWithinScript, most_of_lines, most_entries}
+use Rattle.run_laws.proofs.ShareLaws.{sum_below, shares_bound}
+use Rattle.run_laws.proofs.CountLaws.{most_on, calls_shown, most_at_end, follows_few, stops_few}
+
+-- however a caller's work ended, its items show its own calls, and no more than its lines and its closing make
+ends_few : (limit : ℕ) (script : Script) (histories : List AnyHistory) (conn : ConnId) (on : StrNo)
+    (items : List Shown) (end : AgentEnd) → EndsRight limit script histories conn items end
+    → (AgreesWith histories conn items)
+    × (calls_shown on items ≤ most_of_lines on (lines_of script conn) + most_at_end conn.0)
+ends_few limit script histories conn on items ended.Done right =
+    (right.agrees, follows_few script histories conn on items right)
+ends_few limit script histories conn on items (ended.JournalFull full) right =
+    (right.agrees, stops_few script histories conn on items full right.at)
+ends_few limit script histories conn on items ended.NoMemory right = absurd right
+
+-- each connector departs once, the operator never
+closings_sum : (n : ℕ) → sum_below most_at_end (suc n) ≡ n
+closings_sum zero = refl
+closings_sum (suc n) = omega (arith, closings_sum n)
+
+module _ (limit : ℕ) (script : Script) (histories : List AnyHistory) (transcripts : List Transcript)
+    (shows : ShowsHistories limit script histories transcripts) (on : StrNo) where
+  -- the calls of one caller
+  own_few : (c : ℕ) → c < suc (length script.connectors) → on.0 < length histories
+      → length (own_calls (calls_on histories on) (record { 0 = c }))
+      ≤ most_of_lines on (lines_of script (record { 0 = c })) + most_at_end c
+  own_few c low within =
+      let conn : ConnId = record { 0 = c } in
+      let own : List AnyCall = own_calls (calls_on histories on) conn in
+      let its = get_within transcripts c (omega (arith, low, shows.callers)) in
+      let few = ends_few limit script histories conn on its.0.items its.0.end (shows.ends c its.0 its.1) in
+      let same : calls_shown on its.0.items ≡ length own =
+      ap length (few.0.numbers on within) ∙ length-map own (λ (call : AnyCall). call.no) in
+      omega (arith, few.1, same)
+
+  -- the calls of all callers, and the marks before them
+  history_few : (found : Option AnyHistory) → slice_get histories on.0 ≡ found
+      → length_of found ≤ most_entries script on
+  history_few None there = omega arith
+  history_few (Some entries) there =
+      let within : on.0 < length histories = slice_get_within histories on.0 entries there in
+      let form = get_within script.structures on.0 (omega (arith, within, shows.structures)) in
+      let right = shows.histories_right on.0 form.0 entries form.1 there in
+      let calls : calls_on histories on ≡ any_calls entries = ap calls_of there in
+      let connectors : ℕ = length script.connectors in
+      let few : length (any_calls entries) ≤ most_of_lines on script.lines + sum_below most_at_end (suc connectors) =
+      shares_bound (λ (call : AnyCall). call.by.0) (λ (line : Line). line.by.0) (most_on on) most_at_end
+      (suc connectors) (any_calls entries) script.lines (λ k d low. omega (arith, right.callers k d low))
+      (λ c low. subst (λ (cs : List AnyCall). length (own_calls cs (record { 0 = c }))
+      ≤ most_of_lines on (lines_of script (record { 0 = c })) + most_at_end c) calls (own_few c low within)) in
+      omega (arith, few, closings_sum connectors, length_calls form.0 entries right.legal)
+
+pub within-script : (limit : ℕ) (script : Script) (histories : List AnyHistory) (transcripts : List Transcript)
+    → ShowsHistories limit script histories transcripts → IsWithinScript script histories
+within-script limit script histories transcripts shows on =
+    history_few limit script histories transcripts shows on (slice_get histories on.0) refl

@@ -1,0 +1,237 @@
+-- The callers of a script have words of their own.
+use Rattle.std.proofs.Common.{◌≡◌, ◌≢◌, ℕ, zero, suc, ◌+◌, ◌-◌, ◌≤◌, ◌<◌, ◌==◌, inl, inr, Bool, true, false, not, cond, List, [], ◌∷◌, ◌++◌, length, Option, Some, None, codes, replicate, get_or, slice_get, refl, sym, ap, subst, ◌∙◌, arith}
+use Rattle.std.specs.Bool.{MatchBool}
+use Rattle.std.specs.Option.{MatchOption}
+use Rattle.std.specs.List.{list_all, list_any}
+use Rattle.std.proofs.lemmas.Bool.{and_parts, and_from}
+use Rattle.std.proofs.lemmas.Bool.Decides.{nat_tests}
+use Rattle.std.proofs.lemmas.List.Folds.{list_any_at}
+use Rattle.std.proofs.lemmas.List.Sums.{take_while-cons}
+use Rattle.std.proofs.lemmas.Option.{slice_get-get_or, slice_get_within, get_or_from_slice_get}
+use Rattle.cf_types.specs.declared.names.Name16.{Name16}
+use Rattle.cf_types.specs.declared.numbers.ConnId.{ConnId}
+use Rattle.cf_types.specs.declared.numbers.StrNo.{StrNo}
+use Rattle.cf_types.specs.Term.{block_of, text_in_block, term_byte}
+use Rattle.engine_api.proofs.Pushed.{pushed_cases}
+use Rattle.plex_spell.specs.declared.rigour.Rigour.TheVariants.{Names}
+use Rattle.plex_spell.specs.Words.{same_word, words_of, lines_of}
+use Rattle.plex_spell.specs.Tokens.{is_name, is_capital, reserved_words, name_word, structure_of}
+use Rattle.plex_spell.proofs.Choices.{same_word-of}
+use Rattle.plex_spell.proofs.PlaceLaws.{Words}
+use Rattle.plex_spell.proofs.TextLaws.{characters-term}
+use Rattle.plex_spell.proofs.WordLaws.{term-name}
+use Rattle.plex_script.specs.declared.declarations.Declaration.{Declaration}
+use Rattle.plex_script.specs.declared.declarations.Declaration.TheVariants as declaration
+use Rattle.plex_script.specs.declared.scripts.Script.{Script}
+use Rattle.plex_script.specs.Causes.{declared_in, caller_of, is_comment, is_policy_word, is_twice}
+use Rattle.plex_script.specs.PolicyWords.{Declares}
+use Rattle.plex_script.specs.Scripts.{AddsDeclaration, AddsLine, AddsOfCaller, AddsWords, AddsAll, IsScript, empty_script, line_number, with_declaration}
+use Rattle.plex_report.specs.Naming.{caller_name}
+use Rattle.run_laws.proofs.Cuts.{is_free}
+
+-- ---- the word of a name
+
+free_passed : (x : ℕ) (xs : List ℕ) (b : Bool) → not (x == 32) ≡ b → is_free 32 xs ≡ true
+    → is_free 32 (cond b (x ∷ xs) []) ≡ true
+free_passed x xs true e h = and_from (not (x == 32)) (is_free 32 xs) e h
+free_passed x xs false e h = refl
+
+free_unpadded : (bytes : List ℕ) → is_free 32 (text_in_block bytes) ≡ true
+free_unpadded [] = refl
+free_unpadded (x ∷ bytes) =
+    rw (take_while-cons (λ b. not (b == 32)) x bytes)
+    (free_passed x (text_in_block bytes) (not (x == 32)) refl (free_unpadded bytes))
+
+term_above : (b : ℕ) → term_byte b ≡ true → 32 < b
+term_above b h = grind (arith, nat_tests)
+
+blanks : (n : ℕ) → text_in_block (replicate n 32) ≡ []
+blanks zero = refl
+blanks (suc n) = refl
+
+unpadded-append : (text : List ℕ) (n : ℕ) → list_all term_byte text ≡ true
+    → text_in_block (text ++ replicate n 32) ≡ text
+unpadded-append [] n h = blanks n
+unpadded-append (b ∷ text) n h =
+    let parts = and_parts (term_byte b) (list_all term_byte text) h in
+    let above = term_above b parts.0 in
+    let other : not (b == 32) ≡ true = grind (arith, nat_tests) in
+    take_while-cons (λ c. not (c == 32)) b (text ++ replicate n 32) ∙ rw (other, unpadded-append text n parts.1) refl
+
+named_word : (name : Name16) (word : List ℕ) → is_name word ≡ true → name.0 ≡ block_of word → name_word name ≡ word
+named_word name word named is =
+    ap text_in_block is ∙ unpadded-append word _ (characters-term word (term-name word named))
+
+-- a name is no word of the script language
+unreserved : (word : List ℕ) → is_name word ≡ true → not (list_any (same_word word) reserved_words) ≡ true
+unreserved word named = (and_parts (is_capital word) (not (list_any (same_word word) reserved_words)) named).1
+
+no_operator : (word : List ℕ) → is_name word ≡ true → word ≢ codes "OP"
+no_operator word named same =
+    let wrong : not (list_any (same_word (codes "OP")) reserved_words) ≡ true =
+    subst (λ (w : List ℕ). not (list_any (same_word w) reserved_words) ≡ true) same (unreserved word named) in
+    absurd (cc)
+
+no_system : (word : List ℕ) → is_name word ≡ true → word ≢ codes "SYS"
+no_system word named same =
+    let wrong : not (list_any (same_word (codes "SYS")) reserved_words) ≡ true =
+    subst (λ (w : List ℕ). not (list_any (same_word w) reserved_words) ≡ true) same (unreserved word named) in
+    absurd (cc)
+
+-- the word of a caller that isn't the operator, nor that of the system, which tells marks
+pub record IsOwn (word : List ℕ) : Type 0 where
+  pub operator : word ≢ codes "OP"
+  pub system : word ≢ codes "SYS"
+
+-- ---- the names that are declared
+
+pub record AreApart (names : List Name16) : Type 0 where
+  pub named : (i : ℕ) (name : Name16) → slice_get names i ≡ Some name → IsOwn (name_word name)
+  pub apart : (i j : ℕ) (a b : Name16) → slice_get names i ≡ Some a → slice_get names j ≡ Some b
+      → name_word a ≡ name_word b → i ≡ j
+
+nothing_there : {X : Type 0} (i : ℕ) (x : X) → slice_get [] i ≡ Some x → ⊥
+nothing_there zero x e = cc
+nothing_there (suc i) x e = cc
+
+no_names : AreApart []
+no_names =
+    record {
+      named = λ i name e. absurd (nothing_there i name e);
+      apart = λ i j a b e f same. absurd (nothing_there i a e);
+    }
+
+new_word : (names : List Name16) (name : Name16)
+    → list_any (λ other. same_word (name_word other) (name_word name)) names ≡ false
+    → (i : ℕ) (other : Name16) → slice_get names i ≡ Some other → name_word other ≢ name_word name
+new_word names name new i other e same =
+    let here : get_or names i other ≡ other = get_or_from_slice_get names i other other e in
+    let found : list_any (λ (o : Name16). same_word (name_word o) (name_word name)) names ≡ true =
+    list_any_at (λ (o : Name16). same_word (name_word o) (name_word name)) names i other
+    (slice_get_within names i other e)
+    (rw here (same_word-of (name_word other) (name_word name) same)) in
+    let wrong : true ≡ false = sym found ∙ new in
+    absurd (cc)
+
+one_more : (names : List Name16) (name : Name16) → AreApart names → IsOwn (name_word name)
+    → list_any (λ other. same_word (name_word other) (name_word name)) names ≡ false → AreApart (names ++ name ∷ [])
+one_more names name h named new =
+    record {
+      named = λ i other e. elim (pushed_cases names name i other e) [
+        | inl old ↦ h.named i other old.1
+        | inr fresh ↦ subst (λ (n : Name16). IsOwn (name_word n)) (sym fresh.1) named
+      ];
+      apart = λ i j a b e f same. elim (pushed_cases names name i a e) [
+        | inl old ↦ elim (pushed_cases names name j b f) [
+          | inl other ↦ h.apart i j a b old.1 other.1 same
+          | inr fresh ↦ absurd (new_word names name new i a old.1 (same ∙ ap name_word fresh.1))
+        ]
+        | inr fresh ↦ elim (pushed_cases names name j b f) [
+          | inl other ↦ absurd (new_word names name new j b other.1 (sym same ∙ ap name_word fresh.1))
+          | inr also ↦ fresh.0 ∙ sym also.0
+        ]
+      ];
+    }
+
+not-false : (b : Bool) → not b ≡ true → b ≡ false
+not-false true h = absurd (cc)
+not-false false h = refl
+
+-- ---- texts
+
+declared : (script : Script) (ws : Words) (made : Declaration) → Declares Names (declared_in script) ws made
+    → is_twice script made ≡ false → AreApart script.connectors → AreApart (with_declaration script made).connectors
+declared script ws (declaration.Facility pref) says once h = h
+declared script ws (declaration.Structure form) says once h = h
+declared script ws (declaration.Pref on pref) says once h = h
+declared script [] (declaration.Connector name) says once h = absurd says.spelled
+declared script (verb ∷ []) (declaration.Connector name) says once h = absurd says.spelled.1
+declared script (verb ∷ word ∷ ws) (declaration.Connector name) says once h =
+    let named : is_name word ≡ true = says.spelled.1.0.0.0 in
+    let is : name_word name ≡ word = named_word name word named says.spelled.1.0.1 in
+    one_more script.connectors name h (record {
+      operator = λ same. no_operator word named (sym is ∙ same);
+      system = λ same. no_system word named (sym is ∙ same);
+    }) once
+
+of_caller : (script : Script) (at : ℕ) (by : ConnId) (ws : Words) (after : Script)
+    → AddsOfCaller script at by ws after
+    → AreApart script.connectors → AreApart after.connectors
+of_caller script at by [] after adds h = absurd adds
+of_caller script at by (second ∷ ws) after adds h = at_structure (structure_of script.structures second) adds
+  where
+    at_structure : (o : Option StrNo) → MatchOption o ⊥ (λ on. AddsLine script at by on ws after)
+        → AreApart after.connectors
+    at_structure None k = absurd k
+    at_structure (Some on) k = rw k.same h
+
+of_words : (script : Script) (at : ℕ) (ws : Words) (after : Script) → AddsWords script at ws after
+    → AreApart script.connectors → AreApart after.connectors
+of_words script at [] after adds h = rw adds h
+of_words script at (first ∷ ws) after adds h =
+    by_tests (is_comment first) (is_policy_word first) (caller_of script.connectors first) adds
+  where
+    by_tests : (c p : Bool) (o : Option ConnId)
+        → MatchBool c (after ≡ script)
+        (MatchBool p (AddsDeclaration script first (first ∷ ws) after)
+        (MatchOption o ⊥ (λ by. AddsOfCaller script at by ws after)))
+        → AreApart after.connectors
+    by_tests true p o k = rw k h
+    by_tests false true o k =
+        rw k.same
+        (declared script (first ∷ ws) k.declaration k.declares (not-false (is_twice script k.declaration) k.once) h)
+    by_tests false false None k = absurd k
+    by_tests false false (Some by) k = of_caller script at by ws after k h
+
+of_lines : (lines : List (List ℕ)) (script : Script) (count : ℕ) (after : Script) → AddsAll script count lines after
+    → AreApart script.connectors → AreApart after.connectors
+of_lines [] script count after adds h = rw adds h
+of_lines (line ∷ lines) script count after adds h =
+    of_lines lines adds.0 (count + 1) after adds.2
+    (of_words script (line_number (count + 1)) (words_of line) adds.0 adds.1.1 h)
+
+pub names_apart : (text : List ℕ) (script : Script) → IsScript text script → AreApart script.connectors
+names_apart text script is = of_lines (lines_of text) empty_script 0 script is no_names
+
+-- ---- callers
+
+record At (script : Script) (k : ℕ) : Type 0 where
+  name : Name16
+  there : slice_get script.connectors k ≡ Some name
+  word : caller_name script (suc k) ≡ name_word name
+
+connector_at : (script : Script) (k : ℕ) → k < length script.connectors → At script k
+connector_at script k within =
+    let d : Name16 = record { 0 = [] } in
+    let there = slice_get-get_or script.connectors k d within in
+    let named : suc k == 0 ≡ false = grind (arith, nat_tests) in
+    let back : suc k - 1 ≡ k = omega arith in
+    record { name = get_or script.connectors k d; there = there; word = rw (named, back, there) refl }
+
+pub free_caller : (script : Script) (n : ℕ) → n ≤ length script.connectors → is_free 32 (caller_name script n) ≡ true
+free_caller script zero few = refl
+free_caller script (suc k) few =
+    let it = connector_at script k (omega (arith, few)) in ap (is_free 32) it.word ∙ free_unpadded it.name.0
+
+-- callers with one word are one
+pub same_caller : (script : Script) (a b : ℕ) → AreApart script.connectors → a ≤ length script.connectors
+    → b ≤ length script.connectors → caller_name script a ≡ caller_name script b → a ≡ b
+same_caller script zero zero h few_a few_b e = refl
+same_caller script zero (suc k) h few_a few_b e =
+    let it = connector_at script k (omega (arith, few_b)) in
+    absurd ((h.named k it.name it.there).operator (sym it.word ∙ sym e))
+same_caller script (suc j) zero h few_a few_b e =
+    let it = connector_at script j (omega (arith, few_a)) in
+    absurd ((h.named j it.name it.there).operator (sym it.word ∙ e))
+same_caller script (suc j) (suc k) h few_a few_b e =
+    let one = connector_at script j (omega (arith, few_a)) in
+    let other = connector_at script k (omega (arith, few_b)) in
+    ap suc (h.apart j k one.name other.name one.there other.there (sym one.word ∙ e ∙ other.word))
+
+-- no caller has the system's word
+pub not_system : (script : Script) (n : ℕ) → AreApart script.connectors → n ≤ length script.connectors
+    → caller_name script n ≢ codes "SYS"
+not_system script zero h few e = absurd cc
+not_system script (suc k) h few e =
+    let it = connector_at script k (omega (arith, few)) in
+    absurd ((h.named k it.name it.there).system (sym it.word ∙ e))

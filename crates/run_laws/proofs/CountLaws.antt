@@ -1,0 +1,231 @@
+-- How many calls on a structure the items of a caller show: no more than its lines and its closing make.
+use Rattle.std.proofs.Common.{◌≡◌, ◌≢◌, ◌⊎◌, inl, inr, ℕ, zero, suc, ◌+◌, ◌≤◌, ◌==◌, Bool, true, false, cond, List, [], ◌∷◌, ◌++◌, length, take, Option, Some, None, refl, sym, ap, subst, ◌∙◌, arith, length-append}
+use Rattle.std.specs.Prelude.{MatchBool}
+use Rattle.std.proofs.lemmas.Bool.Decides.{nat_tests}
+use Rattle.std.proofs.lemmas.List.Elements.{filter_map-append}
+use Rattle.std.proofs.lemmas.List.Sums.{sum_by-append, sum_by-cons}
+use Rattle.cf_types.specs.declared.forms.Kind.{Kind}
+use Rattle.cf_types.specs.declared.forms.StrForm.{StrForm}
+use Rattle.cf_types.specs.declared.numbers.ConnId.{ConnId}
+use Rattle.cf_types.specs.declared.numbers.StrNo.{StrNo}
+use Rattle.cf_types.specs.declared.shell_commands.ShellCmd.TheVariants as cmd
+use Rattle.engine_api.specs.declared.told.Told.{Told}
+use Rattle.plex_script.specs.declared.agents.Step.{Step}
+use Rattle.plex_script.specs.declared.agents.Step.TheVariants as step
+use Rattle.plex_script.specs.declared.asks.AnyHistory.{AnyHistory}
+use Rattle.plex_script.specs.declared.scripts.Act.{Act}
+use Rattle.plex_script.specs.declared.scripts.Act.TheVariants as act
+use Rattle.plex_script.specs.declared.scripts.AnyAsk.{AnyAsk}
+use Rattle.plex_script.specs.declared.scripts.Line.{Line}
+use Rattle.plex_script.specs.declared.scripts.Script.{Script}
+use Rattle.plex_script.specs.declared.transcripts.Shown.{Shown}
+use Rattle.plex_script.specs.declared.transcripts.Shown.TheVariants as shown
+use Rattle.plex_script.specs.Agent.{first_step, step_after, most_asks, asked_by, call_of, shell_ask}
+use Rattle.plex_script.specs.Heard.{AnyCall}
+use Rattle.plex_script.specs.Follows.{IsHeard, Runs, RunsUpTo, ShowsAct, ShowsLines, ShowsClosing, ShowsClosings, Follows, StopsInLine, StopsInClosing, is_linked_by, lines_of, number_on, numbers_on}
+use Rattle.plex_script.proofs.StepLaws.{fewer_asks}
+use Rattle.plex_script.proofs.TestLaws.{test_numbers, word_numbers}
+use Rattle.run_laws.specs.Bounds.{most_of_line, most_of_lines}
+
+-- how many calls on a structure items show
+abbrev pub calls_shown : StrNo → List Shown → ℕ
+calls_shown on items = length (numbers_on on items)
+
+-- items in two parts
+shown_both : (on : StrNo) (items first others : List Shown) → items ≡ first ++ others
+    → calls_shown on items ≡ calls_shown on first + calls_shown on others
+shown_both on items first others split =
+    ap (calls_shown on) split ∙ ap length (filter_map-append (number_on on) first others)
+    ∙ length-append (numbers_on on first) (numbers_on on others)
+
+shown_none : (on : StrNo) (items : List Shown) (most : ℕ) → numbers_on on items ≡ [] → calls_shown on items ≤ most
+shown_none on items most none = rw none (omega arith)
+
+-- ---- one line
+
+-- a step that asks something isn't the last
+heard_goes : (kind : Kind) (line : Option AnyAsk) (calls : List AnyCall) (by : ConnId) (number : ℕ) (told : Told)
+    (now : Step) → IsHeard calls by (asked_by kind line now) number told → now ≢ step.Rest
+heard_goes kind line calls by number told now heard rests =
+    subst (λ (s : Step). IsHeard calls by (asked_by kind line s) number told) rests heard
+
+-- one more call, on this structure or elsewhere
+call_few : (there : Bool) (on at place : StrNo) (number : ℕ) (items : List Shown) (less most : ℕ) → place ≡ at
+    → at.0 == on.0 ≡ there → suc less ≤ most → calls_shown on items ≤ cond there less 0
+    → calls_shown on (shown.Call place number ∷ items) ≤ cond there most 0
+call_few true on at place number items less most same is fewer few =
+    let here : place.0 == on.0 ≡ true = ap (λ (p : StrNo). p.0 == on.0) same ∙ is in
+    rw here (omega (arith, fewer, few))
+call_few false on at place number items less most same is fewer few =
+    let here : place.0 == on.0 ≡ false = ap (λ (p : StrNo). p.0 == on.0) same ∙ is in
+    rw here few
+
+-- a step and the steps behind it make as many calls as are left at most, and all of them on their structure
+module _ (kind : Kind) (line : Option AnyAsk) (calls : List AnyCall) (by : ConnId) (on at : StrNo) (there : Bool)
+    (is : at.0 == on.0 ≡ there) where
+  runs_few : (now : Step) (items : List Shown) → Runs kind line calls by at now items
+      → calls_shown on items ≤ cond there (most_asks now) 0
+  runs_few now [] runs = omega arith
+  runs_few now (shown.Call place number ∷ items) runs =
+      call_few there on at place number items (most_asks (step_after now runs.0)) (most_asks now) runs.1 is
+      (fewer_asks now runs.0 (heard_goes kind line calls by number runs.0 now runs.2))
+      (runs_few (step_after now runs.0) items runs.3)
+  runs_few now (_ ∷ items) runs = absurd runs
+
+  runs_up_to_few : (now : Step) (items : List Shown) → RunsUpTo kind line calls by at now items
+      → calls_shown on items ≤ cond there (most_asks now) 0
+  runs_up_to_few now [] runs = omega arith
+  runs_up_to_few now (shown.Call place number ∷ items) runs =
+      call_few there on at place number items (most_asks (step_after now runs.0)) (most_asks now) runs.1 is
+      (fewer_asks now runs.0 (heard_goes kind line calls by number runs.0 now runs.2))
+      (runs_up_to_few (step_after now runs.0) items runs.3)
+  runs_up_to_few now (_ ∷ items) runs = absurd runs
+
+-- an act makes as many calls as its first step has left at most
+act_few : (form : StrForm) (calls : List AnyCall) (by : ConnId) (on at : StrNo) (retry : ℕ) (done : Act)
+    (items : List Shown) → ShowsAct form calls by at retry done items
+    → calls_shown on items ≤ cond (at.0 == on.0) (most_asks (first_step done retry)) 0
+act_few form calls by on at retry (act.Call asked) items shows =
+    runs_few form.kind (Some asked) calls by on at (at.0 == on.0) refl (step.Call retry) items shows
+act_few form calls by on at retry act.Events items shows =
+    runs_few form.kind None calls by on at (at.0 == on.0) refl (first_step act.Events retry) items shows
+act_few form calls by on at retry (act.Test index) items shows =
+    shown_none on items _ (test_numbers form at index items on shows)
+act_few form calls by on at retry (act.TestWord word) items shows =
+    shown_none on items _ (word_numbers form at word items on shows)
+act_few form calls by on at retry act.Post items shows = shown_none on items _ (ap (numbers_on on) shows.1)
+act_few form calls by on at retry act.Take items shows = shown_none on items _ (ap (numbers_on on) shows.1)
+
+-- ---- the lines of a caller
+
+-- how many calls a line makes on a structure at most
+abbrev pub most_on : StrNo → Line → ℕ
+most_on on line = cond (line.on.0 == on.0) (most_of_line line) 0
+
+lines_few : (forms : List StrForm) (histories : List AnyHistory) (on : StrNo) (lines : List Line)
+    (items : List Shown) → ShowsLines forms histories lines items → calls_shown on items ≤ most_of_lines on lines
+lines_few forms histories on [] items shows = shown_none on items _ (ap (numbers_on on) shows)
+lines_few forms histories on (line ∷ lines) items shows =
+    let rest = shows.1.1 in
+    omega (
+      arith,
+      sum_by-cons (most_on on) line lines,
+      shown_both on items shows.1.0 rest.0 rest.2,
+      act_few shows.0 _ line.by on line.on line.retry line.act shows.1.0 rest.3,
+      lines_few forms histories on lines rest.0 rest.4,
+    )
+
+-- ---- the closing
+
+-- a closing makes one call at most
+closing_few : (form : StrForm) (calls : List AnyCall) (conn : ConnId) (on at : StrNo) (before items : List Shown)
+    → ShowsClosing form calls conn at before items → calls_shown on items ≤ cond (at.0 == on.0) 1 0
+closing_few form calls conn on at before items shows = by_link (is_linked_by calls conn at before) shows
+  where
+    by_link : (b : Bool)
+        → MatchBool b (Runs form.kind (Some (shell_ask form.kind cmd.Disconnect)) calls conn at (step.Call 0) items)
+        (items ≡ []) → calls_shown on items ≤ cond (at.0 == on.0) 1 0
+    by_link true runs =
+        runs_few form.kind (Some (shell_ask form.kind cmd.Disconnect)) calls conn on at (at.0 == on.0) refl
+        (step.Call 0) items runs
+    by_link false none = shown_none on items _ (ap (numbers_on on) none)
+
+-- the closings of structures from one on make one call at most, and none on those before it
+closings_few : (histories : List AnyHistory) (conn : ConnId) (on : StrNo) (first : ℕ) (forms : List StrForm)
+    (before items : List Shown) → ShowsClosings histories conn first forms before items
+    → (calls_shown on items ≤ 0) ⊎ ((first ≤ on.0) × (calls_shown on items ≤ 1))
+closings_few histories conn on first [] before items shows = inl (shown_none on items 0 (ap (numbers_on on) shows))
+closings_few histories conn on first (form ∷ forms) before items shows =
+    let rest = shows.1 in
+    by_place (first == on.0) refl
+    (closing_few form _ conn on (record { 0 = first }) before shows.0 rest.2)
+    (closings_few histories conn on (first + 1) forms before rest.0 rest.3)
+    (shown_both on items shows.0 rest.0 rest.1)
+  where
+    by_place : {here others all : ℕ} (b : Bool) → first == on.0 ≡ b → here ≤ cond b 1 0
+        → (others ≤ 0) ⊎ ((first + 1 ≤ on.0) × (others ≤ 1)) → all ≡ here + others
+        → (all ≤ 0) ⊎ ((first ≤ on.0) × (all ≤ 1))
+    by_place true is one (inl none) both = inr (grind (arith, nat_tests), omega arith)
+    by_place true is one (inr later) both = absurd (grind (arith, nat_tests))
+    by_place false is none (inl others) both = inl (omega arith)
+    by_place false is none (inr later) both = inr (omega arith, omega arith)
+
+-- so a caller closes each structure once at most
+closings_one : (histories : List AnyHistory) (conn : ConnId) (on : StrNo) (forms : List StrForm)
+    (before items : List Shown) → ShowsClosings histories conn 0 forms before items → calls_shown on items ≤ 1
+closings_one histories conn on forms before items shows =
+    one (closings_few histories conn on 0 forms before items shows)
+  where
+    one : {n : ℕ} → (n ≤ 0) ⊎ ((0 ≤ on.0) × (n ≤ 1)) → n ≤ 1
+    one (inl none) = omega arith
+    one (inr few) = few.1
+
+-- ---- a caller
+
+-- how many calls the closing of a caller makes on a structure at most: the operator has none
+abbrev pub most_at_end : ℕ → ℕ
+most_at_end zero = 0
+most_at_end (suc conn) = 1
+
+some_at_end : (c : ℕ) → c ≢ 0 → most_at_end c ≡ 1
+some_at_end zero other = absurd (other refl)
+some_at_end (suc c) other = refl
+
+-- a caller whose work is done
+pub follows_few : (script : Script) (histories : List AnyHistory) (conn : ConnId) (on : StrNo) (items : List Shown)
+    → Follows script histories conn items
+    → calls_shown on items ≤ most_of_lines on (lines_of script conn) + most_at_end conn.0
+follows_few script histories conn on items follows =
+    omega (
+      arith,
+      shown_both on items follows.during follows.after follows.shows,
+      lines_few script.structures histories on (lines_of script conn) follows.during follows.lines,
+      at_end (conn.0 == 0) refl follows.closings,
+    )
+  where
+    at_end : (b : Bool) → conn.0 == 0 ≡ b
+        → MatchBool b (follows.after ≡ [])
+        (ShowsClosings histories conn 0 script.structures follows.during follows.after)
+        → calls_shown on follows.after ≤ most_at_end conn.0
+    at_end true is none = shown_none on follows.after _ (ap (numbers_on on) none)
+    at_end false is closings =
+        let one : most_at_end conn.0 ≡ 1 = some_at_end conn.0 (λ zero. grind (arith, nat_tests)) in
+        rw one (closings_one histories conn on script.structures follows.during follows.after closings)
+
+-- a caller that stops at a full journal, in the work of a line, in its closing, or in either
+stops_in_line_few : (script : Script) (histories : List AnyHistory) (conn : ConnId) (on : StrNo) (items : List Shown)
+    (full : StrNo) → StopsInLine script histories conn items full
+    → calls_shown on items ≤ most_of_lines on (lines_of script conn)
+stops_in_line_few script histories conn on items full stops =
+    let line : Line = stops.line in
+    let same : full.0 == on.0 ≡ line.on.0 == on.0 = sym (ap (λ (at : StrNo). at.0 == on.0) stops.there) in
+    omega (
+      arith,
+      shown_both on items stops.during stops.last stops.shows,
+      lines_few script.structures histories on stops.before stops.during stops.played,
+      runs_up_to_few stops.form.kind (call_of line.act) _ conn on full (line.on.0 == on.0) same _ stops.last
+          stops.stopped,
+      ap (most_of_lines on) stops.lines ∙ sum_by-append (most_on on) stops.before (line ∷ stops.later),
+      sum_by-cons (most_on on) line stops.later,
+    )
+
+stops_in_closing_few : (script : Script) (histories : List AnyHistory) (conn : ConnId) (on : StrNo)
+    (items : List Shown) (full : StrNo) → StopsInClosing script histories conn items full
+    → calls_shown on items ≤ most_of_lines on (lines_of script conn) + most_at_end conn.0
+stops_in_closing_few script histories conn on items full stops =
+    omega (
+      arith,
+      shown_both on items stops.during stops.after stops.shows,
+      lines_few script.structures histories on (lines_of script conn) stops.during stops.lines,
+      closings_one histories conn on (take full.0 script.structures) stops.during stops.after stops.closings,
+      some_at_end conn.0 stops.connector,
+    )
+
+pub stops_few : (script : Script) (histories : List AnyHistory) (conn : ConnId) (on : StrNo)
+    (items : List Shown) (full : StrNo)
+    → StopsInLine script histories conn items full ⊎ StopsInClosing script histories conn items full
+    → calls_shown on items ≤ most_of_lines on (lines_of script conn) + most_at_end conn.0
+stops_few script histories conn on items full (inl stops) =
+    omega (arith, stops_in_line_few script histories conn on items full stops)
+stops_few script histories conn on items full (inr stops) =
+    stops_in_closing_few script histories conn on items full stops

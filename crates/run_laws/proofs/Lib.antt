@@ -1,0 +1,16 @@
+pub mod Cuts
+pub mod Callers
+pub mod Works
+pub mod Heard
+pub mod Played
+pub mod Entries
+pub mod Items
+pub mod Histories
+pub mod Sizes
+pub mod Readings
+pub mod Tests
+pub mod MarkLaws
+pub mod ValidLaws
+pub mod ShareLaws
+pub mod CountLaws
+pub mod BoundLaws

@@ -1,0 +1,73 @@
+-- Where the links of what is no facility answered nothing, each mark names a facility.
+use Rattle.std.proofs.Common.{◌≡◌, ℕ, ◌+◌, ◌≤◌, ◌<◌, ◌==◌, ◌⊎◌, inl, inr, Bool, true, false, List, [], ◌∷◌, length, refl, sym, ap, ◌∙◌, arith}
+use Rattle.std.specs.Prelude.{filter, if◌then◌else◌}
+use Rattle.std.proofs.lemmas.Bool.{cases_lt}
+use Rattle.std.proofs.lemmas.Bool.Decides.{nat_tests}
+use Rattle.cf_types.specs.Forms.{IsFacility}
+use Rattle.cf_types.specs.declared.forms.StrForm.{StrForm}
+use Rattle.cf_types.specs.declared.numbers.CfId.{CfId}
+use Rattle.engine_api.specs.declared.asks.What.{What}
+use Rattle.engine_api.specs.declared.asks.What.TheVariants as what
+use Rattle.engine_api.specs.declared.histories.Entry.{Entry}
+use Rattle.engine_api.specs.Answers.{is_mark_as, marks_at, trues}
+use Rattle.engine_api.proofs.AnswerLaws.{marks_counted}
+use Rattle.cache_model.specs.Meaning.{cache_meaning}
+use Rattle.list_model.specs.Meaning.{list_meaning}
+use Rattle.lock_model.specs.Meaning.{lock_meaning}
+use Rattle.plex_script.specs.declared.asks.AnyHistory.{AnyHistory}
+use Rattle.plex_script.specs.declared.asks.AnyHistory.TheVariants as history
+use Rattle.run_model.specs.Kinds.{IsAnyLegal, any_answers}
+use Rattle.run_laws.specs.Readings.{NamesFacility, NamesFacilities, MarksFacilities}
+
+facility_or : (cf : CfId) → IsFacility cf ⊎ (¬ IsFacility cf)
+facility_or cf =
+    elim (cases_lt cf.0 1) [
+      | inl low ↦ inr (λ (it : IsFacility cf). (let one : 1 ≤ cf.0 = it.0 in omega arith))
+      | inr high ↦ elim (cases_lt 4 cf.0) [
+        | inl above ↦ inr (λ (it : IsFacility cf). (let four : cf.0 ≤ 4 = it.1 in omega arith))
+        | inr within ↦ inl (high, within)
+      ]
+    ]
+
+-- no mark of what is no facility
+abbrev NoOther : {C R : Type 0} → List (Entry C R) → Type 0
+NoOther entries = (cf : CfId) → ¬ IsFacility cf → marks_at entries cf ≡ 0
+
+module _ {C R : Type 0} where
+  more_marks : (entry : Entry C R) (entries : List (Entry C R)) (cf : CfId) (b : Bool)
+      → is_mark_as cf entry.what ≡ b
+      → marks_at (entry ∷ entries) cf ≡ (if b then 1 else 0) + marks_at entries cf
+  more_marks entry entries cf true is = rw is (omega arith)
+  more_marks entry entries cf false is = rw is (omega arith)
+
+  rest_none : (entry : Entry C R) (entries : List (Entry C R)) → NoOther (entry ∷ entries) → NoOther entries
+  rest_none entry entries none cf other = go (is_mark_as cf entry.what) refl
+    where
+      go : (b : Bool) → is_mark_as cf entry.what ≡ b → marks_at entries cf ≡ 0
+      go true is = let all = more_marks entry entries cf true is in omega (arith, all, none cf other)
+      go false is = let all = more_marks entry entries cf false is in omega (arith, all, none cf other)
+
+  first_named : (entry : Entry C R) (entries : List (Entry C R)) (told : What C) → entry.what ≡ told
+      → NoOther (entry ∷ entries) → NamesFacility told
+  first_named entry entries (what.Call ask) is none = tt
+  first_named entry entries (what.Lost cf) is none = elim (facility_or cf) [
+    | inl here ↦ here
+    | inr other ↦
+        let itself : cf.0 == cf.0 ≡ true = grind (arith, nat_tests) in
+        let mark : is_mark_as cf entry.what ≡ true = rw is itself in
+        let all = more_marks entry entries cf true mark in absurd (omega (arith, all, none cf other))
+  ]
+
+  all_named : (entries : List (Entry C R)) → NoOther entries → NamesFacilities entries
+  all_named [] none = tt
+  all_named (entry ∷ entries) none =
+      (first_named entry entries entry.what refl none, all_named entries (rest_none entry entries none))
+
+pub marks_facilities : (form : StrForm) (entries : AnyHistory) → IsAnyLegal form entries
+    → ((cf : CfId) → ¬ IsFacility cf → any_answers form entries cf ≡ []) → MarksFacilities entries
+marks_facilities form (history.Cache entries) legal none =
+    all_named entries (λ cf other. marks_counted cache_meaning form entries legal cf ∙ ap trues (none cf other))
+marks_facilities form (history.List entries) legal none =
+    all_named entries (λ cf other. marks_counted list_meaning form entries legal cf ∙ ap trues (none cf other))
+marks_facilities form (history.Lock entries) legal none =
+    all_named entries (λ cf other. marks_counted lock_meaning form entries legal cf ∙ ap trues (none cf other))

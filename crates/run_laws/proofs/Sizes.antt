@@ -1,0 +1,132 @@
+-- No history and no transcript is longer than the report.
+use Rattle.std.proofs.Common.{◌≡◌, ℕ, zero, suc, ◌+◌, ◌≤◌, ◌<◌, ◌^◌, List, [], ◌∷◌, ◌++◌, length, map, Option, Some, None, slice_get, refl, ap, arith, length-append}
+use Rattle.std.specs.Prelude.{codes}
+use Rattle.std.proofs.lemmas.List.{length-map}
+use Rattle.cf_types.specs.declared.numbers.StrNo.{StrNo}
+use Rattle.plex_script.specs.declared.asks.AnyHistory.{AnyHistory}
+use Rattle.plex_script.specs.declared.asks.AnyHistory.TheVariants as history
+use Rattle.plex_script.specs.declared.scripts.Script.{Script}
+use Rattle.plex_script.specs.declared.transcripts.Transcript.{Transcript}
+use Rattle.plex_script.specs.Heard.{any_length, length_on}
+use Rattle.plex_report.specs.CommandWords.{cache_words, list_words, lock_words}
+use Rattle.plex_report.specs.ReplyWords.{cache_reply_words, list_reply_words, lock_reply_words}
+use Rattle.plex_plain.specs.PolicyLines.{facility_line, connector_line}
+use Rattle.plex_report.specs.Lines.{entry_line, history_lines, transcript_lines, shown_line}
+use Rattle.plex_report.specs.Report.{by_number, lines_each, structures_lines, histories_lines, transcripts_lines, report_lines}
+use Rattle.run_laws.specs.Readings.{Reading, report_of}
+use Rattle.run_laws.proofs.Cuts.{text-long}
+
+-- ---- within their lines
+
+history_long : (script : Script) (n : ℕ) (entries : AnyHistory)
+    → length (history_lines script n entries) ≡ any_length entries + 1
+history_long script n (history.Cache entries) = omega
+    (arith, length-map entries (entry_line cache_words cache_reply_words script))
+history_long script n (history.List entries) = omega
+    (arith, length-map entries (entry_line list_words list_reply_words script))
+history_long script n (history.Lock entries) = omega
+    (arith, length-map entries (entry_line lock_words lock_reply_words script))
+
+each_long : (script : Script) (n x : ℕ) (histories : List AnyHistory) (entries : AnyHistory)
+    → slice_get histories x ≡ Some entries
+    → any_length entries < length (lines_each (λ i h. history_lines script i h) n histories)
+each_long script n x [] entries e = absurd (nothing x e)
+  where
+    nothing : (x : ℕ) → slice_get [] x ≡ Some entries → ⊥
+    nothing zero e = cc
+    nothing (suc x) e = cc
+each_long script n zero (first ∷ histories) entries e =
+    let same : first ≡ entries = cc in
+    omega (
+      arith,
+      ap any_length same,
+      history_long script n first,
+      length-append (history_lines script n first) (lines_each (λ i h. history_lines script i h) (n + 1) histories),
+    )
+each_long script n (suc x) (first ∷ histories) entries e =
+    omega (
+      arith,
+      each_long script (n + 1) x histories entries e,
+      length-append (history_lines script n first) (lines_each (λ i h. history_lines script i h) (n + 1) histories),
+    )
+
+transcripts_long : (script : Script) (n c : ℕ) (transcripts : List Transcript) (transcript : Transcript)
+    → slice_get transcripts c ≡ Some transcript
+    → length transcript.items < length (lines_each (λ i t. transcript_lines script i t) n transcripts)
+transcripts_long script n c [] transcript e = absurd (nothing c e)
+  where
+    nothing : (c : ℕ) → slice_get [] c ≡ Some transcript → ⊥
+    nothing zero e = cc
+    nothing (suc c) e = cc
+transcripts_long script n zero (first ∷ transcripts) transcript e =
+    let same : first ≡ transcript = cc in
+    omega (
+      arith,
+      ap (λ (t : Transcript). length t.items) same,
+      length-map first.items (shown_line script),
+      length-append (transcript_lines script n first)
+          (lines_each (λ i t. transcript_lines script i t) (n + 1) transcripts),
+    )
+transcripts_long script n (suc c) (first ∷ transcripts) transcript e =
+    omega (
+      arith,
+      transcripts_long script (n + 1) c transcripts transcript e,
+      length-append (transcript_lines script n first)
+          (lines_each (λ i t. transcript_lines script i t) (n + 1) transcripts),
+    )
+
+-- ---- within the report
+
+module _ (script : Script) (reading : Reading) (short : length (report_of script reading) < 2 ^ 64) where
+  abbrev histories : List AnyHistory
+  histories = reading.histories
+
+  -- no history is longer than the report
+  lines_within : length (histories_lines script histories) ≤ length (report_of script reading)
+  lines_within =
+      let behind : List (List ℕ) = transcripts_lines script reading.transcripts ++ codes "END" ∷ [] in
+      omega (
+        arith,
+        text-long (report_lines script histories reading.transcripts),
+        length-append (map facility_line (by_number script.facilities))
+            (structures_lines script ++
+            (map connector_line script.connectors ++ (histories_lines script histories ++ behind))),
+        length-append (structures_lines script)
+            (map connector_line script.connectors ++ (histories_lines script histories ++ behind)),
+        length-append (map connector_line script.connectors) (histories_lines script histories ++ behind),
+        length-append (histories_lines script histories) behind,
+      )
+
+  -- so in a report of fewer than 2^64 bytes each length has at most 64 bits
+  pub short_at : (x : ℕ) (entries : AnyHistory) → slice_get histories x ≡ Some entries → any_length entries < 2 ^ 64
+  short_at x entries there = omega (arith, each_long script 0 x histories entries there, lines_within, short)
+
+  pub small : (on : StrNo) → length_on histories on < 2 ^ 64
+  small on = by_place (slice_get histories on.0) refl
+    where
+      by_place : (o : Option AnyHistory) → slice_get histories on.0 ≡ o → length_on histories on < 2 ^ 64
+      by_place None e = rw e (omega arith)
+      by_place (Some entries) e = rw e (short_at on.0 entries e)
+
+  -- no transcript is longer than the report
+  transcripts_within : length (transcripts_lines script reading.transcripts) ≤ length (report_of script reading)
+  transcripts_within =
+      let end : List (List ℕ) = codes "END" ∷ [] in
+      let behind : List (List ℕ) = transcripts_lines script reading.transcripts ++ end in
+      omega (
+        arith,
+        text-long (report_lines script histories reading.transcripts),
+        length-append (map facility_line (by_number script.facilities))
+            (structures_lines script ++
+            (map connector_line script.connectors ++ (histories_lines script histories ++ behind))),
+        length-append (structures_lines script)
+            (map connector_line script.connectors ++ (histories_lines script histories ++ behind)),
+        length-append (map connector_line script.connectors) (histories_lines script histories ++ behind),
+        length-append (histories_lines script histories) behind,
+        length-append (transcripts_lines script reading.transcripts) end,
+      )
+
+  pub few_at : (c : ℕ) (transcript : Transcript) → slice_get reading.transcripts c ≡ Some transcript
+      → length transcript.items < 2 ^ 64
+  few_at c transcript there =
+      omega (arith, transcripts_long script 0 c reading.transcripts transcript there, transcripts_within, short)

@@ -1,0 +1,225 @@
+-- A report that shows histories, whose tests tell what stood, shows numbers of at most 64 bits.
+use Rattle.std.proofs.Common.{◌≡◌, ℕ, zero, suc, ◌+◌, ◌*◌, ◌≤◌, ◌<◌, ◌==◌, ◌&&◌, ◌^◌, nat_lt, Bool, true, false, List, [], ◌∷◌, ◌++◌, length, Option, Some, None, slice_get, get_or, refl, sym, subst, arith}
+use Rattle.std.specs.Bool.{MatchBool}
+use Rattle.std.proofs.lemmas.Bool.Decides.{nat_tests}
+use Rattle.std.proofs.lemmas.Option.{slice_get-get_or, slice_get_within}
+use Rattle.cf_types.specs.declared.forms.Kind.{Kind}
+use Rattle.cf_types.specs.declared.forms.StrForm.{StrForm}
+use Rattle.cf_types.specs.declared.numbers.ConnId.{ConnId}
+use Rattle.cf_types.specs.declared.numbers.StrNo.{StrNo}
+use Rattle.cf_types.specs.declared.shell_commands.ShellCmd.TheVariants as cmd
+use Rattle.plex_script.specs.declared.agents.Step.{Step}
+use Rattle.plex_script.specs.declared.agents.Step.TheVariants as step
+use Rattle.plex_script.specs.declared.asks.AnyHistory.{AnyHistory}
+use Rattle.plex_script.specs.declared.asks.AnyHistory.TheVariants as history
+use Rattle.plex_script.specs.declared.scripts.AnyAsk.{AnyAsk}
+use Rattle.plex_script.specs.declared.scripts.Act.{Act}
+use Rattle.plex_script.specs.declared.scripts.Act.TheVariants as act
+use Rattle.plex_script.specs.declared.scripts.Line.{Line}
+use Rattle.plex_script.specs.declared.scripts.Script.{Script}
+use Rattle.plex_script.specs.declared.transcripts.AgentEnd.{AgentEnd}
+use Rattle.plex_script.specs.declared.transcripts.AgentEnd.TheVariants as ended
+use Rattle.plex_script.specs.declared.transcripts.Shown.{Shown}
+use Rattle.plex_script.specs.declared.transcripts.Shown.TheVariants as shown
+use Rattle.plex_script.specs.declared.transcripts.Transcript.{Transcript}
+use Rattle.plex_script.specs.Agent.{first_step, step_after, shell_ask}
+use Rattle.plex_script.specs.Heard.{AnyCall, any_length, calls_on}
+use Rattle.plex_script.specs.Follows.{Runs, ShowsTest, ShowsWord, ShowsAct, ShowsLines, ShowsClosing, ShowsClosings, Follows, lines_of, is_linked_by}
+use Rattle.run_model.proofs.WordLaws.{word_below}
+use Rattle.run_model.specs.Headline.{EndsRight, IsHistoryOf, ShowsHistories}
+use Rattle.run_laws.specs.Readings.{Reading, ShowsNumbers, IsReading, report_of, MarksFacilities}
+use Rattle.run_laws.proofs.Histories.{legal_point}
+use Rattle.run_laws.proofs.Sizes.{short_at}
+
+-- ---- where tests are
+
+-- a test is at a structure, and a word that a test shows begins within the vector
+abbrev IsPlaced : List StrForm → Shown → Type 0
+IsPlaced forms (shown.Call place number) = Unit {0}
+IsPlaced forms (shown.Test place index bit at) = (form : StrForm) × (slice_get forms place.0 ≡ Some form)
+IsPlaced forms (shown.Word place word bits at) =
+    (form : StrForm) × (slice_get forms place.0 ≡ Some form) × (32 * word < form.vector)
+IsPlaced forms (shown.BadIndex place index word len) = Unit {0}
+IsPlaced forms (shown.Posted place sure) = Unit {0}
+IsPlaced forms (shown.Took place sure) = Unit {0}
+
+abbrev ArePlaced : List StrForm → List Shown → Type 0
+ArePlaced forms [] = Unit {0}
+ArePlaced forms (item ∷ items) = IsPlaced forms item × ArePlaced forms items
+
+placed-append : (forms : List StrForm) (xs ys : List Shown) → ArePlaced forms xs → ArePlaced forms ys
+    → ArePlaced forms (xs ++ ys)
+placed-append forms [] ys h k = k
+placed-append forms (x ∷ xs) ys h k = (h.0, placed-append forms xs ys h.1 k)
+
+placed_at : (forms : List StrForm) (items : List Shown) (k : ℕ) (item : Shown) → ArePlaced forms items
+    → slice_get items k ≡ Some item → IsPlaced forms item
+placed_at forms [] k item h e = absurd (nothing k e)
+  where
+    nothing : (k : ℕ) → slice_get [] k ≡ Some item → ⊥
+    nothing zero e = cc
+    nothing (suc k) e = cc
+placed_at forms (x ∷ items) zero item h e = let same : x ≡ item = cc in subst (IsPlaced forms) same h.0
+placed_at forms (x ∷ items) (suc k) item h e = placed_at forms items k item h.1 e
+
+module _ (forms : List StrForm) where
+  runs_placed : (k : Kind) (asked : Option AnyAsk) (calls : List AnyCall) (by : ConnId) (on : StrNo) (now : Step)
+      (items : List Shown) → Runs k asked calls by on now items → ArePlaced forms items
+  runs_placed k asked calls by on now [] runs = tt
+  runs_placed k asked calls by on now (shown.Call place number ∷ items) runs = (
+    tt,
+    runs_placed k asked calls by on (step_after now runs.0) items runs.3,
+  )
+  runs_placed k asked calls by on now (shown.Test place index bit at ∷ items) runs = absurd runs
+  runs_placed k asked calls by on now (shown.Word place word bits at ∷ items) runs = absurd runs
+  runs_placed k asked calls by on now (shown.BadIndex place index word len ∷ items) runs = absurd runs
+  runs_placed k asked calls by on now (shown.Posted place sure ∷ items) runs = absurd runs
+  runs_placed k asked calls by on now (shown.Took place sure ∷ items) runs = absurd runs
+
+  test_placed : (form : StrForm) (on : StrNo) (index : ℕ) (items : List Shown) → slice_get forms on.0 ≡ Some form
+      → ShowsTest form on index items → ArePlaced forms items
+  test_placed form on index items known shows = by_test (nat_lt index form.vector) shows
+    where
+      by_test : (b : Bool)
+          → MatchBool b ((bit : Bool) × ((at : ℕ) × (items ≡ shown.Test on index bit at ∷ [])))
+          (items ≡ shown.BadIndex on index false form.vector ∷ [])
+          → ArePlaced forms items
+      by_test true (bit, (at, is)) = subst (ArePlaced forms) (sym is) ((form, known), tt)
+      by_test false is = subst (ArePlaced forms) (sym is) (tt, tt)
+
+  word_placed : (form : StrForm) (on : StrNo) (word : ℕ) (items : List Shown) → slice_get forms on.0 ≡ Some form
+      → ShowsWord form on word items → ArePlaced forms items
+  word_placed form on word items known shows = by_test (nat_lt (32 * word) form.vector) refl shows
+    where
+      by_test : (b : Bool) → nat_lt (32 * word) form.vector ≡ b
+          → MatchBool b ((bits : ℕ) × ((at : ℕ) × (items ≡ shown.Word on word bits at ∷ [])))
+          (items ≡ shown.BadIndex on word true form.vector ∷ [])
+          → ArePlaced forms items
+      by_test true begins (bits, (at, is)) =
+          let inside : 32 * word < form.vector = grind (arith, nat_tests) in
+          subst (ArePlaced forms) (sym is) ((form, known, inside), tt)
+      by_test false past is = subst (ArePlaced forms) (sym is) (tt, tt)
+
+  act_placed : (form : StrForm) (calls : List AnyCall) (by : ConnId) (on : StrNo) (retry : ℕ) (done : Act)
+      (items : List Shown) → slice_get forms on.0 ≡ Some form → ShowsAct form calls by on retry done items
+      → ArePlaced forms items
+  act_placed form calls by on retry (act.Call asked) items known shows =
+      runs_placed form.kind (Some asked) calls by on (step.Call retry) items shows
+  act_placed form calls by on retry act.Events items known shows =
+      runs_placed form.kind None calls by on (first_step act.Events retry) items shows
+  act_placed form calls by on retry (act.Test index) items known shows =
+      test_placed form on index items known shows
+  act_placed form calls by on retry (act.TestWord word) items known shows =
+      word_placed form on word items known shows
+  act_placed form calls by on retry act.Post items known (sure, is) = subst (ArePlaced forms) (sym is) (tt, tt)
+  act_placed form calls by on retry act.Take items known (sure, is) = subst (ArePlaced forms) (sym is) (tt, tt)
+
+  lines_placed : (histories : List AnyHistory) (lines : List Line) (items : List Shown)
+      → ShowsLines forms histories lines items → ArePlaced forms items
+  lines_placed histories [] items shows = subst (ArePlaced forms) (sym shows) tt
+  lines_placed histories (line ∷ lines) items (form, (first, (others, known, split, shows, more))) =
+      let here : ArePlaced forms first = act_placed form (calls_on histories line.on) line.by line.on line.retry
+      line.act first known shows in
+      subst (ArePlaced forms) (sym split)
+      (placed-append forms first others here (lines_placed histories lines others more))
+
+  closing_placed : (form : StrForm) (calls : List AnyCall) (conn : ConnId) (on : StrNo) (before items : List Shown)
+      → ShowsClosing form calls conn on before items → ArePlaced forms items
+  closing_placed form calls conn on before items shows = by_link (is_linked_by calls conn on before) shows
+    where
+      by_link : (b : Bool)
+          → MatchBool b (Runs form.kind (Some (shell_ask form.kind cmd.Disconnect)) calls conn on (step.Call 0) items)
+          (items ≡ [])
+          → ArePlaced forms items
+      by_link true runs = runs_placed form.kind (Some (shell_ask form.kind cmd.Disconnect)) calls conn on
+          (step.Call 0) items runs
+      by_link false none = subst (ArePlaced forms) (sym none) tt
+
+  closings_placed : (histories : List AnyHistory) (conn : ConnId) (on : ℕ) (more : List StrForm)
+      (before items : List Shown)
+      → ShowsClosings histories conn on more before items → ArePlaced forms items
+  closings_placed histories conn on [] before items shows = subst (ArePlaced forms) (sym shows) tt
+  closings_placed histories conn on (form ∷ more) before items (first, (others, split, shows, behind)) =
+      let place : StrNo = record { 0 = on } in
+      let here : ArePlaced forms first = closing_placed form (calls_on histories place) conn place before first
+      shows in
+      subst (ArePlaced forms) (sym split)
+      (placed-append forms first others here
+      (closings_placed histories conn (on + 1) more before others behind))
+
+follows_placed : (script : Script) (histories : List AnyHistory) (conn : ConnId) (items : List Shown)
+    → Follows script histories conn items → ArePlaced script.structures items
+follows_placed script histories conn items follows =
+    let forms = script.structures in
+    subst (ArePlaced forms) (sym follows.shows)
+    (placed-append forms follows.during follows.after
+    (lines_placed forms histories (lines_of script conn) follows.during follows.lines)
+    (departs (conn.0 == 0) follows.closings))
+  where
+    departs : (b : Bool)
+        → MatchBool b (follows.after ≡ []) (ShowsClosings histories conn 0 script.structures follows.during
+        follows.after)
+        → ArePlaced script.structures follows.after
+    departs true none = subst (ArePlaced script.structures) (sym none) tt
+    departs false shows = closings_placed script.structures histories conn 0 script.structures follows.during
+        follows.after shows
+
+-- ---- what tests show
+
+module _ (limit : ℕ) (script : Script) (reading : Reading)
+    (shows : ShowsHistories limit script reading.histories reading.transcripts)
+    (done : (c : ℕ) (transcript : Transcript) → slice_get reading.transcripts c ≡ Some transcript
+    → transcript.end ≡ ended.Done) (short : length (report_of script reading) < 2 ^ 64) where
+  history_at : (x : ℕ) (form : StrForm) → slice_get script.structures x ≡ Some form
+      → (entries : AnyHistory) × (slice_get reading.histories x ≡ Some entries) × IsHistoryOf script form entries
+  history_at x form known =
+      let within : x < length reading.histories = omega
+      (arith, slice_get_within script.structures x form known, shows.structures) in
+      let there = slice_get-get_or reading.histories x (history.Cache []) within in (
+        get_or reading.histories x (history.Cache []),
+        there,
+        shows.histories_right x form (get_or reading.histories x (history.Cache [])) known there,
+      )
+
+  follows_of : (c : ℕ) (transcript : Transcript) → slice_get reading.transcripts c ≡ Some transcript
+      → Follows script reading.histories (record { 0 = c }) transcript.items
+  follows_of c transcript there =
+      subst (λ (end : AgentEnd). EndsRight limit script reading.histories (record { 0 = c }) transcript.items end)
+      (done c transcript there) (shows.ends c transcript there)
+
+  numbers_at : (c k : ℕ) (transcript : Transcript) (item : Shown) → slice_get reading.transcripts c ≡ Some transcript
+      → slice_get transcript.items k ≡ Some item → IsPlaced script.structures item → ShowsNumbers item
+  numbers_at c k transcript (shown.Call on number) there e placed = tt
+  numbers_at c k transcript (shown.Test on index bit at) there e (form, known) =
+      let it = history_at on.0 form known in
+      let tells = shows.tests c transcript there k (shown.Test on index bit at) form it.0 e known it.1 in
+      let low : at ≤ any_length it.0 = legal_point form it.0 at _ _ index bit it.2.legal tells.tells in
+      omega (arith, low, short_at script reading short on.0 it.0 it.1)
+  numbers_at c k transcript (shown.Word on word bits at) there e (form, known, inside) =
+      let it = history_at on.0 form known in
+      let tells = shows.tests c transcript there k (shown.Word on word bits at) form it.0 e known it.1 in
+      let first = tells.each 0 (omega arith) (omega (arith, inside)) in
+      let low : at ≤ any_length it.0 = legal_point form it.0 at _ _ (32 * word + 0) (tells.bits 0) it.2.legal
+      first.tells in (
+        omega (arith, tells.made, word_below (λ j. nat_lt (32 * word + j) form.vector && tells.bits j) 32),
+        omega (arith, low, short_at script reading short on.0 it.0 it.1),
+      )
+  numbers_at c k transcript (shown.BadIndex on index word len) there e placed = tt
+  numbers_at c k transcript (shown.Posted on sure) there e placed = tt
+  numbers_at c k transcript (shown.Took on sure) there e placed = tt
+
+  -- what shows histories, with every caller's work done, is a reading
+  pub is_reading : ((x : ℕ) (entries : AnyHistory) → slice_get reading.histories x ≡ Some entries
+      → MarksFacilities entries) → IsReading script reading
+  is_reading facilities =
+      record {
+        facilities = facilities;
+        structures = shows.structures;
+        histories_right = shows.histories_right;
+        callers = shows.callers;
+        follows = λ c transcript there. (done c transcript there, follows_of c transcript there);
+        numbers = λ c k transcript item there e. numbers_at c k transcript item there e
+            (placed_at script.structures transcript.items k item
+            (follows_placed script reading.histories (record { 0 = c }) transcript.items
+            (follows_of c transcript there)) e);
+      }

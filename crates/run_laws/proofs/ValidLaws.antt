@@ -1,0 +1,50 @@
+-- A test of a run that shows a valid copy tells a fresh one.
+use Rattle.std.proofs.Common.{ℕ, Bool, List, take, subst}
+use Rattle.cf_types.specs.declared.forms.StrForm.{StrForm}
+use Rattle.cf_types.specs.declared.numbers.ConnId.{ConnId}
+use Rattle.cf_types.specs.declared.numbers.StrNo.{StrNo}
+use Rattle.cache_model.specs.Meaning.{cache_meaning}
+use Rattle.engine_api.specs.History.{Tells}
+use Rattle.cache_laws.specs.Histories.{CacheHistory, IsLegalCache}
+use Rattle.cache_laws.proofs.FreshLaws.{fresh-test}
+use Rattle.plex_script.specs.declared.asks.AnyHistory.{AnyHistory}
+use Rattle.plex_script.specs.declared.asks.AnyHistory.TheVariants as history
+use Rattle.plex_script.specs.declared.scripts.Script.{Script}
+use Rattle.plex_script.specs.declared.transcripts.Shown.{Shown}
+use Rattle.plex_script.specs.declared.transcripts.Shown.TheVariants as shown
+use Rattle.plex_script.specs.declared.transcripts.Transcript.{Transcript}
+use Rattle.plex_script.specs.Follows.{surest_on}
+use Rattle.run_model.specs.Headline.{ShowsHistories, TellsBit, TellsOf, place_of}
+use Rattle.run_laws.specs.Valid.{BitTellsFresh, TellsFreshBy, ShowsFresh}
+
+bit_fresh : (form : StrForm) (entries : CacheHistory) (conn : ConnId) (on : StrNo) (before : List Shown)
+    (at index : ℕ) (bit : Bool)
+    → IsLegalCache form entries → TellsBit form (history.Cache entries) conn on before at index bit
+    → BitTellsFresh form entries conn on before at index bit
+bit_fresh form entries conn on before at index bit legal tells stood =
+    let sure : ℕ = surest_on on before in
+    fresh-test form entries legal at sure conn index
+    (subst (λ (b : Bool). Tells cache_meaning form entries at sure conn index b) stood tells.tells)
+
+item_fresh : (form : StrForm) (entries : CacheHistory) (conn : ConnId) (on : StrNo) (before : List Shown)
+    (item : Shown)
+    → IsLegalCache form entries → TellsOf form (history.Cache entries) conn on before item
+    → TellsFreshBy form entries conn on before item
+item_fresh form entries conn on before (shown.Test place index bit at) legal tells =
+    bit_fresh form entries conn on before at index bit legal tells
+item_fresh form entries conn on before (shown.Word place word value at) legal tells =
+    record {
+      bits = tells.bits;
+      made = tells.made;
+      each = λ k few within. bit_fresh form entries conn on before at _ (tells.bits k) legal
+          (tells.each k few within);
+    }
+item_fresh form entries conn on before _ legal tells = tt
+
+pub valid-is-fresh : (limit : ℕ) (script : Script) (histories : List AnyHistory) (transcripts : List Transcript)
+    → ShowsHistories limit script histories transcripts → ShowsFresh script histories transcripts
+valid-is-fresh limit script histories transcripts shows c k transcript item form entries of_caller there known
+    of_structure =
+    item_fresh form entries (record { 0 = c }) (place_of item) (take k transcript.items) item
+    (shows.histories_right (place_of item).0 form (history.Cache entries) known of_structure).legal
+    (shows.tests c transcript of_caller k item form (history.Cache entries) there known of_structure)

@@ -1,5 +1,0 @@
-pub mod Numbers
-pub mod Serial
-pub mod Headline
-pub mod Runnable
-pub mod RunLinks

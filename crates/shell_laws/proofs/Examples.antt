@@ -1,0 +1,209 @@
+-- Rebuilds, read at each place where something changes: one that ends, one that is stopped, one in which a connector
+-- fails while the new instance is filled, and two in which a facility is varied off.
+use Rattle.std.proofs.Common.{◌≡◌, ℕ, List, [], ◌∷◌, ◌++◌, Option, None, Some, take, true, false, refl}
+use Rattle.cf_types.specs.declared.events.Event.{Event}
+use Rattle.cf_types.specs.declared.events.Event.TheVariants as event
+use Rattle.cf_types.specs.declared.events.Stage.{Stage}
+use Rattle.cf_types.specs.declared.events.Stage.TheVariants.{Quiesce, Connect, Copy, Cleanup, Stopping}
+use Rattle.cf_types.specs.declared.forms.Caps.{Caps}
+use Rattle.cf_types.specs.declared.numbers.CfId.{CfId}
+use Rattle.cf_types.specs.declared.numbers.ConnId.{ConnId}
+use Rattle.cf_types.specs.declared.shell_commands.ShellCmd.{ShellCmd}
+use Rattle.cf_types.specs.declared.shell_commands.ShellCmd.TheVariants as cmd
+use Rattle.cf_types.specs.declared.shell_commands.ShellReply.{ShellReply}
+use Rattle.cf_types.specs.declared.shell_commands.ShellReply.TheVariants as shown
+use Rattle.cf_types.specs.declared.refusals.Refusal.TheVariants as refusal
+use Rattle.engine_api.specs.declared.asks.Ask.TheVariants as ask
+use Rattle.engine_api.specs.declared.asks.Reply.TheVariants as reply
+use Rattle.engine_api.specs.declared.asks.What.TheVariants as what
+use Rattle.engine_api.specs.declared.histories.Entry.{Entry}
+use Rattle.rebuild_core.specs.declared.rebuild.Rebuild.{Rebuild}
+use Rattle.shell_laws.specs.Readings.{rebuild_told}
+
+abbrev op : ConnId
+op = record { 0 = 0 }
+
+abbrev a : ConnId
+a = record { 0 = 1 }
+
+abbrev b : ConnId
+b = record { 0 = 2 }
+
+abbrev cf2 : CfId
+cf2 = record { 0 = 2 }
+
+abbrev both : List ConnId
+both = a ∷ b ∷ []
+
+-- contents and their replies are numbers here
+abbrev Row : Type 0
+Row = Entry ℕ ℕ
+
+abbrev said : ℕ → ConnId → ShellCmd → ShellReply → Row
+said at by command answer =
+    record { no = at; by = by; what = what.Call (ask.Shell command); reply = reply.Shell answer }
+
+abbrev done : ℕ → ConnId → Row
+done at by = record { no = at; by = by; what = what.Call (ask.Content 0); reply = reply.Content 0 }
+
+abbrev event_taken : ℕ → ConnId → Event → Row
+event_taken at by taken = said at by cmd.Next (shown.Event taken)
+
+abbrev answered : ℕ → ConnId → Event → Row
+answered at by event = said at by cmd.Respond (shown.Responded event)
+
+abbrev no_event : ℕ → ConnId → Row
+no_event at by =
+    record { no = at; by = by; what = what.Call (ask.Shell cmd.Next); reply = reply.Refused refusal.NoEvent }
+
+abbrev caps : Caps
+caps = record { entries = 10; elements = 10 }
+
+-- up to the first item that is copied
+abbrev begin : List Row
+begin =
+    said 1 a (cmd.Connect false) (shown.OkNew (record { 0 = 1 })) ∷ said 2 b (cmd.Connect false)
+    (shown.OkNew (record { 0 = 1 })) ∷ done 3 a ∷ done 4 b ∷ said 5 op (cmd.RebuildStart caps) (shown.OkNumber 1)
+    ∷ event_taken 6 a (event.NewConn b) ∷ event_taken 7 a (event.Quiesce 1) ∷ answered 8 a (event.Quiesce 1)
+    ∷ no_event 9 a ∷ done 10 a ∷ done 11 b ∷ event_taken 12 b (event.Quiesce 1) ∷ answered 13 b (event.Quiesce 1)
+    ∷ event_taken 14 b (event.RebuildConnect 1) ∷ no_event 15 b ∷ said 16 a cmd.RebuildConnect (shown.OkAt cf2)
+    ∷ said 17 b cmd.RebuildConnect (shown.OkAt cf2) ∷ said 18 a (cmd.Copy 1) (shown.Copied 1 1) ∷ []
+
+abbrev read_at : ℕ → List Row → Option Rebuild
+read_at n history = rebuild_told (λ before. both) (take n history)
+
+abbrev rebuild : ℕ → Stage → (members owing : List ConnId) → Option CfId → Rebuild
+rebuild number stage members owing fresh =
+    record { number = number; stage = stage; members = members; owing = owing; caps = caps; fresh = fresh }
+
+-- ---- a rebuild that ends
+
+abbrev whole : List Row
+whole =
+    begin ++ (record {
+      no = 19;
+      by = a;
+      what = what.Call (ask.Shell cmd.RebuildComplete);
+      reply = reply.Refused (refusal.ItemsLeft 1);
+    }
+    ∷ said 20 a (cmd.Copy 1) (shown.Copied 1 0) ∷ said 21 a cmd.RebuildComplete shown.Ok
+    ∷ said 22 b cmd.RebuildComplete shown.Ok ∷ event_taken 23 a (event.RebuildConnect 1)
+    ∷ event_taken 24 a (event.ConnectsDone 1) ∷ event_taken 25 a (event.Cleanup 1) ∷ answered 26 a (event.Cleanup 1)
+    ∷ no_event 27 a ∷ event_taken 28 b (event.ConnectsDone 1) ∷ event_taken 29 b (event.Cleanup 1)
+    ∷ answered 30 b (event.Cleanup 1) ∷ [])
+
+before-start : read_at 4 whole ≡ None
+before-start = refl
+
+at-start : read_at 5 whole ≡ Some (rebuild 1 Quiesce both both None)
+at-start = refl
+
+a-quiesced : read_at 8 whole ≡ Some (rebuild 1 Quiesce both (b ∷ []) None)
+a-quiesced = refl
+
+both-quiesced : read_at 13 whole ≡ Some (rebuild 1 Connect both both None)
+both-quiesced = refl
+
+a-connected : read_at 16 whole ≡ Some (rebuild 1 Connect both (b ∷ []) (Some cf2))
+a-connected = refl
+
+both-connected : read_at 17 whole ≡ Some (rebuild 1 Copy both both (Some cf2))
+both-connected = refl
+
+a-refused : read_at 19 whole ≡ Some (rebuild 1 Copy both both (Some cf2))
+a-refused = refl
+
+a-completed : read_at 21 whole ≡ Some (rebuild 1 Copy both (b ∷ []) (Some cf2))
+a-completed = refl
+
+both-completed : read_at 22 whole ≡ Some (rebuild 1 Cleanup both both None)
+both-completed = refl
+
+a-cleaned : read_at 29 whole ≡ Some (rebuild 1 Cleanup both (b ∷ []) None)
+a-cleaned = refl
+
+at-end : read_at 30 whole ≡ None
+at-end = refl
+
+-- ---- one that is stopped, and another behind it
+
+abbrev stopped : List Row
+stopped =
+    begin ++ (said 19 op cmd.RebuildStop shown.Ok ∷ done 20 a ∷ event_taken 21 a (event.RebuildConnect 1)
+    ∷ event_taken 22 a (event.ConnectsDone 1) ∷ event_taken 23 a (event.Stop 1) ∷ answered 24 a (event.Stop 1)
+    ∷ no_event 25 a ∷ event_taken 26 b (event.ConnectsDone 1) ∷ event_taken 27 b (event.Stop 1)
+    ∷ answered 28 b (event.Stop 1) ∷ event_taken 29 b (event.StopDone 1) ∷ no_event 30 b
+    ∷ said 31 op (cmd.RebuildStart caps) (shown.OkNumber 2) ∷ said 32 b cmd.Fail shown.Ok
+    ∷ event_taken 33 a (event.StopDone 1) ∷ event_taken 34 a (event.Quiesce 2) ∷ answered 35 a (event.Quiesce 2) ∷ [])
+
+at-stop : read_at 19 stopped ≡ Some (rebuild 1 Stopping both both None)
+at-stop = refl
+
+a-stopped : read_at 24 stopped ≡ Some (rebuild 1 Stopping both (b ∷ []) None)
+a-stopped = refl
+
+both-stopped : read_at 28 stopped ≡ None
+both-stopped = refl
+
+started-again : read_at 31 stopped ≡ Some (rebuild 2 Quiesce both both None)
+started-again = refl
+
+b-failed : read_at 32 stopped ≡ Some (rebuild 2 Quiesce (a ∷ []) (a ∷ []) None)
+b-failed = refl
+
+a-alone : read_at 35 stopped ≡ Some (rebuild 2 Connect (a ∷ []) (a ∷ []) None)
+a-alone = refl
+
+-- ---- one in which a connector fails behind another's COMPLETE
+
+abbrev emptied : List Row
+emptied =
+    begin ++ (said 19 b cmd.Fail shown.Ok ∷ said 20 a (cmd.Copy 4) (shown.Copied 2 0)
+    ∷ said 21 a cmd.RebuildComplete shown.Ok ∷ event_taken 22 a (event.RebuildConnect 1)
+    ∷ event_taken 23 a (event.ConnectsDone 1) ∷ event_taken 24 a (event.DiscFail b)
+    ∷ answered 25 a (event.DiscFail b) ∷ event_taken 26 a (event.Cleanup 1) ∷ answered 27 a (event.Cleanup 1) ∷ [])
+
+a-owes : read_at 20 emptied ≡ Some (rebuild 1 Copy (a ∷ []) (a ∷ []) (Some cf2))
+a-owes = refl
+
+a-cleans : read_at 25 emptied ≡ Some (rebuild 1 Cleanup (a ∷ []) (a ∷ []) None)
+a-cleans = refl
+
+nobody-owes : read_at 27 emptied ≡ None
+nobody-owes = refl
+
+-- a COMPLETE before the failure counts no more
+completed-again : read_at 20
+    (begin ++ (said 19 a cmd.RebuildComplete shown.Ok ∷ said 20 b cmd.Fail shown.Ok ∷ []))
+    ≡ Some (rebuild 1 Copy (a ∷ []) (a ∷ []) (Some cf2))
+completed-again = refl
+
+-- ---- two in which a facility is varied off: that of the new instance, and that of the only one
+
+abbrev cf1 : CfId
+cf1 = record { 0 = 1 }
+
+abbrev new_lost : List Row
+new_lost =
+    begin ++ (said 19 op (cmd.Vary cf2 true) (shown.Stopped 1) ∷ event_taken 20 a (event.RebuildConnect 1)
+    ∷ event_taken 21 a (event.ConnectsDone 1) ∷ event_taken 22 a (event.Stop 1) ∷ answered 23 a (event.Stop 1) ∷ [])
+
+at-vary : read_at 19 new_lost ≡ Some (rebuild 1 Stopping both both None)
+at-vary = refl
+
+a-answered : read_at 23 new_lost ≡ Some (rebuild 1 Stopping both (b ∷ []) None)
+a-answered = refl
+
+abbrev old_lost : List Row
+old_lost =
+    take 5 begin ++ (said 6 op (cmd.Vary cf1 true) shown.FailedNow ∷ event_taken 7 a (event.NewConn b)
+    ∷ event_taken 8 a (event.Quiesce 1) ∷ answered 9 a (event.Quiesce 1) ∷ [])
+
+begun-once : read_at 5 old_lost ≡ Some (rebuild 1 Quiesce both both None)
+begun-once = refl
+
+at-failure : read_at 6 old_lost ≡ None
+at-failure = refl
+
+none-behind : read_at 9 old_lost ≡ None
+none-behind = refl

@@ -1,0 +1,69 @@
+-- What is to be shown of what holds after every history.
+use Rattle.std.specs.Prelude.{◌≡◌, Bool, false, ◌&&◌, List, [], ◌∷◌, ◌++◌, None, Some}
+use Rattle.cf_types.specs.declared.forms.Caps.{Caps}
+use Rattle.cf_types.specs.declared.forms.StrForm.{StrForm}
+use Rattle.cf_types.specs.declared.numbers.ConnId.{ConnId}
+use Rattle.cf_types.specs.declared.shell_commands.ShellCmd.{ShellCmd}
+use Rattle.cf_types.specs.declared.shell_commands.ShellCmd.TheVariants as cmd
+use Rattle.engine_api.specs.declared.asks.Ask.TheVariants as ask
+use Rattle.engine_api.specs.declared.asks.What.TheVariants as what
+use Rattle.engine_api.specs.declared.histories.Entry.{Entry}
+use Rattle.engine_api.specs.Meaning.{Meaning}
+use Rattle.engine_api.specs.History.{replay}
+use Rattle.engine_api.specs.Shapes.{shape_of}
+use Rattle.engine_api.specs.Shell.{Leaver, leaver}
+use Rattle.shell_laws.specs.Accepted.{accepted_as}
+use Rattle.shell_laws.proofs.Moves.{stands_in}
+
+module _ {C R I S : Type 0} (meaning : Meaning C R I S) (form : StrForm) where
+  -- of a content alone: the empty one has it, and each step, departure, return and end of registrations keeps it
+  pub record IsKept (P : S → Type 0) : Type 0 where
+    pub empty : P (meaning.empty (shape_of form))
+    pub done : (caps : Caps) (state : S) (by : ConnId) (command : C)
+        → meaning.cause (shape_of form) caps state by command ≡ None → P state
+        → P (meaning.done (shape_of form) caps state by command).state
+    pub leave : (state : S) (conn : ConnId) (keep : Bool) → P state
+        → P (meaning.leave (shape_of form) state conn keep).state
+    pub back : (state : S) (conn : ConnId) → P state → P (meaning.back state conn)
+    pub forget : (state : S) → P state → P (meaning.forget state)
+
+  -- the entry does no command on the content
+  abbrev pub IsQuiet : Entry C R → Type 0
+  IsQuiet entry = accepted_as entry.what entry.reply ≡ None
+
+  -- the entry is one by which a connector departs
+  pub record IsDeparture (history : List (Entry C R)) (entry : Entry C R) (who : Leaver) : Type 0 where
+    pub command : ShellCmd
+    pub asked : entry.what ≡ what.Call (ask.Shell command)
+    pub leaves : leaver (replay meaning form history).shell entry.by command ≡ Some who
+
+  -- the caller of the entry comes back
+  pub record IsReturn (entry : Entry C R) : Type 0 where
+    pub keep : Bool
+    pub asked : entry.what ≡ what.Call (ask.Shell (cmd.Connect keep))
+
+  abbrev pub IsGone : (history : List (Entry C R)) → Entry C R → Type 0
+  IsGone history entry =
+      stands_in (replay meaning form history) && stands_in (replay meaning form (history ++ entry ∷ [])) ≡ false
+
+  -- of a history and the content that it leaves: it holds before the first entry, and each entry keeps it, in whichever
+  -- way it changes the content
+  pub record IsTraced (P : List (Entry C R) → S → Type 0) : Type 0 where
+    pub none : P [] (meaning.empty (shape_of form))
+    pub done : (history : List (Entry C R)) (entry : Entry C R) (command : C)
+        → let before = replay meaning form history in
+        let outcome = meaning.done (shape_of form) before.shell.caps before.content entry.by command in
+        accepted_as entry.what entry.reply ≡ Some (record { command = command; answer = outcome.reply })
+        → meaning.cause (shape_of form) before.shell.caps before.content entry.by command ≡ None
+        → P history before.content → P (history ++ entry ∷ []) outcome.state
+    pub same : (history : List (Entry C R)) (entry : Entry C R) (state : S) → IsQuiet entry
+        → P history state → P (history ++ entry ∷ []) state
+    pub leave : (history : List (Entry C R)) (entry : Entry C R) (who : Leaver) (state : S) → IsQuiet entry
+        → IsDeparture history entry who → P history state
+        → P (history ++ entry ∷ []) (meaning.leave (shape_of form) state who.conn who.keep).state
+    pub back : (history : List (Entry C R)) (entry : Entry C R) (state : S) → IsQuiet entry → IsReturn entry
+        → P history state → P (history ++ entry ∷ []) (meaning.back state entry.by)
+    pub forget : (history : List (Entry C R)) (entry : Entry C R) (state : S) → IsQuiet entry
+        → P history state → P (history ++ entry ∷ []) (meaning.forget state)
+    pub clear : (history : List (Entry C R)) (entry : Entry C R) (state : S) → IsQuiet entry → IsGone history entry
+        → P history state → P (history ++ entry ∷ []) (meaning.empty (shape_of form))

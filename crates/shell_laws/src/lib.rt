@@ -1,0 +1,11 @@
+//! Laws of the machine of a structure of whatever kind: what a history says of its rebuild, who the
+//! members are, what is in a new instance, what the content fits, and what so holds after every
+//! history. Definitions and laws, no code.
+#![tactic(auto)]
+
+mod laws;
+
+pub use laws::{
+    content_waits, copies_a_front, fills_in_copy_alone, holds_at_its_capacity, keeps_what_is_told,
+    loss_of_the_new_keeps_the_content, members_are_active, stop_keeps_the_content,
+};
