@@ -1,5 +1,6 @@
 -- What is known of a record that a command names.
-use Rattle.std.proofs.Common.{◌≡◌, ℕ, Bool, true, Option, Some, None, is_some, unwrap_or, refl, ap, ◌∙◌}
+use Rattle.std.proofs.Common.{◌≡◌, ℕ, Bool, true, Option, Some, None, is_some, unwrap_or, refl, sym, ap, ◌∙◌, subst}
+use Rattle.std.specs.Prelude.{IfSome}
 use Rattle.std.specs.List.{list_any}
 use Rattle.std.proofs.lemmas.Bool.{false≢true}
 use Rattle.list_laws.proofs.FilterLaws.{any_is_found}
@@ -17,6 +18,17 @@ pub found-any : (lists : Lists) (at : At) → IsFound lists at → list_any (is_
 found-any lists at is =
     any_is_found (is_id (the_record lists at).id) (all_records lists)
     ∙ ap (λ (o : Option Rec). is_some o) is.by_id ∙ is.there
+
+-- it has the name of the one with its id
+pub found-named : (lists : Lists) (at : At) → IsFound lists at
+    → IfSome (record_of (the_record lists at).id lists) (λ old. old.name ≡ (the_record lists at).name)
+found-named lists at is =
+    subst (λ (o : Option Rec). IfSome o (λ old. old.name ≡ (the_record lists at).name)) (sym is.by_id)
+    (go (record_at lists at))
+  where
+    go : (o : Option Rec) → IfSome o (λ old. old.name ≡ (unwrap_or o no_record).name)
+    go None = tt
+    go (Some rec) = refl
 
 -- it is the record that is taken out and put back
 pub found-put_back : (head : Bool) (header : ℕ) (key : Option Key16) (lists : Lists) (at : At) → IsFound lists at

@@ -94,7 +94,8 @@ possible shape caps content by (Move at header head key version cond) is h =
           header none.1.1.1.1.1.1.0),
     )
 possible shape caps content by (Delete at version cond) is h =
-    let none = none_hold (causes shape caps content by (Delete at version cond)) h in found content.lists at is.one_for_id
+    let none = none_hold (causes shape caps content by
+    (Delete at version cond)) h in found content.lists at is.one_for_id
     none.1.1.1.1.0
 possible shape caps content by (ReadList header) is h = tt
 possible shape caps content by (LockSet lock) is h =

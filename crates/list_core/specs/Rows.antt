@@ -7,16 +7,19 @@ use Rattle.list_watch.specs.Monitors.{AreMonitors}
 use Rattle.list_model.specs.declared.items.ListItem.{ListItem}
 use Rattle.list_model.specs.declared.items.ListItem.TheVariants.{Controls, Row}
 use Rattle.list_model.specs.Contents.{Content, has_records}
-use Rattle.list_model.specs.Items.{Triple, monitor_of}
+use Rattle.list_model.specs.Items.{Triple, monitor_of, content_with}
+use Rattle.list_kept.specs.Orderly.{IsOrderly}
 
 -- a monitor whose connector was told whether its header has records
 abbrev pub told_row : Lists → Triple → Watched
 told_row lists watch =
     record { monitor = monitor_of watch; full = has_records lists (monitor_of watch).header }
 
--- a record has a header and an id of its own; monitors are apart
+-- a record has a header and an id of its own, and leaves the records in order; monitors are apart
 abbrev pub IsPlaceable : Content → ListItem → Type 0
 IsPlaceable content (Controls next limits locks watches) =
     AreMonitors (map monitor_of watches)
 IsPlaceable content (Row header id version name key body adj) =
-    (header < length content.lists) × (list_any (is_id id) (all_records content.lists) ≡ false)
+    (header < length content.lists)
+    × (list_any (is_id id) (all_records content.lists) ≡ false)
+    × IsOrderly (content_with content (Row header id version name key body adj)).lists

@@ -183,6 +183,7 @@ impl Engine for ListEngine {
           planned = is.planned;
           room = record {
             records = is.room.records;
+            names = is.room.names;
             monitors = is.room.monitors;
             bits = le-trans is.room.bits bits;
             ids = is.room.ids;

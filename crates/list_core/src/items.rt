@@ -1,6 +1,6 @@
 //! The items of a copy: the controls, where they differ from those of an empty structure, and then
 //! the records.
-ghost use Rattle.std.specs.Prelude.{◌≡◌, ◌+◌, ◌<◌, ◌++◌, ◌∷◌, [], IfOk, IfErr, OnOk, OnErr, Some, length, map, slice_get};
+ghost use Rattle.std.specs.Prelude.{◌≡◌, ◌+◌, ◌<◌, ◌++◌, ◌∷◌, [], IfOk, IfErr, OnOk, OnErr, Some, length, map, option_map, slice_get};
 ghost use Rattle.list_store.specs.Lists.{count_of};
 ghost use Rattle.list_watch.specs.declared.monitors.Watched.{Watched};
 ghost use Rattle.list_model.specs.Items.{has_controls, controls_of, row_of, rows_from, items_of, triple_of, content_with};
@@ -107,6 +107,18 @@ fn row(alloc: Global, header: u32, rec: &Rec) -> Result<ListItem, NoMemory>
     })
 }
 
+// A copy of the record at a place of a header.
+fn row_at(alloc: Global, kept: &Kept, header: u32, place: u32) -> Result<ListItem, NoMemory>
+    requires { place < length (records_of kept.now.content.lists header) }
+    ensures { IfOk result (λ item. option_map (row_of header)
+        (slice_get (records_of kept.now.content.lists header) place) ≡ Some item) }
+{
+    match kept.at(header, place) {
+        Some(rec) => row(alloc, header, rec),
+        None => unreachable!(),
+    }
+}
+
 // A copy of a record, counted from 0.
 fn copy_row(alloc: Global, kept: &Kept, k: u32) -> Result<ListItem, NoMemory>
     requires { k < count_of kept.now.content.lists }
@@ -116,7 +128,7 @@ fn copy_row(alloc: Global, kept: &Kept, k: u32) -> Result<ListItem, NoMemory>
     for header in 0..kept.headers() {
         let len = kept.len(header);
         if left < len {
-            return row(alloc, header, &kept.records(header)[left as usize]);
+            return row_at(alloc, kept, header, left);
         }
         left -= len;
     }
@@ -182,6 +194,7 @@ fn rows_of(
 fn place_row(kept: &mut Kept, header: u32, rec: Rec) -> Result<(), ListItem>
     requires header { header < length kept.old.content.lists }
     requires alone { list_any (is_id rec.id) (all_records kept.old.content.lists) ≡ false }
+    requires orderly { IsOrderly (content_with kept.old.content (row_of header rec)).lists }
     ensures ok { OnOk result (kept.new.content
         ≡ content_with kept.old.content (row_of header rec)) }
     ensures err { OnErr result (kept.new.content ≡ kept.old.content) }
@@ -212,7 +225,8 @@ fn place_row(kept: &mut Kept, header: u32, rec: Rec) -> Result<(), ListItem>
 }
 
 ghost use Rattle.std.specs.Prelude.{false};
-ghost use Rattle.list_store.specs.Lists.{all_records, is_id};
+ghost use Rattle.list_store.specs.Lists.{all_records, is_id, records_of};
+ghost use Rattle.list_kept.specs.Orderly.{IsOrderly};
 
 /// Puts an item behind the others; want of memory hands it back.
 pub(crate) fn place_item(alloc: Global, kept: &mut Kept, item: ListItem) -> Result<(), ListItem>

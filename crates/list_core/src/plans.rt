@@ -8,6 +8,7 @@ ghost use Rattle.list_model.specs.Contents.{stands};
 ghost use Rattle.list_model.specs.Commands.Write as write;
 ghost use Rattle.list_model.specs.Step.{cause, reply, after};
 ghost use Rattle.list_kept.specs.ContentView.{IsRoomy};
+ghost use Rattle.list_kept.specs.Orderly.{IsOrderly};
 ghost use Rattle.list_core.specs.Plans.{body_of, plan_unless, plan_for, IsPossible};
 
 use crate::commands::{
@@ -148,6 +149,7 @@ pub(crate) fn act(kept: &mut Kept, body: Option<Body>, by: ConnId, cmd: &ListCmd
     requires room { IsRoomy kept.old out.old.bits.room }
     requires possible { IsPossible kept.old.content cmd.now }
     requires copied { body ≡ body_of kept.old.content cmd.now }
+    requires orderly { IsOrderly (after kept.old.content by cmd.now).lists }
     ensures content { kept.new.content ≡ after kept.old.content by cmd.now }
     ensures bits { Gains (stands kept.old.content) (stands kept.new.content) out.old.bits.items
         out.new.bits.items }

@@ -8,7 +8,7 @@ ghost use Rattle.list_model.specs.Contents.{refs_of, locks_of, is_held_by};
 ghost use Rattle.list_model.specs.Refusals.{lock_refusal, held_refusal, not_held_refusal, cond_lock_refusal, cond_refusal, header_refusal, reference_refusal, has_names, has_keys, new_key_refusal, ref_header_refusal, ref_form_refusal, record_refusal, version_refusal, taken_refusal, name_refusal, full_refusal, entries_refusal, elements_refusal, index_refusal, other_refusal, in_use_refusal};
 
 use cf_types::{At, Caps, Cond, ConnId, EntryId, Key16, Kind, Name16, Refs, Refusal};
-use list_kept::{Kept, count, elements_of_others, named, record_at};
+use list_kept::{Kept, count, elements_of_others, record_at};
 use list_store::Rec;
 
 /// The first cause that holds.
@@ -268,7 +268,7 @@ pub(crate) fn name_refusal(kept: &Kept, name: Option<Name16>) -> Option<Refusal>
     ensures { result ≡ name_refusal (all_records kept.now.content.lists) name }
 {
     match name {
-        Some(name) => taken_refusal(named(kept, &name)),
+        Some(name) => taken_refusal(kept.named(&name)),
         None => None,
     }
 }

@@ -4,9 +4,9 @@ use Rattle.std.proofs.lemmas.Bool.Decides.{nat_tests}
 use Rattle.list_store.specs.declared.records.Rec.{Rec}
 use Rattle.list_store.specs.Lists.{Lists, all_records, records_of, with_records, count_of}
 use Rattle.list_store.specs.StoreView.{IsLastFull}
-use Rattle.list_store.proofs.RecordLaws.{all-split}
-use Rattle.list_store.proofs.PlaceLaws as store
-use Rattle.list_store.proofs.PlaceLaws.{popped}
+use Rattle.record_lists.proofs.AllLaws.{all-split}
+use Rattle.record_lists.proofs.AllLaws as store
+use Rattle.record_lists.proofs.AllLaws.{popped}
 use Rattle.list_model.specs.Lists.{first_records}
 
 pub some_test : (n : ℕ) → 0 < n → not (n == 0) ≡ true

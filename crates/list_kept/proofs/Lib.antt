@@ -1,3 +1,6 @@
 pub mod ToldLaws
 pub mod ReadLaws
 pub mod LastLaws
+pub mod PlaceLaws
+pub mod KeyedLaws
+pub mod NamedLaws

@@ -1,20 +1,24 @@
 -- A content as the engine keeps it.
-use Rattle.std.specs.Prelude.{ℕ, ◌+◌, ◌<◌, ◌≤◌, Bool, not, if◌then◌else◌, Option, None, Some, length}
+use Rattle.std.specs.Prelude.{◌≡◌, ℕ, ◌+◌, ◌<◌, ◌≤◌, Bool, not, if◌then◌else◌, Option, None, Some, length}
 use Rattle.cf_types.specs.declared.names.Key16.{Key16}
 use Rattle.list_store.specs.declared.records.Rec.{Rec}
 use Rattle.list_model.specs.Keys.{key_up_to}
 use Rattle.list_watch.specs.Rows.{monitors_of}
-use Rattle.list_store.specs.Lists.{Lists}
+use Rattle.list_store.specs.Lists.{Lists, all_records}
+use Rattle.list_model.specs.Records.{elements_in}
+use Rattle.list_kept.specs.Named.{AreNamed}
 use Rattle.list_model.specs.Lists.{with_record}
 use Rattle.list_model.specs.Commands.Move.{with_new_key}
 use Rattle.list_model.specs.Contents.{Content}
 use Rattle.list_kept.specs.declared.keeping.Kept.TheInside.{Inside}
 use Rattle.list_kept.specs.Told.{AreTold}
+use Rattle.list_kept.specs.Orderly.{IsOrderly}
 
--- the content, and for how many more records and monitors there is room
+-- the content, and for how many more records, names and monitors there is room
 pub record ContentView : Type 0 where
   pub content : Content
   pub record_room : ℕ
+  pub name_room : ℕ
   pub monitor_room : ℕ
 
 abbrev pub content_of : Inside → Content
@@ -29,15 +33,20 @@ content_of k =
 
 abbrev pub content_view : Inside → ContentView
 content_view k =
-    record { content = content_of k; record_room = k.store.room; monitor_room = k.watch.room }
+    record { content = content_of k; record_room = k.store.room; name_room = k.names.room; monitor_room = k.watch.room }
 
--- each connector was told of the header that it monitors
-abbrev pub IsKept : Inside → Type 0
-IsKept k = AreTold k.store.lists k.watch.rows
+-- each connector was told of the header that it monitors, the records are in order, each name has the
+-- id of the record that has the name, and the elements are counted
+pub record IsKept (k : Inside) : Type 0 where
+  pub told : AreTold k.store.lists k.watch.rows
+  pub orderly : IsOrderly k.store.lists
+  pub named : AreNamed k.names.names (all_records k.store.lists)
+  pub counted : k.elements ≡ elements_in (all_records k.store.lists)
 
--- there is room for a record, a monitor and the bits that change, and an id
+-- there is room for a record, a name, a monitor and the bits that change, and an id
 pub record IsRoomy (k : ContentView) (bit_room : ℕ) : Type 0 where
   pub records : 1 ≤ k.record_room
+  pub names : 1 ≤ k.name_room
   pub monitors : 1 ≤ k.monitor_room
   pub bits : length k.content.monitors + length k.content.monitors + 2 ≤ bit_room
   pub ids : k.content.next < 18446744073709551615

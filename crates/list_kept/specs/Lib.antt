@@ -1,2 +1,4 @@
 pub mod Told
+pub mod Orderly
+pub mod Named
 pub mod ContentView

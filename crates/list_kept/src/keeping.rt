@@ -1,26 +1,35 @@
 //! The content as it is kept: records, limits, list locks, monitors and the next id.
-ghost use Rattle.std.specs.Prelude.{◌≡◌, ◌+◌, ◌<◌, ◌≤◌, ◌∷◌, ◌++◌, [], false, true, IfOk, OnOk, OnErr, IfErr, None, if◌then◌else◌, length, map, filter, option_map, replicate, get_or, slice_set};
-ghost use Rattle.std.specs.List.{list_any};
+ghost use Rattle.std.specs.Prelude.{◌≡◌, ◌+◌, ◌<◌, ◌≤◌, ◌∷◌, ◌++◌, [], false, true, IfOk, OnOk, OnErr, IfErr, None, Some, if◌then◌else◌, length, map, filter, option_map, replicate, get_or, slice_get, slice_set};
+ghost use Rattle.std.specs.Prelude.{IsTrue, IfSome, find};
+ghost use Rattle.std.specs.List.{list_any, prefix_len};
 ghost use Rattle.cf_types.specs.Gains.{Gains};
-ghost use Rattle.list_store.specs.Lists.{all_records, records_of, is_id, record_of, lists_without, lists_replaced, with_records};
+ghost use Rattle.list_laws.specs.Pairwise.{pairwise};
+ghost use Rattle.list_store.specs.Lists.{all_records, records_of, is_id, record_of, ids_apart, lists_without, lists_replaced, with_records};
+ghost use Rattle.list_model.specs.Records.{may_precede, has_name, elements_in};
 ghost use Rattle.list_watch.specs.Monitors.{is_for, monitored_at, monitors_with, monitors_without};
 ghost use Rattle.list_model.specs.Contents.{no_content, headers_of, locks_of, holder_of, holder_without, stands, has_records, content_without};
 ghost use Rattle.list_model.specs.Lists.{header_of, stands_before, with_record};
 
-use cf_types::{ConnId, Effects, EntryId, Key16, Kind, NoMemory};
+use crate::placing::{add_name, drop_name, has_records, place_of, put, put_again, take};
+use crate::reading::elements_of;
+use cf_types::{ConnId, Effects, EntryId, Key16, Kind, Name16, NoMemory};
 use engine_api::Shape;
+use list_keys::Keys;
 use list_store::{Rec, Store};
 use list_watch::{Watch, Watched};
 use std::alloc::Global;
 use std::marker::Model;
 
-/// The content of a list structure: the records of each header, the headers' limits, the list
-/// locks, the monitors, and the id that the next record gets. Contracts see the content, and for
-/// how many more records and monitors there is room. Each connector was told whether the headers
-/// that the connector monitors have records.
+/// The content of a list structure: the records of each header, with their names and the elements
+/// that their data take, the headers' limits, the list locks, the monitors, and the id that the
+/// next record gets. Contracts see the content, and for how many more records, names and monitors
+/// there is room. Each connector was told whether the headers that the connector monitors have
+/// records.
 #[derive(Drop)]
 pub struct Kept {
     store: Store,
+    names: Keys,
+    elements: u32,
     limits: Vec<u32>,
     locks: Vec<Option<ConnId>>,
     watch: Watch,
@@ -79,46 +88,6 @@ fn release_all(locks: &mut Vec<Option<ConnId>>, conn: ConnId)
     }
 }
 
-// Whether a record stands before one that comes.
-fn stands_before(head: bool, key: Option<Key16>, other: &Rec) -> bool
-    ensures { result ≡ comes_behind head key other.now }
-{
-    if head {
-        !up_to(key, other.key)
-    } else {
-        up_to(other.key, key)
-    }
-}
-
-ghost use Rattle.list_kept.specs.ContentView.{comes_behind};
-ghost use Rattle.list_model.specs.Keys.{key_up_to};
-
-// Whether a key isn't behind another.
-fn up_to(key: Option<Key16>, other: Option<Key16>) -> bool
-    ensures { result ≡ key_up_to key other }
-{
-    match key {
-        None => true,
-        Some(key) => match other {
-            None => false,
-            Some(other) => !other.cmp(&key).is_lt(),
-        },
-    }
-}
-
-// Where a record comes to stand.
-fn place_of(recs: &[Rec], head: bool, key: Option<Key16>) -> u32
-    requires { length recs.now < 4294967296 }
-    ensures place { result ≡ prefix_len (comes_behind head key) recs.now }
-    ensures bound { result ≤ length recs.now }
-{
-    recs.iter()
-        .take_while(|other| stands_before(head, key, other))
-        .count() as u32
-}
-
-ghost use Rattle.std.specs.List.{prefix_len};
-
 // How many monitors of a header a connector has.
 fn count_rows(rows: &[Watched], conn: ConnId, header: u32) -> u32
     requires { length rows.now < 4294967296 }
@@ -147,65 +116,6 @@ fn free_locks(locks: &mut Vec<Option<ConnId>>)
     }
 }
 
-// Whether a header has records.
-fn has_records(store: &Store, header: u32) -> bool
-    ensures { result ≡ has_records store.now.lists header }
-{
-    header < store.headers() && store.len(header) > 0
-}
-
-// Takes away the record with an id.
-fn drop_record(store: &mut Store, id: EntryId)
-    ensures { store.new.lists ≡ lists_without id store.old.lists }
-{
-    let _ = store.take(id);
-}
-
-// Puts in a record, at its place in a header.
-fn put(store: &mut Store, header: u32, head: bool, rec: Rec)
-    requires room { 1 ≤ store.old.room }
-    requires header { header < length store.old.lists }
-    requires alone { list_any (is_id rec.id) (all_records store.old.lists) ≡ false }
-    ensures { store.new.lists ≡ with_record head header rec store.old.lists }
-{
-    let place = place_of(store.records(header), head, rec.key);
-    store.add(header, place, rec);
-}
-
-// Takes out the record with an id, and puts it in a header, with a new key if one is given.
-fn put_again(store: &mut Store, id: EntryId, header: u32, head: bool, key: Option<Key16>)
-    requires room { 1 ≤ store.old.room }
-    requires header { header < length store.old.lists }
-    requires there { list_any (is_id id) (all_records store.old.lists) ≡ true }
-    ensures { store.new.lists
-        ≡ put_back head header key (record_of id store.old.lists)
-        (lists_without id store.old.lists) }
-{
-    match store.take(id) {
-        Some(rec) => {
-            let Rec {
-                id,
-                version,
-                name,
-                key: old,
-                body,
-                adj,
-            } = rec;
-            let key = key.or(old);
-            let rec = Rec {
-                id,
-                version,
-                name,
-                key,
-                body,
-                adj,
-            };
-            put(store, header, head, rec);
-        }
-        None => unreachable!(),
-    }
-}
-
 // A connector that departs lets go of its list locks, unless they are kept for it.
 fn release_unless(locks: &mut Vec<Option<ConnId>>, keep: bool, conn: ConnId)
     ensures { locks.new.items ≡ (if keep then locks.old.items else map (holder_without conn)
@@ -222,6 +132,15 @@ impl Kept {
     pub fn new(alloc: Global, shape: Shape) -> Result<Kept, NoMemory>
         ensures { IfOk result (λ kept. kept.content ≡ no_content shape) }
     {
+        let names = Keys::new(alloc)?;
+        Kept::with_names(alloc, shape, names)
+    }
+
+    // The content of a new structure of a shape, where there are no names.
+    fn with_names(alloc: Global, shape: Shape, names: Keys) -> Result<Kept, NoMemory>
+        requires { names.names ≡ [] }
+        ensures { IfOk result (λ kept. kept.content ≡ no_content shape) }
+    {
         let headers = headers_of(shape.kind);
         let locks = locks_of(shape.kind);
         let store = Store::new(alloc, shape.caps.entries, shape.caps.elements, headers)?;
@@ -230,6 +149,8 @@ impl Kept {
         let watch = Watch::new(alloc, shape.conns, shape.vector)?;
         Ok(Kept {
             store,
+            names,
+            elements: 0,
             limits,
             locks: holders,
             watch,
@@ -242,11 +163,14 @@ impl Kept {
         ensures { IfOk result (λ copy. copy.content ≡ self.now.content) }
     {
         let store = self.store.copy(alloc)?;
+        let names = self.names.copy(alloc)?;
         let limits = Vec::from_slice(alloc, self.limits.as_slice())?;
         let locks = Vec::from_slice(alloc, self.locks.as_slice())?;
         let watch = self.watch.copy(alloc)?;
         Ok(Kept {
             store,
+            names,
+            elements: self.elements,
             limits,
             locks,
             watch,
@@ -254,9 +178,9 @@ impl Kept {
         })
     }
 
-    /// Takes room for one record and one monitor more, and room in the effects for the bits that
-    /// one command tells. The error is want of memory, or of ids: the next one is the last of 64
-    /// bits. The content stays as it was either way.
+    /// Takes room for one record, one name and one monitor more, and room in the effects for the
+    /// bits that one command tells. The error is want of memory, or of ids: the next one is the
+    /// last of 64 bits. The content stays as it was either way.
     pub fn reserve(&mut self, out: &mut Effects) -> Result<(), NoMemory>
         ensures content { self.new.content ≡ self.old.content }
         ensures room { OnOk result (IsRoomy self.new out.new.bits.room) }
@@ -267,6 +191,7 @@ impl Kept {
             return Err(NoMemory);
         }
         self.store.room()?;
+        self.names.room()?;
         self.watch.room(out)
     }
 
@@ -277,13 +202,16 @@ impl Kept {
         self.store.headers()
     }
 
-    /// The records of a header, in order. The header is there.
-    pub fn records(&self, header: u32) -> &[Rec]
-        requires { header < length self.now.content.lists }
-        ensures records { result.now ≡ records_of self.now.content.lists header }
-        ensures few { length result.now < 4294967296 }
+    /// The record at a place of a header, both from 0; none where there is no such record.
+    pub fn at(&self, header: u32, place: u32) -> Option<&Rec>
+        ensures { option_map (λ rec. rec.now) result
+            ≡ slice_get (records_of self.now.content.lists header) place }
     {
-        self.store.records(header)
+        if header < self.store.headers() {
+            self.store.at(header, place)
+        } else {
+            None
+        }
     }
 
     /// How many records a header has; 0 where there is no such header.
@@ -297,19 +225,53 @@ impl Kept {
         }
     }
 
+    /// Where a record with a key comes to stand in a header, before its equals at the head and
+    /// behind them at the tail; 0 where there is no such header.
+    pub fn place_of(&self, header: u32, head: bool, key: Key16) -> u32
+        ensures place { result ≡ prefix_len (comes_behind head (Some key))
+            (records_of self.now.content.lists header) }
+        ensures ordered { IsTrue (pairwise may_precede
+            (records_of self.now.content.lists header)) }
+    {
+        if header < self.store.headers() {
+            place_of(&self.store, header, head, Some(key))
+        } else {
+            0
+        }
+    }
+
     /// The record with an id, in whichever header; none where there is no such record.
     pub fn get(&self, id: EntryId) -> Option<&Rec>
-        ensures { option_map (λ rec. rec.now) result ≡ record_of id self.now.content.lists }
+        ensures record { option_map (λ rec. rec.now) result ≡ record_of id self.now.content.lists }
+        ensures apart { IsTrue (pairwise ids_apart (all_records self.now.content.lists)) }
     {
         self.store.get(id)
+    }
+
+    /// The record with a name, in whichever header; none where there is no such record.
+    pub fn named(&self, name: &Name16) -> Option<&Rec>
+        ensures { option_map (λ rec. rec.now) result ≡ find (has_name name.now)
+            (all_records self.now.content.lists) }
+    {
+        match self.names.by_name(name) {
+            Some(id) => self.store.get(id),
+            None => None,
+        }
+    }
+
+    /// How many elements of 256 bytes the data of all records take.
+    pub fn elements(&self) -> u32
+        ensures { result ≡ elements_in (all_records self.now.content.lists) }
+    {
+        self.elements
     }
 
     /// The header that the record with an id is in, from 0; 0 also where there is no such record.
     pub fn header_of(&self, id: EntryId) -> u32
         ensures { result ≡ header_of id self.now.content.lists }
     {
-        match self.store.whereabouts(id) {
-            Some(spot) => spot.header,
+        match self.store.header_of(id) {
+            Some(header) => header,
             None => 0,
         }
     }
@@ -394,12 +356,13 @@ impl Kept {
     }
 
     /// Puts a record at its place in a header: at the head or the tail of the records that its key
-    /// leaves it among. The header is there, no record has its id, and there is room. The next id
-    /// goes up by 1, and `out` is told the bits that change.
+    /// leaves it among. The header is there, no record has its id, the records stay in order, and
+    /// there is room. The next id goes up by 1, and `out` is told the bits that change.
     pub fn write(&mut self, header: u32, head: bool, rec: Rec, out: &mut Effects)
         requires room { IsRoomy self.old out.old.bits.room }
         requires header { header < length self.old.content.lists }
         requires alone { list_any (is_id rec.id) (all_records self.old.content.lists) ≡ false }
+        requires orderly { IsOrderly (with_record head header rec self.old.content.lists) }
         ensures content { self.new.content ≡ record self.old.content {
           lists = with_record head header rec self.old.content.lists;
           next = self.old.content.next + 1;
@@ -408,19 +371,32 @@ impl Kept {
             out.new.bits.items }
         ensures mail { out.new.mail ≡ out.old.mail }
     {
+        let id = rec.id;
+        let name = rec.name;
+        let need = elements_of(&rec.body);
         put(&mut self.store, header, head, rec);
+        add_name(&mut self.names, name, id);
+        self.elements += need;
         self.next += 1;
         let full = has_records(&self.store, header);
         self.watch.turned(header, full, out);
     }
 
-    /// Puts a record in place of the one with the same id, which is there.
+    /// Puts a record in place of the one with the same id, which is there and has the same name.
+    /// The records stay in order.
     pub fn replace(&mut self, rec: Rec)
-        requires { list_any (is_id rec.id) (all_records self.old.content.lists) ≡ true }
+        requires there { list_any (is_id rec.id) (all_records self.old.content.lists) ≡ true }
+        requires named { IfSome (record_of rec.id self.old.content.lists)
+            (λ old. old.name ≡ rec.name) }
+        requires orderly { IsOrderly (lists_replaced rec self.old.content.lists) }
         ensures { self.new.content
             ≡ record self.old.content { lists = lists_replaced rec self.old.content.lists } }
     {
-        let _ = self.store.set(rec.id, rec);
+        let need = elements_of(&rec.body);
+        let old = self.store.set(rec.id, rec);
+        self.elements -= elements_of(&old.body);
+        drop(old);
+        self.elements += need;
     }
 
     /// Takes away the record with an id, which is there. `out` is told the bits that change.
@@ -433,11 +409,14 @@ impl Kept {
             out.new.bits.items }
         ensures mail { out.new.mail ≡ out.old.mail }
     {
-        match self.store.whereabouts(id) {
-            Some(spot) => {
-                drop_record(&mut self.store, id);
-                let full = has_records(&self.store, spot.header);
-                self.watch.turned(spot.header, full, out);
+        match self.store.header_of(id) {
+            Some(from) => {
+                let rec = take(&mut self.store, id);
+                drop_name(&mut self.names, rec.name);
+                self.elements -= elements_of(&rec.body);
+                drop(rec);
+                let full = has_records(&self.store, from);
+                self.watch.turned(from, full, out);
             }
             None => unreachable!(),
         }
@@ -445,7 +424,7 @@ impl Kept {
 
     /// Takes the record with an id, which is there, to its place in a header, with a new key if one
     /// is given: at the head or the tail of the records that the key leaves it among. The header is
-    /// there, and there is room. `out` is told the bits that change.
+    /// there, the records stay in order, and there is room. `out` is told the bits that change.
     pub fn shift(
         &mut self,
         id: EntryId,
@@ -457,6 +436,8 @@ impl Kept {
         requires room { IsRoomy self.old out.old.bits.room }
         requires header { header < length self.old.content.lists }
         requires there { list_any (is_id id) (all_records self.old.content.lists) ≡ true }
+        requires orderly { IsOrderly (put_back head header key
+            (record_of id self.old.content.lists) (lists_without id self.old.content.lists)) }
         ensures content { self.new.content ≡ record self.old.content {
           lists = put_back head header key (record_of id self.old.content.lists)
               (lists_without id self.old.content.lists);
@@ -465,11 +446,11 @@ impl Kept {
             out.new.bits.items }
         ensures mail { out.new.mail ≡ out.old.mail }
     {
-        match self.store.whereabouts(id) {
-            Some(spot) => {
+        match self.store.header_of(id) {
+            Some(from) => {
                 put_again(&mut self.store, id, header, head, key);
-                let full = has_records(&self.store, spot.header);
-                self.watch.turned(spot.header, full, out);
+                let full = has_records(&self.store, from);
+                self.watch.turned(from, full, out);
                 let full = has_records(&self.store, header);
                 self.watch.turned(header, full, out);
             }
@@ -526,10 +507,13 @@ impl Kept {
     }
 
     /// Puts a record behind the others of a header, where there is memory; else hands the record
-    /// back, and changes nothing. The header is there, and no record has its id.
+    /// back, and changes nothing. The header is there, no record has its id, and the records stay
+    /// in order.
     pub fn push(&mut self, header: u32, rec: Rec) -> Result<(), Rec>
         requires header { header < length self.old.content.lists }
         requires alone { list_any (is_id rec.id) (all_records self.old.content.lists) ≡ false }
+        requires orderly { IsOrderly (with_records self.old.content.lists header
+            (records_of self.old.content.lists header ++ rec ∷ [])) }
         ensures ok { OnOk result (self.new.content ≡ record self.old.content {
           lists = with_records self.old.content.lists header
               (records_of self.old.content.lists header ++ rec ∷ []);
@@ -537,8 +521,34 @@ impl Kept {
         ensures err { OnErr result (self.new.content ≡ self.old.content) }
         ensures handed_back { IfErr result (λ back. back ≡ rec) }
     {
+        match self.names.room() {
+            Ok(()) => self.push_named(header, rec),
+            Err(_) => Err(rec),
+        }
+    }
+
+    // Puts a record behind the others of a header, where there is memory for it and room for its
+    // name; else hands it back, and changes nothing.
+    fn push_named(&mut self, header: u32, rec: Rec) -> Result<(), Rec>
+        requires room { 1 ≤ self.old.name_room }
+        requires header { header < length self.old.content.lists }
+        requires alone { list_any (is_id rec.id) (all_records self.old.content.lists) ≡ false }
+        requires orderly { IsOrderly (with_records self.old.content.lists header
+            (records_of self.old.content.lists header ++ rec ∷ [])) }
+        ensures ok { OnOk result (self.new.content ≡ record self.old.content {
+          lists = with_records self.old.content.lists header
+              (records_of self.old.content.lists header ++ rec ∷ []);
+        }) }
+        ensures err { OnErr result (self.new.content ≡ self.old.content) }
+        ensures handed_back { IfErr result (λ back. back ≡ rec) }
+    {
+        let id = rec.id;
+        let name = rec.name;
+        let need = elements_of(&rec.body);
         match self.store.push(header, rec) {
             Ok(()) => {
+                add_name(&mut self.names, name, id);
+                self.elements += need;
                 let full = has_records(&self.store, header);
                 self.watch.settle(header, full);
                 Ok(())
@@ -598,7 +608,10 @@ impl Kept {
         } }
     {
         match self.store.pop() {
-            Some(header) => {
+            Some((header, rec)) => {
+                drop_name(&mut self.names, rec.name);
+                self.elements -= elements_of(&rec.body);
+                drop(rec);
                 let full = has_records(&self.store, header);
                 self.watch.settle(header, full);
                 true
@@ -642,4 +655,5 @@ ghost use Rattle.list_watch.specs.Rows.{monitors_of};
 ghost use Rattle.list_model.specs.Lists.{first_records};
 ghost use Rattle.list_model.specs.Items.{content_without_last};
 ghost use Rattle.list_kept.specs.Told.{AreTold};
-ghost use Rattle.list_kept.specs.ContentView.{IsRoomy, put_back};
+ghost use Rattle.list_kept.specs.Orderly.{IsOrderly};
+ghost use Rattle.list_kept.specs.ContentView.{IsRoomy, comes_behind, put_back};

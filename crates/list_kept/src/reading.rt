@@ -1,11 +1,11 @@
 //! Records that are named, and how much there is.
 ghost use Rattle.std.specs.Prelude.{◌≡◌, ◌<◌, ◌^◌, option_map, find, slice_get};
 ghost use Rattle.list_store.specs.Lists.{all_records, records_of, records_without, count_of};
-ghost use Rattle.list_model.specs.Records.{has_name, has_key, elements_of, elements_in};
+ghost use Rattle.list_model.specs.Records.{has_key, elements_of, elements_in};
 ghost use Rattle.list_model.specs.Lists.{last_record, record_at, the_record};
 
 use crate::keeping::Kept;
-use cf_types::{At, Body, EntryId, Key16, Name16};
+use cf_types::{At, Body, EntryId, Key16};
 use list_store::Rec;
 
 /// How many elements of 256 bytes data take, the last one perhaps in part; 0 where there are no
@@ -19,31 +19,14 @@ pub fn elements_of(body: &Option<Body>) -> u32
     }
 }
 
-// How many elements the data of records take, but for the record with an id.
-fn elements_but(recs: &[Rec], id: EntryId) -> u32
-    requires { elements_in recs.now < 2 ^ 32 }
-    ensures { result ≡ elements_in (records_without id recs.now) }
-{
-    let mut total = 0;
-    for rec in recs {
-        if rec.id != id {
-            total += elements_of(&rec.body);
-        }
-    }
-    total
-}
-
-/// How many elements of 256 bytes the data of all records take, but for the record with an id. All
-/// of them take fewer than 2^32.
+/// How many elements of 256 bytes the data of all records take, but for the record with an id.
 pub fn elements_of_others(kept: &Kept, id: EntryId) -> u32
-    requires { elements_in (all_records kept.now.content.lists) < 2 ^ 32 }
     ensures { result ≡ elements_in (records_without id (all_records kept.now.content.lists)) }
 {
-    let mut total = 0;
-    for header in 0..kept.headers() {
-        total += elements_but(kept.records(header), id);
+    match kept.get(id) {
+        Some(rec) => kept.elements() - elements_of(&rec.body),
+        None => kept.elements(),
     }
-    total
 }
 
 /// How many records there are, in all headers: fewer than 2^32.
@@ -58,16 +41,6 @@ pub fn count(kept: &Kept) -> u32
     total
 }
 
-// Whether a record has a name.
-fn has_name(rec: &Rec, name: &Name16) -> bool
-    ensures { result ≡ has_name name.now rec.now }
-{
-    match rec.name {
-        Some(other) => other == *name,
-        None => false,
-    }
-}
-
 // Whether a record has a key.
 fn has_key(rec: &Rec, key: &Key16) -> bool
     ensures { result ≡ has_key key.now rec.now }
@@ -78,43 +51,14 @@ fn has_key(rec: &Rec, key: &Key16) -> bool
     }
 }
 
-// The first of these with a name.
-fn named_in<'a>(recs: &'a [Rec], name: &Name16) -> Option<&'a Rec>
-    ensures { option_map (λ rec. rec.now) result ≡ find (has_name name.now) recs.now }
+// The first record of a header with a key: by the order of the keys.
+fn keyed_in<'a>(kept: &'a Kept, header: u32, key: &Key16) -> Option<&'a Rec>
+    ensures { option_map (λ rec. rec.now) result
+        ≡ find (has_key key.now) (records_of kept.now.content.lists header) }
 {
-    recs.iter().find(|rec| has_name(rec, name))
-}
-
-// The first of these with a key.
-fn keyed_in<'a>(recs: &'a [Rec], key: &Key16) -> Option<&'a Rec>
-    ensures { option_map (λ rec. rec.now) result ≡ find (has_key key.now) recs.now }
-{
-    recs.iter().find(|rec| has_key(rec, key))
-}
-
-/// The first record with a name, in whichever header; none where there is no such record.
-pub fn named<'a>(kept: &'a Kept, name: &Name16) -> Option<&'a Rec>
-    ensures { option_map (λ rec. rec.now) result ≡ find (has_name name.now)
-        (all_records kept.now.content.lists) }
-{
-    for header in 0..kept.headers() {
-        match named_in(kept.records(header), name) {
-            Some(rec) => return Some(rec),
-            None => {}
-        }
-    }
-    None
-}
-
-// The first record of a header.
-fn first(kept: &Kept, header: u32) -> Option<&Rec>
-    ensures { option_map (λ rec. rec.now) result ≡ slice_get
-        (records_of kept.now.content.lists header) 0 }
-{
-    if header < kept.headers() {
-        kept.records(header).get(0)
-    } else {
-        None
+    match kept.at(header, kept.place_of(header, true, *key)) {
+        Some(rec) => { if has_key(rec, key) { Some(rec) } else { None } }
+        None => None,
     }
 }
 
@@ -123,27 +67,11 @@ fn last(kept: &Kept, header: u32) -> Option<&Rec>
     ensures { option_map (λ rec. rec.now) result ≡ last_record
         (records_of kept.now.content.lists header) }
 {
-    if header < kept.headers() {
-        let recs = kept.records(header);
-        if recs.is_empty() {
-            None
-        } else {
-            recs.get(recs.len() - 1)
-        }
-    } else {
+    let len = kept.len(header);
+    if len == 0 {
         None
-    }
-}
-
-// The first record of a header with a key.
-fn keyed<'a>(kept: &'a Kept, header: u32, key: &Key16) -> Option<&'a Rec>
-    ensures { option_map (λ rec. rec.now) result ≡ find (has_key key.now)
-        (records_of kept.now.content.lists header) }
-{
-    if header < kept.headers() {
-        keyed_in(kept.records(header), key)
     } else {
-        None
+        kept.at(header, len - 1)
     }
 }
 
@@ -154,10 +82,10 @@ pub fn record_at(kept: &Kept, at: At) -> Option<&Rec>
 {
     match at {
         At::Id(id) => kept.get(id),
-        At::Name(name) => named(kept, &name),
-        At::Head(header) => first(kept, header),
+        At::Name(name) => kept.named(&name),
+        At::Head(header) => kept.at(header, 0),
         At::Tail(header) => last(kept, header),
-        At::Key(header, key) => keyed(kept, header, &key),
+        At::Key(header, key) => keyed_in(kept, header, &key),
     }
 }
 

@@ -1,24 +1,25 @@
 -- Names with the ids of the records that have them.
-use Rattle.std.specs.Prelude.{ℕ, Bool, not, List, filter, find, Option, option_map}
+use Rattle.std.specs.Prelude.{◌≡◌, ℕ, Bool, false, nat_eq, List, Option, Some, None, cond}
+use Rattle.std.specs.Map.{lookup}
+use Rattle.std.specs.Cmp.Lexicographic.{pointwise}
 use Rattle.cf_types.specs.declared.names.Name16.{Name16}
 use Rattle.cf_types.specs.declared.numbers.EntryId.{EntryId}
 use Rattle.cf_types.specs.Name.{same_name}
-use Rattle.list_keys.specs.declared.named.Named.{Named}
+
+-- the bytes of each name with the id, in whatever order
+abbrev pub Named : Type 0
+Named = List (List ℕ × EntryId)
 
 -- the names, and for how many more there is room
 pub record NameBatch : Type 0 where
-  pub names : List Named
+  pub names : Named
   pub room : ℕ
 
-abbrev pub is_named : Name16 → Named → Bool
-is_named name named = same_name named.name name
-
 -- the id of the record with a name
-abbrev pub id_of : Name16 → List Named → Option EntryId
-id_of name names = option_map (λ named. named.id) (find (is_named name) names)
+abbrev pub id_of : Name16 → Named → Option EntryId
+id_of name names = lookup (pointwise nat_eq name.0) names
 
-abbrev pub names_without : Name16 → List Named → List Named
-names_without name names = filter (λ named. not (is_named name named)) names
-
-abbrev pub names_apart : Named → Named → Bool
-names_apart named other = not (same_name named.name other.name)
+-- the names are others with an id written at one of them, or none
+abbrev pub Writes : Named → Name16 → Option EntryId → Named → Type 0
+Writes names name id after =
+    (other : Name16) → id_of other after ≡ cond (same_name name other) id (id_of other names)

@@ -1,36 +1,30 @@
-ghost use Rattle.std.specs.Prelude.{◌≡◌, ◌-◌, ◌≤◌, ◌∷◌, ◌++◌, [], IsTrue, IfOk, OnOk, OnErr, length, false};
-ghost use Rattle.std.specs.List.{list_any, prefix_len};
+ghost use Rattle.std.specs.Prelude.{◌≡◌, ◌-◌, ◌≤◌, [], IsTrue, IfOk, OnOk, None, Some, length};
+ghost use Rattle.std.specs.List.{prefix_len};
+ghost use Rattle.indexmap.specs.IndexMap.{spare};
 ghost use Rattle.list_laws.specs.Pairwise.{pairwise};
-ghost use Rattle.list_keys.specs.Names.{is_named, id_of, names_without, names_apart};
+ghost use Rattle.list_keys.specs.Names.{id_of, Writes};
 ghost use Rattle.list_keys.specs.KeyOrder.{keys_up_to, stands_before};
 
-use crate::named::Named;
+use cf_types::limits::NAME_BYTES;
 use cf_types::{EntryId, Key16, Name16, NoMemory};
+use indexmap::IndexMap;
 use std::alloc::Global;
 use std::marker::Model;
 
-/// The names of a list structure's records, one record at most for a name. Contracts see the names
-/// with the records' ids, and for how many more there is room.
+/// The names of a list structure's records, one record at most for a name. Contracts see the id
+/// that each name has, and for how many more names there is room.
 #[derive(Drop)]
 pub struct Keys {
-    names: Vec<Named>,
+    names: IndexMap<[u8; NAME_BYTES], EntryId>,
 }
 
 impl Model for Keys {
-    ghost use Rattle.std.specs.Prelude.{◌-◌, IsTrue};
-    ghost use Rattle.std.specs.Vec.{vec_len, vec_capacity};
-    ghost use Rattle.list_laws.specs.Pairwise.{pairwise};
-    ghost use Rattle.list_keys.specs.Names.{NameBatch, names_apart};
+    ghost use Rattle.indexmap.specs.IndexMap.{spare};
+    ghost use Rattle.list_keys.specs.Names.{NameBatch};
 
     ghost Value = { NameBatch };
 
-    ghost view = { λ k. record {
-      names = k.names.items;
-      room = vec_capacity k.names - vec_len
-          k.names;
-    } };
-
-    ghost invariant = { λ k. IsTrue (pairwise names_apart k.names.items) };
+    ghost view = { λ k. record { names = k.names.entries; room = spare k.names } };
 }
 
 // Whether a key stands before a new one that comes to the head or to the tail of its equals.
@@ -50,15 +44,15 @@ impl Keys {
         ensures { IfOk result (λ keys. keys.names ≡ []) }
     {
         Ok(Keys {
-            names: Vec::new(alloc),
+            names: IndexMap::new(alloc),
         })
     }
 
     /// The same names once more.
-    pub fn copy(&self, alloc: Global) -> Result<Keys, NoMemory>
+    pub fn copy(&self, _alloc: Global) -> Result<Keys, NoMemory>
         ensures { IfOk result (λ copy. copy.names ≡ self.now.names) }
     {
-        let names = Vec::from_slice(alloc, self.names.as_slice())?;
+        let names = self.names.clone()?;
         Ok(Keys { names })
     }
 
@@ -74,28 +68,26 @@ impl Keys {
     /// Puts in a name, which no record has.
     pub fn add_name(&mut self, name: Name16, id: EntryId)
         requires room { 1 ≤ self.old.room }
-        requires new { list_any (is_named name) self.old.names ≡ false }
-        ensures { self.new.names ≡ self.old.names ++ record { name = name; id = id } ∷ [] }
+        requires new { id_of name self.old.names ≡ None }
+        ensures { Writes self.old.names name (Some id) self.new.names }
     {
-        self.names.push_reserved(Named { name, id });
+        let bytes = name.0;
+        let _ = self.names.insert(bytes, id);
     }
 
     /// The id of the record with a name.
     pub fn by_name(&self, name: &Name16) -> Option<EntryId>
         ensures { result ≡ id_of name.now self.now.names }
     {
-        self.names
-            .iter()
-            .find(|named| named.name == *name)
-            .map(|named| named.id)
+        self.names.get(&name.0).copied()
     }
 
     /// Takes out a name, if it is there.
     pub fn remove_name(&mut self, name: &Name16)
-        ensures names { self.new.names ≡ names_without name.now self.old.names }
+        ensures names { Writes self.old.names name.now None self.new.names }
         ensures room { self.old.room ≤ self.new.room }
     {
-        self.names.retain(|named| !(named.name == *name));
+        self.names.swap_remove(&name.0);
     }
 
     /// Takes out all names.

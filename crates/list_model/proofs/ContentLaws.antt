@@ -392,7 +392,7 @@ content-update shape caps content by at body adj version cond is h =
 
 -- ---- DELETE
 
-ordered_without : (id : EntryId) (lists : Lists) → list_all (pairwise may_precede) lists ≡ true
+pub ordered_without : (id : EntryId) (lists : Lists) → list_all (pairwise may_precede) lists ≡ true
     → list_all (pairwise may_precede) (lists_without id lists) ≡ true
 ordered_without id lists h =
     list_all-map (pairwise may_precede) (records_without id) lists

@@ -39,7 +39,7 @@ use Rattle.list_model.proofs.ContentLaws.{size}
 
 -- ---- an empty content
 
-no_lists : (n : ℕ) → all_records (replicate n []) ≡ []
+no_lists : (n : ℕ) → all_records {X = Rec} (replicate n []) ≡ []
 no_lists zero = refl
 no_lists (suc n) = no_lists n
 
@@ -460,7 +460,8 @@ fits_next shape caps whole state item is next placed =
           (all_records (with_records state.lists (header_in item) records)) w apart));
     }
 
-fits : (shape : Shape) (caps : Caps) (whole state : Content) (header : ℕ) (id : EntryId) (version : ℕ) (name : Option Name16)
+fits : (shape : Shape) (caps : Caps) (whole state : Content) (header : ℕ) (id : EntryId) (version : ℕ)
+    (name : Option Name16)
     (key : Option Key16)
     (body adj : Option (List ℕ)) → IsContent shape caps whole
     → ComesFirst shape whole state (Row header id version name key body adj) ⊎ ComesNext shape whole state

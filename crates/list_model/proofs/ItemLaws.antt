@@ -432,19 +432,6 @@ length-items shape content =
           content.lists,
     )
 
--- the first item, where the controls differ, and the others
-pub item-controls : (shape : Shape) (content : Content) → has_controls shape content ≡ true
-    → slice_get (items_of shape content) 0 ≡ Some (controls_of content)
-item-controls shape content h = rw h refl
-
-pub item-behind : (shape : Shape) (content : Content) (k : ℕ) → has_controls shape content ≡ true
-    → slice_get (items_of shape content) (suc k) ≡ slice_get (rows_from 0 content.lists) k
-item-behind shape content k h = rw h refl
-
-pub item-row : (shape : Shape) (content : Content) (k : ℕ) → has_controls shape content ≡ false
-    → slice_get (items_of shape content) k ≡ slice_get (rows_from 0 content.lists) k
-item-row shape content k h = rw h refl
-
 -- ---- one item more
 
 -- the first items are those of the first records and the item is the next row, or there are none and the item is the

@@ -5,4 +5,3 @@ pub mod ContentLaws
 pub mod ItemLaws
 pub mod EngineLaws
 pub mod StoreLaws
-pub mod WatchLaws

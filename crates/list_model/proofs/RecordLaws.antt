@@ -26,7 +26,7 @@ turned Less = refl
 turned Equal = refl
 turned Greater = refl
 
-key_back : (a b : Key16) → key_before b a ≡ is_gt (slice_cmp nat_cmp a.0 b.0)
+pub key_back : (a b : Key16) → key_before b a ≡ is_gt (slice_cmp nat_cmp a.0 b.0)
 key_back a b = ap is_lt (nat_list_cmp_total.antisymm b.0 a.0) ∙ turned (slice_cmp nat_cmp a.0 b.0)
 
 keys-trans : (a b c : Key16) → not (key_before b a) ≡ true → not (key_before c b) ≡ true
@@ -60,7 +60,7 @@ key_up_to-either None b h = absurd (false≢true (sym h))
 key_up_to-either (Some a) None h = refl
 key_up_to-either (Some a) (Some b) h = keys-either a b h
 
-not_false : (b : Bool) → not b ≡ false → b ≡ true
+pub not_false : (b : Bool) → not b ≡ false → b ≡ true
 not_false true h = refl
 not_false false h = absurd (false≢true (sym h))
 

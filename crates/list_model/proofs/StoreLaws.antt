@@ -1,35 +1,30 @@
 -- What an engine over a store of records goes by: the record that is named by its id, where a record comes to stand,
 -- which headers have records then, and how many records and elements there are.
-use Rattle.std.proofs.Common.{◌≡◌, ℕ, zero, suc, ◌+◌, ◌<◌, ◌≤◌, ◌==◌, ◌&&◌, ◌||◌, Bool, true, false, not, cond, List, [], ◌∷◌, ◌++◌, Option, Some, None, is_none, unwrap_or, option_map, length, find, map, position, nat_lt, sum_by, refl, sym, ap, ◌∙◌, subst, arith}
+use Rattle.std.proofs.Common.{◌≡◌, ℕ, zero, suc, ◌==◌, ◌&&◌, ◌||◌, Bool, true, false, not, cond, List, [], ◌∷◌, ◌++◌, Option, Some, None, option_map, length, find, map, position, nat_lt, refl, sym, ap, ◌∙◌, subst, arith}
 use Rattle.std.specs.List.{list_all, list_any, position_or_len, prefix_len}
 use Rattle.std.proofs.lemmas.Bool.{and_parts, not-true, or_right, false≢true}
 use Rattle.std.proofs.lemmas.Bool.Decides.{nat_tests}
 use Rattle.std.proofs.lemmas.List.{length-map}
-use Rattle.std.proofs.lemmas.List.Folds.{list_all-append}
-use Rattle.std.proofs.lemmas.List.Sums.{prefix_len-le-length}
 use Rattle.cf_types.specs.declared.forms.Caps.{Caps}
 use Rattle.cf_types.specs.declared.list_commands.At.{At}
-use Rattle.cf_types.specs.declared.names.Key16.{Key16}
 use Rattle.cf_types.specs.declared.numbers.EntryId.{EntryId}
 use Rattle.engine_api.specs.declared.shapes.Shape.{Shape}
 use Rattle.list_laws.specs.Insertions.{insertion}
 use Rattle.list_laws.specs.Pairwise.{pairwise}
 use Rattle.list_laws.proofs.FilterLaws.{none_from_all, list_all_weaker, filter_all, all_from_none}
 use Rattle.list_laws.proofs.KeyLaws.{any_is_placed}
-use Rattle.list_laws.proofs.InsertionLaws.{insert-prefix_len, length-insertion}
+use Rattle.list_laws.proofs.InsertionLaws.{insert-prefix_len}
 use Rattle.list_store.specs.declared.records.Rec.{Rec}
 use Rattle.list_store.specs.declared.records.Spot.{Spot}
-use Rattle.list_store.specs.Lists.{Lists, records_of, with_records, all_records, is_id, has_id, record_of, spot_in, spot_of, records_without, lists_without, lists_with, replaced_by, lists_replaced, ids_apart, count_of}
-use Rattle.list_store.proofs.RecordLaws.{none_behind, once}
-use Rattle.list_store.proofs.PlaceLaws.{pairwise_back}
-use Rattle.list_model.specs.Records.{elements_of, elements_in, may_precede}
-use Rattle.list_model.specs.Keys.{key_up_to}
-use Rattle.list_model.specs.Lists.{header_of, record_at, stands_before, with_record}
+use Rattle.list_store.specs.Lists.{rec_id, Lists, records_of, with_records, all_records, is_id, has_id, record_of, spot_in, spot_of, records_without, lists_without, lists_with, replaced_by, lists_replaced, ids_apart}
+use Rattle.record_lists.proofs.AllLaws.{none_behind, pairwise_back}
+use Rattle.record_lists.proofs.IdLaws.{once}
+use Rattle.list_model.specs.Lists.{record_at, stands_before, with_record}
 use Rattle.list_model.specs.Contents.{Content, IsContent, is_given, has_records}
 use Rattle.list_model.specs.Commands.Write as write
 use Rattle.list_model.proofs.RecordLaws.{is_id-refl, ids_apart-sym}
-use Rattle.list_model.proofs.ListLaws.{IsWith, with-insertion, with-records, length-with, sum-with, with-pairwise, IsIn, all-without}
-use Rattle.list_model.proofs.ContentLaws.{size, record_at-in, with-without}
+use Rattle.list_model.proofs.ListLaws.{with-pairwise, IsIn}
+use Rattle.list_model.proofs.ContentLaws.{record_at-in}
 
 -- ---- the record that is named, by its id
 
@@ -61,30 +56,6 @@ record_of-at lists at rec apart h = found-in rec (all_records lists) (record_at-
 
 -- ---- headers
 
-spot_header : (id : EntryId) (lists : Lists) (o : Option ℕ) (spot : Spot) → spot_in id lists o ≡ Some spot
-    → unwrap_or o 0 ≡ spot.header
-spot_header id lists None spot h = absurd (cc)
-spot_header id lists (Some header) spot h = go (position (is_id id) (records_of lists header)) h
-  where
-    go : (p : Option ℕ) → option_map (λ place. record { header = header; place = place }) p ≡ Some spot
-        → header ≡ spot.header
-    go None k = absurd (cc)
-    go (Some place) k =
-        let made : Spot = record { header = header; place = place } in
-        let same : made ≡ spot = cc in
-        ap (λ (s : Spot). s.header) same
-
-pub header_of-spot : (id : EntryId) (lists : Lists) (spot : Spot) → spot_of id lists ≡ Some spot
-    → header_of id lists ≡ spot.header
-header_of-spot id lists spot h = spot_header id lists (position (has_id id) lists) spot h
-
--- a header whose records were replaced, and another one
-pub records-here : (lists : Lists) (header : ℕ) (records : List Rec) → header < length lists
-    → records_of (with_records lists header records) header ≡ records
-records-here [] header records h = absurd (omega arith)
-records-here (first ∷ lists) zero records h = refl
-records-here (first ∷ lists) (suc header) records h = records-here lists header records (omega arith)
-
 pub records-elsewhere : (lists : Lists) (header other : ℕ) (records : List Rec) → (header == other) ≡ false
     → records_of (with_records lists header records) other ≡ records_of lists other
 records-elsewhere [] header other records h = refl
@@ -109,29 +80,7 @@ records-replaced rec [] header = refl
 records-replaced rec (first ∷ lists) zero = refl
 records-replaced rec (first ∷ lists) (suc header) = records-replaced rec lists header
 
-parts_of : (p : Rec → Bool) (front back : List Rec) → list_all p (front ++ back) ≡ true
-    → (list_all p front ≡ true) × (list_all p back ≡ true)
-parts_of p front back h = and_parts (list_all p front) (list_all p back) (sym (list_all-append p front back) ∙ h)
-
--- what all records have those of a header have
-pub all-header : (p : Rec → Bool) (lists : Lists) (header : ℕ) → list_all p (all_records lists) ≡ true
-    → list_all p (records_of lists header) ≡ true
-all-header p [] header h = refl
-all-header p (first ∷ lists) zero h = (parts_of p first (all_records lists) h).0
-all-header p (first ∷ lists) (suc header) h = all-header p lists header (parts_of p first (all_records lists) h).1
-
 -- ---- which headers have records
-
-some_more : (n m : ℕ) → n ≡ m + 1 → not (n == 0) ≡ true
-some_more n m h = grind (arith, nat_tests)
-
-pub full-with : (head : Bool) (header : ℕ) (rec : Rec) (lists : Lists) → header < length lists
-    → has_records (with_record head header rec lists) header ≡ true
-full-with head header rec lists h =
-    let records = insertion (stands_before head rec) rec (records_of lists header) in
-    ap (λ (l : List Rec). not (length l == 0)) (records-here lists header records h)
-    ∙ some_more (length records) (length (records_of lists header))
-    (length-insertion (stands_before head rec) rec (records_of lists header))
 
 pub full-elsewhere : (head : Bool) (header other : ℕ) (rec : Rec) (lists : Lists) → (header == other) ≡ false
     → has_records (with_record head header rec lists) other ≡ has_records lists other
@@ -186,11 +135,11 @@ one-header id [] a b apart e h = refl
 one-header id (first ∷ lists) zero zero apart e h = absurd (false≢true (sym e))
 one-header id (first ∷ lists) zero (suc b) apart e h =
     is_false (has_id id (records_of lists b))
-    (λ k. false≢true (sym (none_behind ids_apart (is_id id) (once id) first (all_records lists) apart h)
+    (λ k. false≢true (sym (none_behind ids_apart (is_id id) (once rec_id id.0) first (all_records lists) apart h)
     ∙ any-header (is_id id) lists b k))
 one-header id (first ∷ lists) (suc a) zero apart e h =
     is_false (has_id id first)
-    (λ k. false≢true (sym (none_behind ids_apart (is_id id) (once id) first (all_records lists) apart k)
+    (λ k. false≢true (sym (none_behind ids_apart (is_id id) (once rec_id id.0) first (all_records lists) apart k)
     ∙ any-header (is_id id) lists a h))
 one-header id (first ∷ lists) (suc a) (suc b) apart e h =
     one-header id lists a b (pairwise_back ids_apart first (all_records lists) apart) (less a b ∙ e) h
@@ -242,91 +191,6 @@ placed-with head header rec lists =
     ap (λ (l : List Rec). with_records lists header l)
     (insert-prefix_len (stands_before head rec) rec (records_of lists header))
 
-pub place-within : (head : Bool) (rec : Rec) (records : List Rec)
-    → prefix_len (stands_before head rec) records ≤ length records
-place-within head rec records = prefix_len-le-length (stands_before head rec) records
-
--- without keys it is at the head or at the tail
-abbrev pub keyless : Rec → Bool
-keyless rec = is_none rec.key
-
-no_key : (o : Option Key16) → is_none o ≡ true → o ≡ None
-no_key None h = refl
-no_key (Some key) h = absurd (false≢true h)
-
-head_step : (rec other : Rec) → rec.key ≡ None → stands_before true rec other ≡ false
-head_step rec other h = rw h refl
-
-tail_step : (rec other : Rec) → rec.key ≡ None → keyless other ≡ true → stands_before false rec other ≡ true
-tail_step rec other h k = rw (h, no_key other.key k) refl
-
-pub place-head : (rec : Rec) (records : List Rec) → keyless rec ≡ true
-    → prefix_len (stands_before true rec) records ≡ 0
-place-head rec [] h = refl
-place-head rec (other ∷ records) h = rw (head_step rec other (no_key rec.key h)) refl
-
-pub place-tail : (rec : Rec) (records : List Rec) → keyless rec ≡ true → list_all keyless records ≡ true
-    → prefix_len (stands_before false rec) records ≡ length records
-place-tail rec [] h all = refl
-place-tail rec (other ∷ records) h all =
-    let parts = and_parts (keyless other) (list_all keyless records) all in
-    rw (tail_step rec other (no_key rec.key h) parts.0) (next (length records) (place-tail rec records h parts.1))
-  where
-    next : (n : ℕ) {m : ℕ} → m ≡ n → 1 + m ≡ suc n
-    next n e = omega (arith, e)
-
--- with keys it is where the place of its key is among the keys
-abbrev pub key_stands_before : Bool → Key16 → Key16 → Bool
-key_stands_before head key other =
-    cond head (not (key_up_to (Some key) (Some other))) (key_up_to (Some other) (Some key))
-
-key_step : (head : Bool) (rec other : Rec) (key first : Key16) → rec.key ≡ Some key → other.key ≡ Some first
-    → key_stands_before head key first ≡ stands_before head rec other
-key_step true rec other key first e f = rw (e, f) refl
-key_step false rec other key first e f = rw (e, f) refl
-
-pub place-keyed : (head : Bool) (rec : Rec) (key : Key16) (records : List Rec) (keys : List Key16)
-    → rec.key ≡ Some key
-    → map (λ other. other.key) records ≡ map (λ k. Some k) keys
-    → prefix_len (key_stands_before head key) keys ≡ prefix_len (stands_before head rec) records
-place-keyed head rec key [] [] e h = refl
-place-keyed head rec key [] (first ∷ keys) e h = absurd (cc)
-place-keyed head rec key (other ∷ records) [] e h = absurd (cc)
-place-keyed head rec key (other ∷ records) (first ∷ keys) e h =
-    let here : other.key ≡ Some first = cc in
-    let rest : map (λ (r : Rec). r.key) records ≡ map (λ (k : Key16). Some k) keys = cc in
-    let choose : Bool → ℕ → ℕ = λ b n. cond b (1 + n) 0 in
-    ap (λ (b : Bool). choose b (prefix_len (key_stands_before head key) keys))
-    (key_step head rec other key first e here)
-    ∙ ap (λ (n : ℕ). choose (stands_before head rec other) n) (place-keyed head rec key records keys e rest)
-
-key_ordered : (rec : Rec) (key : Key16) (records : List Rec) (keys : List Key16) → rec.key ≡ Some key
-    → map (λ other. other.key) records ≡ map (λ k. Some k) keys
-    → list_all (λ k. key_up_to (Some key) (Some k)) keys ≡ list_all (may_precede rec) records
-key_ordered rec key [] [] e h = refl
-key_ordered rec key [] (first ∷ keys) e h = absurd (cc)
-key_ordered rec key (other ∷ records) [] e h = absurd (cc)
-key_ordered rec key (other ∷ records) (first ∷ keys) e h =
-    let here : other.key ≡ Some first = cc in
-    let rest : map (λ (r : Rec). r.key) records ≡ map (λ (k : Key16). Some k) keys = cc in
-    let step : key_up_to (Some key) (Some first) ≡ may_precede rec other = rw (e, here) refl in
-    ap (λ (b : Bool). b && list_all (λ (k : Key16). key_up_to (Some key) (Some k)) keys) step
-    ∙ ap (λ (b : Bool). may_precede rec other && b) (key_ordered rec key records keys e rest)
-
--- the keys ascend where the records do
-pub keys-ordered : (records : List Rec) (keys : List Key16) → map (λ other. other.key) records ≡ map (λ k. Some k)
-    keys
-    → pairwise (λ a b. key_up_to (Some a) (Some b)) keys ≡ pairwise may_precede records
-keys-ordered [] [] h = refl
-keys-ordered [] (first ∷ keys) h = absurd (cc)
-keys-ordered (other ∷ records) [] h = absurd (cc)
-keys-ordered (other ∷ records) (first ∷ keys) h =
-    let here : other.key ≡ Some first = cc in
-    let rest : map (λ (r : Rec). r.key) records ≡ map (λ (k : Key16). Some k) keys = cc in
-    ap (λ (b : Bool). b && pairwise (λ (a c : Key16). key_up_to (Some a) (Some c)) keys)
-    (key_ordered other first records keys here rest)
-    ∙ ap (λ (b : Bool). list_all (may_precede other) records && b) (keys-ordered records keys rest)
-
 -- ---- ids
 
 -- a new record has an id of its own
@@ -341,49 +205,3 @@ new-alone shape caps content is =
     other a n h = grind (arith, nat_tests)
 
 -- ---- records and elements
-
-with_one : (head : Bool) (header : ℕ) (rec : Rec) (lists : Lists) → header < length lists
-    → IsWith rec (all_records lists) (all_records (with_record head header rec lists))
-with_one head header rec lists h =
-    with-records rec lists header (insertion (stands_before head rec) rec (records_of lists header)) h
-    (with-insertion (stands_before head rec) rec (records_of lists header))
-
-pub count-with : (head : Bool) (header : ℕ) (rec : Rec) (lists : Lists) → header < length lists
-    → count_of (with_record head header rec lists) ≡ count_of lists + 1
-count-with head header rec lists h =
-    length-with rec (all_records lists) (all_records (with_record head header rec lists))
-    (with_one head header rec lists h)
-
-pub elements-with : (head : Bool) (header : ℕ) (rec : Rec) (lists : Lists) → header < length lists
-    → elements_in (all_records (with_record head header rec lists)) ≡ elements_in
-    (all_records lists) + elements_of rec.body
-elements-with head header rec lists h =
-    sum-with size rec (all_records lists) (all_records (with_record head header rec lists))
-    (with_one head header rec lists h)
-
-pub count-without : (lists : Lists) (at : At) (rec : Rec) → pairwise ids_apart (all_records lists) ≡ true
-    → record_at lists at ≡ Some rec
-    → count_of (lists_without rec.id lists) + 1 ≡ count_of lists
-count-without lists at rec apart h =
-    let all = all_records lists in
-    let w = with-without rec all (record_at-in lists at rec h) apart in
-    omega (
-      arith,
-      length-with rec (records_without rec.id all) all w,
-      ap (λ (l : List Rec). length l)
-          (all-without rec.id lists),
-    )
-
-pub elements-without : (lists : Lists) (at : At) (rec : Rec) → pairwise ids_apart (all_records lists) ≡ true
-    → record_at lists at ≡ Some rec
-    → elements_in (all_records (lists_without rec.id lists)) + elements_of rec.body ≡ elements_in
-    (all_records lists)
-elements-without lists at rec apart h =
-    let all = all_records lists in
-    let w = with-without rec all (record_at-in lists at rec h) apart in
-    omega (
-      arith,
-      sum-with size rec (records_without rec.id all) all w,
-      ap (λ (l : List Rec). sum_by size l)
-          (all-without rec.id lists),
-    )

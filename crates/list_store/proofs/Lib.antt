@@ -1,3 +1,3 @@
-pub mod RecordLaws
 pub mod VecLaws
-pub mod PlaceLaws
+pub mod TiedLaws
+pub mod SpotLaws

@@ -1,31 +1,48 @@
--- Vectors of records, seen as lists.
-use Rattle.std.proofs.Common.{◌≡◌, ℕ, ◌+◌, ◌<◌, ◌≤◌, true, ◌&&◌, nat_lt, List, [], ◌∷◌, length, get_or, set, take, replicate, zero, suc, refl, sym, ap, ◌∙◌, arith}
-use Rattle.std.specs.List.{list_all}
+-- Vectors of slab keys, seen as lists.
+use Rattle.std.proofs.Common.{◌≡◌, ℕ, ◌+◌, ◌<◌, ◌≤◌, true, ◌&&◌, Bool, nat_lt, List, [], ◌∷◌, length, get_or, set, take, replicate, zero, suc, refl, sym, ap, ◌∙◌, arith, ◌==◌, position, slice_get, Some}
+use Rattle.std.specs.List.{list_all, remove}
 use Rattle.std.specs.Vec.{vec_len, vec_capacity}
 use Rattle.std.specs.declared.vec.Vec.{Vec}
 use Rattle.std.specs.declared.alloc.Global.{Global}
-use Rattle.std.proofs.lemmas.Bool.{and_parts, and_from, ltb-true, lt-ltb}
-use Rattle.std.proofs.lemmas.List.{get_or-map, map-set, set-get_or, take_more_set}
+use Rattle.std.proofs.lemmas.Bool.{and_parts, and_from, ltb-true, lt-ltb, eqb-true}
+use Rattle.std.proofs.lemmas.List.{length-map, get_or-map, map-set, set-get_or, take_more_set}
+use Rattle.std.proofs.lemmas.List.Edits.{length-remove}
 use Rattle.std.proofs.lemmas.List.Folds.{list_all-append}
-use Rattle.list_store.specs.declared.records.Rec.{Rec}
-use Rattle.list_store.specs.Lists.{all_records}
-use Rattle.list_store.specs.StoreView.{lists_in, has_place, is_few}
-use Rattle.list_store.proofs.RecordLaws.{list_of, list_of-get_or, list_all-set, list_all-get_or}
+use Rattle.std.proofs.lemmas.List.Quantifiers.{position-Some}
+use Rattle.std.proofs.lemmas.Option.{slice_get-get_or}
+use Rattle.record_lists.specs.Lists.{all_records}
+use Rattle.list_store.specs.Orders.{orders_in, has_place, is_few}
+use Rattle.record_lists.proofs.AllLaws.{list_of, list_of-get_or}
 
--- the vector of a header holds its records
-pub list_of-in : (lists : List (Vec Rec Global)) (h : ℕ) (recs : Vec Rec Global) → h < length lists
+pub list_all-set : {X : Type 0} (p : X → Bool) (xs : List X) (i : ℕ) (y : X) → list_all p xs ≡ true → p y ≡ true
+    → list_all p (set xs i y) ≡ true
+list_all-set p [] i y h k = refl
+list_all-set p (x ∷ xs) zero y h k = and_from (p y) (list_all p xs) k (and_parts (p x) (list_all p xs) h).1
+list_all-set p (x ∷ xs) (suc i) y h k =
+    let parts = and_parts (p x) (list_all p xs) h in
+    and_from (p x) (list_all p (set xs i y)) parts.0 (list_all-set p xs i y parts.1 k)
+
+pub list_all-get_or : {X : Type 0} (p : X → Bool) (xs : List X) (i : ℕ) (d : X) → list_all p xs ≡ true → i < length xs
+    → p (get_or xs i d) ≡ true
+list_all-get_or p [] i d h lt = absurd (omega (arith, lt))
+list_all-get_or p (x ∷ xs) zero d h lt = (and_parts (p x) (list_all p xs) h).0
+list_all-get_or p (x ∷ xs) (suc i) d h lt = list_all-get_or p xs i d (and_parts (p x) (list_all p xs) h).1
+    (omega (arith, lt))
+
+-- the vector of a header holds its keys
+pub list_of-in : (lists : List (Vec ℕ Global)) (h : ℕ) (recs : Vec ℕ Global) → h < length lists
     → recs ≡ get_or lists h recs
-    → list_of h (lists_in lists) ≡ recs.items
+    → list_of h (orders_in lists) ≡ recs.items
 list_of-in lists h recs lt read =
-    list_of-get_or (lists_in lists) h ∙ get_or-map (λ (v : Vec Rec Global). v.items) lists h recs [] lt
-    ∙ ap (λ (v : Vec Rec Global). v.items) (sym read)
+    list_of-get_or (orders_in lists) h ∙ get_or-map (λ (v : Vec ℕ Global). v.items) lists h recs [] lt
+    ∙ ap (λ (v : Vec ℕ Global). v.items) (sym read)
 
-pub lists_in-set : (lists : List (Vec Rec Global)) (h : ℕ) (recs : Vec Rec Global)
-    → lists_in (set lists h recs) ≡ set (lists_in lists) h recs.items
-lists_in-set lists h recs = map-set (λ (v : Vec Rec Global). v.items) lists h recs
+pub orders_in-set : (lists : List (Vec ℕ Global)) (h : ℕ) (recs : Vec ℕ Global)
+    → orders_in (set lists h recs) ≡ set (orders_in lists) h recs.items
+orders_in-set lists h recs = map-set (λ (v : Vec ℕ Global). v.items) lists h recs
 
 -- as many or fewer are few
-pub few-less : (lists : List (List Rec)) (h : ℕ) (recs : List Rec) → h < length lists → length recs ≤ length
+pub few-less : (lists : List (List ℕ)) (h : ℕ) (recs : List ℕ) → h < length lists → length recs ≤ length
     (list_of h lists)
     → list_all is_few lists ≡ true → list_all is_few (set lists h recs) ≡ true
 few-less lists h recs lt less few =
@@ -35,7 +52,7 @@ few-less lists h recs lt less few =
     (lt-ltb (length recs) 4294967296 (omega (arith, less, ltb-true (length (list_of h lists)) 4294967296 was)))
 
 -- a place in one fewer stays
-pub place-less : (lists : List (Vec Rec Global)) (h : ℕ) (old new : Vec Rec Global) → h < length lists
+pub place-less : (lists : List (Vec ℕ Global)) (h : ℕ) (old new : Vec ℕ Global) → h < length lists
     → old ≡ get_or lists h old
     → vec_len new ≤ vec_len old → vec_capacity old ≤ vec_capacity new → list_all has_place lists ≡ true
     → list_all has_place (set lists h new) ≡ true
@@ -50,40 +67,55 @@ place-less lists h old new lt read less more places =
     (lt-ltb (vec_len new) 4294967295 (omega (arith, less, bound))))
 
 -- a place is room for one more
-pub few-more : (lists : List (Vec Rec Global)) (h : ℕ) (old new : Vec Rec Global) → h < length lists
+pub few-more : (lists : List (Vec ℕ Global)) (h : ℕ) (old new : Vec ℕ Global) → h < length lists
     → old ≡ get_or lists h old
-    → vec_len new ≡ vec_len old + 1 → list_all has_place lists ≡ true → list_all is_few (lists_in lists) ≡ true
-    → list_all is_few (lists_in (set lists h new)) ≡ true
+    → vec_len new ≡ vec_len old + 1 → list_all has_place lists ≡ true → list_all is_few (orders_in lists) ≡ true
+    → list_all is_few (orders_in (set lists h new)) ≡ true
 few-more lists h old new lt read more places few =
     let was : has_place old ≡ true = ap has_place read ∙ list_all-get_or has_place lists h old places lt in
     let parts = and_parts (nat_lt (vec_len old) (vec_capacity old)) (nat_lt (vec_len old) 4294967295) was in
-    ap (λ (l : List (List Rec)). list_all is_few l) (lists_in-set lists h new)
-    ∙ list_all-set is_few (lists_in lists) h new.items few
+    ap (λ (l : List (List ℕ)). list_all is_few l) (orders_in-set lists h new)
+    ∙ list_all-set is_few (orders_in lists) h new.items few
     (lt-ltb (length new.items) 4294967296 (omega (arith, more, new.ok.0, ltb-true (vec_len old) 4294967295 parts.1)))
 
--- room taken in a header changes no records
-pub lists_in-kept : (lists : List (Vec Rec Global)) (h : ℕ) (old new : Vec Rec Global) → h < length lists
+-- room taken in a header changes no keys
+pub orders_in-kept : (lists : List (Vec ℕ Global)) (h : ℕ) (old new : Vec ℕ Global) → h < length lists
     → old ≡ get_or lists h old
-    → new.items ≡ old.items → lists_in (set lists h new) ≡ lists_in lists
-lists_in-kept lists h old new lt read same =
-    lists_in-set lists h new
-    ∙ ap (λ (recs : List Rec). set (lists_in lists) h recs) (same ∙ sym (list_of-in lists h old lt read)
-    ∙ list_of-get_or (lists_in lists) h)
-    ∙ set-get_or (lists_in lists) h []
+    → new.items ≡ old.items → orders_in (set lists h new) ≡ orders_in lists
+orders_in-kept lists h old new lt read same =
+    orders_in-set lists h new
+    ∙ ap (λ (recs : List ℕ). set (orders_in lists) h recs) (same ∙ sym (list_of-in lists h old lt read)
+    ∙ list_of-get_or (orders_in lists) h)
+    ∙ set-get_or (orders_in lists) h []
 
 pub few-replicate : (n : ℕ) → list_all is_few (replicate n []) ≡ true
 few-replicate zero = refl
 few-replicate (suc n) = few-replicate n
 
-pub all-replicate : (n : ℕ) → all_records (replicate n []) ≡ []
+pub all-replicate : {X : Type 0} (n : ℕ) → all_records {X = X} (replicate n []) ≡ []
 all-replicate zero = refl
 all-replicate (suc n) = all-replicate n
 
-pub places-more : (lists : List (Vec Rec Global)) (h : ℕ) (new : Vec Rec Global) → h < length lists
+pub places-more : (lists : List (Vec ℕ Global)) (h : ℕ) (new : Vec ℕ Global) → h < length lists
     → has_place new ≡ true
     → list_all has_place (take h lists) ≡ true → list_all has_place (take (h + 1) (set lists h new)) ≡ true
 places-more lists h new lt place before =
-    ap (λ (l : List (Vec Rec Global)). list_all has_place l) (take_more_set lists h new lt)
+    ap (λ (l : List (Vec ℕ Global)). list_all has_place l) (take_more_set lists h new lt)
     ∙ list_all-append has_place (take h lists) (new ∷ [])
     ∙ and_from (list_all has_place (take h lists)) (has_place new && true) before
     (and_from (has_place new) true place refl)
+
+-- where a key is found, it stands
+pub stands_there : (keys : List ℕ) (key p : ℕ) → position (λ k. k == key) keys ≡ Some p → slice_get keys p ≡ Some key
+stands_there keys key p e =
+    let at = position-Some (λ (k : ℕ). k == key) keys p 0 e in
+    slice_get-get_or keys p 0 at.0 ∙ ap (λ (k : ℕ). Some k) (eqb-true (get_or keys p 0) key at.1)
+
+-- one key fewer
+pub few-removed : (lists : List (Vec ℕ Global)) (h p : ℕ) (new : Vec ℕ Global) → h < length lists
+    → p < length (list_of h (orders_in lists)) → new.items ≡ remove (list_of h (orders_in lists)) p
+    → list_all is_few (orders_in lists) ≡ true → list_all is_few (orders_in (set lists h new)) ≡ true
+few-removed lists h p new lt within made few =
+    ap (λ (l : List (List ℕ)). list_all is_few l) (orders_in-set lists h new)
+    ∙ few-less (orders_in lists) h new.items (omega (arith, lt, length-map lists (λ (v : Vec ℕ Global). v.items)))
+    (omega (arith, ap (λ (l : List ℕ). length l) made, length-remove (list_of h (orders_in lists)) p within)) few

@@ -1,2 +1,5 @@
 pub mod Lists
+pub mod Orders
+pub mod Spots
+pub mod Tied
 pub mod StoreView

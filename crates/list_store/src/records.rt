@@ -1,7 +1,8 @@
 use cf_types::{Adjunct, Body, EntryId, Key16, Name16};
 
-/// A record of a list structure: its id, its version (1 at first, one greater with each update), its
-/// name or key where the structure's records have one, and its data and adjunct where it has them.
+/// A record of a list structure: its id, its version (1 at first, one greater with each update),
+/// its name or key where the structure's records have one, and its data and adjunct where it has
+/// them.
 #[derive(Drop)]
 pub struct Rec {
     pub id: EntryId,

@@ -1,14 +1,20 @@
-ghost use Rattle.std.specs.Prelude.{◌≡◌, ◌-◌, ◌<◌, ◌≤◌, ◌++◌, ◌∷◌, [], true, false, IsTrue, IfOk, IfErr, OnOk, OnErr, IfSome, IfNone, Some, length, take, option_map, slice_get, slice_set, replicate};
+ghost use Rattle.std.specs.Prelude.{◌≡◌, ◌-◌, ◌+◌, ◌<◌, ◌≤◌, ◌++◌, ◌∷◌, [], true, false, IsTrue, IfOk, IfErr, OnOk, OnErr, IfSome, IfNone, Some, length, take, option_map, slice_get, slice_set, replicate};
 ghost use Rattle.std.specs.List.{list_any};
 ghost use Rattle.list_laws.specs.Pairwise.{pairwise};
+ghost use Rattle.record_lists.specs.Fronts.{front};
 ghost use Rattle.list_store.specs.Lists.{all_records, records_of, with_records, is_id, record_of, spot_of, lists_without, lists_with, lists_replaced, ids_apart};
 ghost use Rattle.list_store.specs.StoreView.{IsLastFull};
 
-use crate::lists::{
-    copy_lists, last_header, no_records, places_of, pop_at, push, put, reserve, set_at, take_at,
-};
+use crate::copies::copy_record;
+use crate::orders::{no_keys, reserve};
 use crate::records::{Rec, Spot};
+use crate::table::{
+    at, get, header_of, last_of, len_of, pop_out, put, put_in_place, reserve_slab, reserve_spots,
+    spot, take_out,
+};
 use cf_types::{EntryId, NoMemory};
+use indexmap::IndexMap;
+use slab::Slab;
 use std::alloc::Global;
 use std::marker::Model;
 
@@ -16,7 +22,9 @@ use std::marker::Model;
 /// many more there is room.
 #[derive(Drop)]
 pub struct Store {
-    lists: Vec<Vec<Rec>>,
+    slab: Slab<Rec>,
+    orders: Vec<Vec<u32>>,
+    spots: IndexMap<u64, (u32, u32)>,
 }
 
 impl Model for Store {
@@ -39,16 +47,12 @@ impl Store {
     ) -> Result<Store, NoMemory>
         ensures { IfOk result (λ store. store.lists ≡ replicate headers []) }
     {
-        let lists = no_records(alloc, headers)?;
-        Ok(Store { lists })
-    }
-
-    /// The same records once more.
-    pub fn copy(&self, alloc: Global) -> Result<Store, NoMemory>
-        ensures { IfOk result (λ copy. copy.lists ≡ self.now.lists) }
-    {
-        let lists = copy_lists(alloc, self.lists.as_slice())?;
-        Ok(Store { lists })
+        let orders = no_keys(alloc, headers)?;
+        Ok(Store {
+            slab: Slab::new(alloc),
+            orders,
+            spots: IndexMap::new(alloc),
+        })
     }
 
     /// Takes room for one record more, in whichever header. Want of memory changes nothing.
@@ -56,24 +60,16 @@ impl Store {
         ensures lists { self.new.lists ≡ self.old.lists }
         ensures room { OnOk result (1 ≤ self.new.room) }
     {
-        reserve(&mut self.lists)
+        reserve_slab(&mut self.slab)?;
+        reserve_spots(&mut self.spots)?;
+        reserve(&mut self.orders)
     }
 
     /// How many headers there are.
     pub fn headers(&self) -> u32
         ensures { result ≡ length self.now.lists }
     {
-        self.lists.len() as u32
-    }
-
-    /// The records of a header, in order.
-    pub fn records(&self, header: u32) -> &[Rec]
-        requires { header < length self.now.lists }
-        ensures records { result.now ≡ records_of self.now.lists header }
-        ensures apart { IsTrue (pairwise ids_apart (all_records self.now.lists)) }
-        ensures few { length result.now < 4294967296 }
-    {
-        self.lists[header as usize].as_slice()
+        self.orders.len() as u32
     }
 
     /// How many records a header has.
@@ -81,26 +77,39 @@ impl Store {
         requires { header < length self.now.lists }
         ensures { result ≡ length (records_of self.now.lists header) }
     {
-        self.records(header).len() as u32
+        len_of(&self.slab, self.orders.as_slice(), header as usize)
     }
 
     /// The record at a place of a header, from 0.
     pub fn at(&self, header: u32, place: u32) -> Option<&Rec>
         requires { header < length self.now.lists }
-        ensures { option_map (λ rec. rec.now) result ≡ slice_get (records_of self.now.lists header)
-            place }
+        ensures record { option_map (λ rec. rec.now) result
+            ≡ slice_get (records_of self.now.lists header) place }
+        ensures apart { IsTrue (pairwise ids_apart (all_records self.now.lists)) }
     {
-        self.records(header).get(place as usize)
+        at(
+            &self.slab,
+            self.orders.as_slice(),
+            &self.spots,
+            header as usize,
+            place as usize,
+        )
     }
 
     /// The record with an id.
     pub fn get(&self, id: EntryId) -> Option<&Rec>
-        ensures { option_map (λ rec. rec.now) result ≡ record_of id self.now.lists }
+        ensures record { option_map (λ rec. rec.now) result ≡ record_of id self.now.lists }
+        ensures apart { IsTrue (pairwise ids_apart (all_records self.now.lists)) }
     {
-        match self.whereabouts(id) {
-            Some(spot) => self.at(spot.header, spot.place),
-            None => None,
-        }
+        get(&self.slab, self.orders.as_slice(), &self.spots, id)
+    }
+
+    /// The header that the record with an id is in.
+    pub fn header_of(&self, id: EntryId) -> Option<u32>
+        ensures header { result ≡ option_map (λ spot. spot.header) (spot_of id self.now.lists) }
+        ensures apart { IsTrue (pairwise ids_apart (all_records self.now.lists)) }
+    {
+        header_of(&self.slab, self.orders.as_slice(), &self.spots, id)
     }
 
     /// Where the record with an id is.
@@ -108,13 +117,7 @@ impl Store {
         ensures spot { result ≡ spot_of id self.now.lists }
         ensures apart { IsTrue (pairwise ids_apart (all_records self.now.lists)) }
     {
-        match places_of(self.lists.as_slice(), id) {
-            Some((header, place)) => Some(Spot {
-                header: header as u32,
-                place: place as u32,
-            }),
-            None => None,
-        }
+        spot(&self.slab, self.orders.as_slice(), &self.spots, id)
     }
 
     /// Puts a record at a place of a header. No record has its id.
@@ -125,7 +128,14 @@ impl Store {
         requires alone { list_any (is_id rec.id) (all_records self.old.lists) ≡ false }
         ensures { self.new.lists ≡ lists_with header place rec self.old.lists }
     {
-        put(&mut self.lists, header as usize, place as usize, rec);
+        put(
+            &mut self.slab,
+            &mut self.orders,
+            &mut self.spots,
+            header,
+            place,
+            rec,
+        );
     }
 
     /// Puts a record in place of the one with this id, which is there and is the record's own;
@@ -135,24 +145,20 @@ impl Store {
         requires same { id ≡ rec.id }
         ensures record { record_of id self.old.lists ≡ Some result }
         ensures lists { self.new.lists ≡ lists_replaced rec self.old.lists }
+        ensures apart { IsTrue (pairwise ids_apart (all_records self.old.lists)) }
         ensures room { self.old.room ≤ self.new.room }
     {
-        match places_of(self.lists.as_slice(), id) {
-            Some((header, place)) => set_at(&mut self.lists, header, place, rec),
-            None => unreachable!(),
-        }
+        put_in_place(&mut self.slab, self.orders.as_slice(), &self.spots, rec)
     }
 
     /// Takes out the record with an id.
     pub fn take(&mut self, id: EntryId) -> Option<Rec>
         ensures record { result ≡ record_of id self.old.lists }
         ensures lists { self.new.lists ≡ lists_without id self.old.lists }
+        ensures apart { IsTrue (pairwise ids_apart (all_records self.old.lists)) }
         ensures room { self.old.room ≤ self.new.room }
     {
-        match places_of(self.lists.as_slice(), id) {
-            Some((header, place)) => Some(take_at(&mut self.lists, header, place)),
-            None => None,
-        }
+        take_out(&mut self.slab, &mut self.orders, &mut self.spots, id)
     }
 
     /// Takes the record with an id, which is there, to a place of a header.
@@ -180,7 +186,14 @@ impl Store {
         ensures err { OnErr result (self.new.lists ≡ self.old.lists) }
         ensures handed_back { IfErr result (λ back. back ≡ rec) }
     {
-        push(&mut self.lists, header as usize, rec)
+        match self.room() {
+            Ok(()) => {
+                let place = self.len(header);
+                self.add(header, place, rec);
+                Ok(())
+            }
+            Err(_) => Err(rec),
+        }
     }
 
     /// The last header that has records.
@@ -188,27 +201,71 @@ impl Store {
         ensures found { IfSome result (λ header. IsLastFull header self.now.lists) }
         ensures none { IfNone result (all_records self.now.lists ≡ []) }
     {
-        match last_header(self.lists.as_slice()) {
+        match last_of(&self.slab, self.orders.as_slice()) {
             Some(header) => Some(header as u32),
             None => None,
         }
     }
 
-    /// Takes the last record away; gives the header that it was in.
-    pub fn pop(&mut self) -> Option<u32>
-        ensures header { IfSome result (λ header. IsLastFull header self.old.lists) }
-        ensures lists { IfSome result (λ header. self.new.lists ≡ with_records self.old.lists header
-            (take (length (records_of self.old.lists header) - 1)
-            (records_of self.old.lists header))) }
+    /// Takes the last record out, of the last header that has records; gives the header, too.
+    pub fn pop(&mut self) -> Option<(u32, Rec)>
+        ensures header { IfSome result (λ out. IsLastFull out.0 self.old.lists) }
+        ensures found { IfSome result (λ out. record_of out.1.id self.old.lists ≡ Some out.1) }
+        ensures without { IfSome result (λ out. self.new.lists
+            ≡ lists_without out.1.id self.old.lists) }
+        ensures lists { IfSome result (λ out. self.new.lists ≡ with_records self.old.lists out.0
+            (take (length (records_of self.old.lists out.0) - 1)
+            (records_of self.old.lists out.0))) }
         ensures none { IfNone result (all_records self.old.lists ≡ []) }
         ensures same { IfNone result (self.new.lists ≡ self.old.lists) }
+        ensures apart { IsTrue (pairwise ids_apart (all_records self.old.lists)) }
     {
-        match last_header(self.lists.as_slice()) {
+        match last_of(&self.slab, self.orders.as_slice()) {
             Some(header) => {
-                pop_at(&mut self.lists, header);
-                Some(header as u32)
+                let rec = pop_out(&mut self.slab, &mut self.orders, &mut self.spots, header);
+                Some((header as u32, rec))
             }
             None => None,
         }
+    }
+
+    // A copy of one record more, behind the others of a header.
+    fn push_copy(&mut self, alloc: Global, header: u32, rec: &Rec) -> Result<(), NoMemory>
+        requires header { header < length self.old.lists }
+        requires alone { list_any (is_id rec.now.id) (all_records self.old.lists) ≡ false }
+        ensures { OnOk result (self.new.lists ≡ with_records self.old.lists header
+            (records_of self.old.lists header ++ rec.now ∷ [])) }
+    {
+        let copy = copy_record(alloc, rec)?;
+        match self.push(header, copy) {
+            Ok(()) => Ok(()),
+            Err(_) => Err(NoMemory),
+        }
+    }
+
+    // Copies of a header's records, where those of the headers before are there.
+    fn copy_header(&self, alloc: Global, header: u32, copy: &mut Store) -> Result<(), NoMemory>
+        requires header { header < length self.now.lists }
+        requires before { copy.old.lists ≡ front header 0 self.now.lists }
+        ensures { OnOk result (copy.new.lists ≡ front (header + 1) 0 self.now.lists) }
+    {
+        for place in 0..self.len(header) {
+            match self.at(header, place) {
+                Some(rec) => copy.push_copy(alloc, header, rec)?,
+                None => unreachable!(),
+            }
+        }
+        Ok(())
+    }
+
+    /// The same records once more.
+    pub fn copy(&self, alloc: Global) -> Result<Store, NoMemory>
+        ensures { IfOk result (λ copy. copy.lists ≡ self.now.lists) }
+    {
+        let mut copy = Store::new(alloc, 0, 0, self.headers())?;
+        for header in 0..self.headers() {
+            self.copy_header(alloc, header, &mut copy)?;
+        }
+        Ok(copy)
     }
 }

@@ -6,6 +6,7 @@ ghost use Rattle.engine_api.specs.Meaning.{first_refusal};
 ghost use Rattle.list_model.specs.Contents.{stands};
 ghost use Rattle.list_model.specs.Commands.Move as moving;
 ghost use Rattle.list_kept.specs.ContentView.{IsRoomy};
+ghost use Rattle.list_kept.specs.Orderly.{IsOrderly};
 ghost use Rattle.list_core.specs.Found.{IsFound};
 
 use crate::refusals::{
@@ -75,6 +76,7 @@ pub(crate) fn act(
     requires room { IsRoomy kept.old out.old.bits.room }
     requires header { header < length kept.old.content.lists }
     requires found { IsFound kept.old.content.lists at }
+    requires orderly { IsOrderly (moving.after kept.old.content at header head key).lists }
     ensures content { kept.new.content ≡ moving.after kept.old.content at header head key }
     ensures bits { Gains (stands kept.old.content) (stands kept.new.content) out.old.bits.items
         out.new.bits.items }

@@ -2,13 +2,13 @@
 ghost use Rattle.std.specs.Prelude.{◌≡◌, ◌++◌, ◌∷◌, [], OnOk, IfOk, map};
 ghost use Rattle.engine_api.specs.Meaning.{first_refusal};
 ghost use Rattle.list_store.specs.declared.records.Rec.{Rec};
+ghost use Rattle.list_store.specs.Lists.{records_of};
 ghost use Rattle.list_model.specs.Commands.ReadList as read_list;
 
 use crate::refusals::{first_refusal, header_refusal};
 use cf_types::{EntryId, ListReply, Listing, NoMemory, Refusal};
 use engine_api::Shape;
 use list_kept::{Kept, headers_of};
-use list_store::Rec;
 use std::alloc::Global;
 
 /// Why the command is refused.
@@ -27,13 +27,17 @@ fn push(ids: &mut Vec<EntryId>, id: EntryId) -> Result<(), NoMemory>
     Ok(())
 }
 
-// The ids of records.
-fn ids_of(alloc: Global, recs: &[Rec]) -> Result<Vec<EntryId>, NoMemory>
-    ensures { IfOk result (λ ids. ids.items ≡ map (λ (rec : Rec). rec.id) recs.now) }
+// The ids of a header's records.
+fn ids_of(alloc: Global, kept: &Kept, header: u32) -> Result<Vec<EntryId>, NoMemory>
+    ensures { IfOk result (λ ids. ids.items
+        ≡ map (λ (rec : Rec). rec.id) (records_of kept.now.content.lists header)) }
 {
     let mut ids = Vec::new(alloc);
-    for rec in recs {
-        push(&mut ids, rec.id)?;
+    for place in 0..kept.len(header) {
+        match kept.at(header, place) {
+            Some(rec) => push(&mut ids, rec.id)?,
+            None => unreachable!(),
+        }
     }
     Ok(ids)
 }
@@ -42,10 +46,6 @@ fn ids_of(alloc: Global, recs: &[Rec]) -> Result<Vec<EntryId>, NoMemory>
 pub(crate) fn reply(alloc: Global, kept: &Kept, header: u32) -> Result<ListReply, NoMemory>
     ensures { IfOk result (λ reply. reply ≡ read_list.reply kept.now.content header) }
 {
-    if header < kept.headers() {
-        let ids = ids_of(alloc, kept.records(header))?;
-        Ok(ListReply::Ids(Listing::from_vec(ids)))
-    } else {
-        Ok(ListReply::Ids(Listing::new(alloc)))
-    }
+    let ids = ids_of(alloc, kept, header)?;
+    Ok(ListReply::Ids(Listing::from_vec(ids)))
 }

@@ -120,7 +120,9 @@ ghost use Rattle.list_core.specs.Found.{updated_with};
 
 /// Does the command, with the data that the record will have.
 pub(crate) fn act(kept: &mut Kept, at: At, body: Option<Body>, adj: Option<Adjunct>)
-    requires { IsFound kept.old.content.lists at }
+    requires found { IsFound kept.old.content.lists at }
+    requires orderly { IsOrderly (lists_replaced (updated_with body adj
+        (the_record kept.old.content.lists at)) kept.old.content.lists) }
     ensures { kept.new.content ≡ record kept.old.content {
       lists = lists_replaced (updated_with body adj (the_record kept.old.content.lists at))
           kept.old.content.lists;
@@ -131,3 +133,4 @@ pub(crate) fn act(kept: &mut Kept, at: At, body: Option<Body>, adj: Option<Adjun
 }
 
 ghost use Rattle.list_store.specs.Lists.{lists_replaced};
+ghost use Rattle.list_kept.specs.Orderly.{IsOrderly};

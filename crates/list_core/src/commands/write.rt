@@ -8,6 +8,7 @@ ghost use Rattle.list_model.specs.Records.{elements_in};
 ghost use Rattle.list_model.specs.Contents.{stands};
 ghost use Rattle.list_model.specs.Commands.Write as write;
 ghost use Rattle.list_kept.specs.ContentView.{IsRoomy};
+ghost use Rattle.list_kept.specs.Orderly.{IsOrderly};
 
 use crate::refusals::{
     cond_lock_refusal, cond_refusal, elements_refusal, entries_refusal, first_refusal,
@@ -95,6 +96,8 @@ pub(crate) fn act(
     requires header { header < length kept.old.content.lists }
     requires alone { list_any (is_id (write.new_id kept.old.content))
         (all_records kept.old.content.lists) ≡ false }
+    requires orderly { IsOrderly
+        (write.after kept.old.content header head name key body adj).lists }
     ensures content { kept.new.content
         ≡ write.after kept.old.content header head name key body adj }
     ensures bits { Gains (stands kept.old.content) (stands kept.new.content) out.old.bits.items

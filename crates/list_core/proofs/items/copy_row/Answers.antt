@@ -1,9 +1,6 @@
-use Rattle.std.proofs.Common.{◌≡◌, ℕ, ◌+◌, ◌-◌, ◌<◌, Some, Option, length, drop, slice_get, option_map, sym, ap, ◌∙◌, arith}
+use Rattle.std.proofs.Common.{◌≡◌, ℕ, ◌+◌, ◌-◌, ◌<◌, Some, length, drop, slice_get, option_map, sym, ap, ◌∙◌, arith}
 use Rattle.std.proofs.lemmas.Result.{IfOk-weaker}
-use Rattle.std.proofs.lemmas.Option.{slice_get-get_or}
-use Rattle.list_store.specs.declared.records.Rec.{Rec}
 use Rattle.list_store.specs.Lists.{Lists, records_of}
-use Rattle.list_model.specs.declared.items.ListItem.{ListItem}
 use Rattle.list_model.specs.Items.{row_of, rows_from}
 use Rattle.list_model.proofs.ItemLaws.{row-here, row-later}
 use Rattle.list_kept.proofs.ReadLaws.{drop_lists, count_more}
@@ -15,19 +12,14 @@ returns-then-left-len c =
     let header = c.loop-header.header in
     let left = c.loop-header.left in
     let recs = records_of lists header in
-    let rec = c.index-records-left.result in
     let within : left < length recs = omega (arith, c.if-left-len.true, c.len-len.ensures) in
-    let read = rw c.records.ensures.records at c.index-records-left.is in
-    let here : slice_get recs left ≡ Some rec = slice_get-get_or recs left rec within ∙ ap (λ (r : Rec). Some r)
-    (sym read) in
-    let there : slice_get (rows_from 0 lists) c.args.k ≡ Some (row_of header rec) =
+    let there : slice_get (rows_from 0 lists) c.args.k ≡ option_map (row_of header) (slice_get recs left) =
     sym c.loop-header.invariant.0
     ∙ ap (λ (l : Lists). slice_get (rows_from header l) left) (drop_lists lists header (omega arith))
-    ∙ row-here header left recs (drop (header + 1) lists) within
-    ∙ ap (λ (o : Option Rec). option_map (row_of header) o) here in
-    IfOk-weaker c.row.result (λ item. item ≡ row_of header rec) (λ item. slice_get (rows_from 0 lists) c.args.k ≡ Some
-    item)
-    (λ item h. there ∙ ap (λ (i : ListItem). Some i) (sym h)) c.row.ensures
+    ∙ row-here header left recs (drop (header + 1) lists) within in
+    IfOk-weaker c.row_at.result (λ item. option_map (row_of header) (slice_get recs left) ≡ Some item)
+    (λ item. slice_get (rows_from 0 lists) c.args.k ≡ Some item)
+    (λ item h. there ∙ h) c.row_at.ensures
 
 pub loop-header-preserved : goal.loop-header-preserved
 loop-header-preserved c =

@@ -1,33 +1,36 @@
-use Rattle.std.proofs.Common.{◌≡◌, arith}
-use Rattle.list_store.specs.Lists.{all_records, records_of, records_without}
-use Rattle.list_model.specs.Records.{elements_in}
-use Rattle.list_kept.proofs.ReadLaws.{elements_more, elements_here, elements_fewer}
+use Rattle.std.proofs.Common.{◌≡◌, Some, None, Bor, option_map, sym, ap, ◌∙◌, arith}
+use Rattle.list_store.specs.declared.records.Rec.{Rec}
+use Rattle.list_store.specs.Lists.{record_of}
+use Rattle.list_kept.proofs.NamedLaws.{elements_found, elements_absent}
 use Rattle.list_kept.proofs.reading.elements_of_others.Goals as goal
 
-pub elements_but-total-requires : goal.elements_but-total-requires
-elements_but-total-requires c =
-    rw c.records.ensures.records
-    (omega (arith, elements_here c.args.kept.now.content.lists c.loop-header.header (omega arith), c.requires))
-
-pub overflow_add-total : goal.overflow_add-total
-overflow_add-total c =
+pub overflow_sub-result : goal.overflow_sub-result
+overflow_sub-result c =
     let lists = c.args.kept.now.content.lists in
-    let told : c.elements_but-total.result ≡ elements_in
-    (records_without c.args.id (records_of lists c.loop-header.header)) =
-    rw c.records.ensures.records at c.elements_but-total.ensures in
+    let there : record_of c.args.id lists ≡ Some c.in-Some.rec.now =
+    sym c.get.ensures.«record» ∙ ap (option_map (λ (r : Bor Rec). r.now)) c.in-Some.is in
     omega (
       arith,
-      told,
-      elements_more c.args.id lists c.loop-header.header (omega arith),
-      c.loop-header.invariant,
-      elements_fewer c.args.id (all_records lists),
-      c.requires,
+      c.elements.ensures,
+      c.elements_of.ensures,
+      elements_found c.args.id lists c.in-Some.rec.now c.get.ensures.apart there,
     )
 
-pub loop-header-preserved : goal.loop-header-preserved
-loop-header-preserved c =
+pub returns-in-Some : goal.returns-in-Some
+returns-in-Some c =
     let lists = c.args.kept.now.content.lists in
-    let told : c.elements_but-total.result ≡ elements_in
-    (records_without c.args.id (records_of lists c.loop-header.header)) =
-    rw c.records.ensures.records at c.elements_but-total.ensures in
-    omega (arith, told, elements_more c.args.id lists c.loop-header.header (omega arith), c.loop-header.invariant)
+    let there : record_of c.args.id lists ≡ Some c.in-Some.rec.now =
+    sym c.get.ensures.«record» ∙ ap (option_map (λ (r : Bor Rec). r.now)) c.in-Some.is in
+    omega (
+      arith,
+      c.elements.ensures,
+      c.elements_of.ensures,
+      elements_found c.args.id lists c.in-Some.rec.now c.get.ensures.apart there,
+    )
+
+pub returns-in-None : goal.returns-in-None
+returns-in-None c =
+    let lists = c.args.kept.now.content.lists in
+    let none : record_of c.args.id lists ≡ None =
+    sym c.get.ensures.«record» ∙ ap (option_map (λ (r : Bor Rec). r.now)) c.in-None.is in
+    c.elements-in-None.ensures ∙ sym (elements_absent c.args.id lists none)

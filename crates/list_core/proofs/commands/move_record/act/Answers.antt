@@ -1,7 +1,8 @@
-use Rattle.std.proofs.Common.{ap, ◌∙◌}
+use Rattle.std.proofs.Common.{sym, ap, ◌∙◌, subst}
 use Rattle.cf_types.specs.declared.numbers.EntryId.{EntryId}
 use Rattle.list_store.specs.Lists.{Lists, record_of, lists_without}
 use Rattle.list_kept.specs.ContentView.{put_back}
+use Rattle.list_kept.specs.Orderly.{IsOrderly}
 use Rattle.list_kept.proofs.ToldLaws.{content_at}
 use Rattle.list_core.proofs.FoundLaws.{found-any, found-put_back}
 use Rattle.list_core.proofs.commands.move_record.act.Goals as goal
@@ -9,6 +10,15 @@ use Rattle.list_core.proofs.commands.move_record.act.Goals as goal
 pub shift-requires-clause-there : goal.shift-requires-clause-there
 shift-requires-clause-there c = rw c.id_at-id.ensures (found-any c.args.kept.now.content.lists c.args.at
     c.requires.found)
+
+pub shift-requires-clause-orderly : goal.shift-requires-clause-orderly
+shift-requires-clause-orderly c =
+    let content = c.args.kept.now.content in
+    subst IsOrderly
+    (sym (ap (λ (id : EntryId). put_back c.args.head c.args.header c.args.key (record_of id content.lists)
+    (lists_without id content.lists)) c.id_at-id.ensures
+    ∙ found-put_back c.args.head c.args.header c.args.key content.lists c.args.at c.requires.found))
+    c.requires.orderly
 
 pub returns-clause-content : goal.returns-clause-content
 returns-clause-content c =

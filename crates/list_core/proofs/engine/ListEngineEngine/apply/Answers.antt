@@ -1,4 +1,4 @@
-use Rattle.std.proofs.Common.{◌≡◌, Some, refl, sym, subst}
+use Rattle.std.proofs.Common.{◌≡◌, Some, refl, sym, subst, arith}
 use Rattle.cf_types.proofs.GainsLaws.{gains_none}
 use Rattle.list_model.specs.Contents.{Content, IsContent}
 use Rattle.list_model.proofs.ContentLaws.{content-done}
@@ -28,6 +28,23 @@ act-requires-clause-copied c =
     c.args.cmd.now) c.take.ensures.value c.in-Some.is planned in
     (plan_accepted e.shape e.caps e.kept.content c.args.by c.args.cmd.now c.in-Some.plan c.in-Ok.reply is
     c.in-Ok.is).body
+
+pub act-requires-clause-orderly : goal.act-requires-clause-orderly
+act-requires-clause-orderly c =
+    let e = c.self.inside in
+    let planned = subst (λ (s : EngineView). s.plan ≡ Some (plan_for s.held.shape s.held.caps s.held.state c.args.by
+    c.args.cmd.now)) (sym c.self.view_is) c.requires.ready.planned in
+    let is = plan_taken c.take.result e.plan c.in-Some.plan (plan_for e.shape e.caps e.kept.content c.args.by
+    c.args.cmd.now) c.take.ensures.value c.in-Some.is planned in
+    let accepted = plan_accepted e.shape e.caps e.kept.content c.args.by c.args.cmd.now c.in-Some.plan c.in-Ok.reply
+    is c.in-Ok.is in
+    let done = content-done e.shape e.caps e.kept.content c.args.by c.args.cmd.now c.self.invariant.content
+    accepted.none in
+    record {
+      ordered = done.ordered;
+      one_for_name = done.one_for_name;
+      elements = omega (arith, done.elements, c.self.invariant.caps.most_elements);
+    }
 
 pub invariant_of-self : goal.invariant_of-self
 invariant_of-self c =

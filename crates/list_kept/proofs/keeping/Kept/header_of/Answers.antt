@@ -2,13 +2,13 @@ use Rattle.std.proofs.Common.{◌≡◌, ℕ, Option, None, false, length, nat_l
 use Rattle.std.specs.List.{position_or_len}
 use Rattle.list_laws.proofs.KeyLaws.{any_is_placed}
 use Rattle.list_store.specs.Lists.{has_id}
-use Rattle.list_store.proofs.PlaceLaws.{unplaced}
+use Rattle.list_store.proofs.SpotLaws.{unplaced}
 use Rattle.list_kept.proofs.keeping.Kept.header_of.Goals as goal
 
 pub returns-in-None : goal.returns-in-None
 returns-in-None c =
     let lists = c.self.inside.store.lists in
-    let absent = unplaced c.args.id lists (sym c.whereabouts.ensures.spot ∙ c.in-None.is) in
+    let absent = unplaced c.args.id lists (sym c.header_of.ensures.header ∙ c.in-None.is) in
     let nowhere : nat_lt (position_or_len (has_id c.args.id) lists) (length lists) ≡ false =
     sym (any_is_placed (has_id c.args.id) lists) ∙ absent in
     let none : position (has_id c.args.id) lists ≡ None = rw nowhere refl in

@@ -16,10 +16,16 @@ still_told : (c : goal.After-drop_conn) → list_all (is_told c.self.inside.stor
 still_told c =
     ap (λ (l : List Watched). list_all (is_told c.self.inside.store.lists) l) c.drop_conn.ensures.rows
     ∙ told-filter (λ row. not (is_of c.args.conn row.monitor)) c.self.inside.store.lists c.self.inside.watch.rows
-    c.self.invariant
+    c.self.invariant.told
 
 pub invariant_of-self : goal.invariant_of-self
-invariant_of-self c = still_told c
+invariant_of-self c =
+    record {
+      told = still_told c;
+      orderly = c.self.invariant.orderly;
+      named = c.self.invariant.named;
+      counted = c.self.invariant.counted;
+    }
 
 pub returns-clause-content : goal.returns-clause-content
 returns-clause-content c =
@@ -37,4 +43,4 @@ returns-clause-bits c =
     rw (← c.self.view_is)
     (gains-told k.store.lists k.store.lists k.watch.rows c.drop_conn.new.self.rows c.args.out.now.bits.items
     c.drop_conn.new.out.bits.items
-    c.self.invariant (still_told c) c.drop_conn.ensures.bits)
+    c.self.invariant.told (still_told c) c.drop_conn.ensures.bits)

@@ -15,10 +15,16 @@ still_told c =
     ap (λ (l : List Watched). list_all (is_told lists) l) c.set.ensures.rows
     ∙ ap (λ b. list_all (is_told lists) (rows_with c.args.conn c.args.index c.args.header b rows))
     c.has_records-full.ensures
-    ∙ told-with c.args.conn c.args.index c.args.header lists rows c.self.invariant
+    ∙ told-with c.args.conn c.args.index c.args.header lists rows c.self.invariant.told
 
 pub invariant_of-self : goal.invariant_of-self
-invariant_of-self c = still_told c
+invariant_of-self c =
+    record {
+      told = still_told c;
+      orderly = c.self.invariant.orderly;
+      named = c.self.invariant.named;
+      counted = c.self.invariant.counted;
+    }
 
 pub returns-clause-content : goal.returns-clause-content
 returns-clause-content c =
@@ -34,4 +40,4 @@ returns-clause-bits c =
     rw (← c.self.view_is)
     (gains-told k.store.lists k.store.lists k.watch.rows c.set.new.self.rows c.args.out.now.bits.items
     c.set.new.out.bits.items
-    c.self.invariant (still_told c) c.set.ensures.bits)
+    c.self.invariant.told (still_told c) c.set.ensures.bits)

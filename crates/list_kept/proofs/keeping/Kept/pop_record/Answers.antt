@@ -1,7 +1,10 @@
-use Rattle.std.proofs.Common.{◌≡◌, ◌-◌, ◌==◌, not, List, length, take, sym, ap, ◌∙◌, arith}
+use Rattle.std.proofs.Common.{◌≡◌, ◌-◌, ◌==◌, not, List, length, take, sym, ap, ◌∙◌, subst, arith}
 use Rattle.std.specs.List.{list_all}
 use Rattle.list_store.specs.declared.records.Rec.{Rec}
-use Rattle.list_store.specs.Lists.{Lists, records_of, with_records, count_of}
+use Rattle.list_store.specs.Lists.{Lists, all_records, records_of, with_records, lists_without, count_of}
+use Rattle.list_model.specs.Records.{elements_in}
+use Rattle.list_kept.specs.Named.{AreNamed}
+use Rattle.list_kept.proofs.NamedLaws.{named_less, taken, elements_with}
 use Rattle.list_watch.specs.declared.monitors.Monitor.{Monitor}
 use Rattle.list_watch.specs.declared.monitors.Watched.{Watched}
 use Rattle.list_watch.specs.Rows.{monitors_of, rows_turned}
@@ -9,7 +12,9 @@ use Rattle.list_watch.proofs.BitLaws.{monitors-turned}
 use Rattle.list_model.specs.Contents.{has_records}
 use Rattle.list_model.proofs.StoreLaws.{records-elsewhere}
 use Rattle.list_model.proofs.ItemLaws.{first-all}
+use Rattle.list_kept.specs.Orderly.{IsOrderly}
 use Rattle.list_kept.specs.Told.{is_told}
+use Rattle.list_kept.proofs.PlaceLaws.{orderly-without}
 use Rattle.list_kept.proofs.ToldLaws.{told-one, sym_test, content_at}
 use Rattle.list_kept.proofs.LastLaws.{last-count, last-gone, some_test}
 use Rattle.list_kept.proofs.keeping.Kept.pop_record.Goals as goal
@@ -27,12 +32,42 @@ invariant_of-self c =
     let later = c.pop.new.self.lists in
     let header = c.in-Some.header in
     let recs = take (length (records_of lists header) - 1) (records_of lists header) in
-    ap (λ (l : List Watched). list_all (is_told later) l) c.settle.ensures
-    ∙ ap (λ b. list_all (is_told later) (rows_turned header b rows)) c.has_records-full.ensures
-    ∙ told-one header lists later rows
-    (λ other e. ap (λ (l : Lists). has_records l other) (popped c)
-    ∙ ap (λ (l : List Rec). not (length l == 0)) (records-elsewhere lists header other recs
-    (sym_test other header e))) c.self.invariant
+    let rest = lists_without c.in-Some.rec.id lists in
+    let with = taken c.in-Some.rec.id lists c.in-Some.rec c.pop.ensures.apart c.in-Some.ensures.found in
+    record {
+      told = ap (λ (l : List Watched). list_all (is_told later) l) c.settle.ensures
+          ∙ ap (λ b. list_all (is_told later) (rows_turned header b rows)) c.has_records-full.ensures
+          ∙ told-one header lists later rows
+          (λ other e. ap (λ (l : Lists). has_records l other) (popped c)
+          ∙ ap (λ (l : List Rec). not (length l == 0)) (records-elsewhere lists header other recs
+          (sym_test other header e))) c.self.invariant.told;
+      orderly =
+          subst IsOrderly (sym c.in-Some.ensures.without)
+          (orderly-without c.in-Some.rec.id lists c.self.invariant.orderly);
+      named =
+          subst (λ (l : Lists). AreNamed c.drop_name.new.names.names (all_records l)) (sym c.in-Some.ensures.without)
+          (named_less c.self.inside.names.names c.drop_name.new.names.names c.in-Some.rec (all_records rest)
+          (all_records lists) with c.self.invariant.orderly.one_for_name c.self.invariant.named c.drop_name.ensures);
+      counted = omega (
+        arith,
+        c.self.invariant.counted,
+        c.elements_of.ensures,
+        ap (λ (l : Lists). elements_in (all_records l)) c.in-Some.ensures.without,
+        elements_with c.in-Some.rec (all_records rest) (all_records lists) with,
+      );
+    }
+
+pub overflow_sub-self : goal.overflow_sub-self
+overflow_sub-self c =
+    let lists = c.self.inside.store.lists in
+    let rest = lists_without c.in-Some.rec.id lists in
+    omega (
+      arith,
+      c.self.invariant.counted,
+      c.elements_of.ensures,
+      elements_with c.in-Some.rec (all_records rest) (all_records lists)
+          (taken c.in-Some.rec.id lists c.in-Some.rec c.pop.ensures.apart c.in-Some.ensures.found),
+    )
 
 pub returns-in-Some-clause-there : goal.returns-in-Some-clause-there
 returns-in-Some-clause-there c =

@@ -1,15 +1,20 @@
-use Rattle.std.proofs.Common.{◌≡◌, ℕ, ◌==◌, true, List, sym, ap, ◌∙◌, subst}
+use Rattle.std.proofs.Common.{◌≡◌, ℕ, ◌<◌, ◌==◌, true, List, length, refl, sym, ap, ◌∙◌, subst, arith}
 use Rattle.std.specs.List.{list_any, list_all}
 use Rattle.std.proofs.lemmas.Bool.{false≢true, eqb-true}
-use Rattle.list_store.specs.Lists.{Lists, all_records, is_id}
-use Rattle.list_store.proofs.RecordLaws.{any_all}
-use Rattle.list_store.proofs.PlaceLaws.{unplaced}
+use Rattle.list_store.specs.Lists.{Lists, all_records, is_id, record_of, lists_without}
+use Rattle.record_lists.proofs.AllLaws.{any_all}
+use Rattle.list_store.proofs.SpotLaws.{unplaced, spot_with}
 use Rattle.list_watch.specs.declared.monitors.Monitor.{Monitor}
 use Rattle.list_watch.specs.declared.monitors.Watched.{Watched}
 use Rattle.list_watch.specs.Rows.{monitors_of, rows_turned}
 use Rattle.list_watch.proofs.BitLaws.{monitors-turned, gains_two}
 use Rattle.list_model.specs.Contents.{has_records}
-use Rattle.list_kept.specs.ContentView.{ContentView}
+use Rattle.list_kept.specs.ContentView.{ContentView, put_back}
+use Rattle.list_model.specs.Records.{elements_in}
+use Rattle.list_model.specs.Commands.Move.{with_new_key}
+use Rattle.list_kept.specs.Named.{AreNamed}
+use Rattle.list_kept.specs.Orderly.{IsOrderly}
+use Rattle.list_kept.proofs.NamedLaws.{named_other, taken, came_back, some_found, elements_with}
 use Rattle.list_kept.specs.Told.{is_told}
 use Rattle.list_kept.proofs.ToldLaws.{told-two, gains-told, content_at, full-put_back}
 use Rattle.list_kept.proofs.keeping.Kept.shift.Goals as goal
@@ -20,20 +25,51 @@ still_told c =
     let lists = c.self.inside.store.lists in
     let rows = c.self.inside.watch.rows in
     let later = c.put_again.new.store.lists in
-    let spot = c.in-Some.spot in
+    let from = c.in-Some.from in
+    let found = spot_with c.args.id lists from (sym c.header_of.ensures.header ∙ c.in-Some.is) in
     ap (λ (l : List Watched). list_all (is_told later) l) (c.turned-in-Some.ensures.rows
     ∙ ap (λ (l : List Watched). rows_turned c.args.header c.has_records-full-in-Some.result l) c.turned.ensures.rows)
     ∙ ap (λ b. list_all (is_told later) (rows_turned c.args.header b
-    (rows_turned spot.header c.has_records-full.result rows))) c.has_records-full-in-Some.ensures
+    (rows_turned from c.has_records-full.result rows))) c.has_records-full-in-Some.ensures
     ∙ ap (λ b. list_all (is_told later) (rows_turned c.args.header (has_records later c.args.header)
-    (rows_turned spot.header b rows))) c.has_records-full.ensures
-    ∙ told-two spot.header c.args.header lists later rows
+    (rows_turned from b rows))) c.has_records-full.ensures
+    ∙ told-two from c.args.header lists later rows
     (λ other e f. ap (λ (l : Lists). has_records l other) c.put_again.ensures
-    ∙ full-put_back c.args.head c.args.id c.args.header c.args.key lists spot other c.whereabouts.ensures.apart
-    (sym c.whereabouts.ensures.spot ∙ c.in-Some.is) e f) c.self.invariant
+    ∙ full-put_back c.args.head c.args.id c.args.header c.args.key lists found.0 other c.header_of.ensures.apart
+    found.1 (ap (λ (n : ℕ). other == n) found.2 ∙ e) f) c.self.invariant.told
 
 pub invariant_of-self : goal.invariant_of-self
-invariant_of-self c = still_told c
+invariant_of-self c =
+    let lists = c.self.inside.store.lists in
+    let rest = lists_without c.args.id lists in
+    let after = put_back c.args.head c.args.header c.args.key (record_of c.args.id lists) rest in
+    let is = subst (λ (k : ContentView). IsOrderly (put_back c.args.head c.args.header c.args.key
+    (record_of c.args.id k.content.lists) (lists_without c.args.id k.content.lists))) (sym c.self.view_is)
+    c.requires.orderly in
+    let lt = subst (λ (v : ContentView). c.args.header < length v.content.lists)
+    (sym c.self.view_is) c.requires.header in
+    let there = subst (λ (k : ContentView). list_any (is_id c.args.id) (all_records k.content.lists) ≡ true)
+    (sym c.self.view_is) c.requires.there in
+    let one = some_found c.args.id lists there in
+    let with = taken c.args.id lists one.0 c.header_of.ensures.apart one.1 in
+    let back = came_back c.args.head c.args.header c.args.key c.args.id one.0 lists lt one.1 in
+    record {
+      told = still_told c;
+      orderly =
+          subst IsOrderly (sym c.put_again.ensures) is;
+      named =
+          subst (λ (l : Lists). AreNamed c.self.inside.names.names (all_records l)) (sym c.put_again.ensures)
+          (named_other c.self.inside.names.names one.0 (with_new_key c.args.key one.0) (all_records rest)
+          (all_records lists) (all_records after) with back c.self.invariant.orderly.one_for_name is.one_for_name
+          refl refl c.self.invariant.named);
+      counted = omega (
+        arith,
+        c.self.invariant.counted,
+        ap (λ (l : Lists). elements_in (all_records l)) c.put_again.ensures,
+        elements_with one.0 (all_records rest) (all_records lists) with,
+        elements_with (with_new_key c.args.key one.0) (all_records rest) (all_records after) back,
+      );
+    }
 
 pub unreachable-requires : goal.unreachable-requires
 unreachable-requires c =
@@ -41,7 +77,7 @@ unreachable-requires c =
     let there : list_any (is_id c.args.id) (all_records lists) ≡ true =
     subst (λ (k : ContentView). list_any (is_id c.args.id) (all_records k.content.lists) ≡ true) (sym c.self.view_is)
     c.requires.there in
-    false≢true (sym (unplaced c.args.id lists (sym c.whereabouts.ensures.spot ∙ c.in-None.is))
+    false≢true (sym (unplaced c.args.id lists (sym c.header_of.ensures.header ∙ c.in-None.is))
     ∙ sym (any_all (is_id c.args.id) lists) ∙ there)
 
 pub returns-clause-content : goal.returns-clause-content
@@ -52,14 +88,14 @@ returns-clause-content c =
     (ap (λ (l : List Watched). monitors_of l) c.turned-in-Some.ensures.rows
     ∙ monitors-turned c.args.header c.has_records-full-in-Some.result c.turned.new.self.rows
     ∙ ap (λ (l : List Watched). monitors_of l) c.turned.ensures.rows
-    ∙ monitors-turned c.in-Some.spot.header c.has_records-full.result k.watch.rows)
+    ∙ monitors-turned c.in-Some.from c.has_records-full.result k.watch.rows)
     ∙ ap (λ (l : Lists). content_at l k.limits.items k.locks.items (monitors_of k.watch.rows) k.next)
     c.put_again.ensures)
 
 pub returns-clause-bits : goal.returns-clause-bits
 returns-clause-bits c =
     let k = c.self.inside in
-    let from = c.in-Some.spot.header in
+    let from = c.in-Some.from in
     let later = c.put_again.new.store.lists in
     let x = c.has_records-full.result in
     let y = c.has_records-full-in-Some.result in
@@ -74,4 +110,4 @@ returns-clause-bits c =
     rw (← c.self.view_is)
     (gains-told k.store.lists later k.watch.rows c.turned-in-Some.new.self.rows c.args.out.now.bits.items
     c.turned-in-Some.new.out.bits.items
-    c.self.invariant (still_told c) (rw (c.turned-in-Some.ensures.rows, c.turned.ensures.rows) both))
+    c.self.invariant.told (still_told c) (rw (c.turned-in-Some.ensures.rows, c.turned.ensures.rows) both))

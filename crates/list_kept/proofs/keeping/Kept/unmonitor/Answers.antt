@@ -13,10 +13,16 @@ still_told : (c : goal.After-clear) → list_all (is_told c.self.inside.store.li
 still_told c =
     ap (λ (l : List Watched). list_all (is_told c.self.inside.store.lists) l) c.clear.ensures.rows
     ∙ told-filter (λ row. not (is_for c.args.conn c.args.header row.monitor)) c.self.inside.store.lists
-    c.self.inside.watch.rows c.self.invariant
+    c.self.inside.watch.rows c.self.invariant.told
 
 pub invariant_of-self : goal.invariant_of-self
-invariant_of-self c = still_told c
+invariant_of-self c =
+    record {
+      told = still_told c;
+      orderly = c.self.invariant.orderly;
+      named = c.self.invariant.named;
+      counted = c.self.invariant.counted;
+    }
 
 pub returns-clause-content : goal.returns-clause-content
 returns-clause-content c =
@@ -32,4 +38,4 @@ returns-clause-bits c =
     rw (← c.self.view_is)
     (gains-told k.store.lists k.store.lists k.watch.rows c.clear.new.self.rows c.args.out.now.bits.items
     c.clear.new.out.bits.items
-    c.self.invariant (still_told c) c.clear.ensures.bits)
+    c.self.invariant.told (still_told c) c.clear.ensures.bits)

@@ -1,12 +1,20 @@
-use Rattle.std.proofs.Common.{◌≡◌, ◌+◌, true, List, ap, ◌∙◌}
+use Rattle.std.proofs.Common.{◌≡◌, ℕ, ◌+◌, ◌<◌, Bool, true, List, length, sym, ap, ◌∙◌, subst, arith}
 use Rattle.std.specs.List.{list_all}
-use Rattle.list_store.specs.Lists.{Lists}
+use Rattle.list_store.specs.declared.records.Rec.{Rec}
+use Rattle.list_store.specs.Lists.{Lists, all_records}
+use Rattle.list_model.specs.Records.{elements_in}
+use Rattle.list_kept.specs.declared.keeping.Kept.TheInside.{Inside}
+use Rattle.list_kept.specs.Named.{AreNamed}
+use Rattle.list_kept.proofs.NamedLaws.{named_new, named_more, came, elements_with}
 use Rattle.list_watch.specs.declared.monitors.Monitor.{Monitor}
 use Rattle.list_watch.specs.declared.monitors.Watched.{Watched}
 use Rattle.list_watch.specs.Rows.{monitors_of, rows_turned}
 use Rattle.list_watch.proofs.BitLaws.{monitors-turned}
 use Rattle.list_model.specs.Contents.{has_records}
 use Rattle.list_model.proofs.StoreLaws.{full-elsewhere}
+use Rattle.list_model.specs.Lists.{with_record}
+use Rattle.list_kept.specs.ContentView.{ContentView, content_view}
+use Rattle.list_kept.specs.Orderly.{IsOrderly}
 use Rattle.list_kept.specs.Told.{is_told}
 use Rattle.list_kept.proofs.ToldLaws.{told-one, gains-told, sym_test, content_at}
 use Rattle.list_kept.proofs.keeping.Kept.write.Goals as goal
@@ -21,10 +29,66 @@ still_told c =
     ∙ told-one c.args.header lists later rows
     (λ other e. ap (λ (l : Lists). has_records l other) c.put.ensures
     ∙ full-elsewhere c.args.head c.args.header other c.args.rec lists (sym_test other c.args.header e))
-    c.self.invariant
+    c.self.invariant.told
+
+stays : (head : Bool) (header : ℕ) (rec : Rec) (k : Inside) (view : ContentView) → content_view k ≡ view
+    → IsOrderly (with_record head header rec view.content.lists)
+    → IsOrderly (with_record head header rec k.store.lists)
+stays head header rec k view e is =
+    subst (λ (v : ContentView). IsOrderly (with_record head header rec v.content.lists)) (sym e) is
+
+pub add_name-requires-clause-new : goal.add_name-requires-clause-new
+add_name-requires-clause-new c =
+    let lists = c.self.inside.store.lists in
+    let lt = subst (λ (v : ContentView). c.args.header < length v.content.lists)
+    (sym c.self.view_is) c.requires.header in
+    named_new c.self.inside.names.names c.args.rec (all_records lists)
+    (all_records (with_record c.args.head c.args.header c.args.rec lists))
+    (came c.args.head c.args.header c.args.rec lists lt)
+    (stays c.args.head c.args.header c.args.rec c.self.inside c.args.self.now c.self.view_is
+    c.requires.orderly).one_for_name
+    c.self.invariant.named
+
+pub overflow_add-self : goal.overflow_add-self
+overflow_add-self c =
+    let lists = c.self.inside.store.lists in
+    let lt = subst (λ (v : ContentView). c.args.header < length v.content.lists)
+    (sym c.self.view_is) c.requires.header in
+    omega (
+      arith,
+      c.self.invariant.counted,
+      c.elements_of-need.ensures,
+      elements_with c.args.rec (all_records lists)
+          (all_records (with_record c.args.head c.args.header c.args.rec lists))
+          (came c.args.head c.args.header c.args.rec lists lt),
+      (stays c.args.head c.args.header c.args.rec c.self.inside c.args.self.now c.self.view_is
+          c.requires.orderly).elements,
+    )
 
 pub invariant_of-self : goal.invariant_of-self
-invariant_of-self c = still_told c
+invariant_of-self c =
+    let lists = c.self.inside.store.lists in
+    let lt = subst (λ (v : ContentView). c.args.header < length v.content.lists)
+    (sym c.self.view_is) c.requires.header in
+    let with = came c.args.head c.args.header c.args.rec lists lt in
+    let after = with_record c.args.head c.args.header c.args.rec lists in
+    let is = stays c.args.head c.args.header c.args.rec c.self.inside c.args.self.now c.self.view_is
+    c.requires.orderly in
+    record {
+      told = still_told c;
+      orderly = subst IsOrderly (sym c.put.ensures) is;
+      named =
+          subst (λ (l : Lists). AreNamed c.add_name.new.names.names (all_records l)) (sym c.put.ensures)
+          (named_more c.self.inside.names.names c.add_name.new.names.names c.args.rec (all_records lists)
+          (all_records after) with is.one_for_name c.self.invariant.named c.add_name.ensures);
+      counted = omega (
+        arith,
+        c.self.invariant.counted,
+        c.elements_of-need.ensures,
+        ap (λ (l : Lists). elements_in (all_records l)) c.put.ensures,
+        elements_with c.args.rec (all_records lists) (all_records after) with,
+      );
+    }
 
 pub returns-clause-content : goal.returns-clause-content
 returns-clause-content c =
@@ -42,4 +106,4 @@ returns-clause-bits c =
     rw (← c.self.view_is)
     (gains-told k.store.lists c.put.new.store.lists k.watch.rows c.turned.new.self.rows c.args.out.now.bits.items
     c.turned.new.out.bits.items
-    c.self.invariant (still_told c) c.turned.ensures.bits)
+    c.self.invariant.told (still_told c) c.turned.ensures.bits)

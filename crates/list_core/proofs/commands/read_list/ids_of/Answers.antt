@@ -1,0 +1,32 @@
+use Rattle.std.proofs.Common.{◌≡◌, ◌++◌, ◌∷◌, [], Some, Bor, List, map, take, option_map, slice_get, sym, ap, ◌∙◌, arith}
+use Rattle.std.proofs.lemmas.List.{map-append, take_all}
+use Rattle.list_laws.proofs.TakeLaws.{take_next}
+use Rattle.cf_types.specs.declared.numbers.EntryId.{EntryId}
+use Rattle.list_store.specs.declared.records.Rec.{Rec}
+use Rattle.list_store.specs.Lists.{records_of}
+use Rattle.list_store.proofs.TiedLaws.{none_within, some_now}
+use Rattle.list_core.proofs.commands.read_list.ids_of.Goals as goal
+
+pub unreachable-requires : goal.unreachable-requires
+unreachable-requires c =
+    let recs = records_of c.args.kept.now.content.lists c.args.header in
+    none_within recs c.loop-place.place (omega (arith, c.loop-place-test.true, c.len-place-end.ensures))
+    (some_now c.at.result (slice_get recs c.loop-place.place) c.at.ensures c.in-None.is)
+
+pub loop-place-preserved : goal.loop-place-preserved
+loop-place-preserved c =
+    let recs = records_of c.args.kept.now.content.lists c.args.header in
+    let rec = c.in-Some.rec.now in
+    let there : slice_get recs c.loop-place.place ≡ Some rec =
+    sym c.at.ensures ∙ ap (option_map (λ (r : Bor Rec). r.now)) c.in-Some.is in
+    c.in_ok-push-in-Some.ensures
+    ∙ ap (λ (l : List EntryId). l ++ rec.id ∷ []) c.loop-place.invariant
+    ∙ sym (ap (map (λ (r : Rec). r.id)) (take_next recs c.loop-place.place rec there)
+    ∙ map-append (λ (r : Rec). r.id) (take c.loop-place.place recs) (rec ∷ []))
+
+pub returns : goal.returns
+returns c =
+    let recs = records_of c.args.kept.now.content.lists c.args.header in
+    c.loop-place.invariant
+    ∙ ap (map (λ (r : Rec). r.id)) (take_all c.loop-place.place recs
+    (omega (arith, c.loop-place-test.false, c.len-place-end.ensures)))

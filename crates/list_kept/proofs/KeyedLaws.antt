@@ -1,0 +1,109 @@
+-- The first record with a key, among records in order.
+use Rattle.std.proofs.Common.{◌≡◌, ℕ, suc, ◌+◌, Bool, true, false, not, cond, List, [], ◌∷◌, Option, Some, None, Ordering, Less, Equal, Greater, is_lt, is_gt, nat_cmp, find, slice_get, refl, sym, ap, ◌∙◌, arith}
+use Rattle.std.specs.Ordering.{is_eq}
+use Rattle.std.specs.Cmp.Lexicographic.{bytes_decides, slice_cmp, texts_ties}
+use Rattle.std.specs.List.{list_all, prefix_len}
+use Rattle.std.proofs.lemmas.Bool.{and_parts, not-true, false≢true}
+use Rattle.cf_types.specs.declared.names.Key16.{Key16}
+use Rattle.list_laws.specs.Pairwise.{pairwise}
+use Rattle.list_laws.proofs.FilterLaws.{find_none, none_from_all, list_all_weaker}
+use Rattle.list_store.specs.declared.records.Rec.{Rec}
+use Rattle.list_model.specs.Keys.{key_up_to, key_before, same_key}
+use Rattle.list_model.specs.Records.{has_key, may_precede}
+use Rattle.list_model.proofs.RecordLaws.{key_back, key_up_to-either, not_false}
+use Rattle.list_kept.specs.ContentView.{comes_behind}
+
+-- a key that is given, if one is
+abbrev is_key : Key16 → Option Key16 → Bool
+is_key key None = false
+is_key key (Some other) = same_key other key
+
+keys_same : (a b : Key16) → same_key a b ≡ true → a ≡ b
+keys_same a b h =
+    let keyed : List ℕ → Key16 = λ (bytes : List ℕ). record { 0 = bytes } in ap keyed ((bytes_decides a.0 b.0).0 h)
+
+up_to_itself : (key : Option Key16) → key_up_to key key ≡ true
+up_to_itself key = go (key_up_to key key) refl
+  where
+    go : (b : Bool) → key_up_to key key ≡ b → key_up_to key key ≡ true
+    go true e = e
+    go false e = key_up_to-either key key e
+
+-- of two keys neither of which is behind the other
+same_up : (a b : Key16) → key_up_to (Some a) (Some b) ≡ true → key_up_to (Some b) (Some a) ≡ true
+    → same_key a b ≡ true
+same_up a b h k =
+    texts_ties a.0 b.0
+    ∙ go (slice_cmp nat_cmp a.0 b.0) (sym (key_back a b) ∙ not-true (key_before b a) h) (not-true (key_before a b) k)
+  where
+    go : (o : Ordering) → is_gt o ≡ false → is_lt o ≡ false → is_eq o ≡ true
+    go Less g l = absurd (false≢true (sym l))
+    go Equal g l = refl
+    go Greater g l = absurd (false≢true (sym g))
+
+-- one that stands before a key hasn't the key
+before_apart : (key : Key16) (o : Option Key16) → not (key_up_to (Some key) o) ≡ true → is_key key o ≡ false
+before_apart key None h = refl
+before_apart key (Some k) h = go (same_key k key) refl
+  where
+    go : (b : Bool) → same_key k key ≡ b → same_key k key ≡ false
+    go true e =
+        absurd (false≢true (sym (ap not (ap (λ (other : Key16). key_up_to (Some key) (Some other)) (keys_same k key e)
+        ∙ up_to_itself (Some key))) ∙ h))
+    go false e = e
+
+-- where one that doesn't stand before a key hasn't the key, no later one has
+behind_apart : (key : Key16) (o later : Option Key16) → not (key_up_to (Some key) o) ≡ false
+    → key_up_to o later ≡ true → is_key key o ≡ false → is_key key later ≡ false
+behind_apart key None later h up none = absurd (false≢true (sym h))
+behind_apart key (Some k) None h up none = refl
+behind_apart key (Some k) (Some other) h up none = go (same_key other key) refl
+  where
+    go : (b : Bool) → same_key other key ≡ b → same_key other key ≡ false
+    go true e =
+        let here : key_up_to (Some k) (Some key) ≡ true =
+        sym (ap (λ (o : Key16). key_up_to (Some k) (Some o)) (keys_same other key e)) ∙ up in
+        absurd (false≢true (sym none ∙ same_up k key here (not_false (key_up_to (Some key) (Some k)) h)))
+    go false e = e
+
+abbrev pub keyed : Key16 → Option Rec → Option Rec
+keyed key None = None
+keyed key (Some rec) = cond (has_key key rec) (Some rec) None
+
+pub find_keyed : (key : Key16) (recs : List Rec) → pairwise may_precede recs ≡ true
+    → find (has_key key) recs ≡ keyed key (slice_get recs (prefix_len (comes_behind true (Some key)) recs))
+find_keyed key [] h = refl
+find_keyed key (x ∷ xs) h =
+    let parts = and_parts (list_all (may_precede x) xs) (pairwise may_precede xs) h in
+    go (comes_behind true (Some key) x) refl (find_keyed key xs parts.1) parts.0
+  where
+    has_is : (y : Rec) → has_key key y ≡ is_key key y.key
+    has_is y = same y.key refl
+      where
+        same : (o : Option Key16) → y.key ≡ o → has_key key y ≡ is_key key o
+        same None e = rw e refl
+        same (Some k) e = rw e refl
+
+    turn : cond (is_key key x.key) (Some x) (find (has_key key) xs) ≡ cond (is_key key x.key) (Some x) None
+        → cond (has_key key x) (Some x) (find (has_key key) xs) ≡ cond (has_key key x) (Some x) None
+    turn e = rw (has_is x) e
+
+    none : (b : Bool) → is_key key x.key ≡ b → comes_behind true (Some key) x ≡ false
+        → list_all (may_precede x) xs ≡ true
+        → cond b (Some x) (find (has_key key) xs) ≡ cond b (Some x) None
+    none true e before each = refl
+    none false e before each =
+        find_none (has_key key) xs (none_from_all (has_key key) xs
+        (list_all_weaker (may_precede x) (λ y. not (has_key key y))
+        (λ y up. ap not (has_is y ∙ behind_apart key x.key y.key before up e)) xs each))
+
+    go : (b : Bool) → comes_behind true (Some key) x ≡ b
+        → find (has_key key) xs ≡ keyed key (slice_get xs (prefix_len (comes_behind true (Some key)) xs))
+        → list_all (may_precede x) xs ≡ true
+        → cond (has_key key x) (Some x) (find (has_key key) xs)
+        ≡ keyed key (slice_get (x ∷ xs) (cond b (1 + prefix_len (comes_behind true (Some key)) xs) 0))
+    go true e rest each =
+        let next : 1 + prefix_len (comes_behind true (Some key)) xs ≡ suc (prefix_len (comes_behind true (Some key)) xs)
+        = omega arith in
+        rw next (ap (λ b. cond b (Some x) (find (has_key key) xs)) (has_is x ∙ before_apart key x.key e) ∙ rest)
+    go false e rest each = turn (none (is_key key x.key) refl e each)

@@ -1,0 +1,88 @@
+-- Where a record comes to stand among records in order.
+use Rattle.std.proofs.Common.{◌≡◌, ℕ, ◌≤◌, Bool, true, false, not, ◌||◌, Option, List, [], length, replicate, zero, suc, option_map, find, refl, sym, ap, ◌∙◌, arith}
+use Rattle.std.specs.List.{list_all}
+use Rattle.std.proofs.lemmas.Bool.{false≢true}
+use Rattle.std.proofs.lemmas.List.{get_or_past}
+use Rattle.cf_types.specs.declared.names.Key16.{Key16}
+use Rattle.cf_types.specs.declared.numbers.EntryId.{EntryId}
+use Rattle.list_laws.specs.Pairwise.{pairwise}
+use Rattle.list_laws.proofs.PairwiseLaws.{pairwise_weaker, pairwise-filter}
+use Rattle.record_lists.specs.Prefixes.{goes_first}
+use Rattle.record_lists.proofs.AllLaws.{list_of-get_or}
+use Rattle.list_store.specs.declared.records.Rec.{Rec}
+use Rattle.list_store.specs.Lists.{Lists, records_of, all_records, is_id, lists_without}
+use Rattle.list_store.proofs.VecLaws.{all-replicate}
+use Rattle.list_model.specs.Keys.{key_up_to}
+use Rattle.list_model.specs.Records.{may_precede, names_apart, has_name, elements_in}
+use Rattle.list_model.proofs.RecordLaws.{key_up_to-trans}
+use Rattle.list_model.proofs.ListLaws.{all-without}
+use Rattle.list_model.proofs.ContentLaws.{ordered_without}
+use Rattle.list_kept.specs.ContentView.{comes_behind}
+use Rattle.list_keys.specs.Names.{Named, id_of}
+use Rattle.list_kept.specs.Named.{AreNamed}
+use Rattle.list_kept.specs.Orderly.{IsOrderly}
+use Rattle.list_kept.proofs.ReadLaws.{elements_fewer}
+
+behind_too : (head : Bool) (key : Option Key16) (x y : Rec) → may_precede x y ≡ true
+    → comes_behind head key y ≡ true → comes_behind head key x ≡ true
+behind_too true key x y h e = go (key_up_to key x.key) refl
+  where
+    go : (b : Bool) → key_up_to key x.key ≡ b → not (key_up_to key x.key) ≡ true
+    go true k = absurd (false≢true (sym (ap not (key_up_to-trans key x.key y.key k h)) ∙ e))
+    go false k = ap not k
+behind_too false key x y h e = key_up_to-trans x.key y.key key h e
+
+first_behind : (head : Bool) (key : Option Key16) (x y : Rec) → may_precede x y ≡ true
+    → goes_first (comes_behind head key) x y ≡ true
+first_behind head key x y h = go (comes_behind head key y) refl
+  where
+    go : (b : Bool) → comes_behind head key y ≡ b → not b || comes_behind head key x ≡ true
+    go true e = behind_too head key x y h e
+    go false e = refl
+
+-- those that stand before one that comes are the first ones
+pub ordered_first : (head : Bool) (key : Option Key16) (recs : List Rec) → pairwise may_precede recs ≡ true
+    → pairwise (goes_first (comes_behind head key)) recs ≡ true
+ordered_first head key recs h =
+    pairwise_weaker may_precede (goes_first (comes_behind head key)) (first_behind head key) recs h
+
+-- records stay in order without one of them
+pub orderly-without : (id : EntryId) (lists : Lists) → IsOrderly lists → IsOrderly (lists_without id lists)
+orderly-without id lists is =
+    record {
+      ordered = ordered_without id lists is.ordered;
+      one_for_name =
+          ap (pairwise names_apart) (all-without id lists)
+          ∙ pairwise-filter names_apart (λ rec. not (is_id id rec)) (all_records lists) is.one_for_name;
+      elements = omega (
+        arith,
+        is.elements,
+        ap elements_in (all-without id lists),
+        elements_fewer id (all_records lists),
+      );
+    }
+
+pub no_elements : (n : ℕ) → elements_in (all_records (replicate n [])) ≡ 0
+no_elements n = ap elements_in (all-replicate {X = Rec} n)
+
+pub named_none : (names : Named) (n : ℕ) → names ≡ [] → AreNamed names (all_records (replicate n []))
+named_none names n e name =
+    ap (id_of name) e ∙ sym (ap (λ (l : List Rec). option_map (λ (r : Rec). r.id) (find (has_name name) l))
+    (all-replicate {X = Rec} n))
+
+no_order : (n : ℕ) → list_all (pairwise may_precede) (replicate n []) ≡ true
+no_order zero = refl
+no_order (suc n) = no_order n
+
+pub orderly-none : (n : ℕ) → IsOrderly (replicate n [])
+orderly-none n =
+    record {
+      ordered = no_order n;
+      one_for_name = ap (pairwise names_apart) (all-replicate {X = Rec} n);
+      elements = omega (arith, no_elements n);
+    }
+
+-- no header, no records
+pub none_past : (lists : Lists) (header : ℕ) → length lists ≤ header → records_of lists header ≡ []
+none_past lists header past =
+    list_of-get_or lists header ∙ get_or_past lists header [] past

@@ -1,0 +1,14 @@
+use Rattle.std.proofs.Common.{◌≤◌, ◌-◌, length}
+use Rattle.std.specs.List.{prefix_len}
+use Rattle.list_store.specs.Lists.{records_of}
+use Rattle.list_kept.specs.ContentView.{comes_behind}
+use Rattle.list_kept.proofs.placing.place_of.Given as goal
+
+abbrev pub invariant-loop-low : goal.invariant-loop-low
+invariant-loop-low l =
+    (l.low ≤ prefix_len (comes_behind l.head l.key) (records_of l.store.lists l.header))
+    × (prefix_len (comes_behind l.head l.key) (records_of l.store.lists l.header) ≤ l.high)
+    × (l.high ≤ length (records_of l.store.lists l.header))
+
+abbrev pub decreases-loop-low : goal.decreases-loop-low
+decreases-loop-low l = l.high - l.low

@@ -1,0 +1,163 @@
+//! Records that come to their places in a store, or are taken out, and their names.
+ghost use Rattle.std.specs.Prelude.{◌≡◌, ◌<◌, ◌≤◌, false, true, IsTrue, IfSome, None, Some, length, nat_lt};
+ghost use Rattle.std.specs.List.{list_any, list_all, prefix_len};
+ghost use Rattle.list_laws.specs.Pairwise.{pairwise};
+ghost use Rattle.list_keys.specs.Names.{id_of};
+ghost use Rattle.list_store.specs.Lists.{all_records, records_of, is_id, record_of, lists_without, ids_apart};
+ghost use Rattle.list_model.specs.Keys.{key_up_to};
+ghost use Rattle.list_model.specs.Records.{may_precede};
+ghost use Rattle.list_model.specs.Lists.{with_record};
+ghost use Rattle.list_model.specs.Contents.{has_records};
+ghost use Rattle.list_kept.specs.ContentView.{comes_behind, put_back};
+ghost use Rattle.list_kept.specs.Named.{WritesIts};
+
+use cf_types::{EntryId, Key16, Name16};
+use list_keys::Keys;
+use list_store::{Rec, Store};
+
+// Whether a record stands before one that comes.
+fn stands_before(head: bool, key: Option<Key16>, other: &Rec) -> bool
+    ensures { result ≡ comes_behind head key other.now }
+{
+    if head {
+        !up_to(key, other.key)
+    } else {
+        up_to(other.key, key)
+    }
+}
+
+// Whether a key isn't behind another.
+fn up_to(key: Option<Key16>, other: Option<Key16>) -> bool
+    ensures { result ≡ key_up_to key other }
+{
+    match key {
+        None => true,
+        Some(key) => match other {
+            None => false,
+            Some(other) => !other.cmp(&key).is_lt(),
+        },
+    }
+}
+
+// Whether the record at a place of a header, in which those that stand before one that comes are
+// the first ones, is one of those.
+fn stands_at(store: &Store, header: u32, place: u32, head: bool, key: Option<Key16>) -> bool
+    requires header { header < length store.now.lists }
+    requires place { place < length (records_of store.now.lists header) }
+    requires ordered { IsTrue (pairwise may_precede (records_of store.now.lists header)) }
+    ensures { result ≡ nat_lt place (prefix_len (comes_behind head key)
+        (records_of store.now.lists header)) }
+{
+    match store.at(header, place) {
+        Some(other) => stands_before(head, key, other),
+        None => unreachable!(),
+    }
+}
+
+/// Where a record comes to stand in a header whose records are in order by key: a binary search.
+pub(crate) fn place_of(store: &Store, header: u32, head: bool, key: Option<Key16>) -> u32
+    requires header { header < length store.now.lists }
+    requires ordered { IsTrue (pairwise may_precede (records_of store.now.lists header)) }
+    ensures place { result ≡ prefix_len (comes_behind head key)
+        (records_of store.now.lists header) }
+    ensures bound { result ≤ length (records_of store.now.lists header) }
+{
+    let mut low = 0;
+    let mut high = store.len(header);
+    while low < high {
+        let middle = low + (high - low) / 2;
+        if stands_at(store, header, middle, head, key) {
+            low = middle + 1;
+        } else {
+            high = middle;
+        }
+    }
+    low
+}
+
+/// Whether a header has records.
+pub(crate) fn has_records(store: &Store, header: u32) -> bool
+    ensures { result ≡ has_records store.now.lists header }
+{
+    header < store.headers() && store.len(header) > 0
+}
+
+/// Takes out the record with an id, which is there.
+pub(crate) fn take(store: &mut Store, id: EntryId) -> Rec
+    requires { list_any (is_id id) (all_records store.old.lists) ≡ true }
+    ensures record { record_of id store.old.lists ≡ Some result }
+    ensures lists { store.new.lists ≡ lists_without id store.old.lists }
+    ensures apart { IsTrue (pairwise ids_apart (all_records store.old.lists)) }
+{
+    match store.take(id) {
+        Some(rec) => rec,
+        None => unreachable!(),
+    }
+}
+
+/// Puts in the name of a record that comes, if it has one.
+pub(crate) fn add_name(names: &mut Keys, name: Option<Name16>, id: EntryId)
+    requires room { 1 ≤ names.old.room }
+    requires new { IfSome name (λ n. id_of n names.old.names ≡ None) }
+    ensures { WritesIts names.old.names name (Some id) names.new.names }
+{
+    if let Some(name) = name {
+        names.add_name(name, id);
+    }
+}
+
+/// Takes out the name of a record that goes, if it has one.
+pub(crate) fn drop_name(names: &mut Keys, name: Option<Name16>)
+    ensures { WritesIts names.old.names name None names.new.names }
+{
+    if let Some(name) = name {
+        names.remove_name(&name);
+    }
+}
+
+/// Puts in a record, at its place in a header.
+pub(crate) fn put(store: &mut Store, header: u32, head: bool, rec: Rec)
+    requires room { 1 ≤ store.old.room }
+    requires header { header < length store.old.lists }
+    requires alone { list_any (is_id rec.id) (all_records store.old.lists) ≡ false }
+    requires ordered { IsTrue (list_all (pairwise may_precede) store.old.lists) }
+    ensures { store.new.lists ≡ with_record head header rec store.old.lists }
+{
+    let place = place_of(store, header, head, rec.key);
+    store.add(header, place, rec);
+}
+
+/// Takes out the record with an id, and puts it in a header, with a new key if one is given.
+pub(crate) fn put_again(store: &mut Store, id: EntryId, header: u32, head: bool, key: Option<Key16>)
+    requires room { 1 ≤ store.old.room }
+    requires header { header < length store.old.lists }
+    requires there { list_any (is_id id) (all_records store.old.lists) ≡ true }
+    requires ordered { IsTrue (list_all (pairwise may_precede) store.old.lists) }
+    ensures { store.new.lists
+        ≡ put_back head header key (record_of id store.old.lists)
+        (lists_without id store.old.lists) }
+{
+    match store.take(id) {
+        Some(rec) => {
+            let Rec {
+                id,
+                version,
+                name,
+                key: old,
+                body,
+                adj,
+            } = rec;
+            let key = key.or(old);
+            let rec = Rec {
+                id,
+                version,
+                name,
+                key,
+                body,
+                adj,
+            };
+            put(store, header, head, rec);
+        }
+        None => unreachable!(),
+    }
+}

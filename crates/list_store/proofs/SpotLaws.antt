@@ -1,0 +1,74 @@
+-- A header and a place as a spot.
+use Rattle.std.proofs.Common.{◌≡◌, ℕ, true, false, [], Option, Some, None, option_map, position, refl, sym, ap, ◌∙◌}
+use Rattle.std.specs.List.{list_any}
+use Rattle.std.proofs.lemmas.Bool.{false≢true}
+use Rattle.std.proofs.lemmas.List.Quantifiers.{position-Some}
+use Rattle.list_laws.proofs.KeyLaws.{none_placed}
+use Rattle.record_lists.proofs.AllLaws.{list_of-get_or}
+use Rattle.cf_types.specs.declared.numbers.EntryId.{EntryId}
+use Rattle.record_lists.specs.Lists as generic
+use Rattle.list_store.specs.declared.records.Spot.{Spot}
+use Rattle.list_store.specs.Lists.{Lists, rec_id, is_id, has_id, records_of, spot_of, spot_in}
+use Rattle.list_store.specs.Spots.{as_spot}
+
+at_header : (header : ℕ) (o : Option ℕ)
+    → option_map {T = ℕ × ℕ} {U = Spot} as_spot (option_map {T = ℕ} {U = ℕ × ℕ} (λ (place : ℕ). (header, place)) o)
+    ≡ option_map {T = ℕ} {U = Spot} (λ (place : ℕ). record { header = header; place = place }) o
+at_header header None = refl
+at_header header (Some place) = refl
+
+in_header : (id : EntryId) (lists : Lists) (o : Option ℕ)
+    → option_map as_spot (generic.spot_in rec_id id.0 lists o) ≡ spot_in id lists o
+in_header id lists None = refl
+in_header id lists (Some header) = at_header header (position (is_id id) (records_of lists header))
+
+pub spot_is : (id : EntryId) (lists : Lists) → option_map as_spot (generic.spot_of rec_id id.0 lists) ≡ spot_of id lists
+spot_is id lists = in_header id lists (position (has_id id) lists)
+
+header_in : (o : Option (ℕ × ℕ))
+    → option_map {T = Spot} {U = ℕ} (λ spot. spot.header) (option_map {T = ℕ × ℕ} {U = Spot} as_spot o)
+    ≡ option_map {T = ℕ × ℕ} {U = ℕ} (λ (s : ℕ × ℕ). s.0) o
+header_in None = refl
+header_in (Some s) = refl
+
+pub header_is : (id : EntryId) (lists : Lists)
+    → option_map {T = ℕ × ℕ} {U = ℕ} (λ (s : ℕ × ℕ). s.0) (generic.spot_of rec_id id.0 lists)
+    ≡ option_map {T = Spot} {U = ℕ} (λ spot. spot.header) (spot_of id lists)
+header_is id lists =
+    sym (header_in (generic.spot_of rec_id id.0 lists))
+    ∙ ap (option_map {T = Spot} {U = ℕ} (λ spot. spot.header)) (spot_is id lists)
+
+-- where no spot is found, no header has the id
+pub unplaced : (id : EntryId) (lists : Lists)
+    → option_map {T = Spot} {U = ℕ} (λ spot. spot.header) (spot_of id lists) ≡ None
+    → list_any (has_id id) lists ≡ false
+unplaced id lists e = go (position (has_id id) lists) refl e
+  where
+    inner : (k : ℕ) (o : Option ℕ) → position (has_id id) lists ≡ Some k
+        → position (is_id id) (records_of lists k) ≡ o
+        → option_map {T = Spot} {U = ℕ} (λ spot. spot.header)
+        (option_map {T = ℕ} {U = Spot} (λ (place : ℕ). record { header = k; place = place }) o) ≡ None
+        → list_any (has_id id) lists ≡ false
+    inner k None f g same =
+        let here : list_any (is_id id) (records_of lists k) ≡ true =
+        ap (has_id id) (list_of-get_or lists k) ∙ (position-Some (has_id id) lists k [] f).1 in
+        absurd (false≢true (sym (none_placed (is_id id) (records_of lists k) g) ∙ here))
+    inner k (Some q) f g same = absurd (cc)
+
+    go : (o : Option ℕ) → position (has_id id) lists ≡ o
+        → option_map {T = Spot} {U = ℕ} (λ spot. spot.header) (spot_in id lists o) ≡ None
+        → list_any (has_id id) lists ≡ false
+    go None f same = none_placed (has_id id) lists f
+    go (Some k) f same = inner k (position (is_id id) (records_of lists k)) f refl same
+
+-- where a header is found, a spot in it is
+pub spot_with : (id : EntryId) (lists : Lists) (header : ℕ)
+    → option_map {T = Spot} {U = ℕ} (λ spot. spot.header) (spot_of id lists) ≡ Some header
+    → (spot : Spot) × (spot_of id lists ≡ Some spot) × (spot.header ≡ header)
+spot_with id lists header e = go (spot_of id lists) refl e
+  where
+    go : (o : Option Spot) → spot_of id lists ≡ o
+        → option_map {T = Spot} {U = ℕ} (λ spot. spot.header) o ≡ Some header
+        → (spot : Spot) × (spot_of id lists ≡ Some spot) × (spot.header ≡ header)
+    go None f same = absurd (cc)
+    go (Some spot) f same = (spot, f, cc)

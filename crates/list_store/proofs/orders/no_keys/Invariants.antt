@@ -1,0 +1,6 @@
+use Rattle.std.proofs.Common.{◌≡◌, [], replicate}
+use Rattle.list_store.specs.Orders.{orders_in}
+use Rattle.list_store.proofs.orders.no_keys.Given as goal
+
+abbrev pub invariant-loop : goal.invariant-loop
+invariant-loop l = orders_in l.lists.items ≡ replicate l.counter []

@@ -1,0 +1,11 @@
+use Rattle.std.proofs.Common.{◌≡◌, true, take}
+use Rattle.std.specs.List.{list_all}
+use Rattle.std.specs.Vec.{vec_len}
+use Rattle.list_store.specs.Orders.{orders_in, has_place}
+use Rattle.list_store.proofs.orders.reserve.Given as goal
+
+abbrev pub invariant-loop-header : goal.invariant-loop-header
+invariant-loop-header l =
+    (orders_in l.lists.items ≡ orders_in l.initial.lists.items)
+    × (vec_len l.lists ≡ vec_len l.initial.lists)
+    × (list_all has_place (take l.header l.lists.items) ≡ true)
