@@ -29,3 +29,12 @@ name_before-else a b apart h =
     turned (slice_cmp nat_cmp b.0 a.0) (slice_cmp nat_cmp a.0 b.0) (same_name a b)
     (nat_list_cmp_total.antisymm b.0 a.0)
     (texts_ties a.0 b.0) apart h
+
+not_before : (o : Ordering) (same : Bool) → same ≡ is_eq o → is_lt o ≡ true → same ≡ false
+not_before Less same e h = e
+not_before Equal same e h = absurd (false≢true h)
+not_before Greater same e h = absurd (false≢true h)
+
+-- of two names of which one stands before the other, neither is the other
+pub name_before-differs : (a b : Name16) → name_before a b ≡ true → same_name a b ≡ false
+name_before-differs a b h = not_before (slice_cmp nat_cmp a.0 b.0) (same_name a b) (texts_ties a.0 b.0) h

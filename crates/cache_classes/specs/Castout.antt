@@ -1,5 +1,5 @@
 -- Changed names with their castout classes, in the order of names.
-use Rattle.std.specs.Prelude.{ℕ, Bool, not, ◌==◌, List, filter, map, length, Option, Some, None}
+use Rattle.std.specs.Prelude.{ℕ, Bool, false, not, ◌==◌, List, filter, map, length, Option, Some, None}
 use Rattle.cf_types.specs.declared.names.Name16.{Name16}
 use Rattle.cf_types.specs.Name.{same_name, name_before}
 use Rattle.list_laws.specs.Insertions.{insertion}
@@ -13,6 +13,14 @@ is_of_class class changed = changed.class == class
 
 abbrev pub stands_before : Changed → Changed → Bool
 stands_before changed other = name_before changed.name other.name
+
+-- whether a name stands before another; whether what stands at a place is of this name
+abbrev pub is_before : Name16 → Changed → Bool
+is_before name changed = name_before changed.name name
+
+abbrev pub is_there : Name16 → Option Changed → Bool
+is_there name None = false
+is_there name (Some changed) = is_named name changed
 
 abbrev pub names_without : Name16 → List Changed → List Changed
 names_without name names = filter (λ changed. not (is_named name changed)) names
@@ -30,6 +38,9 @@ names_set name (Some class) names = names_with (record { name = name; class = cl
 abbrev pub room_taken : Option ℕ → ℕ
 room_taken None = 0
 room_taken (Some class) = 1
+
+abbrev pub names_in : List Changed → List Name16
+names_in names = map (λ changed. changed.name) names
 
 -- the names of a class, and how many they are
 abbrev pub names_of : ℕ → List Changed → List Name16

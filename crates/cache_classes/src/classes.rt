@@ -1,7 +1,9 @@
-ghost use Rattle.std.specs.Prelude.{◌≡◌, ◌+◌, ◌≤◌, ◌<◌, ◌++◌, ◌∷◌, [], IfOk, OnOk, length};
+ghost use Rattle.std.specs.Prelude.{◌≡◌, ◌+◌, ◌≤◌, ◌<◌, ◌++◌, ◌∷◌, [], IsTrue, IfOk, OnOk, length, option_map, slice_get};
 ghost use Rattle.std.specs.List.{prefix_len, insert};
 ghost use Rattle.std.specs.Vec.{vec_len, vec_capacity};
-ghost use Rattle.cache_classes.specs.Castout.{is_of_class, stands_before, names_without, names_with, names_set, room_taken, names_of, count_of};
+ghost use Rattle.list_laws.specs.Pairwise.{pairwise};
+ghost use Rattle.cache_classes.specs.Castout.{is_of_class, is_before, is_there, stands_before, names_without, names_with, names_set, room_taken, names_of, count_of, names_in};
+ghost use Rattle.cache_classes.specs.declared.changed.Changed.{Changed};
 
 use crate::changed::Changed;
 use cf_types::{Name16, NoMemory};
@@ -25,14 +27,22 @@ impl Model for Classes {
     ghost invariant = { IsKept };
 }
 
-// Where a name stands.
-fn place_of(names: &[Changed], new: &Changed) -> usize
-    ensures { result ≡ prefix_len (λ changed. stands_before changed new.now) names.now }
+// Where a name stands, or would stand.
+fn place_of(names: &[Changed], name: &Name16) -> usize
+    requires { IsTrue (pairwise stands_before names.now) }
+    ensures { result ≡ prefix_len (is_before name.now) names.now }
 {
-    names
-        .iter()
-        .take_while(|changed| changed.name.cmp(&new.name).is_lt())
-        .count()
+    names.partition_point(|changed| changed.name.cmp(name).is_lt())
+}
+
+// Whether a name stands at a place.
+fn is_there(names: &[Changed], at: usize, name: &Name16) -> bool
+    ensures { result ≡ is_there name.now (slice_get names.now at) }
+{
+    match names.get(at) {
+        Some(changed) => changed.name == *name,
+        None => false,
+    }
 }
 
 // Puts a name at a place, where there is room for it.
@@ -48,27 +58,33 @@ fn insert_at(names: &mut Vec<Changed>, at: usize, new: Changed)
 
 // Puts a name in its place, where there is room for it.
 fn put(names: &mut Vec<Changed>, new: Changed)
-    requires { vec_len names.old < vec_capacity names.old }
+    requires ordered { IsTrue (pairwise stands_before names.old.items) }
+    requires room { vec_len names.old < vec_capacity names.old }
     ensures items { names.new.items ≡ names_with new names.old.items }
     ensures len { vec_len names.new ≡ vec_len names.old + 1 }
     ensures capacity { vec_capacity names.old ≤ vec_capacity names.new }
 {
-    let at = place_of(names, &new);
+    let at = place_of(names, &new.name);
     insert_at(names, at, new);
 }
 
 // Takes out a name, if it is there.
 fn take_out(names: &mut Vec<Changed>, name: &Name16)
+    requires { IsTrue (pairwise stands_before names.old.items) }
     ensures items { names.new.items ≡ names_without name.now names.old.items }
     ensures len { vec_len names.new ≤ vec_len names.old }
     ensures capacity { vec_capacity names.new ≡ vec_capacity names.old }
 {
-    names.retain(|changed| !(changed.name == *name));
+    let at = place_of(names, name);
+    if is_there(names, at, name) {
+        names.remove(at);
+    }
 }
 
 // A name takes a class, or has none any more.
 fn set(names: &mut Vec<Changed>, name: Name16, class: Option<u32>)
-    requires { vec_len names.old + room_taken class ≤ vec_capacity names.old }
+    requires ordered { IsTrue (pairwise stands_before names.old.items) }
+    requires room { vec_len names.old + room_taken class ≤ vec_capacity names.old }
     ensures items { names.new.items ≡ names_set name class names.old.items }
     ensures len { vec_len names.new ≤ vec_len names.old + room_taken class }
     ensures capacity { vec_capacity names.old ≤ vec_capacity names.new }
@@ -101,6 +117,23 @@ fn count_of(names: &[Changed], class: u32) -> u32
         .iter()
         .filter(|changed| changed.class == class)
         .count() as u32
+}
+
+// The name at a place.
+fn name_at(names: &[Changed], k: usize) -> Option<Name16>
+    ensures { result ≡ option_map (λ (changed : Changed). changed.name) (slice_get names.now k) }
+{
+    names.get(k).map(|changed| changed.name)
+}
+
+// Puts all names behind others.
+fn push_names(names: &[Changed], list: &mut Vec<Name16>) -> Result<(), NoMemory>
+    ensures { OnOk result (list.new.items ≡ list.old.items ++ names_in names.now) }
+{
+    for changed in names {
+        list.push(changed.name)?;
+    }
+    Ok(())
 }
 
 impl Classes {
@@ -155,5 +188,26 @@ impl Classes {
         ensures { result ≡ count_of class self.now.names }
     {
         count_of(&self.names, class)
+    }
+    /// How many names there are.
+    pub fn len(&self) -> usize
+        ensures { result ≡ length self.now.names }
+    {
+        self.names.len()
+    }
+
+    /// The name at a place (from 0), in the order of names.
+    pub fn name_at(&self, k: usize) -> Option<Name16>
+        ensures { result ≡ option_map (λ (changed : Changed). changed.name)
+            (slice_get self.now.names k) }
+    {
+        name_at(&self.names, k)
+    }
+
+    /// Puts all names, in their order, behind others. Only want of memory is refused.
+    pub fn push_names(&self, list: &mut Vec<Name16>) -> Result<(), NoMemory>
+        ensures { OnOk result (list.new.items ≡ list.old.items ++ names_in self.now.names) }
+    {
+        push_names(&self.names, list)
     }
 }

@@ -1,8 +1,10 @@
 -- What stands before the next of a list, and what the last row leaves when it goes.
-use Rattle.std.proofs.Common.{◌≡◌, ◌++◌, ◌∷◌, [], ◌&&◌, ◌-◌, Bool, true, List, Option, None, Some, fold, length, take, slice_get, ap, refl, sym, ◌∙◌}
+use Rattle.std.proofs.Common.{◌≡◌, ◌++◌, ◌∷◌, [], ◌&&◌, ◌-◌, Bool, true, List, Option, None, Some, fold, length, map, option_map, take, slice_get, ℕ, ap, refl, sym, ◌∙◌}
 use Rattle.std.specs.List.{list_all}
 use Rattle.std.proofs.lemmas.Bool.{and_parts, and_from}
 use Rattle.std.proofs.lemmas.List.Folds.{list_all-append}
+use Rattle.std.proofs.lemmas.Option.{slice_get-map}
+use Rattle.cf_types.specs.declared.names.Name16.{Name16}
 use Rattle.list_laws.specs.Pairwise.{pairwise}
 use Rattle.cache_regs.specs.declared.registrations.Registration.{Registration}
 use Rattle.cache_model.specs.declared.items.CacheItem.{CacheItem}
@@ -41,3 +43,10 @@ unplaced content rows alone front =
     none ∙ sym (without-none last)
     ∙ ap (λ (regs : List Registration). regs_without_row last regs) (sym none) in
     (λ i. record { rows = front i; regs = same i })
+
+-- a name of all rows, at its place
+pub named_at : (names : List Name16) (rows : List CacheItem) (k : ℕ) (name : Name16)
+    → names ≡ map (λ (row : CacheItem). row.name) rows → slice_get names k ≡ Some name
+    → Some name ≡ option_map (λ (row : CacheItem). row.name) (slice_get rows k)
+named_at names rows k name e h =
+    sym h ∙ ap (λ (l : List Name16). slice_get l k) e ∙ slice_get-map (λ (row : CacheItem). row.name) rows k

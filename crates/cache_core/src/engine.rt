@@ -1,8 +1,10 @@
+ghost use Rattle.std.specs.Prelude.{◌≡◌, ◌<◌, Some, length, slice_get};
+
 use crate::plans::{Plan, act, make_plan};
 use cache_model::CacheItem;
 use cache_regs::Regs;
 use cache_rows::Rows;
-use cf_types::{CacheCmd, CacheReply, Caps, ConnId, Effects, NoMemory, Refusal, StrForm};
+use cf_types::{CacheCmd, CacheReply, Caps, ConnId, Effects, Name16, NoMemory, Refusal, StrForm};
 use engine_api::{Engine, Shape};
 use std::alloc::Global;
 use std::marker::Model;
@@ -19,7 +21,21 @@ impl Model for CacheContent {
     ghost view = { λ _. no_content };
 }
 
-/// A cache structure (IXLCACHE): its rows in a list, and its registrations.
+/// The names of all rows in their order. By it a copy finds each row as fast as a look-up does.
+#[derive(Drop)]
+pub struct RowOrder {
+    names: Vec<Name16>,
+}
+
+// The name at a place (from 0).
+fn name_at(names: &[Name16], k: u32) -> Name16
+    requires { k < length names.now }
+    ensures { slice_get names.now k ≡ Some result }
+{
+    names[k as usize]
+}
+
+/// A cache structure (IXLCACHE): its rows, and its registrations.
 #[derive(Drop)]
 pub struct CacheEngine {
     alloc: Global,
@@ -41,8 +57,9 @@ impl Model for CacheEngine {
 }
 
 impl Engine for CacheEngine {
-    ghost use Rattle.std.specs.Prelude.{refl};
+    ghost use Rattle.std.specs.Prelude.{◌≡◌, refl, map};
     ghost use Rattle.cf_types.specs.Forms.{is_cache};
+    ghost use Rattle.cache_model.specs.declared.items.CacheItem.{CacheItem};
     ghost use Rattle.cache_core.specs.EngineView.{IsReady};
     ghost use Rattle.cache_model.specs.Contents.{IsContent};
     ghost use Rattle.cache_model.specs.Meaning.{cache_meaning};
@@ -56,7 +73,7 @@ impl Engine for CacheEngine {
 
     type Item = CacheItem;
 
-    type Order = ();
+    type Order = RowOrder;
 
     type State = CacheContent;
 
@@ -68,7 +85,8 @@ impl Engine for CacheEngine {
 
     ghost held = { λ e. e.held };
 
-    ghost is_order = { λ order held. Unit {0} };
+    ghost is_order = { λ order held. order.names.items
+        ≡ map (λ (row : CacheItem). row.name) held.state.rows };
 
     ghost is_ready = { IsReady };
 
@@ -172,12 +190,14 @@ impl Engine for CacheEngine {
         self.rows.item(alloc, k)
     }
 
-    fn order(&self, _alloc: Global) -> Result<(), NoMemory> {
-        Ok(())
+    fn order(&self, alloc: Global) -> Result<RowOrder, NoMemory> {
+        let names = self.rows.names(alloc)?;
+        Ok(RowOrder { names })
     }
 
-    fn item_in(&self, alloc: Global, _order: &(), k: u32) -> Result<CacheItem, NoMemory> {
-        self.item(alloc, k)
+    fn item_in(&self, alloc: Global, order: &RowOrder, k: u32) -> Result<CacheItem, NoMemory> {
+        let name = name_at(order.names.as_slice(), k);
+        self.rows.copy_of(alloc, &name)
     }
 
     fn place(&mut self, item: CacheItem) -> Result<(), CacheItem> {

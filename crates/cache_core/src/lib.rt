@@ -10,4 +10,4 @@ mod room;
 
 pub use cache_model::{CacheItem, Holder};
 pub use cache_regs::Registration;
-pub use engine::{CacheContent, CacheEngine};
+pub use engine::{CacheContent, CacheEngine, RowOrder};

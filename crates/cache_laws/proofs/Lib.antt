@@ -5,6 +5,6 @@ pub mod Replies
 pub mod FreshLaws
 pub mod Allocated
 pub mod Pages
-mod Examples
-mod RebuildExamples
 pub mod ApplyLaws
+mod Checks
+mod RebuildChecks

@@ -2,3 +2,4 @@ pub mod NameKeys
 pub mod LastUseLaws
 pub mod MapLaws
 pub mod SlotLaws
+pub mod PlaceLaws

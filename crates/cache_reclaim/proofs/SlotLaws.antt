@@ -165,14 +165,6 @@ module _ (es : List (ℕ × Option Used)) (ns : List (List ℕ × ℕ)) (cap : �
   pub slot_there : lookup (by_name name) ns ≡ Some k → IsSome (lookup (nat_eq k) es)
   slot_there there = ap is_some (tied.slotted name k there).1
 
-  pub slot_free : lookup (by_name name) ns ≡ None → lookup (nat_eq k) es ≡ Some None → IsSlotOf es name k
-  slot_free none free j u h =
-      same_bool (same_name u.name name) (nat_eq k j)
-      (λ e. absurd (let one : None ≡ Some j = sym none
-      ∙ ap (λ n. lookup (by_name n) ns) (sym (same_name-eq u.name name e)) ∙ tied.named j u h in cc))
-      (λ e. absurd (let one : Some None ≡ Some (Some u) = sym free ∙ ap (λ n. lookup (nat_eq n) es) (eqb-true k j e)
-      ∙ h in cc))
-
   module _ (of : IsSlotOf es name k) (there : IsSome (lookup (nat_eq k) es)) (fs : List (ℕ × Option Used))
       (ms : List (List ℕ × ℕ))
       (unique : IsDistinct nat_eq (keys_of fs)) where

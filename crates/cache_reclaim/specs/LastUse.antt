@@ -1,5 +1,5 @@
 -- Names with their storage classes, from least to most recently used.
-use Rattle.std.specs.Prelude.{ℕ, Bool, true, false, not, ◌==◌, List, [], ◌∷◌, ◌++◌, filter, Option, option_map, slice_get}
+use Rattle.std.specs.Prelude.{ℕ, Bool, true, false, not, ◌==◌, List, [], ◌∷◌, ◌++◌, filter, map, Option, option_map, slice_get}
 use Rattle.std.specs.List.{list_any}
 use Rattle.cf_types.specs.declared.names.Name16.{Name16}
 use Rattle.cf_types.specs.Name.{same_name}
@@ -19,9 +19,6 @@ abbrev pub is_in_part : ℕ → Bool → Used → Bool
 is_in_part stg true used = is_of_storage stg used
 is_in_part stg false used = not (is_of_storage stg used)
 
-abbrev pub names_apart : Used → Used → Bool
-names_apart used other = not (same_name used.name other.name)
-
 abbrev pub order_without : Name16 → List Used → List Used
 order_without name order = filter (λ used. not (is_named name used)) order
 
@@ -36,3 +33,6 @@ reclaimed_for stg order = filter (is_in_part stg true) order ++ filter (is_in_pa
 -- the name at this place there (from 0), if there are so many
 abbrev pub victim : ℕ → ℕ → List Used → Option Name16
 victim stg k order = option_map (λ used. used.name) (slice_get (reclaimed_for stg order) k)
+
+abbrev pub names_in : List Used → List Name16
+names_in order = map (λ used. used.name) order

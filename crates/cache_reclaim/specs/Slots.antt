@@ -17,6 +17,11 @@ abbrev pub part_of : ℕ → Bool → Option Used → Option Used
 part_of stg own None = None
 part_of stg own (Some used) = if is_in_part stg own used then Some used else None
 
+-- the name that a slot holds, if it holds one
+abbrev pub name_in : Option Used → List Name16
+name_in None = []
+name_in (Some used) = used.name ∷ []
+
 -- the bytes of a name, as a key
 abbrev pub by_name : Name16 → List ℕ → Bool
 by_name name = pointwise nat_eq name.0

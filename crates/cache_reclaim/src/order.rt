@@ -1,7 +1,10 @@
-ghost use Rattle.std.specs.Prelude.{◌≡◌, ◌+◌, ◌≤◌, ◌<◌, [], false, IfOk, OnOk, length};
-ghost use Rattle.cache_reclaim.specs.LastUse.{has_name, order_without, order_touched, victim};
+ghost use Rattle.std.specs.Prelude.{◌≡◌, ◌+◌, ◌≤◌, ◌<◌, ◌++◌, [], true, false, IfOk, OnOk, length, filter, option_map, slice_get};
+ghost use Rattle.cache_reclaim.specs.LastUse.{has_name, is_in_part, order_without, order_touched, victim, names_in};
+ghost use Rattle.cache_reclaim.specs.declared.used.Used.{Used};
 
-use crate::slots::{NameKey, all_free, copied, copied_names, remove, touch, victim};
+use crate::slots::{
+    NameKey, all_free, copied, copied_names, count_of, nth_used, push_names, remove, touch, victim,
+};
 use crate::used::Used;
 use cf_types::{Name16, NoMemory};
 use indexmap::IndexMap;
@@ -95,5 +98,26 @@ impl Order {
         ensures { result ≡ victim stg k self.now.order }
     {
         victim(&self.slots, stg, k as usize)
+    }
+    /// How many names are of rows of a storage class (1 to 8).
+    pub fn count(&self, stg: u32) -> usize
+        ensures { result ≡ length (filter (is_in_part stg true) self.now.order) }
+    {
+        count_of(&self.slots, stg)
+    }
+
+    /// The name at a place (from 0), from least recently used.
+    pub fn name_at(&self, k: usize) -> Option<Name16>
+        ensures { result ≡ option_map (λ (used : Used). used.name) (slice_get self.now.order k) }
+    {
+        nth_used(&self.slots, k).map(|used| used.name)
+    }
+
+    /// Puts all names, from least recently used, behind others. Only want of memory is refused.
+    pub fn push_names(&self, list: &mut Vec<Name16>) -> Result<(), NoMemory>
+        ensures { OnOk result (list.new.items ≡ list.old.items ++ names_in self.now.order) }
+    {
+        push_names(&self.slots, list)?;
+        Ok(())
     }
 }

@@ -5,8 +5,8 @@ ghost use Rattle.std.specs.Map.{lookup, remove_entry, keys_of};
 ghost use Rattle.std.specs.List.{IsDistinct};
 ghost use Rattle.std.specs.Cmp.Lexicographic.{pointwise};
 ghost use Rattle.indexmap.specs.IndexMap.{spare};
-ghost use Rattle.cache_reclaim.specs.LastUse.{is_in_part, order_without, order_touched, victim};
-ghost use Rattle.cache_reclaim.specs.Slots.{used_in, part_of, by_name, IsFree, EndsFree, IsTied, IsSlotOf, WritesName};
+ghost use Rattle.cache_reclaim.specs.LastUse.{is_in_part, order_without, order_touched, victim, names_in};
+ghost use Rattle.cache_reclaim.specs.Slots.{used_in, part_of, name_in, by_name, IsFree, EndsFree, IsTied, IsSlotOf, WritesName};
 
 use crate::used::Used;
 use cf_types::Name16;
@@ -216,8 +216,8 @@ fn in_part(used: &Option<Used>, stg: u32, own: bool) -> Option<Used>
     }
 }
 
-// How many names are of a storage class.
-fn count_of(slots: &LruCache<u32, Option<Used>>, stg: u32) -> usize
+/// How many names are of a storage class.
+pub(crate) fn count_of(slots: &LruCache<u32, Option<Used>>, stg: u32) -> usize
     ensures { result ≡ length (filter (is_in_part stg true) (used_in (reverse slots.now.entries))) }
 {
     slots
@@ -240,14 +240,53 @@ fn nth_in_part(slots: &LruCache<u32, Option<Used>>, stg: u32, own: bool, k: usiz
         .nth(k)
 }
 
+// The name that is reclaimed at a place (from 0) past those of a storage class.
+fn other_victim(slots: &LruCache<u32, Option<Used>>, stg: u32, k: usize) -> Option<Name16>
+    requires { slice_get (filter (is_in_part stg true) (used_in (reverse slots.now.entries))) k
+        ≡ None }
+    ensures { result ≡ victim stg k (used_in (reverse slots.now.entries)) }
+{
+    let own = count_of(slots, stg);
+    nth_in_part(slots, stg, false, k - own).map(|used| used.name)
+}
+
 /// The name that is reclaimed at a place (from 0) for a storage class.
 pub(crate) fn victim(slots: &LruCache<u32, Option<Used>>, stg: u32, k: usize) -> Option<Name16>
     ensures { result ≡ victim stg k (used_in (reverse slots.now.entries)) }
 {
-    let own = count_of(slots, stg);
-    if k < own {
-        nth_in_part(slots, stg, true, k).map(|used| used.name)
-    } else {
-        nth_in_part(slots, stg, false, k - own).map(|used| used.name)
+    match nth_in_part(slots, stg, true, k) {
+        Some(used) => Some(used.name),
+        None => other_victim(slots, stg, k),
     }
+}
+
+/// What is used at a place (from 0), from least recently used.
+pub(crate) fn nth_used(slots: &LruCache<u32, Option<Used>>, k: usize) -> Option<Used>
+    ensures { result ≡ slice_get (used_in (reverse slots.now.entries)) k }
+{
+    slots.iter().rev().filter_map(|(_, used)| *used).nth(k)
+}
+
+// Puts the name that a slot holds, if it holds one, behind others.
+fn push_name(list: &mut Vec<Name16>, used: &Option<Used>) -> Result<(), AllocError>
+    ensures { OnOk result (list.new.items ≡ list.old.items ++ name_in used.now) }
+{
+    match used {
+        Some(used) => Ok(list.push(used.name)?),
+        None => Ok(()),
+    }
+}
+
+/// Puts the names that slots hold, from least recently used, behind others.
+pub(crate) fn push_names(
+    slots: &LruCache<u32, Option<Used>>,
+    list: &mut Vec<Name16>,
+) -> Result<(), AllocError>
+    ensures { OnOk result (list.new.items
+        ≡ list.old.items ++ names_in (used_in (reverse slots.now.entries))) }
+{
+    for (_, used) in slots.iter().rev() {
+        push_name(list, used)?;
+    }
+    Ok(())
 }

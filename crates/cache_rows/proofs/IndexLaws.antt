@@ -1,10 +1,9 @@
 -- The indexes stay those of the rows.
-use Rattle.std.proofs.Common.{◌≡◌, ℕ, ◌+◌, ◌-◌, ◌≤◌, ◌<◌, Bool, true, false, not, ◌&&◌, ◌||◌, cond, List, [], ◌∷◌, ◌++◌, append-nil, min, Option, Some, None, is_some, unwrap_or, length, filter, map, drop, get_or, refl, sym, ap, ◌∙◌, arith}
+use Rattle.std.proofs.Common.{◌≡◌, ℕ, ◌+◌, ◌≤◌, Bool, true, false, not, ◌&&◌, ◌||◌, cond, List, [], ◌∷◌, ◌++◌, append-nil, Option, Some, None, is_some, unwrap_or, length, filter, map, drop, get_or, refl, sym, ap, ◌∙◌, arith}
 use Rattle.std.specs.List.{list_all}
-use Rattle.std.proofs.lemmas.Bool.{and_parts, and_from, or_left, or_right, false≢true}
+use Rattle.std.proofs.lemmas.Bool.{and_parts, or_left, or_right, false≢true}
 use Rattle.std.proofs.lemmas.List.{map-append, length-map, drop_more, drop_all}
 use Rattle.std.proofs.lemmas.List.Elements.{filter_agree, filter-append}
-use Rattle.std.proofs.lemmas.List.Folds.{list_all-map}
 use Rattle.cf_types.specs.declared.names.Name16.{Name16}
 use Rattle.cf_types.specs.declared.numbers.ConnId.{ConnId}
 use Rattle.cf_types.specs.Name.{same_name, name_before}
@@ -68,7 +67,7 @@ order-absent name rows h =
 -- ---- a row is put in its place
 
 -- where one is unchanged, so are those behind it
-unchanged_behind : (y : CacheItem) (ys : List CacheItem) → is_changed y ≡ false → list_all (changed_first y) ys ≡ true
+pub unchanged_behind : (y : CacheItem) (ys : List CacheItem) → is_changed y ≡ false → list_all (changed_first y) ys ≡ true
     → filter is_changed ys ≡ []
 unchanged_behind y ys e h =
     filter_none is_changed ys
@@ -184,18 +183,6 @@ front-put row rows h = go (is_changed row) refl
 
 -- ---- a row is put behind the others, where it has its place
 
-precedes : (a b n : Bool) → cond a (cond b n true) (not b) ≡ true → a || not b ≡ true
-precedes true b n h = refl
-precedes false b n h = h
-
-pub front-push : (row : CacheItem) (rows : List CacheItem) → pairwise changed_first rows ≡ true
-    → list_all (λ other. may_precede other row) rows ≡ true
-    → pairwise changed_first (rows ++ row ∷ []) ≡ true
-front-push row rows h last =
-    pairwise_push changed_first rows row h
-    (list_all_weaker (λ other. may_precede other row) (λ other. changed_first other row)
-    (λ other k. precedes (is_changed other) (is_changed row) (name_before other.name row.name) k) rows last)
-
 -- an insertion behind all that stand before it
 insertion_last : {X : Type 0} (before : X → Bool) (x : X) (xs : List X) → list_all before xs ≡ true
     → insertion before x xs ≡ xs ++ x ∷ []
@@ -204,48 +191,23 @@ insertion_last before x (y ∷ ys) h =
     let parts = and_parts (before y) (list_all before ys) h in
     rw parts.0 (ap (λ l. y ∷ l) (insertion_last before x ys parts.1))
 
-named_before : (a b n : Bool) → b ≡ true → cond a (cond b n true) (not b) ≡ true → a ≡ true → n ≡ true
-named_before true true n e h f = h
-named_before true false n e h f = absurd (false≢true e)
-named_before false b n e h f = absurd (false≢true f)
+last_step : (a b n : Bool) → b ≡ true → cond a (cond b n true) (not b) ≡ true → a && n ≡ true
+last_step true true n e h = h
+last_step false true n e h = absurd (false≢true h)
+last_step a false n e h = absurd (false≢true e)
 
-kept_step : (p q : CacheItem → Bool) (b : Bool) (y : CacheItem) (ys : List CacheItem) → (b ≡ true → q y ≡ true)
-    → list_all q ys ≡ true
-    → list_all q (cond b (y ∷ ys) ys) ≡ true
-kept_step p q true y ys e h = and_from (q y) (list_all q ys) (e refl) h
-kept_step p q false y ys e h = h
-
-changed_before : (row : CacheItem) (rows : List CacheItem) → is_changed row ≡ true
-    → list_all (λ other. may_precede other row) rows ≡ true
-    → list_all (λ other. name_before other.name row.name) (filter is_changed rows) ≡ true
-changed_before row [] e h = refl
-changed_before row (y ∷ ys) e h =
-    let parts = and_parts (may_precede y row) (list_all (λ other. may_precede other row) ys) h in
-    kept_step is_changed (λ other. name_before other.name row.name) (is_changed y) y (filter is_changed ys)
-    (named_before (is_changed y) (is_changed row) (name_before y.name row.name) e parts.0)
-    (changed_before row ys e parts.1)
-
-pub classes-push : (row : CacheItem) (rows : List CacheItem) → has_row row.name rows ≡ false
-    → list_all (λ other. may_precede other row) rows ≡ true
-    → names_set row.name row.class (classes_of rows) ≡ classes_of (rows ++ row ∷ [])
-classes-push row rows absent last =
-    set-absent row.name row.class (classes_of rows) (classes-absent row.name rows absent) ∙ go (is_changed row) refl
-    ∙ sym (classes-last (is_changed row) row rows refl)
+-- a row that may follow all others has its place behind them
+pub with-last : (row : CacheItem) (rows : List CacheItem) → list_all (λ other. may_precede other row) rows ≡ true
+    → rows_with row rows ≡ rows ++ row ∷ []
+with-last row rows last = go (is_changed row) refl
   where
     go : (b : Bool) → is_changed row ≡ b
-        → cond b (names_with (changed_of row) (classes_of rows)) (classes_of rows)
-        ≡ classes_of rows ++ cond b (changed_of row ∷ []) []
+        → cond b (insertion (stands_before row) row rows) (rows ++ row ∷ []) ≡ rows ++ row ∷ []
     go true e =
-        insertion_last (λ (changed : Changed). castout.stands_before changed (changed_of row)) (changed_of row)
-        (classes_of rows)
-        (list_all-map (λ (changed : Changed). castout.stands_before changed (changed_of row)) changed_of
-        (filter is_changed rows) ∙ changed_before row rows e last)
-    go false e = sym (append-nil (classes_of rows))
-
-pub order-push : (row : CacheItem) (rows : List CacheItem) → has_row row.name rows ≡ false
-    → order_with row (order_of rows) ≡ order_of (rows ++ row ∷ [])
-order-push row rows absent =
-    touched (is_changed row) row rows absent refl ∙ sym (order-last (is_changed row) row rows refl)
+        insertion_last (stands_before row) row rows
+        (list_all_weaker (λ other. may_precede other row) (stands_before row)
+        (λ other h. last_step (is_changed other) (is_changed row) (name_before other.name row.name) e h) rows last)
+    go false e = refl
 
 -- ---- castout locks are released
 
@@ -312,31 +274,6 @@ spared-all names rows all i le h =
 
 -- ---- how many
 
-pub length-order_of : (rows : List CacheItem) → length (order_of rows) ≤ length rows
-length-order_of rows = omega (
-  arith,
-  length-map (filter is_unchanged rows) used_of,
-  length-filter-le is_unchanged
-      rows,
-)
-
 pub room_taken-le : (class : Option ℕ) → room_taken class ≤ 1
 room_taken-le None = omega arith
 room_taken-le (Some class) = omega arith
-
--- what room for a row is: in the list, below the number that there may be, and in both indexes
-pub record HasRoom (len cap entries class_room order_room : ℕ) : Type 0 where
-  pub list : len < cap
-  pub below : len < entries
-  pub classes : 1 ≤ class_room
-  pub order : 1 ≤ order_room
-
-pub has_room : (len cap entries classes order : ℕ) → 1 ≤ min (min (cap - len) (entries - len)) (min classes order)
-    → HasRoom len cap entries classes order
-has_room len cap entries classes order h =
-    record { list = omega (arith, h); below = omega (arith, h); classes = omega (arith, h); order = omega (arith, h) }
-
-pub order_below : (order : List Used) (rows : List CacheItem) (len entries limit : ℕ) → order ≡ order_of rows
-    → limit ≡ entries → len ≡ length rows
-    → len < entries → length order < limit
-order_below order rows len entries limit e f g h = rw e (omega (arith, f, g, h, length-order_of rows))

@@ -1,4 +1,4 @@
 pub mod IndexLaws
 pub mod LookupLaws
-pub mod KeptLaws
-pub mod CountLaws
+pub mod IndexedLaws
+pub mod TallyLaws

@@ -1,12 +1,13 @@
 -- What the indexes tell of the rows.
-use Rattle.std.proofs.Common.{◌≡◌, ℕ, ◌==◌, Bool, true, false, not, ◌&&◌, List, [], ◌∷◌, ◌++◌, Option, Some, None, option_map, slice_get, is_some, unwrap_or, length, filter, map, suc, zero, refl, sym, ap, ◌∙◌, subst}
-use Rattle.std.proofs.lemmas.List.{map-append, length-map}
+use Rattle.std.proofs.Common.{◌≡◌, ℕ, ◌==◌, Bool, true, false, not, ◌&&◌, List, [], ◌∷◌, ◌++◌, Option, Some, None, option_map, slice_get, is_some, unwrap_or, length, filter, map, suc, zero, ◌-◌, ◌+◌, ◌<◌, take, refl, sym, ap, ◌∙◌, subst, arith}
+use Rattle.std.proofs.lemmas.List.{map-append, length-map, drop_all}
 use Rattle.std.proofs.lemmas.List.Elements.{filter_agree}
 use Rattle.std.proofs.lemmas.Option.{slice_get-map}
 use Rattle.cf_types.specs.declared.names.Name16.{Name16}
 use Rattle.cf_types.specs.Name.{same_name}
 use Rattle.list_laws.specs.Pairwise.{pairwise}
-use Rattle.list_laws.proofs.FilterLaws.{filter-filter}
+use Rattle.list_laws.proofs.FilterLaws.{filter-filter, filter_all, list_all_always, any_is_found}
+use Rattle.list_laws.proofs.TakeLaws.{split_next}
 use Rattle.list_laws.proofs.KeyLaws.{AllFound, found_filter, found_append}
 use Rattle.cache_classes.specs.declared.changed.Changed.{Changed}
 use Rattle.cache_classes.specs.Castout as castout
@@ -14,11 +15,11 @@ use Rattle.cache_reclaim.specs.declared.used.Used.{Used}
 use Rattle.cache_reclaim.specs.LastUse as last_use
 use Rattle.cache_regs.proofs.NameLaws.{same_name-eq, same_name-refl}
 use Rattle.cache_model.specs.declared.items.CacheItem.{CacheItem}
-use Rattle.cache_model.specs.Rows.{is_changed, row_of, has_class, has_storage, names_apart}
+use Rattle.cache_model.specs.Rows.{is_row_of, is_changed, row_of, has_row, rows_without, has_class, has_storage, names_apart}
 use Rattle.cache_model.specs.Commands.CoStats.{rows_of_class}
 use Rattle.cache_model.proofs.RowLaws.{name_of}
 use Rattle.cache_rows.specs.Indexes.{is_unchanged, changed_of, classes_of, used_of, order_of, reclaimed_for}
-use Rattle.cache_rows.proofs.IndexLaws.{filter-map, map_same}
+use Rattle.cache_rows.proofs.IndexLaws.{filter-map, map_same, without-last}
 
 -- ---- the names of a castout class
 
@@ -126,3 +127,56 @@ reclaimed-none stg k rows e = go (slice_get (reclaimed_for stg rows) k) (e ∙ v
     go : (o : Option CacheItem) → None ≡ option_map (λ (row : CacheItem). row.name) o → None ≡ o
     go None f = refl
     go (Some row) f = absurd (cc)
+
+-- ---- the row at a place, by its name
+
+all_there : (rows : List CacheItem) → pairwise names_apart rows ≡ true → AreFound rows rows
+all_there rows h =
+    subst (λ (l : List CacheItem). AreFound l rows)
+    (filter_all (λ (row : CacheItem). true) rows (list_all_always (λ (row : CacheItem). true) (λ row. refl) rows))
+    (found_filter name_of same_name same_name-eq same_name-refl (λ (row : CacheItem). true) rows h)
+
+pub named-row : (rows : List CacheItem) (k : ℕ) (name : Name16) → pairwise names_apart rows ≡ true
+    → Some name ≡ option_map name_of (slice_get rows k)
+    → row_of name rows ≡ slice_get rows k
+named-row rows k name h e = go (slice_get rows k) refl e
+  where
+    go : (o : Option CacheItem) → slice_get rows k ≡ o → Some name ≡ option_map name_of o → row_of name rows ≡ o
+    go None is f = absurd (cc)
+    go (Some row) is f =
+        let same : name ≡ row.name = cc in
+        subst (λ (n : Name16). row_of n rows ≡ Some row) (sym same) (found_at rows rows k row (all_there rows h) is)
+
+pub named-has : (rows : List CacheItem) (k : ℕ) (name : Name16) → pairwise names_apart rows ≡ true
+    → Some name ≡ option_map name_of (slice_get rows k)
+    → has_row name rows ≡ true
+named-has rows k name h e =
+    any_is_found (is_row_of name) rows ∙ ap is_some (named-row rows k name h e) ∙ go (slice_get rows k) e
+  where
+    go : (o : Option CacheItem) → Some name ≡ option_map name_of o → is_some o ≡ true
+    go None f = absurd (cc)
+    go (Some row) f = refl
+
+pub past-named : (rows : List CacheItem) (k : ℕ) → k < length rows → None ≡ option_map name_of (slice_get rows k) → ⊥
+past-named [] k lt e = omega (arith, lt)
+past-named (x ∷ xs) zero lt e = absurd (cc)
+past-named (x ∷ xs) (suc k) lt e = past-named xs k (omega (arith, lt)) e
+
+pub popped : (rows : List CacheItem) (name : Name16) → pairwise names_apart rows ≡ true
+    → Some name ≡ option_map name_of (slice_get rows (length rows - 1))
+    → rows_without name rows ≡ take (length rows - 1) rows
+popped rows name h e = go (slice_get rows (length rows - 1)) refl e
+  where
+    go : (o : Option CacheItem) → slice_get rows (length rows - 1) ≡ o → Some name ≡ option_map name_of o
+        → rows_without name rows ≡ take (length rows - 1) rows
+    go None is f = absurd (cc)
+    go (Some row) is f =
+        let same : name ≡ row.name = cc in
+        let last = length rows - 1 in
+        let front = take last rows in
+        let whole : rows ≡ front ++ row ∷ [] =
+        split_next rows last row is ∙ ap (λ (l : List CacheItem). front ++ row ∷ l)
+        (drop_all (last + 1) rows (omega arith)) in
+        ap (λ (n : Name16). rows_without n rows) same
+        ∙ ap (λ (l : List CacheItem). rows_without row.name l) whole
+        ∙ without-last row front (subst (λ (l : List CacheItem). pairwise names_apart l ≡ true) whole h)

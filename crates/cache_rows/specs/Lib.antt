@@ -1,2 +1,4 @@
 pub mod Indexes
+pub mod Listed
+pub mod Tallies
 pub mod RowBatch

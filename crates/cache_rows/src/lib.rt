@@ -1,5 +1,5 @@
-//! The rows of a cache's directory, with the two indexes that stand beside them: the castout
-//! classes of the changed rows, and the order in which the unchanged ones were last used.
+//! The rows of a cache's directory, found by name, with the two indexes that stand beside them: the
+//! castout classes of the changed rows, and the order in which the unchanged ones were last used.
 //!
 //! Nothing above this crate has rows in its hands: [`Rows`] does to them what commands do, and a
 //! [`Row`] tells of one. So only this crate knows where rows and their data lie.
@@ -7,8 +7,10 @@
 
 mod changes;
 mod counts;
+mod directory;
 mod row;
 mod rows;
+mod tally;
 
 pub use counts::elements_of_body;
 pub use row::Row;

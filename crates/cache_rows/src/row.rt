@@ -1,6 +1,6 @@
 //! A row that is looked at where it lies.
-ghost use Rattle.std.specs.Prelude.{◌≡◌, IfOk, option_map};
-ghost use Rattle.cache_model.specs.Rows.{elements_of, row_of, has_row};
+ghost use Rattle.std.specs.Prelude.{◌≡◌, ◌≤◌, IfOk};
+ghost use Rattle.cache_model.specs.Rows.{elements_of};
 ghost use Rattle.cache_model.specs.Commands.Unlock.{is_rewritten};
 
 use crate::counts::elements_of;
@@ -24,8 +24,8 @@ impl<'a> Model for Row<'a> {
 }
 
 impl<'a> Row<'a> {
-    // A row that lies there.
-    fn of(row: &'a CacheItem) -> Row<'a>
+    /// A row that lies there.
+    pub(crate) fn of(row: &'a CacheItem) -> Row<'a>
         ensures { result ≡ row.now }
     {
         Row { row }
@@ -75,7 +75,8 @@ impl<'a> Row<'a> {
 
     /// How many elements of 256 bytes its data take: none where it has no data.
     pub fn elements(&self) -> u32
-        ensures { result ≡ elements_of self.now.body }
+        ensures elements { result ≡ elements_of self.now.body }
+        ensures few { result ≤ 16 }
     {
         elements_of(self.row)
     }
@@ -99,28 +100,4 @@ pub(crate) fn is_rewritten(holder: Option<Holder>) -> bool
         Some(holder) => holder.rewritten,
         None => false,
     }
-}
-
-// Where the row of a name lies; the first where several rows have the name.
-fn find<'a>(rows: &'a [CacheItem], name: &Name16) -> Option<&'a CacheItem>
-    ensures { option_map (λ row. row.now) result ≡ row_of name.now rows.now }
-{
-    rows.iter().find(|row| row.name == *name)
-}
-
-/// The row of a name, if there is one; the first where several rows have the name.
-pub(crate) fn row_of<'a>(rows: &'a [CacheItem], name: &Name16) -> Option<Row<'a>>
-    ensures { result ≡ row_of name.now rows.now }
-{
-    match find(rows, name) {
-        Some(row) => Some(Row::of(row)),
-        None => None,
-    }
-}
-
-/// Whether a name has a row.
-pub(crate) fn has_row(rows: &[CacheItem], name: &Name16) -> bool
-    ensures { result ≡ has_row name.now rows.now }
-{
-    rows.iter().any(|row| row.name == *name)
 }

@@ -1,6 +1,6 @@
-use Rattle.std.proofs.Common.{◌≡◌, refl, ap, ◌∙◌, List}
+use Rattle.std.proofs.Common.{ap, ◌∙◌, List}
 use Rattle.cache_model.specs.declared.items.CacheItem.{CacheItem}
-use Rattle.cache_model.specs.Rows.{row_or_new, rows_with, rows_replaced}
+use Rattle.cache_model.specs.Rows.{rows_with, rows_replaced}
 use Rattle.cache_model.specs.Contents.{rows_spared}
 use Rattle.cache_model.proofs.RowLaws.{alone-spared, replaced-spared}
 use Rattle.cache_rows.proofs.rows.Rows.read.Goals as goal

@@ -1,0 +1,332 @@
+-- A map from names and two indexes hold one list of rows, as rows come and go.
+use Rattle.std.proofs.Common.{◌≡◌, ℕ, zero, suc, ◌+◌, ◌-◌, ◌≤◌, ◌<◌, Bool, true, false, not, ◌&&◌, cond, List, [], ◌∷◌, ◌++◌, Option, Some, None, option_map, option_to_list, slice_get, is_some, unwrap_or, length, length-append, filter, find, map, drop, refl, sym, ap, ◌∙◌, subst, arith}
+use Rattle.std.specs.Option.{option_or}
+use Rattle.std.specs.List.{list_all}
+use Rattle.std.proofs.lemmas.Bool.{and_parts}
+use Rattle.std.proofs.lemmas.List.{map-append, length-map, drop_all}
+use Rattle.std.proofs.lemmas.List.Elements.{filter-append}
+use Rattle.std.proofs.lemmas.List.Folds.{find-append}
+use Rattle.std.proofs.lemmas.Option.{slice_get-map}
+use Rattle.cf_types.specs.declared.names.Name16.{Name16}
+use Rattle.cf_types.specs.declared.numbers.ConnId.{ConnId}
+use Rattle.cf_types.specs.Name.{same_name}
+use Rattle.list_laws.specs.Pairwise.{pairwise}
+use Rattle.list_laws.specs.Insertions.{insertion}
+use Rattle.list_laws.proofs.FilterLaws.{filter-filter, filter_swap, find-filter, find_none, any_is_found, length-filter-le}
+use Rattle.list_laws.proofs.InsertionLaws.{find-insertion_past, find-insertion_here}
+use Rattle.list_laws.proofs.KeyLaws.{found_filter}
+use Rattle.list_laws.proofs.PairwiseLaws.{pairwise-filter, pairwise-map}
+use Rattle.cache_classes.specs.declared.changed.Changed.{Changed}
+use Rattle.cache_classes.specs.Castout.{names_without, names_set}
+use Rattle.cache_classes.specs.Castout as castout
+use Rattle.cache_dir.specs.RowMap.{Writes}
+use Rattle.cache_reclaim.specs.declared.used.Used.{Used}
+use Rattle.cache_reclaim.specs.LastUse.{order_without}
+use Rattle.cache_reclaim.specs.LastUse as last_use
+use Rattle.cache_reclaim.proofs.LastUseLaws.{slice_get-front, slice_get-behind}
+use Rattle.cache_regs.proofs.NameLaws.{same_name-eq, same_name-refl, same_name-sym}
+use Rattle.cache_model.specs.declared.items.CacheItem.{CacheItem}
+use Rattle.cache_model.specs.Rows.{is_row_of, is_changed, row_of, has_row, rows_without, stands_before, rows_with, new_row, names_apart, has_storage}
+use Rattle.cache_model.specs.Contents.{without_hold}
+use Rattle.cache_model.proofs.RowLaws.{name_of, apart-with, alone-without}
+use Rattle.cache_rows.specs.Indexes.{is_unchanged, changed_of, used_of, order_with, changed_first}
+use Rattle.cache_rows.specs.Listed.{row_or, changed_in, unchanged_in, rows_in, IsIndexed, counts_at}
+use Rattle.cache_rows.proofs.IndexLaws.{filter-map, map_same, unchanged_behind, classes-without, order-without, classes-put, order-put, front-put, classes-released, order-released}
+use Rattle.cache_rows.proofs.LookupLaws.{AreFound}
+
+-- ---- the list is the changed rows, and then the others
+
+parts_step : (b : Bool) (y : CacheItem) (ys : List CacheItem) → (b ≡ false → filter is_changed ys ≡ [])
+    → ys ≡ filter is_changed ys ++ filter is_unchanged ys
+    → y ∷ ys ≡ cond b (y ∷ filter is_changed ys) (filter is_changed ys)
+    ++ cond (not b) (y ∷ filter is_unchanged ys) (filter is_unchanged ys)
+parts_step true y ys none ih = ap (λ l. y ∷ l) ih
+parts_step false y ys none ih =
+    let empty = none refl in
+    let rest : ys ≡ filter is_unchanged ys = ih ∙ ap (λ l. l ++ filter is_unchanged ys) empty in
+    ap (λ l. y ∷ l) rest ∙ sym (ap (λ l. l ++ (y ∷ filter is_unchanged ys)) empty)
+
+pub parts_of : (rows : List CacheItem) → pairwise changed_first rows ≡ true
+    → rows ≡ filter is_changed rows ++ filter is_unchanged rows
+parts_of [] h = refl
+parts_of (y ∷ ys) h =
+    let parts = and_parts (list_all (changed_first y) ys) (pairwise changed_first ys) h in
+    parts_step (is_changed y) y ys (λ e. unchanged_behind y ys e parts.0) (parts_of ys parts.1)
+
+each_found : (at : Name16 → Option CacheItem) (rows vs : List CacheItem)
+    → ((name : Name16) → at name ≡ row_of name rows) → AreFound vs rows
+    → map (λ (row : CacheItem). row_or at row.name) vs ≡ vs
+each_found at rows [] f h = refl
+each_found at rows (v ∷ vs) f h =
+    let one : row_or at v.name ≡ v = ap (λ o. unwrap_or o (new_row v.name 1)) (f v.name ∙ h.0) in
+    let rest = each_found at rows vs f h.1 in λ j. one j ∷ rest j
+
+-- ---- the changed rows and the others are all
+
+part_step : (b : Bool) (x : CacheItem) (xs ys zs : List CacheItem) → length ys + length zs ≡ length xs
+    → length (cond (not b) (x ∷ ys) ys) + length (cond b (x ∷ zs) zs) ≡ length (x ∷ xs)
+part_step true x xs ys zs e = omega (arith, e)
+part_step false x xs ys zs e = omega (arith, e)
+
+both_parts : (rows : List CacheItem)
+    → length (filter is_unchanged rows) + length (filter is_changed rows) ≡ length rows
+both_parts [] = refl
+both_parts (x ∷ xs) =
+    part_step (is_changed x) x xs (filter is_unchanged xs) (filter is_changed xs) (both_parts xs)
+
+module _ (rows : List CacheItem) (at : Name16 → Option CacheItem) (names : List Changed) (used : List Used)
+    (is : IsIndexed rows at names used) where
+  pub listed_changed : changed_in at names ≡ filter is_changed rows
+  listed_changed =
+      ap (λ l. changed_in at l) is.classed
+      ∙ map_same (λ (changed : Changed). row_or at changed.name) changed_of (λ (row : CacheItem). row_or at row.name)
+      (λ row. refl) (filter is_changed rows)
+      ∙ each_found at rows (filter is_changed rows) is.found
+      (found_filter name_of same_name same_name-eq same_name-refl is_changed rows is.one_for_name)
+
+  listed_unchanged : unchanged_in at used ≡ filter is_unchanged rows
+  listed_unchanged =
+      ap (λ l. unchanged_in at l) is.ordered
+      ∙ map_same (λ (one : Used). row_or at one.name) used_of (λ (row : CacheItem). row_or at row.name)
+      (λ row. refl) (filter is_unchanged rows)
+      ∙ each_found at rows (filter is_unchanged rows) is.found
+      (found_filter name_of same_name same_name-eq same_name-refl is_unchanged rows is.one_for_name)
+
+  -- what the map and the indexes hold is the list
+  pub listed_is : rows_in at names used ≡ rows
+  listed_is =
+      ap (λ l. l ++ unchanged_in at used) listed_changed
+      ∙ ap (λ l. filter is_changed rows ++ l) listed_unchanged
+      ∙ sym (parts_of rows is.changed_front)
+
+  pub listed : IsIndexed (rows_in at names used) at names used
+  listed = subst (λ l. IsIndexed l at names used) (sym listed_is) is
+
+  -- no row is found, and there is none
+  pub missing : (name : Name16) → None ≡ at name → has_row name rows ≡ false
+  missing name e = any_is_found (is_row_of name) rows ∙ ap is_some (sym (e ∙ is.found name))
+
+  pub unfound : (name : Name16) → has_row name rows ≡ false → at name ≡ None
+  unfound name e = is.found name ∙ find_none (is_row_of name) rows e
+
+  -- the names stand in the order of the rows
+  names_listed : map name_of rows ≡ castout.names_in names ++ last_use.names_in used
+  names_listed =
+      ap (λ l. map name_of l) (parts_of rows is.changed_front)
+      ∙ map-append name_of (filter is_changed rows) (filter is_unchanged rows)
+      ∙ ap (λ l. l ++ map name_of (filter is_unchanged rows))
+      (sym (ap castout.names_in is.classed
+      ∙ map_same (λ (changed : Changed). changed.name) changed_of name_of (λ row. refl) (filter is_changed rows)))
+      ∙ ap (λ l. castout.names_in names ++ l)
+      (sym (ap last_use.names_in is.ordered
+      ∙ map_same (λ (one : Used). one.name) used_of name_of (λ row. refl) (filter is_unchanged rows)))
+
+  pub names_are : (all : List Name16) → all ≡ castout.names_in names ++ last_use.names_in used
+      → all ≡ map name_of rows
+  names_are all e = e ∙ sym names_listed
+
+  row_at_place : (k : ℕ)
+      → option_map name_of (slice_get rows k)
+      ≡ slice_get (castout.names_in names ++ last_use.names_in used) k
+  row_at_place k = sym (slice_get-map name_of rows k) ∙ ap (λ l. slice_get l k) names_listed
+
+  -- the name at a place, among the changed rows and behind them
+  pub name_in_front : (k : ℕ) (name : Option Name16) → k < length names
+      → name ≡ option_map (λ (changed : Changed). changed.name) (slice_get names k)
+      → name ≡ option_map name_of (slice_get rows k)
+  name_in_front k name lt e =
+      let long = length-map names (λ (changed : Changed). changed.name) in
+      e ∙ sym (slice_get-map (λ (changed : Changed). changed.name) names k)
+      ∙ sym (slice_get-front (castout.names_in names) (last_use.names_in used) k (omega (arith, lt, long)))
+      ∙ sym (row_at_place k)
+
+  pub name_behind : (k : ℕ) (name : Option Name16) → length names ≤ k
+      → name ≡ option_map (λ (one : Used). one.name) (slice_get used (k - length names))
+      → name ≡ option_map name_of (slice_get rows k)
+  name_behind k name le e =
+      let long = length-map names (λ (changed : Changed). changed.name) in
+      e ∙ sym (slice_get-map (λ (one : Used). one.name) used (k - length names))
+      ∙ ap (λ n. slice_get (last_use.names_in used) (k - n)) (sym long)
+      ∙ sym (slice_get-behind (castout.names_in names) (last_use.names_in used) k
+      (k - length (castout.names_in names)) (omega (arith, le, long)))
+      ∙ sym (row_at_place k)
+
+  -- ---- how many rows are of a storage class
+
+  pub changed_storage : (stg : ℕ)
+      → length (filter (λ (changed : Changed). has_storage stg (row_or at changed.name)) names)
+      ≡ length (filter (λ row. has_storage stg row && is_changed row) rows)
+  changed_storage stg =
+      let row = λ (changed : Changed). row_or at changed.name in
+      sym (length-map (filter (λ (changed : Changed). has_storage stg (row changed)) names) row)
+      ∙ ap (λ (l : List CacheItem). length l)
+      (sym (filter-map (has_storage stg) row names)
+      ∙ ap (λ (l : List CacheItem). filter (has_storage stg) l) listed_changed
+      ∙ filter_swap (has_storage stg) is_changed rows
+      ∙ filter-filter is_changed (has_storage stg) rows)
+
+  pub unchanged_storage : (stg n : ℕ) → n ≡ length (filter (last_use.is_in_part stg true) used)
+      → n + length (filter (λ row. has_storage stg row && is_changed row) rows)
+      ≡ length (filter (has_storage stg) rows)
+  unchanged_storage stg n e =
+      let own = filter (has_storage stg) rows in
+      let ones : n ≡ length (filter is_unchanged own) =
+      e ∙ ap (λ (l : List Used). length (filter (last_use.is_in_part stg true) l)) is.ordered
+      ∙ ap (λ (l : List Used). length l)
+      (filter-map (last_use.is_in_part stg true) used_of (filter is_unchanged rows))
+      ∙ length-map (filter (has_storage stg) (filter is_unchanged rows)) used_of
+      ∙ ap (λ (l : List CacheItem). length l) (filter_swap (has_storage stg) is_unchanged rows) in
+      let others : length (filter (λ row. has_storage stg row && is_changed row) rows) ≡ length (filter is_changed own) =
+      ap (λ (l : List CacheItem). length l) (sym (filter-filter is_changed (has_storage stg) rows)) in
+      omega (arith, ones, others, both_parts own)
+
+-- ---- one more of a list from a place on
+
+pub drop_one : {X : Type 0} (xs : List X) (k : ℕ) → drop k xs ≡ option_to_list (slice_get xs k) ++ drop (k + 1) xs
+drop_one {X} [] k =
+    let none : List X = [] in drop_all k none (omega arith) ∙ sym (drop_all (k + 1) none (omega arith))
+drop_one (x ∷ xs) zero = refl
+drop_one (x ∷ xs) (suc k) =
+    let next : suc k + 1 ≡ suc (k + 1) = omega arith in
+    drop_one xs k ∙ ap (λ n. option_to_list (slice_get xs k) ++ drop n (x ∷ xs)) (sym next)
+
+pub counted_more : (stg : ℕ) (at : Name16 → Option CacheItem) (names : List Changed) (k now one all : ℕ)
+    → one ≡ counts_at stg at names k
+    → now + length (filter (λ changed. has_storage stg (row_or at changed.name)) (drop k names)) ≡ all
+    → now + one + length (filter (λ changed. has_storage stg (row_or at changed.name)) (drop (k + 1) names)) ≡ all
+counted_more stg at names k now one all is so_far =
+    let p = λ (changed : Changed). has_storage stg (row_or at changed.name) in
+    let here = option_to_list (slice_get names k) in
+    let split : length (filter p (drop k names)) ≡ length (filter p here) + length (filter p (drop (k + 1) names)) =
+    ap (λ (l : List Changed). length (filter p l)) (drop_one names k)
+    ∙ ap (λ (l : List Changed). length l) (filter-append p here (drop (k + 1) names))
+    ∙ length-append (filter p here) (filter p (drop (k + 1) names)) in
+    omega (arith, is, so_far, split)
+
+pub count_fits : (stg : ℕ) (at : Name16 → Option CacheItem) (names : List Changed) (k now one : ℕ)
+    → one ≡ counts_at stg at names k
+    → now + length (filter (λ changed. has_storage stg (row_or at changed.name)) (drop k names)) ≡ length (filter
+    (λ changed. has_storage stg (row_or at changed.name)) names)
+    → now + one ≤ length names
+count_fits stg at names k now one is so_far =
+    let p = λ (changed : Changed). has_storage stg (row_or at changed.name) in
+    let more = counted_more stg at names k now one (length (filter p names)) is so_far in
+    omega (arith, more, length-filter-le p names)
+
+-- ---- no rows
+
+pub nothing : (at : Name16 → Option CacheItem) (names : List Changed) (used : List Used)
+    → ((name : Name16) → at name ≡ None) → names ≡ [] → used ≡ [] → IsIndexed [] at names used
+nothing at names used h e f =
+    record { changed_front = refl; one_for_name = refl; classed = e; ordered = f; found = h }
+
+-- ---- a row is taken out
+
+other_found : (q name : Name16) (rows : List CacheItem)
+    → row_of q (rows_without name rows) ≡ cond (same_name name q) None (row_of q rows)
+other_found q name rows = go (same_name name q) refl
+  where
+    others : same_name name q ≡ false → (row : CacheItem) → is_row_of q row ≡ true
+        → not (is_row_of name row) ≡ true
+    others e row h =
+        ap not (subst (λ (n : Name16). same_name n name ≡ false) (sym (same_name-eq row.name q h))
+        (same_name-sym q name ∙ e))
+
+    go : (b : Bool) → same_name name q ≡ b → row_of q (rows_without name rows) ≡ cond b None (row_of q rows)
+    go true e =
+        find_none (is_row_of q) (rows_without name rows) (alone-without q name rows (sym (same_name-eq name q e)))
+    go false e = find-filter (is_row_of q) (λ row. not (is_row_of name row)) (others e) rows
+
+pub taken : (rows : List CacheItem) (at next : Name16 → Option CacheItem) (names names' : List Changed)
+    (used used' : List Used) (name : Name16)
+    → IsIndexed rows at names used → Writes at name None next → names' ≡ names_without name names
+    → used' ≡ order_without name used
+    → IsIndexed (rows_without name rows) next names' used'
+taken rows at next names names' used used' name is writes e f =
+    let other = λ (row : CacheItem). not (is_row_of name row) in
+    record {
+      changed_front = pairwise-filter changed_first other rows is.changed_front;
+      one_for_name = pairwise-filter names_apart other rows is.one_for_name;
+      classed = e ∙ ap (λ l. names_without name l) is.classed ∙ classes-without name rows;
+      ordered = f ∙ ap (λ l. order_without name l) is.ordered ∙ order-without name rows;
+      found = λ q. writes q ∙ ap (λ o. cond (same_name name q) None o) (is.found q) ∙ sym (other_found q name rows);
+    }
+
+-- ---- a row is put in its place
+
+or_none : (o : Option CacheItem) → option_or o None ≡ o
+or_none None = refl
+or_none (Some row) = refl
+
+last_found : (c : Bool) (q : Name16) (row : CacheItem) (rows : List CacheItem) → is_row_of q row ≡ c
+    → (c ≡ true → row_of q rows ≡ None)
+    → row_of q (rows ++ row ∷ []) ≡ cond c (Some row) (row_of q rows)
+last_found true q row rows e none =
+    find-append (is_row_of q) rows (row ∷ [])
+    ∙ ap (λ o. option_or o (find (is_row_of q) (row ∷ []))) (none refl)
+    ∙ ap (λ (b : Bool). cond b (Some row) None) e
+last_found false q row rows e none =
+    find-append (is_row_of q) rows (row ∷ [])
+    ∙ ap (λ (b : Bool). option_or (row_of q rows) (cond b (Some row) None)) e
+    ∙ or_none (row_of q rows)
+
+placed_found : (c : Bool) (q : Name16) (row : CacheItem) (rows : List CacheItem) → is_row_of q row ≡ c
+    → (c ≡ true → has_row q rows ≡ false)
+    → row_of q (insertion (stands_before row) row rows) ≡ cond c (Some row) (row_of q rows)
+placed_found true q row rows e none = find-insertion_here (is_row_of q) (stands_before row) row rows e (none refl)
+placed_found false q row rows e none = find-insertion_past (is_row_of q) (stands_before row) row rows e
+
+with_found : (q : Name16) (row : CacheItem) (rows : List CacheItem) → has_row row.name rows ≡ false
+    → row_of q (rows_with row rows) ≡ cond (same_name row.name q) (Some row) (row_of q rows)
+with_found q row rows alone = go (is_changed row)
+  where
+    absent : is_row_of q row ≡ true → has_row q rows ≡ false
+    absent e = subst (λ (n : Name16). has_row n rows ≡ false) (same_name-eq row.name q e) alone
+
+    go : (b : Bool) → row_of q (cond b (insertion (stands_before row) row rows) (rows ++ row ∷ []))
+        ≡ cond (same_name row.name q) (Some row) (row_of q rows)
+    go true = placed_found (is_row_of q row) q row rows refl absent
+    go false = last_found (is_row_of q row) q row rows refl (λ e. find_none (is_row_of q) rows (absent e))
+
+pub come : (rows : List CacheItem) (at next : Name16 → Option CacheItem) (names names' : List Changed)
+    (used used' : List Used) (row : CacheItem)
+    → IsIndexed rows at names used → has_row row.name rows ≡ false → Writes at row.name (Some row) next
+    → names' ≡ names_set row.name row.class names → used' ≡ order_with row used
+    → IsIndexed (rows_with row rows) next names' used'
+come rows at next names names' used used' row is alone writes e f =
+    record {
+      changed_front = front-put row rows is.changed_front;
+      one_for_name = apart-with row rows is.one_for_name alone;
+      classed = e ∙ ap (λ l. names_set row.name row.class l) is.classed ∙ classes-put row rows alone is.changed_front;
+      ordered = f ∙ ap (λ l. order_with row l) is.ordered ∙ order-put row rows alone;
+      found = λ q. writes q ∙ ap (λ o. cond (same_name row.name q) (Some row) o) (is.found q)
+          ∙ sym (with_found q row rows alone);
+    }
+
+-- ---- castout locks are released
+
+held_step : (conn : ConnId) (b : Bool) (row : CacheItem) (o r : Option CacheItem)
+    → r ≡ option_map (without_hold conn) o
+    → cond b (Some (without_hold conn row)) r ≡ option_map (without_hold conn) (cond b (Some row) o)
+held_step conn true row o r e = refl
+held_step conn false row o r e = e
+
+released_found : (conn : ConnId) (q : Name16) (rows : List CacheItem)
+    → row_of q (map (without_hold conn) rows) ≡ option_map (without_hold conn) (row_of q rows)
+released_found conn q [] = refl
+released_found conn q (row ∷ rows) =
+    held_step conn (same_name row.name q) row (row_of q rows) (row_of q (map (without_hold conn) rows))
+    (released_found conn q rows)
+
+pub released : (rows : List CacheItem) (at next : Name16 → Option CacheItem) (names : List Changed)
+    (used : List Used) (conn : ConnId)
+    → IsIndexed rows at names used → ((q : Name16) → next q ≡ option_map (without_hold conn) (at q))
+    → IsIndexed (map (without_hold conn) rows) next names used
+released rows at next names used conn is moved =
+    record {
+      changed_front = pairwise-map changed_first (without_hold conn) (λ x y. refl) rows ∙ is.changed_front;
+      one_for_name = pairwise-map names_apart (without_hold conn) (λ x y. refl) rows ∙ is.one_for_name;
+      classed = is.classed ∙ sym (classes-released conn rows);
+      ordered = is.ordered ∙ sym (order-released conn rows);
+      found = λ q. moved q ∙ ap (λ o. option_map (without_hold conn) o) (is.found q) ∙ sym (released_found conn q rows);
+    }

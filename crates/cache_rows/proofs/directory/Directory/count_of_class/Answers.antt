@@ -1,0 +1,12 @@
+use Rattle.std.proofs.Common.{◌∙◌, ap, List}
+use Rattle.cache_classes.specs.declared.changed.Changed.{Changed}
+use Rattle.cache_classes.specs.Castout.{count_of}
+use Rattle.cache_rows.specs.Listed.{listed_of}
+use Rattle.cache_rows.proofs.LookupLaws.{count-classes_of}
+use Rattle.cache_rows.proofs.directory.Directory.count_of_class.Goals as goal
+
+pub returns : goal.returns
+returns c =
+    rw (← c.self.view_is)
+    (c.count.ensures ∙ ap (λ (l : List Changed). count_of c.args.class l) c.self.invariant.classed
+    ∙ count-classes_of c.args.class (listed_of c.self.inside).rows)

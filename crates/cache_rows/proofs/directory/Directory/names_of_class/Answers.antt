@@ -1,0 +1,20 @@
+use Rattle.std.proofs.Common.{◌≡◌, ◌∙◌, ap, List, filter, map}
+use Rattle.std.proofs.lemmas.Result.{IfOk-weaker}
+use Rattle.cache_classes.specs.declared.changed.Changed.{Changed}
+use Rattle.cache_classes.specs.Castout.{names_of}
+use Rattle.cache_model.specs.declared.items.CacheItem.{CacheItem}
+use Rattle.cache_model.specs.Rows.{has_class}
+use Rattle.cache_rows.specs.Listed.{listed_of}
+use Rattle.cache_rows.proofs.LookupLaws.{names-classes_of}
+use Rattle.cache_rows.proofs.directory.Directory.names_of_class.Goals as goal
+
+pub returns : goal.returns
+returns c =
+    let rows = (listed_of c.self.inside).rows in
+    let class = c.args.class in
+    rw (← c.self.view_is)
+    (IfOk-weaker c.names.result (λ names. names.items ≡ names_of class c.self.inside.classes.names)
+    (λ names. names.items ≡ map (λ (row : CacheItem). row.name) (filter (has_class class) rows))
+    (λ names h. h ∙ ap (λ (l : List Changed). names_of class l) c.self.invariant.classed
+    ∙ names-classes_of class rows)
+    c.names.ensures)

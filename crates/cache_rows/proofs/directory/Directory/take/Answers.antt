@@ -1,0 +1,21 @@
+use Rattle.std.proofs.Common.{◌∙◌, ap}
+use Rattle.cache_dir.specs.RowMap.{row_at}
+use Rattle.cache_model.specs.Rows.{rows_without}
+use Rattle.cache_rows.specs.Listed.{Listed, IsIndexed, listed_of}
+use Rattle.cache_rows.proofs.IndexedLaws.{taken, listed, listed_is}
+use Rattle.cache_rows.proofs.directory.Directory.take.Goals as goal
+
+left : (c : goal.After-take)
+    → IsIndexed (rows_without c.args.name.now (listed_of c.self.inside).rows) (row_at c.take.new.self.entries)
+    c.unindex.new.classes.names c.unindex.new.order.order
+left c =
+    taken (listed_of c.self.inside).rows (row_at c.self.inside.dir.entries) (row_at c.take.new.self.entries)
+    c.self.inside.classes.names c.unindex.new.classes.names c.self.inside.order.order c.unindex.new.order.order
+    c.args.name.now c.self.invariant c.take.ensures.writes c.unindex.ensures.classes c.unindex.ensures.order
+
+pub invariant_of-self : goal.invariant_of-self
+invariant_of-self c = listed _ _ _ _ (left c)
+
+pub returns-clause-rest : goal.returns-clause-rest
+returns-clause-rest c =
+    listed_is _ _ _ _ (left c) ∙ ap (λ (l : Listed). rows_without c.args.name.now l.rows) c.self.view_is

@@ -1,0 +1,15 @@
+use Rattle.std.proofs.Common.{arith}
+use Rattle.cache_dir.specs.RowMap.{row_at}
+use Rattle.cache_rows.proofs.IndexedLaws.{counted_more, count_fits}
+use Rattle.cache_rows.proofs.directory.count_changed.Goals as goal
+
+pub overflow_add-count : goal.overflow_add-count
+overflow_add-count c =
+    let fits = count_fits c.args.stg (row_at c.args.dir.now.entries) c.args.classes.now.names c.loop-k.k c.loop-k.count
+    c.counts_at-count.result c.counts_at-count.ensures.count c.loop-k.invariant in
+    omega (arith, fits, c.requires)
+
+pub loop-k-preserved : goal.loop-k-preserved
+loop-k-preserved c =
+    counted_more c.args.stg (row_at c.args.dir.now.entries) c.args.classes.now.names c.loop-k.k c.loop-k.count
+    c.counts_at-count.result _ c.counts_at-count.ensures.count c.loop-k.invariant

@@ -1,0 +1,12 @@
+use Rattle.std.proofs.Common.{◌≡◌, ◌+◌, length, filter, drop}
+use Rattle.cache_classes.specs.declared.changed.Changed.{Changed}
+use Rattle.cache_dir.specs.RowMap.{row_at}
+use Rattle.cache_model.specs.Rows.{has_storage}
+use Rattle.cache_rows.specs.Listed.{row_or}
+use Rattle.cache_rows.proofs.directory.count_changed.Given as goal
+
+abbrev pub invariant-loop-k : goal.invariant-loop-k
+invariant-loop-k l =
+    l.count + length (filter (λ (changed : Changed). has_storage l.stg (row_or (row_at l.dir.entries) changed.name))
+    (drop l.k l.classes.names)) ≡ length (filter (λ (changed : Changed). has_storage l.stg
+    (row_or (row_at l.dir.entries) changed.name)) l.classes.names)

@@ -1,0 +1,6 @@
+use Rattle.std.proofs.Common.{arith}
+use Rattle.cache_rows.proofs.IndexLaws.{room_taken-le}
+use Rattle.cache_rows.proofs.directory.index_row.Goals as goal
+
+pub set-requires : goal.set-requires
+set-requires c = omega (arith, c.requires.class_room, room_taken-le c.args.row.now.class)

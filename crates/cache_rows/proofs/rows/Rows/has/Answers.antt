@@ -1,0 +1,12 @@
+use Rattle.std.proofs.Common.{sym}
+use Rattle.cache_rows.proofs.TallyLaws.{absent, there}
+use Rattle.cache_rows.proofs.rows.Rows.has.Goals as goal
+
+pub returns-in-Some : goal.returns-in-Some
+returns-in-Some c =
+    rw (← c.self.view_is)
+    (sym (there c.args.name.now c.self.inside.directory.rows c.in-Some.field-0 (sym c.in-Some.ensures.row)))
+
+pub returns-in-None : goal.returns-in-None
+returns-in-None c =
+    rw (← c.self.view_is) (sym (absent c.args.name.now c.self.inside.directory.rows (sym c.in-None.ensures.row)))

@@ -1,0 +1,57 @@
+-- Rows that are found by name, in the order that their indexes give.
+use Rattle.std.specs.Prelude.{◌≡◌, ℕ, ◌++◌, IsTrue, List, Option, filter, length, map, min, option_to_list, slice_get, unwrap_or}
+use Rattle.list_laws.specs.Pairwise.{pairwise}
+use Rattle.cf_types.specs.declared.names.Name16.{Name16}
+use Rattle.cache_classes.specs.declared.changed.Changed.{Changed}
+use Rattle.cache_reclaim.specs.declared.used.Used.{Used}
+use Rattle.cache_dir.specs.RowMap.{row_at}
+use Rattle.cache_model.specs.declared.items.CacheItem.{CacheItem}
+use Rattle.cache_model.specs.Rows.{row_of, new_row, names_apart, has_storage}
+use Rattle.cache_rows.specs.declared.directory.Directory.TheInside.{Inside}
+use Rattle.cache_rows.specs.Indexes.{classes_of, order_of, changed_first}
+
+-- the rows, for how many more there is room, and how many unchanged ones there may be
+pub record Listed : Type 0 where
+  pub rows : List CacheItem
+  pub room : ℕ
+  pub entries : ℕ
+
+-- the row of a name that has one
+abbrev pub row_or : (Name16 → Option CacheItem) → Name16 → CacheItem
+row_or at name = unwrap_or (at name) (new_row name 1)
+
+abbrev pub changed_in : (Name16 → Option CacheItem) → List Changed → List CacheItem
+changed_in at names = map (λ changed. row_or at changed.name) names
+
+abbrev pub unchanged_in : (Name16 → Option CacheItem) → List Used → List CacheItem
+unchanged_in at used = map (λ one. row_or at one.name) used
+
+-- first the changed rows in the order of names, then the others from least to most recently used
+abbrev pub rows_in : (Name16 → Option CacheItem) → List Changed → List Used → List CacheItem
+rows_in at names used = changed_in at names ++ unchanged_in at used
+
+-- a list of rows is what a map from names and the two indexes hold
+pub record IsIndexed (rows : List CacheItem) (at : Name16 → Option CacheItem) (names : List Changed)
+    (used : List Used) : Type 0 where
+  pub changed_front : IsTrue (pairwise changed_first rows)
+  pub one_for_name : IsTrue (pairwise names_apart rows)
+  pub classed : names ≡ classes_of rows
+  pub ordered : used ≡ order_of rows
+  pub found : (name : Name16) → at name ≡ row_of name rows
+
+abbrev pub listed_of : Inside → Listed
+listed_of d =
+    record {
+      rows = rows_in (row_at d.dir.entries) d.classes.names d.order.order;
+      room = min d.dir.room (min d.classes.room d.order.room);
+      entries = d.order.entries;
+    }
+
+abbrev pub AreListed : Inside → Type 0
+AreListed d =
+    IsIndexed (rows_in (row_at d.dir.entries) d.classes.names d.order.order) (row_at d.dir.entries) d.classes.names d.order.order
+
+-- whether the changed row at a place is of a storage class, as a number
+abbrev pub counts_at : ℕ → (Name16 → Option CacheItem) → List Changed → ℕ → ℕ
+counts_at stg at names k =
+    length (filter (λ changed. has_storage stg (row_or at changed.name)) (option_to_list (slice_get names k)))

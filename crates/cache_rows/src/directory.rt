@@ -1,0 +1,277 @@
+//! Rows by name, with the castout classes of the changed ones and the order of last use of the
+//! others.
+ghost use Rattle.std.specs.Prelude.{◌≡◌, ◌+◌, ◌^◌, ◌<◌, ◌≤◌, ◌&&◌, [], IsTrue, IfOk, OnOk, Some, None, true, false, filter, length, map, option_map, option_to_list, slice_get};
+ghost use Rattle.list_laws.specs.Pairwise.{pairwise};
+ghost use Rattle.cf_types.specs.declared.names.Name16.{Name16};
+ghost use Rattle.cache_classes.specs.declared.changed.Changed.{Changed};
+ghost use Rattle.cache_classes.specs.Castout.{names_set, names_without};
+ghost use Rattle.cache_reclaim.specs.LastUse.{order_without};
+ghost use Rattle.cache_dir.specs.RowMap.{row_at};
+ghost use Rattle.cache_model.specs.declared.items.CacheItem.{CacheItem};
+ghost use Rattle.cache_model.specs.Rows.{is_changed, row_of, has_row, rows_without, rows_with, names_apart, has_class, has_storage};
+ghost use Rattle.cache_model.specs.Contents.{without_hold};
+ghost use Rattle.cache_model.specs.Commands.CoStats.{rows_of_class};
+ghost use Rattle.cache_rows.specs.Indexes.{order_with, reclaimed_for};
+ghost use Rattle.cache_rows.specs.Listed.{row_or, counts_at};
+
+use crate::row::Row;
+use cache_classes::Classes;
+use cache_dir::{Dir, copy_row};
+use cache_model::CacheItem;
+use cache_reclaim::Order;
+use cf_types::{ConnId, Name16, NoMemory};
+use std::alloc::Global;
+use std::marker::Model;
+
+// Puts a row into the indexes: a changed one under its castout class, and an unchanged one as the
+// most recently used.
+fn index_row(classes: &mut Classes, order: &mut Order, row: &CacheItem)
+    requires class_room { 1 ≤ classes.old.room }
+    requires order_room { 1 ≤ order.old.room }
+    requires place { length order.old.order < order.old.entries }
+    ensures classes { classes.new.names ≡ names_set row.now.name row.now.class classes.old.names }
+    ensures order { order.new.order ≡ order_with row.now order.old.order }
+    ensures entries { order.new.entries ≡ order.old.entries }
+{
+    classes.set(row.name, row.class);
+    if row.class.is_none() {
+        order.touch(row.name, row.stg);
+    }
+}
+
+// Takes a name out of the indexes.
+fn unindex(classes: &mut Classes, order: &mut Order, name: &Name16)
+    ensures classes { classes.new.names ≡ names_without name.now classes.old.names }
+    ensures class_room { classes.old.room ≤ classes.new.room }
+    ensures order { order.new.order ≡ order_without name.now order.old.order }
+    ensures order_room { order.old.room ≤ order.new.room }
+    ensures entries { order.new.entries ≡ order.old.entries }
+{
+    classes.set(*name, None);
+    order.remove(name);
+}
+
+// The row of a name where it lies.
+fn row_in<'a>(dir: &'a Dir, name: &Name16) -> Option<Row<'a>>
+    ensures { result ≡ row_at dir.now.entries name.now }
+{
+    match dir.find(name) {
+        Some(row) => Some(Row::of(row)),
+        None => None,
+    }
+}
+
+// The storage class of the row of a name.
+fn storage_of(dir: &Dir, name: &Name16) -> u32
+    ensures { result ≡ (row_or (row_at dir.now.entries) name.now).stg }
+{
+    match row_in(dir, name) {
+        Some(row) => row.stg(),
+        None => 1,
+    }
+}
+
+// Whether the changed row at a place is of a storage class, as a number.
+fn counts_at(dir: &Dir, classes: &Classes, stg: u32, k: usize) -> u32
+    ensures count { result ≡ counts_at stg (row_at dir.now.entries) classes.now.names k }
+    ensures one { result ≤ 1 }
+{
+    match classes.name_at(k) {
+        Some(name) => { if storage_of(dir, &name) == stg { 1 } else { 0 } }
+        None => 0,
+    }
+}
+
+// How many changed rows are of a storage class.
+fn count_changed(dir: &Dir, classes: &Classes, stg: u32) -> u32
+    requires { length classes.now.names < 2 ^ 32 }
+    ensures { result ≡ length (filter (λ (changed : Changed). has_storage stg
+        (row_or (row_at dir.now.entries) changed.name)) classes.now.names) }
+{
+    let mut count = 0;
+    for k in 0..classes.len() {
+        count += counts_at(dir, classes, stg, k);
+    }
+    count
+}
+
+/// The rows of a directory, found by name. Contracts see them in order, the changed ones first, for
+/// how many more there is room, and how many unchanged ones there may be.
+#[derive(Drop)]
+pub(crate) struct Directory {
+    dir: Dir,
+    classes: Classes,
+    order: Order,
+}
+
+impl Model for Directory {
+    ghost use Rattle.cache_rows.specs.Listed.{Listed, listed_of, AreListed};
+
+    ghost Value = { Listed };
+
+    ghost view = { listed_of };
+
+    ghost invariant = { AreListed };
+}
+
+impl Directory {
+    /// No rows.
+    pub(crate) fn new(alloc: Global, entries: u32) -> Result<Directory, NoMemory>
+        ensures rows { IfOk result (λ directory. directory.rows ≡ []) }
+        ensures entries { IfOk result (λ directory. directory.entries ≡ entries) }
+    {
+        let dir = Dir::new(alloc, entries)?;
+        let classes = Classes::new(alloc)?;
+        let order = Order::new(alloc, entries)?;
+        Ok(Directory {
+            dir,
+            classes,
+            order,
+        })
+    }
+
+    /// The same rows once more, with their data and both indexes.
+    pub(crate) fn copy(&self, alloc: Global) -> Result<Directory, NoMemory>
+        ensures rows { IfOk result (λ copy. copy.rows ≡ self.now.rows) }
+        ensures entries { IfOk result (λ copy. copy.entries ≡ self.now.entries) }
+    {
+        let dir = self.dir.copy(alloc)?;
+        let classes = self.classes.copy(alloc)?;
+        let order = self.order.copy(alloc)?;
+        Ok(Directory {
+            dir,
+            classes,
+            order,
+        })
+    }
+
+    /// The row of a name, if there is one.
+    pub(crate) fn row(&self, name: &Name16) -> Option<Row<'_>>
+        ensures row { result ≡ row_of name.now self.now.rows }
+        ensures apart { IsTrue (pairwise names_apart self.now.rows) }
+    {
+        row_in(&self.dir, name)
+    }
+
+    /// The name of the row at a place (from 0).
+    pub(crate) fn name_at(&self, k: usize) -> Option<Name16>
+        ensures name { result ≡ option_map (λ (row : CacheItem). row.name)
+            (slice_get self.now.rows k) }
+        ensures apart { IsTrue (pairwise names_apart self.now.rows) }
+    {
+        let changed = self.classes.len();
+        if k < changed {
+            self.classes.name_at(k)
+        } else {
+            self.order.name_at(k - changed)
+        }
+    }
+
+    /// The names of all rows, in their order.
+    pub(crate) fn names(&self, alloc: Global) -> Result<Vec<Name16>, NoMemory>
+        ensures { IfOk result (λ names. names.items
+            ≡ map (λ (row : CacheItem). row.name) self.now.rows) }
+    {
+        let mut names = Vec::new(alloc);
+        self.classes.push_names(&mut names)?;
+        self.order.push_names(&mut names)?;
+        Ok(names)
+    }
+
+    /// A copy of the row of a name that has one.
+    pub(crate) fn copy_of(&self, alloc: Global, name: &Name16) -> Result<CacheItem, NoMemory>
+        requires { has_row name.now self.now.rows ≡ true }
+        ensures { IfOk result (λ item. row_of name.now self.now.rows ≡ Some item) }
+    {
+        match self.dir.find(name) {
+            Some(row) => copy_row(alloc, row),
+            None => unreachable!(),
+        }
+    }
+
+    /// The names of the rows of a castout class (1 to 16), in the order of names.
+    pub(crate) fn names_of_class(&self, alloc: Global, class: u32) -> Result<Vec<Name16>, NoMemory>
+        ensures { IfOk result (λ names. names.items
+            ≡ map (λ (row : CacheItem). row.name) (filter (has_class class) self.now.rows)) }
+    {
+        self.classes.names(alloc, class)
+    }
+
+    /// How many rows a castout class (1 to 16) has.
+    pub(crate) fn count_of_class(&self, class: u32) -> u32
+        ensures { result ≡ rows_of_class self.now.rows class }
+    {
+        self.classes.count(class)
+    }
+
+    /// How many changed rows a storage class (1 to 8) has.
+    pub(crate) fn changed_of_storage(&self, stg: u32) -> u32
+        requires { length self.now.rows < 2 ^ 32 }
+        ensures { result
+            ≡ length (filter (λ row. has_storage stg row && is_changed row) self.now.rows) }
+    {
+        count_changed(&self.dir, &self.classes, stg)
+    }
+
+    /// How many unchanged rows a storage class (1 to 8) has.
+    pub(crate) fn unchanged_of_storage(&self, stg: u32) -> usize
+        ensures { result + length (filter (λ row. has_storage stg row && is_changed row)
+            self.now.rows) ≡ length (filter (has_storage stg) self.now.rows) }
+    {
+        self.order.count(stg)
+    }
+
+    /// The row that is reclaimed as the `k`-th (from 0) for a storage class (1 to 8).
+    pub(crate) fn reclaimed(&self, stg: u32, k: u32) -> Option<Row<'_>>
+        ensures { result ≡ slice_get (reclaimed_for stg self.now.rows) k }
+    {
+        match self.order.victim(stg, k) {
+            Some(name) => row_in(&self.dir, &name),
+            None => None,
+        }
+    }
+
+    /// Takes room for one row more; a refusal leaves the rows the same.
+    pub(crate) fn reserve(&mut self) -> Result<(), NoMemory>
+        ensures room { OnOk result (1 ≤ self.new.room) }
+        ensures rows { self.new.rows ≡ self.old.rows }
+        ensures entries { self.new.entries ≡ self.old.entries }
+    {
+        self.dir.room()?;
+        self.classes.room()?;
+        self.order.room()
+    }
+
+    /// Takes out the row of a name, if there is one. There is as much room as before at least.
+    pub(crate) fn take(&mut self, name: &Name16) -> Option<CacheItem>
+        ensures row { result ≡ row_of name.now self.old.rows }
+        ensures rest { self.new.rows ≡ rows_without name.now self.old.rows }
+        ensures room { self.old.room ≤ self.new.room }
+        ensures entries { self.new.entries ≡ self.old.entries }
+        ensures apart { IsTrue (pairwise names_apart self.old.rows) }
+    {
+        unindex(&mut self.classes, &mut self.order, name);
+        self.dir.take(name)
+    }
+
+    /// Puts a row in its place, where there is room for it and no row has its name.
+    pub(crate) fn put(&mut self, row: CacheItem)
+        requires room { 1 ≤ self.old.room }
+        requires few { length self.old.rows < self.old.entries }
+        requires alone { has_row row.name self.old.rows ≡ false }
+        ensures rows { self.new.rows ≡ rows_with row self.old.rows }
+        ensures entries { self.new.entries ≡ self.old.entries }
+    {
+        index_row(&mut self.classes, &mut self.order, &row);
+        self.dir.put(row);
+    }
+
+    /// Releases all castout locks of a connector; the rows stay otherwise the same.
+    pub(crate) fn release(&mut self, conn: ConnId)
+        ensures rows { self.new.rows ≡ map (without_hold conn) self.old.rows }
+        ensures room { self.old.room ≤ self.new.room }
+        ensures entries { self.new.entries ≡ self.old.entries }
+    {
+        self.dir.release(conn);
+    }
+}

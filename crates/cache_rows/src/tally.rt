@@ -1,0 +1,65 @@
+//! What is counted of rows as they come and go, so that no command passes over all of them.
+ghost use Rattle.std.specs.Prelude.{◌≡◌, IsTrue, is_none, if◌then◌else◌};
+ghost use Rattle.cache_rows.specs.Tallies.{tally_with, is_small, CanGrow, CanShrink};
+
+use crate::counts::elements_of;
+use cache_model::CacheItem;
+
+/// How many rows there are and how many elements their data take; and the same of those that are
+/// unchanged.
+#[derive(Clone, Copy)]
+pub(crate) struct Tally {
+    pub rows: u32,
+    pub elements: u64,
+    pub unchanged: u32,
+    pub reclaimable: u64,
+}
+
+/// A number where there is no castout class, and nothing where there is one.
+pub(crate) fn unless_changed(class: Option<u32>, number: u32) -> u32
+    ensures { result ≡ (if is_none class then number else 0) }
+{
+    match class {
+        None => number,
+        Some(_) => 0,
+    }
+}
+
+impl Tally {
+    /// Of no rows.
+    pub(crate) fn new() -> Tally
+        ensures { result ≡ record { rows = 0; elements = 0; unchanged = 0; reclaimable = 0 } }
+    {
+        Tally {
+            rows: 0,
+            elements: 0,
+            unchanged: 0,
+            reclaimable: 0,
+        }
+    }
+
+    /// A row comes.
+    pub(crate) fn add(&mut self, row: &CacheItem)
+        requires { CanGrow self.old }
+        ensures with { self.new ≡ tally_with row.now self.old }
+        ensures small { IsTrue (is_small row.now) }
+    {
+        let elements = elements_of(row);
+        self.rows += 1;
+        self.elements += elements as u64;
+        self.unchanged += unless_changed(row.class, 1);
+        self.reclaimable += unless_changed(row.class, elements) as u64;
+    }
+
+    /// A row goes.
+    pub(crate) fn subtract(&mut self, row: &CacheItem)
+        requires { CanShrink row.now self.old }
+        ensures { tally_with row.now self.new ≡ self.old }
+    {
+        let elements = elements_of(row);
+        self.rows -= 1;
+        self.elements -= elements as u64;
+        self.unchanged -= unless_changed(row.class, 1);
+        self.reclaimable -= unless_changed(row.class, elements) as u64;
+    }
+}
