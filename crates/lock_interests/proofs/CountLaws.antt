@@ -17,7 +17,7 @@ use Rattle.lock_table.specs.Holdings.{is_interest, has_interest, owners_with, ow
 use Rattle.lock_table.proofs.HoldingLaws.{owners-with, owners-in_state}
 use Rattle.lock_queue.specs.declared.waiters.Waiter.{Waiter}
 use Rattle.lock_record.specs.declared.recorded.Record.{Record}
-use Rattle.lock_record.specs.Recorded.{is_record, is_of, record_of, has_record, records_with, records_without, records_without_conn, AreRecords}
+use Rattle.lock_record.specs.Recorded.{stands_before, is_record, is_of, record_of, has_record, records_with, records_without, records_without_conn, AreRecords}
 use Rattle.lock_record.specs.Recorded as book
 use Rattle.lock_record.proofs.RecordLaws.{records-filter, records-with}
 use Rattle.lock_model.specs.Interests as interests
@@ -144,9 +144,6 @@ others_part r conn x other held same =
     subst (λ (p : Part). not (same_part p (r, conn)) ≡ true)
     (sym (same_part-eq (part_of held) (datum_part x) same)) other
 
-pub owned-none : AreOwned [] []
-owned-none = refl
-
 -- fewer record data
 pub owned-unrecorded : (r : Resource) (conn : ConnId) (owners : List Held) (records : List Record)
     → AreOwned owners records → AreOwned owners (records_without r conn records)
@@ -189,7 +186,7 @@ owned-recorded : (new : Record) (owners : List Held) (records : List Record)
     → AreOwned owners (records_with new records)
 owned-recorded new owners records has owned =
     list_all-insertion (λ (x : Record). has_interest x.r x.conn owners)
-    (λ (other : Record). resource_up_to other.r new.r) new (records_without new.r new.conn records)
+    (λ (other : Record). stands_before other new) new (records_without new.r new.conn records)
     ∙ and_from (has_interest new.r new.conn owners)
     (list_all (λ (x : Record). has_interest x.r x.conn owners) (records_without new.r new.conn records)) has owned
 
@@ -308,7 +305,7 @@ length_put : (r : Resource) (conn : ConnId) (rec : Option (List ℕ)) (records :
     → length (records_put r conn rec records) ≡ length (records_without r conn records) + records_of rec
 length_put r conn None records = omega arith
 length_put r conn (Some rec) records =
-    length-insertion (λ (other : Record). resource_up_to other.r r) (record { r = r; conn = conn; rec = rec })
+    length-insertion (λ (other : Record). stands_before other (record { r = r; conn = conn; rec = rec })) (record { r = r; conn = conn; rec = rec })
     (records_without r conn records)
 
 records_put-kept : (r : Resource) (conn : ConnId) (rec : Option (List ℕ)) (records : List Record)
@@ -367,7 +364,7 @@ length_given : (r : Resource) (conn : ConnId) (rec : Option (List ℕ)) (records
     → length (records_given r conn rec records) ≡ length (records_without r conn records) + 1
 length_given r conn None records given = absurd (false≢true given)
 length_given r conn (Some rec) records given =
-    length-insertion (λ (other : Record). resource_up_to other.r r) (record { r = r; conn = conn; rec = rec })
+    length-insertion (λ (other : Record). stands_before other (record { r = r; conn = conn; rec = rec })) (record { r = r; conn = conn; rec = rec })
     (records_without r conn records)
 
 none_given : (r : Resource) (conn : ConnId) (rec : Option (List ℕ)) (records : List Record) → is_some rec ≡ false

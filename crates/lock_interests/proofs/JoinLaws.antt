@@ -13,7 +13,7 @@ use Rattle.lock_table.specs.declared.holdings.Held.{Held}
 use Rattle.lock_table.specs.Holdings.{is_interest, owners_with, owners_without, in_state, in_retention_of}
 use Rattle.lock_queue.specs.declared.waiters.Waiter.{Waiter}
 use Rattle.lock_record.specs.declared.recorded.Record.{Record}
-use Rattle.lock_record.specs.Recorded.{is_record, is_of, record_of, records_with, records_without, records_without_conn}
+use Rattle.lock_record.specs.Recorded.{stands_before, is_record, is_of, record_of, records_with, records_without, records_without_conn}
 use Rattle.lock_model.specs.Interests as interests
 use Rattle.lock_model.specs.Interests.{Interest, interests_with, interests_without, interests_changed}
 use Rattle.lock_model.specs.Grants.{with_alteration}
@@ -49,14 +49,14 @@ own_without r conn records =
 other_with : (new : Record) (held : Held) (records : List Record) → is_interest new.r new.conn held ≡ false
     → record_of held.r held.conn (records_with new records) ≡ record_of held.r held.conn records
 other_with new held records h =
-    ap data_of (find-insertion_past (is_record held.r held.conn) (λ other. resource_up_to other.r new.r) new
+    ap data_of (find-insertion_past (is_record held.r held.conn) (λ other. stands_before other new) new
     (records_without new.r new.conn records)
     (same_part_comm (new.r, new.conn) (held.r, held.conn) ∙ h))
     ∙ other_without new.r new.conn held records h
 
 own_with : (new : Record) (records : List Record) → record_of new.r new.conn (records_with new records) ≡ Some new.rec
 own_with new records =
-    ap data_of (find-insertion_here (is_record new.r new.conn) (λ other. resource_up_to other.r new.r) new
+    ap data_of (find-insertion_here (is_record new.r new.conn) (λ other. stands_before other new) new
     (records_without new.r new.conn records)
     (same_part-refl (new.r, new.conn)) (none_filtered (is_record new.r new.conn) records))
 

@@ -1,16 +1,16 @@
 -- What is read of the owners of one resource, and of the resources of one connector; and what a departure leaves.
-use Rattle.std.proofs.Common.{◌≡◌, ℕ, zero, suc, ◌+◌, ◌<◌, ◌++◌, arith, length, drop, get_or, Bool, true, false, not, ◌&&◌, ◌||◌, ◌==◌, cond, if◌then◌else◌, List, [], ◌∷◌, Option, Some, None, is_some, option_map, filter, find, map, refl, sym, ap, ◌∙◌, subst}
+use Rattle.std.proofs.Common.{◌≡◌, ℕ, zero, suc, ◌+◌, ◌<◌, ◌++◌, arith, length, drop, get_or, slice_get, Bool, true, false, not, ◌&&◌, ◌||◌, ◌==◌, cond, if◌then◌else◌, List, [], ◌∷◌, Option, Some, None, is_some, option_map, filter, find, map, refl, sym, ap, ◌∙◌, subst}
 use Rattle.std.specs.Prelude.{option_to_list}
 use Rattle.std.specs.List.{list_any, list_all, filter_map, cons_option}
 use Rattle.std.proofs.lemmas.List.{append_assoc}
 use Rattle.std.proofs.lemmas.List.Elements.{filter_agree}
-use Rattle.std.proofs.lemmas.Bool.{and_parts, and_from, eqb-true, eq-eqb, not-true, false≢true}
+use Rattle.std.proofs.lemmas.Bool.{and_parts, and_from, eqb-true, false≢true}
 use Rattle.cf_types.specs.declared.numbers.ConnId.{ConnId}
 use Rattle.cf_types.specs.declared.resources.Resource.{Resource}
 use Rattle.cf_types.specs.Resources.{Part, same_part, same_resource}
-use Rattle.cf_types.proofs.ResourceLaws.{same_part-eq, same_part-refl, same_part_comm, same_resource_comm}
+use Rattle.cf_types.proofs.ResourceLaws.{same_part-eq, same_part-refl, same_resource_comm}
 use Rattle.list_laws.specs.Pairwise.{pairwise}
-use Rattle.list_laws.proofs.FilterLaws.{any_is_found, all_found, found_passes, filter_swap, filter_absorbed, list_any-map}
+use Rattle.list_laws.proofs.FilterLaws.{any_is_found, all_found, found_passes, filter_swap, filter_absorbed}
 use Rattle.list_laws.proofs.KeyLaws.{none_later, later_apart, AllFound, found_filter}
 use Rattle.lock_table.specs.declared.holdings.Held.{Held}
 use Rattle.lock_table.specs.Holdings.{is_on, is_by, is_interest, has_interest, owners_of, owners_retained, owners_without_active, in_retention, in_retention_of, are_apart}
@@ -23,7 +23,7 @@ use Rattle.lock_model.specs.Departures.{stays}
 use Rattle.lock_model.specs.Commands.Decide as decide
 use Rattle.lock_model.specs.Commands.RtRead as rt_read
 use Rattle.lock_model.specs.Commands.RtDelete as rt_delete
-use Rattle.lock_interests.specs.InterestsView.{with_record, interests_of, letters_told, record_read, records_read, held_read, read_in, is_held_retained, retained_one, retained_all, AreOwned}
+use Rattle.lock_interests.specs.InterestsView.{with_record, interests_of, letters_told, record_read, records_read, held_read, read_in, is_held_retained, retained_at, retained_all, AreOwned}
 use Rattle.lock_interests.proofs.CountLaws.{has_is_some}
 use Rattle.lock_interests.proofs.ReadLaws.{recorded-joined, any_recorded-joined, told-joined}
 
@@ -398,16 +398,29 @@ or_false : (a : Bool) → a || false ≡ a
 or_false true = refl
 or_false false = refl
 
-pub left_recorded : (conn : ConnId) (owners : List Held) (records : List Record)
-    → owners_without_active conn (retained_all conn records (map (in_retention_of conn false) owners))
+-- the entries of a map are those that are seen, in whatever order
+pub left_recorded : (conn : ConnId) (owners : List Held) (records entries : List Record)
+    → ((p : Record → Bool) → list_any p entries ≡ list_any p records)
+    → owners_without_active conn (retained_all conn entries (map (in_retention_of conn false) owners))
     ≡ map (in_retention_of conn true) (filter (λ held. stays conn true (with_record records held)) owners)
-left_recorded conn owners records =
-    ap (owners_without_active conn) (all_marked conn records (λ h. false) owners)
-    ∙ left_marked conn (λ h. is_listed records h || false) owners
+left_recorded conn owners records entries alike =
+    ap (owners_without_active conn) (all_marked conn entries (λ h. false) owners)
+    ∙ left_marked conn (λ h. is_listed entries h || false) owners
     ∙ ap (map (in_retention_of conn true))
-    (filter_agree (λ h. not (is_by conn h) || (is_listed records h || false))
+    (filter_agree (λ h. not (is_by conn h) || (is_listed entries h || false))
     (λ h. stays conn true (with_record records h))
-    (λ h. ap (λ t. not (is_by conn h) || t) (or_false (is_listed records h) ∙ sym (has_is_some records h))) owners)
+    (λ h. ap (λ t. not (is_by conn h) || t) (or_false (is_listed entries h) ∙ alike (is_record h.r h.conn)
+    ∙ sym (has_is_some records h))) owners)
+
+-- one entry after another
+pub retained_next : (conn : ConnId) (entries : List Record) (k : ℕ) (owners : List Held) → k < length entries
+    → retained_all conn (drop (k + 1) entries) (retained_at conn (option_map datum_part (slice_get entries k)) owners)
+    ≡ retained_all conn (drop k entries) owners
+retained_next conn [] k owners less = absurd (omega (arith, less))
+retained_next conn (x ∷ xs) zero owners less = refl
+retained_next conn (x ∷ xs) (suc k) owners less =
+    let next : suc k + 1 ≡ suc (k + 1) = omega arith in
+    rw next (retained_next conn xs k owners (omega (arith, less)))
 
 -- ---- a resource after another is read
 

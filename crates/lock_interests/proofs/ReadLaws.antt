@@ -1,26 +1,22 @@
 -- What is read of interests is read of their owners and their record data.
 use Rattle.std.proofs.Common.{◌≡◌, ℕ, ◌+◌, ◌≤◌, ◌<◌, ◌-◌, get_or, Bool, true, false, not, ◌&&◌, ◌||◌, ◌==◌, cond, List, [], ◌∷◌, Option, Some, None, is_some, option_map, length, filter, find, map, refl, sym, ap, ◌∙◌, arith}
 use Rattle.std.specs.List.{list_any, list_all, filter_map, cons_option, slice_get}
-use Rattle.std.specs.Option.{option_or}
 use Rattle.std.proofs.lemmas.Bool.{false≢true}
 use Rattle.std.proofs.lemmas.List.Sums.{sum_by-cons}
 use Rattle.std.proofs.lemmas.List.{length-map}
 use Rattle.std.proofs.lemmas.Option.{slice_get-map, slice_get-get_or}
 use Rattle.cf_types.specs.declared.numbers.ConnId.{ConnId}
 use Rattle.cf_types.specs.declared.resources.Resource.{Resource}
-use Rattle.cf_types.specs.Resources.{same_resource, resource_up_to}
+use Rattle.cf_types.specs.Resources.{same_resource}
 use Rattle.cf_types.proofs.ResourceLaws.{same_resource_comm}
 use Rattle.list_laws.proofs.FilterLaws.{list_any-map}
-use Rattle.list_laws.proofs.InsertionLaws.{sum_by-insertion}
 use Rattle.lock_table.specs.declared.holdings.Held.{Held}
 use Rattle.lock_table.specs.Holdings.{is_on, is_interest, owners_of}
-use Rattle.lock_queue.specs.declared.waiters.Waiter.{Waiter}
 use Rattle.lock_record.specs.declared.recorded.Record.{Record}
 use Rattle.lock_record.specs.Recorded.{record_of}
 use Rattle.lock_model.specs.Interests as interests
 use Rattle.lock_model.specs.Interests.{Interest, are_compatible, is_by, may_own, is_managing, manager_of, interest_of, interests_with, interests_without, interests_changed}
 use Rattle.lock_model.specs.Contents.{records_of, records_owned}
-use Rattle.lock_model.specs.Grants.{held_by, with_alteration}
 use Rattle.lock_model.specs.Commands.RtRead as rt_read
 use Rattle.lock_model.specs.Commands.RtDelete as rt_delete
 use Rattle.lock_model.specs.Commands.Decide as decide
@@ -125,67 +121,6 @@ pub records-joined : (owners : List Held) (records : List Record)
     (interests_of owners records)
 records-joined owners records =
     counted (λ held. record_of held.r held.conn records) (with_record records) (λ x. refl) owners
-
-other_step : (a b : Bool) (x : Held) (xs : List Held) (i : Interest) (is : List Interest) → b ≡ is_some i.rec
-    → length xs ≡ records_owned is
-    → length (cond (not a && b) (x ∷ xs) xs) ≡ records_owned (cond (not a) (i ∷ is) is)
-other_step true b x xs i is h e = e
-other_step false b x xs i is h e =
-    one_step b i.rec x xs (records_owned is) h e ∙ sym (sum_by-cons (λ (j : Interest). records_of j.rec) i is)
-
-pub others-joined : (r : Resource) (conn : ConnId) (owners : List Held) (records : List Record)
-    → length (filter (λ held. not (is_interest r conn held) && is_some (record_of held.r held.conn records)) owners)
-    ≡ records_owned (interests_without r conn (interests_of owners records))
-others-joined r conn [] records = refl
-others-joined r conn (x ∷ xs) records =
-    other_step (is_interest r conn x) (is_some (record_of x.r x.conn records)) x
-    (filter (λ held. not (is_interest r conn held) && is_some (record_of held.r held.conn records)) xs)
-    (with_record records x)
-    (interests_without r conn (interests_of xs records)) refl (others-joined r conn xs records)
-
-changed_rec : (a : Bool) (w : Waiter) (o : Option (List ℕ)) (x : Held)
-    → a && is_some w.rec || is_some o ≡ is_some (cond a (with_alteration w (record { held = x; rec = o }))
-    (record { held = x; rec = o })).rec
-changed_rec false w o x = refl
-changed_rec true w o x = either w.rec o
-  where
-    either : (p q : Option (List ℕ)) → is_some p || is_some q ≡ is_some (option_or p q)
-    either None q = refl
-    either (Some rec) q = refl
-
-changed_step : (a : Bool) (w : Waiter) (o : Option (List ℕ)) (x : Held) (xs : List Held) (is : List Interest)
-    → length xs ≡ records_owned is
-    → length (cond (a && is_some w.rec || is_some o) (x ∷ xs) xs)
-    ≡ records_owned (cond a (with_alteration w (record { held = x; rec = o })) (record { held = x; rec = o }) ∷ is)
-changed_step a w o x xs is e =
-    let i : Interest = cond a (with_alteration w (record { held = x; rec = o })) (record { held = x; rec = o }) in
-    one_step (a && is_some w.rec || is_some o) i.rec x xs (records_owned is) (changed_rec a w o x) e
-    ∙ sym (sum_by-cons (λ (j : Interest). records_of j.rec) i is)
-
-pub altered-joined : (w : Waiter) (owners : List Held) (records : List Record)
-    → length (filter (λ held. is_interest w.r w.conn held && is_some w.rec
-    || is_some (record_of held.r held.conn records)) owners)
-    ≡ records_owned (interests_changed w.r w.conn (with_alteration w) (interests_of owners records))
-altered-joined w [] records = refl
-altered-joined w (x ∷ xs) records =
-    changed_step (is_interest w.r w.conn x) w (record_of x.r x.conn records) x
-    (filter (λ held. is_interest w.r w.conn held && is_some w.rec || is_some (record_of held.r held.conn records)) xs)
-    (interests_changed w.r w.conn (with_alteration w) (interests_of xs records)) (altered-joined w xs records)
-
--- one that is granted, and what others have
-pub put-joined : (w : Waiter) (owners : List Held) (records : List Record)
-    → length (filter (λ held. not (is_interest w.r w.conn held) && is_some (record_of held.r held.conn records))
-    owners) + records_of w.rec
-    ≡ records_owned (interests_with (record { held = held_by w; rec = w.rec }) (interests_of owners records))
-put-joined w owners records =
-    let others = interests_without w.r w.conn (interests_of owners records) in
-    let i : Interest = record { held = held_by w; rec = w.rec } in
-    omega (
-      arith,
-      others-joined w.r w.conn owners records,
-      sum_by-insertion (λ (j : Interest). records_of j.rec)
-          (λ other. resource_up_to other.held.r w.r) i others,
-    )
 
 pub records_of_within : (rec : Option (List ℕ)) → records_of rec ≤ 1
 records_of_within None = omega arith

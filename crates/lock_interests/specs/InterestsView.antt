@@ -5,6 +5,7 @@ use Rattle.cf_types.specs.declared.events.Event.TheVariants as events
 use Rattle.cf_types.specs.declared.events.Letter.{Letter}
 use Rattle.cf_types.specs.declared.numbers.ConnId.{ConnId}
 use Rattle.cf_types.specs.declared.resources.Resource.{Resource}
+use Rattle.cf_types.specs.Resources.{Part}
 use Rattle.lock_table.specs.declared.holdings.Held.{Held}
 use Rattle.lock_table.specs.Holdings.{is_on, has_interest, owners_retained}
 use Rattle.lock_record.specs.declared.recorded.Record.{Record}
@@ -88,6 +89,12 @@ read_in conn records owners r =
 abbrev pub retained_one : ConnId → Record → List Held → List Held
 retained_one conn recorded owners =
     if is_of conn recorded then owners_retained recorded.r conn true owners else owners
+
+-- a part, if there is one
+abbrev pub retained_at : ConnId → Option Part → List Held → List Held
+retained_at conn None owners = owners
+retained_at conn (Some p) owners =
+    if p.1.0 == conn.0 then owners_retained p.0 conn true owners else owners
 
 abbrev pub retained_all : ConnId → List Record → List Held → List Held
 retained_all conn [] owners = owners

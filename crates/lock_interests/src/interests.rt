@@ -5,7 +5,6 @@ ghost use Rattle.lock_table.specs.EntryView.{owners_left};
 ghost use Rattle.lock_table.specs.declared.holdings.Held.{Held};
 ghost use Rattle.cf_types.specs.declared.resources.Resource.{Resource};
 ghost use Rattle.lock_record.specs.declared.recorded.Record.{Record};
-ghost use Rattle.lock_record.specs.Recorded.{is_of};
 ghost use Rattle.list_laws.specs.Pairwise.{pairwise};
 ghost use Rattle.lock_table.specs.Holdings.{are_apart};
 ghost use Rattle.lock_model.specs.Interests.{Interest, are_compatible, may_own, manager_of, interest_of, has_interest, interests_with, interests_without, interests_changed};
@@ -18,7 +17,7 @@ ghost use Rattle.lock_interests.specs.InterestsView.{records_put, records_given}
 use cf_types::{Adjunct, ConnId, Effects, Event, Letter, Listing, NoMemory, Resource};
 use lock_model::LockItem;
 use lock_queue::Waiter;
-use lock_record::{Record, Records};
+use lock_record::Records;
 use lock_table::{Held, Owners, Table};
 use std::alloc::Global;
 use std::marker::Model;
@@ -137,7 +136,7 @@ impl Interests {
     pub fn has_records(&self, conn: ConnId) -> bool
         ensures { result ≡ list_any (rt_read.is_recorded conn) self.now.interests }
     {
-        has_any_record(self.records.items(), conn)
+        self.records.has_of(conn)
     }
 
     /// Whether a connector has an interest in a resource, with record data.
@@ -411,7 +410,7 @@ impl Interests {
         ensures record_room { self.old.record_room ≤ self.new.record_room }
     {
         self.owners.set_retained_of(conn, false);
-        retain_recorded(&mut self.owners, self.records.items(), conn);
+        retain_recorded(&mut self.owners, &self.records, conn);
         self.owners.end_active(conn);
     }
 
@@ -428,14 +427,14 @@ impl Interests {
     }
 }
 
-ghost use Rattle.std.specs.Prelude.{true, false, IsTrue};
+ghost use Rattle.std.specs.Prelude.{true, false, IsTrue, Bool, if◌then◌else◌};
 ghost use Rattle.lock_model.specs.Grants.{with_alteration};
 ghost use Rattle.lock_model.specs.Departures.{with_retained, interests_left};
 ghost use Rattle.lock_model.specs.Commands.RtDelete.{without_record};
-ghost use Rattle.lock_interests.specs.InterestsView.{letters_told, record_read, records_read, held_read, read_in, is_held_retained, retained_one, retained_all};
+ghost use Rattle.lock_interests.specs.InterestsView.{letters_told, record_read, records_read, held_read, read_in, is_held_retained, retained_at, retained_all};
 ghost use Rattle.std.specs.Prelude.{◌<◌, ◌++◌, List, option_to_list, slice_get};
 ghost use Rattle.std.specs.List.{filter_map};
-ghost use Rattle.lock_table.specs.Holdings.{is_on};
+ghost use Rattle.lock_table.specs.Holdings.{is_on, owners_retained};
 ghost use Rattle.lock_model.specs.Interests.{is_by, AreInterests};
 ghost use Rattle.lock_model.specs.Contents.{owner, without_last};
 ghost use Rattle.lock_model.specs.Commands.Decide as decide;
@@ -504,30 +503,37 @@ fn is_held_retained(held: Option<&Held>) -> bool
     }
 }
 
-// Whether a connector has record data, in whatever resource.
-fn has_any_record(records: &[Record], conn: ConnId) -> bool
-    ensures { result ≡ list_any (is_of conn) records.now }
-{
-    records.iter().any(|recorded| recorded.conn == conn)
-}
-
-// A connector's interest is retained, where these are record data of it.
-fn retain_one(owners: &mut Table, recorded: &Record, conn: ConnId)
-    ensures owners { owners.new.owners ≡ retained_one conn recorded.now owners.old.owners }
+// An interest is retained, where it is the connector's.
+fn retain_one(owners: &mut Table, part: Option<(Resource, ConnId)>, conn: ConnId)
+    ensures owners { owners.new.owners ≡ retained_at conn part owners.old.owners }
     ensures room { owners.new.room ≡ owners.old.room }
 {
-    if recorded.conn == conn {
-        owners.set_retained(&recorded.r, conn, true);
+    if let Some((r, by)) = part {
+        retain_own(owners, &r, by, conn);
+    }
+}
+
+// The same of this one.
+fn retain_own(owners: &mut Table, r: &Resource, by: ConnId, conn: ConnId)
+    ensures owners { owners.new.owners ≡ (if by.0 == conn.0
+        then owners_retained r.now conn true owners.old.owners else owners.old.owners) }
+    ensures room { owners.new.room ≡ owners.old.room }
+{
+    if by == conn {
+        owners.set_retained(r, conn, true);
     }
 }
 
 // A connector's interests with record data are retained.
-fn retain_recorded(owners: &mut Table, records: &[Record], conn: ConnId)
-    ensures owners { owners.new.owners ≡ retained_all conn records.now owners.old.owners }
+fn retain_recorded(owners: &mut Table, records: &Records, conn: ConnId)
+    ensures owners { owners.new.owners ≡ retained_all conn records.now.entries owners.old.owners }
     ensures room { owners.new.room ≡ owners.old.room }
+    ensures alike { (p : Record → Bool) → list_any p records.now.entries
+        ≡ list_any p records.now.records }
 {
-    for recorded in records {
-        retain_one(owners, recorded, conn);
+    let count = records.count();
+    for k in 0..count {
+        retain_one(owners, records.at(k), conn);
     }
 }
 

@@ -1,1 +1,4 @@
+pub mod PartLaws
 pub mod RecordLaws
+pub mod MapLaws
+pub mod WalkLaws

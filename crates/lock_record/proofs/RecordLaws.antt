@@ -1,12 +1,12 @@
 -- Record data stay in order, with those of a connector for a resource once.
 use Rattle.std.proofs.Common.{◌≡◌, Bool, true, not, ◌&&◌, List, filter, refl, ap, ◌∙◌}
-use Rattle.std.proofs.lemmas.Bool.{and_from}
-use Rattle.cf_types.specs.Resources.{resource_up_to}
-use Rattle.cf_types.proofs.ResourceLaws.{resource_up_to-trans, resource_up_to-either, same_part_comm}
+use Rattle.std.proofs.lemmas.Bool.{and_from, not-true}
+use Rattle.cf_types.proofs.ResourceLaws.{same_part_comm}
 use Rattle.list_laws.proofs.FilterLaws.{list_all_weaker, list_all-filter_same, list_all_always}
 use Rattle.list_laws.proofs.PairwiseLaws.{FindsPlace, pairwise-filter, pairwise-insertion, pairwise-insertion_any}
 use Rattle.lock_record.specs.declared.recorded.Record.{Record}
-use Rattle.lock_record.specs.Recorded.{is_record, records_with, records_without, in_order, are_apart, AreRecords}
+use Rattle.lock_record.specs.Recorded.{is_record, part_of, records_with, records_without, stands_before, in_order, are_apart, AreRecords}
+use Rattle.lock_record.proofs.PartLaws.{part_order}
 
 pub records-filter : (q : Record → Bool) (records : List Record) → AreRecords records → AreRecords (filter q records)
 records-filter q records is =
@@ -15,15 +15,16 @@ records-filter q records is =
       one_each = pairwise-filter are_apart q records is.one_each;
     }
 
-finds_place : (new : Record) → FindsPlace in_order (λ other. resource_up_to other.r new.r) (λ other. true) new
+pub finds_place : (new : Record) → FindsPlace in_order (λ other. stands_before other new) (λ other. true) new
 finds_place new =
     record {
-      front = λ other h. h;
-      stop = λ other h e. resource_up_to-either other.r new.r e;
-      follows = λ y z h e. resource_up_to-trans new.r y.r z.r h e;
+      front = λ other h. ap not (part_order.asym (part_of other) (part_of new) h);
+      stop = λ other h e. ap not e;
+      follows = λ y z h e. ap not (part_order.follows (part_of new) (part_of y) (part_of z)
+          (not-true (stands_before y new) h) (not-true (stands_before z y) e));
     }
 
-apart_both : (new other : Record) → not (is_record new.r new.conn other) ≡ true → are_apart new other
+pub apart_both : (new other : Record) → not (is_record new.r new.conn other) ≡ true → are_apart new other
     && are_apart other new ≡ true
 apart_both new other h =
     and_from (are_apart new other) (are_apart other new)
@@ -35,11 +36,11 @@ records-with new records is =
     let kept = records-filter (λ other. not (is_record new.r new.conn other)) records is in
     record {
       ordered =
-          pairwise-insertion in_order (λ other. resource_up_to other.r new.r) (λ other. true) new others
+          pairwise-insertion in_order (λ other. stands_before other new) (λ other. true) new others
           (finds_place new)
           (list_all_always (λ (other : Record). true) (λ other. refl) others) kept.ordered;
       one_each =
-          pairwise-insertion_any are_apart (λ other. resource_up_to other.r new.r) new others kept.one_each
+          pairwise-insertion_any are_apart (λ other. stands_before other new) new others kept.one_each
           (list_all_weaker (λ other. not (is_record new.r new.conn other)) (λ other. are_apart new other
           && are_apart other new)
           (apart_both new) others (list_all-filter_same (λ other. not (is_record new.r new.conn other)) records));

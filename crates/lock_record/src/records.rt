@@ -1,20 +1,29 @@
-ghost use Rattle.std.specs.Prelude.{◌≡◌, ◌+◌, ◌≤◌, ◌<◌, ◌++◌, ◌∷◌, [], IfOk, OnOk, length, map, option_map};
-ghost use Rattle.std.specs.List.{prefix_len, insert};
-ghost use Rattle.std.specs.Vec.{vec_len, vec_capacity};
-ghost use Rattle.cf_types.specs.Resources.{resource_up_to};
+ghost use Rattle.std.specs.Prelude.{Bool, ◌≡◌, ◌+◌, ◌≤◌, ◌<◌, ◌++◌, ◌∷◌, [], IfOk, OnOk, IfSome, None, Some, is_some, filter, not, length, map, option_map, slice_get, if◌then◌else◌};
+ghost use Rattle.std.specs.List.{IsDistinct, list_any};
+ghost use Rattle.std.specs.Map.{keys_of};
+ghost use Rattle.indexmap.specs.IndexMap.{spare};
+ghost use Rattle.cf_types.specs.Resources.{Part};
+ghost use Rattle.table_entries.specs.Bins.{arranged};
 ghost use Rattle.lock_record.specs.declared.recorded.Record.{Record};
-ghost use Rattle.lock_record.specs.Recorded.{is_record, record_of, has_record, records_without, records_with, records_of, records_without_conn, AreRecords};
+ghost use Rattle.lock_record.specs.Book.{Writes, key_eq, part_at, records_in};
+ghost use Rattle.lock_record.specs.Recorded.{is_of, is_part_by, record_of, has_record, part_of, part_before, resource_at, resources_by, records_without, records_with, records_of, records_without_conn, AreRecords};
 
 use crate::recorded::Record;
-use cf_types::{Adjunct, ConnId, NoMemory, Resource};
+use cf_types::limits::NAME_BYTES;
+use cf_types::{Adjunct, ConnId, Name16, NoMemory, Resource};
+use indexmap::IndexMap;
 use std::alloc::Global;
 use std::marker::Model;
 
-/// The record data of a lock structure. Contracts see them in the order of resources, with how many
-/// the structure may have, and how many more there is room for.
+/// Record data by connector, hash value and name.
+type Entries = IndexMap<((u8, u32), [u8; NAME_BYTES]), Adjunct>;
+
+/// The record data of a lock structure, in a map by connector and resource. Contracts see them in
+/// the order of resources and connectors, and as they lie in the map, in no order that matters;
+/// with how many the structure may have, and how many more there is room for.
 #[derive(Drop)]
 pub struct Records {
-    records: Vec<Record>,
+    map: Entries,
     limit: u32,
 }
 
@@ -28,94 +37,100 @@ impl Model for Records {
     ghost invariant = { IsKept };
 }
 
-// Whether record data are this connector's for this resource.
-fn is_record(recorded: &Record, r: &Resource, conn: ConnId) -> bool
-    ensures { result ≡ is_record r.now conn recorded.now }
+// A connector's record data for a resource go. Answers whether there were any.
+fn take_out(map: &mut Entries, r: &Resource, conn: ConnId) -> bool
+    requires { IsDistinct key_eq (keys_of map.old.entries) }
+    ensures there { result ≡ has_record r.now conn (records_in map.old.entries) }
+    ensures unique { IsDistinct key_eq (keys_of map.new.entries) }
+    ensures records { records_in map.new.entries
+        ≡ records_without r.now conn (records_in map.old.entries) }
+    ensures len { length map.new.entries ≤ length map.old.entries }
+    ensures spare { spare map.old ≤ spare map.new }
 {
-    recorded.r == *r && recorded.conn == conn
-}
-
-// Where record data stand.
-fn place_of(records: &[Record], new: &Record) -> usize
-    ensures { result ≡ prefix_len (λ other. resource_up_to other.r new.now.r) records.now }
-{
-    records
-        .iter()
-        .take_while(|other| !new.r.cmp(&other.r).is_lt())
-        .count()
-}
-
-// Puts record data at a place, where there is room for them.
-fn insert_at<R: Drop>(records: &mut Vec<R>, at: usize, new: R)
-    requires place { at ≤ vec_len records.old }
-    requires room { vec_len records.old < vec_capacity records.old }
-    ensures items { records.new.items ≡ insert records.old.items at new }
-    ensures len { vec_len records.new ≡ vec_len records.old + 1 }
-    ensures capacity { vec_capacity records.old ≤ vec_capacity records.new }
-{
-    let _ = records.insert(at, new);
-}
-
-// A connector's record data for a resource go.
-fn take_out(records: &mut Vec<Record>, r: &Resource, conn: ConnId)
-    ensures items { records.new.items ≡ records_without r.now conn records.old.items }
-    ensures len { vec_len records.new ≤ vec_len records.old }
-    ensures capacity { vec_capacity records.new ≡ vec_capacity records.old }
-{
-    records.retain(|recorded| !is_record(recorded, r, conn));
+    let name = r.name.0;
+    map.swap_remove(&((conn.0, r.hash), name)).is_some()
 }
 
 // A connector's record data for whatever resource go.
-fn take_out_conn(records: &mut Vec<Record>, conn: ConnId)
-    ensures items { records.new.items ≡ records_without_conn conn records.old.items }
-    ensures len { vec_len records.new ≤ vec_len records.old }
-    ensures capacity { vec_capacity records.new ≡ vec_capacity records.old }
+fn take_out_conn(map: &mut Entries, conn: ConnId)
+    ensures unique { IsDistinct key_eq (keys_of map.new.entries) }
+    ensures records { records_in map.new.entries
+        ≡ records_without_conn conn (records_in map.old.entries) }
+    ensures len { length map.new.entries ≤ length map.old.entries }
+    ensures spare { spare map.old ≤ spare map.new }
 {
-    records.retain(|recorded| recorded.conn != conn);
+    map.retain(|key, _| key.0.0 != conn.0);
+}
+
+// Writes record data, for which there is room.
+fn write(map: &mut Entries, r: Resource, conn: ConnId, rec: Adjunct)
+    requires { 1 ≤ spare map.old }
+    ensures writes { Writes map.old.entries (r, conn) (Some rec) map.new.entries }
+    ensures unique { IsDistinct key_eq (keys_of map.new.entries) }
+    ensures len { length map.new.entries ≤ length map.old.entries + 1 }
+    ensures spare { spare map.old ≤ spare map.new + 1 }
+{
+    let name = r.name.0;
+    let _ = map.insert(((conn.0, r.hash), name), rec);
 }
 
 // Puts record data in their place, where there is room for them.
-fn put_in(records: &mut Vec<Record>, new: Record)
-    requires { vec_len records.old < vec_capacity records.old }
-    ensures items { records.new.items ≡ records_with new records.old.items }
-    ensures len { vec_len records.new ≤ vec_len records.old + 1 }
-    ensures capacity { vec_capacity records.old ≤ vec_capacity records.new }
+fn put_in(map: &mut Entries, r: Resource, conn: ConnId, rec: Adjunct)
+    requires unique { IsDistinct key_eq (keys_of map.old.entries) }
+    requires room { 1 ≤ spare map.old }
+    ensures unique { IsDistinct key_eq (keys_of map.new.entries) }
+    ensures records { records_in map.new.entries ≡ records_with
+        (record { r = r; conn = conn; rec = rec }) (records_in map.old.entries) }
+    ensures len { length map.new.entries ≤ length map.old.entries + 1 }
+    ensures spare { spare map.old ≤ spare map.new + 1 }
 {
-    take_out(records, &new.r, new.conn);
-    let at = place_of(records, &new);
-    insert_at(records, at, new);
+    write(map, r, conn, rec);
 }
 
-// One resource more.
-fn push_resource(list: &mut Vec<Resource>, recorded: &Record) -> Result<(), NoMemory>
-    ensures { OnOk result (list.new.items ≡ list.old.items ++ recorded.now.r ∷ []) }
+// The resource of an entry, and whose it is.
+fn part_of(key: &((u8, u32), [u8; NAME_BYTES])) -> (Resource, ConnId)
+    ensures { result ≡ part_at key.now }
 {
-    list.push(recorded.r)?;
-    Ok(())
+    let name = key.1;
+    let r = Resource {
+        name: Name16(name),
+        hash: key.0.1,
+    };
+    (r, ConnId(key.0.0))
 }
 
-// The resources for which a connector has record data.
-fn resources_of(alloc: Global, records: &[Record], conn: ConnId) -> Result<Vec<Resource>, NoMemory>
-    ensures { IfOk result (λ list. list.items ≡ map (λ (recorded : Record). recorded.r)
-        (records_of conn records.now)) }
+// Whether a part, if there is one, is a connector's.
+fn is_part_by(part: Option<(Resource, ConnId)>, conn: ConnId) -> bool
+    ensures { result ≡ is_part_by conn part }
 {
-    let mut list = Vec::new(alloc);
-    for recorded in records {
-        if recorded.conn == conn {
-            push_resource(&mut list, recorded)?;
-        }
+    match part {
+        Some((_, by)) => by == conn,
+        None => false,
     }
-    Ok(list)
 }
 
-// How many record data there are but for a connector's for a resource.
-fn count_others(records: &[Record], r: &Resource, conn: ConnId) -> usize
-    ensures { result ≡ length (records_without r.now conn records.now) }
+// One resource more, where the part is the connector's.
+fn push_resource(
+    list: &mut Vec<Resource>,
+    part: Option<(Resource, ConnId)>,
+    conn: ConnId,
+) -> Result<(), NoMemory>
+    ensures { OnOk result (list.new.items ≡ list.old.items ++ resource_at conn part) }
 {
-    records
-        .iter()
-        .filter(|recorded| !is_record(recorded, r, conn))
-        .count()
+    match part {
+        Some((r, by)) => push_own(list, r, by == conn),
+        None => Ok(()),
+    }
+}
+
+// One resource more, where it is.
+fn push_own(list: &mut Vec<Resource>, r: Resource, own: bool) -> Result<(), NoMemory>
+    ensures { OnOk result (list.new.items ≡ list.old.items ++ (if own then r ∷ [] else [])) }
+{
+    if own {
+        list.push(r)?;
+    }
+    Ok(())
 }
 
 impl Records {
@@ -125,7 +140,7 @@ impl Records {
         ensures limit { IfOk result (λ book. book.limit ≡ limit) }
     {
         Ok(Records {
-            records: Vec::new(alloc),
+            map: IndexMap::new(alloc),
             limit,
         })
     }
@@ -135,26 +150,23 @@ impl Records {
         ensures records { IfOk result (λ copy. copy.records ≡ self.now.records) }
         ensures limit { IfOk result (λ copy. copy.limit ≡ self.now.limit) }
     {
-        let records = Vec::from_slice(alloc, self.records.as_slice())?;
+        let _ = alloc;
         Ok(Records {
-            records,
+            map: self.map.clone()?,
             limit: self.limit,
         })
-    }
-
-    /// The record data, by resource.
-    pub fn items(&self) -> &[Record]
-        ensures { result.now ≡ self.now.records }
-    {
-        self.records.as_slice()
     }
 
     /// How many record data there are.
     pub fn count(&self) -> u32
         ensures count { result ≡ length self.now.records }
+        ensures entries { result ≡ length self.now.entries }
+        ensures order { self.now.records ≡ arranged part_of part_before self.now.entries }
+        ensures alike { (p : Record → Bool) → list_any p self.now.entries
+            ≡ list_any p self.now.records }
         ensures records { AreRecords self.now.records }
     {
-        self.records.len() as u32
+        self.map.len() as u32
     }
 
     /// How many record data there are but for a connector's for a resource.
@@ -162,21 +174,51 @@ impl Records {
         ensures count { result ≡ length (records_without r.now conn self.now.records) }
         ensures records { AreRecords self.now.records }
     {
-        count_others(&self.records, r, conn) as u32
+        if self.get(r, conn).is_some() {
+            return self.count() - 1;
+        }
+        self.count()
+    }
+
+    /// The resource and the connector of the record data at a place of the map. None past the end.
+    pub fn at(&self, k: u32) -> Option<(Resource, ConnId)>
+        ensures { result ≡ option_map part_of (slice_get self.now.entries k) }
+    {
+        match self.map.get_index(k as usize) {
+            Some((key, _)) => Some(part_of(key)),
+            None => None,
+        }
     }
 
     /// A connector's record data for a resource.
     pub fn get(&self, r: &Resource, conn: ConnId) -> Option<&Adjunct>
         ensures { option_map (λ rec. rec.now) result ≡ record_of r.now conn self.now.records }
     {
-        match self
-            .records
-            .iter()
-            .find(|recorded| is_record(recorded, r, conn))
-        {
-            Some(recorded) => Some(&recorded.rec),
-            None => None,
+        let name = r.name.0;
+        self.map.get(&((conn.0, r.hash), name))
+    }
+
+    /// Whether a connector has record data, for whatever resource.
+    pub fn has_of(&self, conn: ConnId) -> bool
+        ensures { result ≡ list_any (is_of conn) self.now.records }
+    {
+        for k in 0..self.count() {
+            if is_part_by(self.at(k), conn) {
+                return true;
+            }
         }
+        false
+    }
+
+    // The resources for which a connector has record data, as they lie in the map.
+    fn unsorted(&self, alloc: Global, conn: ConnId) -> Result<Vec<Resource>, NoMemory>
+        ensures { IfOk result (λ list. list.items ≡ resources_by conn self.now.entries) }
+    {
+        let mut list = Vec::new(alloc);
+        for k in 0..self.count() {
+            push_resource(&mut list, self.at(k), conn)?;
+        }
+        Ok(list)
     }
 
     /// The resources for which a connector has record data, in resource order.
@@ -184,7 +226,10 @@ impl Records {
         ensures { IfOk result (λ list. list.items ≡ map (λ (recorded : Record). recorded.r)
             (records_of conn self.now.records)) }
     {
-        resources_of(alloc, &self.records, conn)
+        let _ = self.count();
+        let mut list = self.unsorted(alloc, conn)?;
+        list.sort()?;
+        Ok(list)
     }
 
     /// Takes room for as many `put` calls as the structure may have record data, and for one more.
@@ -198,7 +243,7 @@ impl Records {
         if self.limit >= u32::MAX - self.count() {
             return Err(NoMemory);
         }
-        self.records.reserve(self.limit as usize + 1)?;
+        self.map.reserve(self.limit as usize + 1)?;
         Ok(())
     }
 
@@ -211,7 +256,7 @@ impl Records {
         ensures limit { self.new.limit ≡ self.old.limit }
         ensures room { self.old.room ≤ self.new.room + 1 }
     {
-        put_in(&mut self.records, Record { r, conn, rec });
+        put_in(&mut self.map, r, conn, rec);
     }
 
     /// A connector's record data for a resource go; answers whether there were any.
@@ -221,12 +266,7 @@ impl Records {
         ensures limit { self.new.limit ≡ self.old.limit }
         ensures room { self.old.room ≤ self.new.room }
     {
-        let there = self
-            .records
-            .iter()
-            .any(|recorded| is_record(recorded, r, conn));
-        take_out(&mut self.records, r, conn);
-        there
+        take_out(&mut self.map, r, conn)
     }
 
     /// A connector's record data for whatever resource go.
@@ -235,6 +275,6 @@ impl Records {
         ensures limit { self.new.limit ≡ self.old.limit }
         ensures room { self.old.room ≤ self.new.room }
     {
-        take_out_conn(&mut self.records, conn);
+        take_out_conn(&mut self.map, conn);
     }
 }

@@ -95,7 +95,3 @@ before_step a b r false h e f =
 pub before_front : (r a b : Resource) → resource_up_to a b ≡ true → resource_before b r ≡ true
     → resource_before a r ≡ true
 before_front r a b h e = before_step a b r (resource_before a r) h e refl
-
-pub up_to_front : (r a b : Resource) → resource_up_to a b ≡ true → resource_up_to b r ≡ true
-    → resource_up_to a r ≡ true
-up_to_front r a b h e = resource_up_to-trans a b r h e

@@ -9,6 +9,5 @@ pub mod SpotLaws
 pub mod ViewLaws
 pub mod TableLaws
 pub mod SortLaws
-pub mod CountedLaws
 pub mod RankLaws
 pub mod PassLaws

@@ -1,5 +1,5 @@
 -- What an entry loses, gets or changes is lost, got or changed in what is seen.
-use Rattle.std.proofs.Common.{◌≡◌, ◌≢◌, ℕ, ◌<◌, ◌==◌, Bool, true, false, not, List, [], ◌∷◌, ◌++◌, filter, map, length, get_or, set, refl, sym, ap, ◌∙◌, subst}
+use Rattle.std.proofs.Common.{◌≡◌, ◌≢◌, ℕ, ◌<◌, ◌==◌, Bool, true, false, not, List, [], ◌∷◌, filter, map, length, get_or, set, refl, sym, ap, ◌∙◌, subst}
 use Rattle.std.specs.List.{list_all}
 use Rattle.std.proofs.lemmas.Bool.{and_parts, and_from, eq-eqb, not-true, false≢true}
 use Rattle.std.proofs.lemmas.List.Folds.{list_all-map}
@@ -10,7 +10,7 @@ use Rattle.list_laws.proofs.ImageLaws.{map-filtered}
 use Rattle.list_laws.proofs.PairwiseLaws.{FindsPlace, pairwise-insertion, pairwise-filter, pairwise-map}
 use Rattle.list_laws.proofs.InsertionLaws.{filter-insertion_out, list_all-insertion}
 use Rattle.table_entries.specs.Bins.{is_keyed, in_turn, arranged, joined, AreAtHome, IsKeyOrder}
-use Rattle.table_entries.proofs.PlaceLaws.{filter-insertion_in, insertion_behind, insertion_agree}
+use Rattle.table_entries.proofs.PlaceLaws.{filter-insertion_in, insertion_agree}
 use Rattle.table_entries.proofs.BinLaws.{arranged_in_turn, changed, seen}
 
 map_same : {X : Type 0} (p : X → Bool) (f : X → X) (xs : List X) → list_all p xs ≡ true
@@ -155,22 +155,3 @@ module _ {X K : Type 0} (key : X → K) (same before : K → K → Bool) (slot :
       (apart_step x k (same (key x) k) at off refl)))
       (pairwise-insertion (in_turn key before) b (λ y. true) x view (finds_place b x front stop)
       (list_all_always (λ y. true) (λ y. refl) view) (arranged_in_turn key same before slot is (joined bins)))
-
-  either : (x y : X) (t : Bool) → before (key x) (key y) ≡ t → not t ≡ false → before (key y) (key x) ≡ false
-  either x y true e f = is.asym (key x) (key y) e
-  either x y false e f = absurd (false≢true (sym f))
-
-  same_last : (x y : X) → same (key y) (key x) ≡ true → not (before (key x) (key y)) ≡ true
-  same_last x y e =
-      ap not (subst (λ k. before (key x) k ≡ false) (sym (is.equal (key y) (key x) e)) (is.once (key x)))
-
-  -- as the last of its key
-  pub appended : (x : X) → slot (key x) ≡ i
-      → arranged key before (joined (set bins i (get_or bins i [] ++ x ∷ [])))
-      ≡ insertion (λ y. not (before (key x) (key y))) x (arranged key before (joined bins))
-  appended x at =
-      let bin = get_or bins i [] in
-      ap (λ l. arranged key before (joined (set bins i l)))
-      (sym (insertion_behind (λ y. true) x bin (list_all_always (λ y. true) (λ y. refl) bin)))
-      ∙ inserted (λ y. not (before (key x) (key y))) (λ y. true) x at (λ y e. not-true (before (key x) (key y)) e)
-      (λ y e. either x y (before (key x) (key y)) refl e) (λ y e. same_last x y e) (λ y e. refl)

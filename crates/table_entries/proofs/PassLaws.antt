@@ -1,5 +1,5 @@
 -- What goes over all: a list whose elements go from its front to its end, one after another, and all entries.
-use Rattle.std.proofs.Common.{◌≡◌, ℕ, zero, suc, ◌+◌, ◌-◌, ◌<◌, ◌≤◌, ◌==◌, Bool, true, false, not, ◌&&◌, cond, List, [], ◌∷◌, ◌++◌, filter, map, length, take, drop, get_or, refl, sym, ap, ◌∙◌, subst, arith}
+use Rattle.std.proofs.Common.{◌≡◌, ℕ, zero, suc, ◌+◌, ◌-◌, ◌<◌, ◌≤◌, ◌==◌, Bool, true, false, ◌&&◌, cond, List, [], ◌∷◌, ◌++◌, filter, map, length, take, drop, get_or, refl, sym, ap, ◌∙◌, subst, arith}
 use Rattle.std.specs.List.{list_all}
 use Rattle.std.proofs.lemmas.List.{append_assoc, append-nil, take-append-le, drop-append-le, map-append, length-map, length-append, length-drop, drop_all, take_all}
 use Rattle.std.proofs.lemmas.List.Elements.{filter-append}
@@ -7,7 +7,6 @@ use Rattle.std.proofs.lemmas.List.Folds.{list_all-map}
 use Rattle.cf_types.specs.declared.resources.Resource.{Resource}
 use Rattle.cf_types.specs.Resources.{Part, same_resource, resource_before}
 use Rattle.list_laws.specs.Insertions.{insertion}
-use Rattle.list_laws.specs.Pairwise.{pairwise}
 use Rattle.list_laws.proofs.FilterLaws.{list_all-filter, list_all_weaker}
 use Rattle.list_laws.proofs.ImageLaws.{map-insertion}
 use Rattle.list_laws.proofs.PairwiseLaws.{pairwise-filter, pairwise-map}
@@ -63,10 +62,6 @@ module _ {X : Type 0} (over : List X → List X) (g : X → List X)
       let left : n - k ≡ 0 = omega (arith, past) in
       let whole : xs ++ over [] ≡ all = subst (λ m. drop m xs ++ over (take m xs) ≡ all) left h in
       sym (ap (λ l. xs ++ l) none ∙ append-nil xs) ∙ whole
-
-pub first_one : {X : Type 0} (xs : List X) (d : X) → 0 < length xs → take 1 xs ≡ get_or xs 0 d ∷ []
-first_one [] d some = absurd (omega (arith, some))
-first_one (x ∷ xs) d some = refl
 
 pub mapped_step : {X : Type 0} (f : X → X) (x : X) (xs : List X) → map f (x ∷ xs) ≡ (f x ∷ []) ++ map f xs
 mapped_step f x xs = refl

@@ -1,7 +1,7 @@
 -- The element at a place, found by its resource; and the last of all.
 use Rattle.std.proofs.Common.{◌≡◌, ℕ, zero, suc, ◌+◌, ◌-◌, ◌<◌, ◌≤◌, nat_lt, Bool, true, false, not, ◌&&◌, cond, if◌then◌else◌, drop, get_or, List, [], ◌∷◌, ◌++◌, Option, Some, None, is_some, filter, length, slice_get, refl, sym, ap, ◌∙◌, subst, arith}
 use Rattle.std.specs.List.{list_all}
-use Rattle.std.proofs.lemmas.Bool.{and_parts, not-true, false≢true, lt-ltb, le-ltb}
+use Rattle.std.proofs.lemmas.Bool.{and_parts, not-true, false≢true, lt-ltb}
 use Rattle.std.proofs.lemmas.Bool.Decides.{nat_tests}
 use Rattle.cf_types.specs.declared.resources.Resource.{Resource}
 use Rattle.cf_types.specs.Resources.{Part, same_resource, resource_before}
@@ -11,7 +11,7 @@ use Rattle.list_laws.specs.Pairwise.{pairwise}
 use Rattle.list_laws.proofs.FilterLaws.{filter_none, none_from_all, list_all_weaker}
 use Rattle.list_laws.proofs.InsertionLaws.{list_all-insertion}
 use Rattle.table_entries.specs.Bins.{in_turn, arranged, joined}
-use Rattle.table_entries.specs.Tables.{resource_by, is_on, placed_on, later_of, last_of, seen_in}
+use Rattle.table_entries.specs.Tables.{is_on, placed_on, later_of, last_of, seen_in}
 use Rattle.table_entries.proofs.KeyLaws.{resource_order}
 use Rattle.table_entries.proofs.SortLaws.{arranged-filter}
 use Rattle.table_entries.proofs.ViewLaws.{length_arranged}

@@ -1,17 +1,13 @@
 -- The keys of a list in order: the element at a place is found by its key and its place among those of that key; where
 -- the one element of a kind goes, one of its key goes.
-use Rattle.std.proofs.Common.{◌≡◌, ℕ, zero, suc, ◌+◌, ◌-◌, Bool, true, false, not, ◌&&◌, ◌||◌, cond, List, [], ◌∷◌, Some, filter, map, slice_get, refl, sym, ap, ◌∙◌, subst, arith}
-use Rattle.std.specs.List.{list_any, list_all, prefix_len, remove}
+use Rattle.std.proofs.Common.{◌≡◌, ℕ, zero, suc, ◌+◌, ◌-◌, Bool, true, false, not, cond, List, [], ◌∷◌, Some, filter, map, slice_get, refl, sym, ap, ◌∙◌, subst, arith}
+use Rattle.std.specs.List.{list_all, prefix_len}
 use Rattle.std.proofs.lemmas.Bool.{and_parts, and_from, not-true, false≢true}
 use Rattle.list_laws.specs.Insertions.{insertion}
 use Rattle.list_laws.specs.Pairwise.{pairwise}
-use Rattle.list_laws.proofs.FilterLaws.{filter_all}
 use Rattle.table_entries.specs.Bins.{is_keyed, in_turn, IsKeyOrder}
 
 module _ {X K : Type 0} (key : X → K) (same before : K → K → Bool) (is : IsKeyOrder same before) where
-  abbrev pub count_before : K → List X → ℕ
-  count_before k xs = prefix_len (λ a. before a k) (map key xs)
-
   -- none of these is before a key
   none_before : (k : K) (xs : List X) → list_all (λ x. not (before (key x) k)) xs ≡ true
       → prefix_len (λ a. before a k) (map key xs) ≡ 0
@@ -62,73 +58,6 @@ module _ {X K : Type 0} (key : X → K) (same before : K → K → Bool) (is : I
   at_run (y ∷ ys) (suc k) x h e =
       let parts = and_parts (list_all (in_turn key before y) ys) (pairwise (in_turn key before) ys) h in
       at_step (before (key y) (key x)) (same (key y) (key x)) x y ys k refl refl parts.0 e (at_run ys k x parts.1 e)
-
-  -- ---- one goes
-
-  -- the first of these has the key, where one of them has it and the first isn't before it
-  key_of_first : (p : X → Bool) (k : K) (b : Bool) (y : X) (ys : List X) → ((x : X) → p x ≡ true → key x ≡ k)
-      → list_all (in_turn key before y) ys ≡ true → p y ≡ b → b || list_any p ys ≡ true → before (key y) k ≡ false
-      → key y ≡ k
-  key_of_first p k true y ys keyed turn e any first = keyed y e
-  key_of_first p k false y ys keyed turn e any first = later ys turn any
-    where
-      tied : (z : X) → p z ≡ true → in_turn key before y z ≡ true → key y ≡ k
-      tied z f g =
-          let ahead : before k (key y) ≡ false = subst (λ a. before a (key y) ≡ false) (keyed z f)
-          (not-true (before (key z) (key y)) g) in
-          is.equal (key y) k (is.ties k (key y) ahead first)
-
-      step : (c : Bool) (z : X) → p z ≡ c → in_turn key before y z ≡ true → (c ≡ false → key y ≡ k) → key y ≡ k
-      step true z f g rest = tied z f g
-      step false z f g rest = rest refl
-
-      later : (zs : List X) → list_all (in_turn key before y) zs ≡ true → list_any p zs ≡ true → key y ≡ k
-      later [] g h = absurd (false≢true h)
-      later (z ∷ zs) g h =
-          let parts = and_parts (in_turn key before y z) (list_all (in_turn key before y) zs) g in
-          step (p z) z refl parts.0 (λ f. later zs parts.1 (rw f at h))
-
-  taken_step : (p : X → Bool) (k : K) (b s : Bool) (y : X) (ys : List X) → ((x : X) → p x ≡ true → key x ≡ k)
-      → pairwise (in_turn key before) (y ∷ ys) ≡ true → p y ≡ b → before (key y) k ≡ s
-      → list_all (λ z. not (p y && p z)) ys ≡ true → b || list_any p ys ≡ true
-      → (list_any p ys ≡ true
-      → map key (filter (λ x. not (p x)) ys) ≡ remove (map key ys) (prefix_len (λ a. before a k) (map key ys)))
-      → map key (cond (not b) (y ∷ filter (λ x. not (p x)) ys) (filter (λ x. not (p x)) ys))
-      ≡ remove (key y ∷ map key ys) (cond s (1 + prefix_len (λ a. before a k) (map key ys)) 0)
-  taken_step p k true true y ys keyed turn e f one any ih =
-      absurd (false≢true (sym (is.once k) ∙ subst (λ a. before a k ≡ true) (keyed y e) f))
-  taken_step p k true false y ys keyed turn e f one any ih =
-      let others : list_all (λ z. not (p z)) ys ≡ true = rw e at one in
-      ap (map key) (filter_all (λ x. not (p x)) ys others)
-  taken_step p k false true y ys keyed turn e f one any ih =
-      let n = prefix_len (λ a. before a k) (map key ys) in
-      let more : 1 + n ≡ suc n = omega arith in
-      rw more (ap (λ l. key y ∷ l) (ih any))
-  taken_step p k false false y [] keyed turn e f one any ih = absurd (false≢true any)
-  taken_step p k false false y (w ∷ ws) keyed turn e f one any ih =
-      let parts = and_parts (list_all (in_turn key before y) (w ∷ ws)) (pairwise (in_turn key before) (w ∷ ws)) turn in
-      let next = and_parts (list_all (in_turn key before w) ws) (pairwise (in_turn key before) ws) parts.1 in
-      let mine : key y ≡ k = key_of_first p k false y (w ∷ ws) keyed parts.0 e any f in
-      let behind : list_all (λ z. not (before (key z) k)) (w ∷ ws) ≡ true =
-      subst (λ a. list_all (λ z. not (before (key z) a)) (w ∷ ws) ≡ true) mine parts.0 in
-      let none : prefix_len (λ a. before a k) (map key (w ∷ ws)) ≡ 0 = none_before k (w ∷ ws) behind in
-      let first = not-true (before (key w) k)
-      (and_parts (not (before (key w) k)) (list_all (λ z. not (before (key z) k)) ws) behind).0 in
-      let its : key w ≡ k = key_of_first p k (p w) w ws keyed next.0 refl any first in
-      let rest : map key (filter (λ x. not (p x)) (w ∷ ws)) ≡ remove (map key (w ∷ ws)) 0 = subst
-      (λ n. map key (filter (λ x. not (p x)) (w ∷ ws)) ≡ remove (map key (w ∷ ws)) n) none (ih any) in
-      ap (λ l. key y ∷ l) rest ∙ ap (λ a. a ∷ map key ws) (mine ∙ sym its)
-
-  -- where the one that passes goes, its key goes once
-  pub taken : (p : X → Bool) (k : K) (xs : List X) → ((x : X) → p x ≡ true → key x ≡ k)
-      → pairwise (in_turn key before) xs ≡ true → pairwise (λ x y. not (p x && p y)) xs ≡ true → list_any p xs ≡ true
-      → map key (filter (λ x. not (p x)) xs) ≡ remove (map key xs) (prefix_len (λ a. before a k) (map key xs))
-  taken p k [] keyed turn one any = absurd (false≢true any)
-  taken p k (y ∷ ys) keyed turn one any =
-      let parts = and_parts (list_all (λ z. not (p y && p z)) ys) (pairwise (λ x y. not (p x && p y)) ys) one in
-      let turns = and_parts (list_all (in_turn key before y) ys) (pairwise (in_turn key before) ys) turn in
-      taken_step p k (p y) (before (key y) k) y ys keyed turn refl refl parts.0 any
-      (λ more. taken p k ys keyed turns.1 parts.1 more)
 
   -- ---- one comes
 

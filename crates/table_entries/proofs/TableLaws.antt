@@ -2,7 +2,7 @@
 use Rattle.std.proofs.Common.{◌≡◌, ◌≢◌, ℕ, zero, suc, ◌-◌, ◌<◌, ◌≤◌, ◌==◌, Bool, true, false, not, ◌&&◌, List, [], ◌∷◌, ◌++◌, Option, Some, None, filter, find, map, length, get_or, set, slice_get, option_map, replicate, position, is_some, ◌+◌, refl, sym, ap, ◌∙◌, subst}
 use Rattle.std.specs.List.{list_any, list_all, prefix_len, remove}
 use Rattle.std.proofs.lemmas.Bool.{and_parts, and_from, eqb-true, eq-eqb, not-true, false≢true}
-use Rattle.std.proofs.lemmas.List.{length-replicate, length-set, set-get_or, get_or_default}
+use Rattle.std.proofs.lemmas.List.{length-replicate, length-set, get_or_default}
 use Rattle.cf_types.specs.declared.resources.Resource.{Resource}
 use Rattle.cf_types.specs.Resources.{Part, same_part, same_resource, resource_before, resource_up_to}
 use Rattle.cf_types.proofs.ResourceLaws.{same_resource-eq, same_resource-refl, same_part-eq, same_part-refl, same_part_comm}
@@ -10,7 +10,7 @@ use Rattle.list_laws.specs.Insertions.{insertion}
 use Rattle.list_laws.specs.Pairwise.{pairwise}
 use Rattle.list_laws.proofs.FilterLaws.{list_all_weaker, list_all_always, list_all-filter, all_from_none, filter_all, find-filter, filter_swap, filter_absorbed, any_is_found}
 use Rattle.list_laws.proofs.KeyLaws.{remove_placed, length_without}
-use Rattle.list_laws.proofs.PairwiseLaws.{pairwise-filter, pairwise-insertion_any, pairwise-map, pairwise_weaker}
+use Rattle.list_laws.proofs.PairwiseLaws.{pairwise-filter, pairwise-insertion_any, pairwise-map}
 use Rattle.list_laws.proofs.InsertionLaws.{list_all-insertion}
 use Rattle.table_entries.specs.Bins.{in_turn, arranged, joined, AreAtHome}
 use Rattle.table_entries.specs.Tables.{resource_by, is_on, is_part, are_apart, slot_in, seen_in, IsTable}
@@ -18,9 +18,9 @@ use Rattle.table_entries.proofs.KeyLaws.{resource_order}
 use Rattle.table_entries.proofs.PlaceLaws.{insertion_behind}
 use Rattle.table_entries.proofs.BinLaws.{arranged_in_turn, keyed_home, home_kept, seen}
 use Rattle.table_entries.proofs.OpLaws.{filtered, mapped, inserted}
-use Rattle.table_entries.proofs.RunLaws.{taken, at_run, order_insertion}
+use Rattle.table_entries.proofs.RunLaws.{at_run, order_insertion}
 use Rattle.table_entries.proofs.SpotLaws.{any_kept}
-use Rattle.table_entries.proofs.ViewLaws.{by_key, length_in, mapped_pairs, starts_within}
+use Rattle.table_entries.proofs.ViewLaws.{by_key, length_in, mapped_pairs}
 
 get_mapped : {X Y : Type 0} (f : X → Y) (xs : List X) (k : ℕ) → slice_get (map f xs) k ≡ option_map f (slice_get xs k)
 get_mapped f [] k = refl
@@ -65,15 +65,6 @@ module _ {X : Type 0} (part_of : X → Part) where
   other_apart x y true e f =
       absurd (false≢true (sym e ∙ subst (λ r. same_resource (part_of y).0 r ≡ true)
       (sym (same_resource-eq (part_of x).0 (part_of y).0 f)) (same_resource-refl (part_of y).0)))
-
-  -- of two that are apart one isn't this part
-  not_both : (p : Part) (x y : X) (s t : Bool) → are_apart part_of x y ≡ true → is_part part_of p x ≡ s
-      → is_part part_of p y ≡ t → not (s && t) ≡ true
-  not_both p x y true true e f g =
-      absurd (false≢true (sym (ap not (subst (λ a. same_part (part_of x) a ≡ true)
-      (same_part-eq (part_of x) p f ∙ sym (same_part-eq (part_of y) p g)) (same_part-refl (part_of x)))) ∙ e))
-  not_both p x y true false e f g = refl
-  not_both p x y false t e f g = refl
 
   both_apart : (x other : X) → not (is_part part_of (part_of x) other) ≡ true
       → are_apart part_of x other && are_apart part_of other x ≡ true
@@ -165,29 +156,6 @@ module _ {X : Type 0} (part_of : X → Part) where
           rw (e, default) (filtered (resource_by part_of) same_resource resource_before (slot_in (length bins))
           resource_order i bins is.home within (λ x. not (is_part part_of p x)) near)
 
-      pub starts : true ≡ list_any (is_part part_of p) (seen_in part_of bins)
-          → prefix_len (λ other. resource_before other p.0) order < length order
-      starts there =
-          rw is.listed (starts_within (resource_by part_of) (is_part part_of p) (λ other. resource_before other p.0)
-          (seen_in part_of bins) (λ x e. rw (part_resource p x e) (resource_order.once p.0)) (sym there))
-
-      pub taken_table : (new : List X) → new ≡ filter (λ x. not (is_part part_of p x)) (get_or bins i d)
-          → true ≡ list_any (is_part part_of p) (seen_in part_of bins)
-          → IsTable part_of (set bins i new) (remove order (prefix_len (λ other. resource_before other p.0) order))
-      taken_table new e there =
-          record {
-            some = rw (length-set bins i new) is.some;
-            home = home_set new (rw (e, default) (list_all-filter (λ x. slot_in (length bins) (part_of x).0 == i)
-                (λ x. not (is_part part_of p x)) (get_or bins i []) (is.home i)));
-            one_each = rw (taken_seen new e) (pairwise-filter (are_apart part_of) (λ x. not (is_part part_of p x))
-                (seen_in part_of bins) is.one_each);
-            listed = rw (taken_seen new e, is.listed) (sym (taken (resource_by part_of) same_resource resource_before
-                resource_order (is_part part_of p) p.0 (seen_in part_of bins) (part_resource p) (in_order bins)
-                (pairwise_weaker (are_apart part_of) (λ x y. not (is_part part_of p x && is_part part_of p y))
-                (λ x y e. not_both p x y (is_part part_of p x) (is_part part_of p y) e refl refl)
-                (seen_in part_of bins) is.one_each) (sym there)));
-          }
-
       -- the same, where the order is that of what is seen
       pub taken_bins : (new : List X) → new ≡ filter (λ x. not (is_part part_of p x)) (get_or bins i d)
           → IsTable part_of (set bins i new) (map (resource_by part_of) (seen_in part_of (set bins i new)))
@@ -200,14 +168,6 @@ module _ {X : Type 0} (part_of : X → Part) where
                 (seen_in part_of bins) is.one_each);
             listed = refl;
           }
-
-      -- there was none
-      pub absent_table : (new : List X) → new ≡ filter (λ x. not (is_part part_of p x)) (get_or bins i d)
-          → false ≡ list_any (is_part part_of p) (get_or bins i d) → IsTable part_of (set bins i new) order
-      absent_table new e none =
-          let same : new ≡ get_or bins i d = e ∙ filter_all (λ x. not (is_part part_of p x)) (get_or bins i d)
-          (all_from_none (is_part part_of p) (get_or bins i d) (sym none)) in
-          rw (same, set-get_or bins i d) is
 
     -- ---- one more: b says where it stands among all, and c where in its entry
 

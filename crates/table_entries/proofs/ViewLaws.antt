@@ -1,7 +1,7 @@
 -- What is seen of table entries, and lists by key.
-use Rattle.std.proofs.Common.{◌≡◌, ℕ, zero, suc, ◌+◌, ◌<◌, ◌≤◌, Bool, true, false, ◌&&◌, ◌||◌, cond, List, [], ◌∷◌, filter, map, length, get_or, refl, sym, ap, ◌∙◌, arith}
-use Rattle.std.specs.List.{list_any, list_all, prefix_len}
-use Rattle.std.proofs.lemmas.Bool.{and_parts, and_from, false≢true}
+use Rattle.std.proofs.Common.{◌≡◌, ℕ, zero, suc, ◌+◌, ◌≤◌, Bool, true, false, ◌&&◌, cond, List, [], ◌∷◌, filter, map, length, get_or, refl, ap, ◌∙◌, arith}
+use Rattle.std.specs.List.{list_all}
+use Rattle.std.proofs.lemmas.Bool.{and_parts, and_from}
 use Rattle.std.proofs.lemmas.List.{length-append, length-map}
 use Rattle.list_laws.specs.Pairwise.{pairwise}
 use Rattle.list_laws.proofs.InsertionLaws.{length-insertion}
@@ -73,20 +73,3 @@ by_key key same relation itself apart (x ∷ xs) h =
         → list_all (relation x) ys ≡ true
     each [] g = refl
     each (y ∷ ys) g = step (same (key y) (key x)) y ys refl g (each ys)
-
--- where something isn't in front, the front is shorter than all
-pub starts_within : {X K : Type 0} (key : X → K) (p : X → Bool) (b : K → Bool) (xs : List X)
-    → ((x : X) → p x ≡ true → b (key x) ≡ false) → list_any p xs ≡ true
-    → prefix_len b (map key xs) < length (map key xs)
-starts_within key p b [] h any = absurd (false≢true any)
-starts_within key p b (x ∷ xs) h any = step (b (key x)) (p x) refl refl any (starts_within key p b xs h)
-  where
-    out : (s t : Bool) → s ≡ true → t ≡ true → (t ≡ true → s ≡ false) → ⊥
-    out s t e f g = false≢true (sym (g f) ∙ e)
-
-    step : (s t : Bool) → b (key x) ≡ s → p x ≡ t → t || list_any p xs ≡ true
-        → (list_any p xs ≡ true → prefix_len b (map key xs) < length (map key xs))
-        → cond s (1 + prefix_len b (map key xs)) 0 < suc (length (map key xs))
-    step true true e f g ih = absurd (out (b (key x)) (p x) e f (h x))
-    step true false e f g ih = let rest = ih g in omega (arith, rest)
-    step false t e f g ih = omega arith

@@ -2,8 +2,8 @@ use Rattle.std.proofs.Common.{◌≡◌, drop}
 use Rattle.lock_interests.specs.InterestsView.{retained_all}
 use Rattle.lock_interests.proofs.interests.retain_recorded.Given as goal
 
-abbrev pub invariant-loop-recorded : goal.invariant-loop-recorded
-invariant-loop-recorded l =
-    (retained_all l.conn (drop l.recorded-index l.records) l.owners.owners
-    ≡ retained_all l.conn l.records l.initial.owners.owners)
-    × (l.owners.room ≡ l.initial.owners.room)
+abbrev pub invariant-loop-k : goal.invariant-loop-k
+invariant-loop-k l =
+    (retained_all l.conn (drop l.k l.records.entries) l.owners.owners
+    ≡ retained_all l.conn l.records.entries l.fn.owners.owners)
+    × (l.owners.room ≡ l.fn.owners.room)

@@ -1,6 +1,9 @@
 use Rattle.std.proofs.Common.{rules}
-use Rattle.std.proofs.lemmas.Fn.{filter_same}
+use Rattle.indexmap.proofs.CallerLemmas.{filter-RetainsPairs}
+use Rattle.lock_record.proofs.MapLaws.{departed_records}
 use Rattle.lock_record.proofs.records.take_out_conn.Goals as goal
 
-pub returns-clause-items : goal.returns-clause-items
-returns-clause-items c = filter_same _ _ _ (λ x b f h. search rules) _ _ c.retain.ensures.filtered
+pub returns-clause-records : goal.returns-clause-records
+returns-clause-records c =
+    departed_records c.args.map.now.entries c.retain.new.self.entries c.args.conn
+    (filter-RetainsPairs _ _ _ (λ k v b w g call. search rules) _ _ c.retain.ensures.filtered)

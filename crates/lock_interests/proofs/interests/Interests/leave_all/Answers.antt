@@ -1,4 +1,3 @@
-use Rattle.std.proofs.Common.{true}
 use Rattle.lock_interests.proofs.JoinLaws.{joined-gone}
 use Rattle.lock_interests.proofs.CountLaws.{owned-gone}
 use Rattle.lock_interests.proofs.OwnerLaws.{left_all}

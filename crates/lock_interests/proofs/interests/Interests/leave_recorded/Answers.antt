@@ -10,9 +10,9 @@ returns-clause-interests c =
       ← c.self.view_is,
       c.end_active.ensures.owners,
       c.retain_recorded.ensures.owners,
-      c.items.ensures,
       c.set_retained_of.ensures.owners,
-      left_recorded c.args.conn c.self.inside.owners.owners c.self.inside.records.records,
+      left_recorded c.args.conn c.self.inside.owners.owners c.self.inside.records.records
+          c.self.inside.records.entries c.retain_recorded.ensures.alike,
     )
     (joined-kept c.args.conn true c.self.inside.owners.owners c.self.inside.records.records)
 
@@ -21,8 +21,8 @@ invariant_of-self c =
     rw (
       c.end_active.ensures.owners,
       c.retain_recorded.ensures.owners,
-      c.items.ensures,
       c.set_retained_of.ensures.owners,
-      left_recorded c.args.conn c.self.inside.owners.owners c.self.inside.records.records,
+      left_recorded c.args.conn c.self.inside.owners.owners c.self.inside.records.records
+          c.self.inside.records.entries c.retain_recorded.ensures.alike,
     )
     (owned-kept c.args.conn c.self.inside.owners.owners c.self.inside.records.records c.self.invariant)

@@ -1,13 +1,19 @@
-use Rattle.std.proofs.Common.{rules, not, ◌<◌, arith}
-use Rattle.list_laws.proofs.FilterLaws.{length-filter-le}
-use Rattle.lock_record.specs.declared.recorded.Record.{Record}
-use Rattle.lock_record.specs.Recorded.{is_record}
+use Rattle.std.proofs.Common.{◌≡◌, is_some, true, false, sym, ap, arith, ◌∙◌}
+use Rattle.lock_record.specs.Recorded.{has_record}
+use Rattle.lock_record.proofs.MapLaws.{as_many, fewer_by_one, some_mapped, there_is}
 use Rattle.lock_record.proofs.records.Records.count_others.Goals as goal
 
-pub overflow_cast-result : goal.overflow_cast-result
-overflow_cast-result c =
-    let fewer = length-filter-le (λ (recorded : Record). not (is_record c.args.r.now c.args.conn recorded))
-    c.deref.result.now in
-    let small : c.count_others.result < 4294967296 =
-    omega (arith, fewer, c.count_others.ensures, c.deref.ensures.len, c.self.invariant.few) in
-    search rules
+pub returns-then-is_some-clause-count : goal.returns-then-is_some-clause-count
+returns-then-is_some-clause-count c =
+    let there : has_record c.args.r.now c.args.conn c.args.self.now.records ≡ true =
+    sym (there_is (c.args.r.now, c.args.conn) c.args.self.now.records) ∙ ap is_some (sym c.get.ensures)
+    ∙ sym (some_mapped _ c.get.result) ∙ sym c.is_some.ensures ∙ c.if-is_some.true in
+    let fewer = fewer_by_one (c.args.r.now, c.args.conn) c.args.self.now.records c.count.ensures.records there in
+    omega (arith, fewer, c.count.ensures.count)
+
+pub returns-clause-count : goal.returns-clause-count
+returns-clause-count c =
+    let none : has_record c.args.r.now c.args.conn c.args.self.now.records ≡ false =
+    sym (there_is (c.args.r.now, c.args.conn) c.args.self.now.records) ∙ ap is_some (sym c.get.ensures)
+    ∙ sym (some_mapped _ c.get.result) ∙ sym c.is_some.ensures ∙ c.if-is_some.false in
+    c.count-2.ensures.count ∙ sym (as_many (c.args.r.now, c.args.conn) c.args.self.now.records none)

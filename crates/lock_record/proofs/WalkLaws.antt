@@ -1,0 +1,112 @@
+-- Entries one after another.
+use Rattle.std.proofs.Common.{◌≡◌, ℕ, zero, suc, ◌+◌, ◌<◌, ◌==◌, ◌||◌, ◌&&◌, nat_lt, Bool, true, false, List, [], ◌∷◌, ◌++◌, option_map, slice_get, length, drop, map, filter, refl, sym, ap, ◌∙◌, arith}
+use Rattle.std.specs.Prelude.{if◌then◌else◌}
+use Rattle.std.specs.List.{list_any, list_all}
+use Rattle.std.specs.List.Sorted.{IsPermutation}
+use Rattle.std.proofs.lemmas.Bool.{and_parts, and_from}
+use Rattle.std.proofs.lemmas.Bool.Decides.{nat_tests}
+use Rattle.cf_types.specs.declared.numbers.ConnId.{ConnId}
+use Rattle.cf_types.specs.declared.resources.Resource.{Resource}
+use Rattle.cf_types.specs.Resources.{resource_before, same_part, same_resource}
+use Rattle.list_laws.specs.Insertions.{insertion}
+use Rattle.list_laws.specs.Pairwise.{pairwise}
+use Rattle.list_laws.proofs.FilterLaws.{list_all-filter_same}
+use Rattle.list_laws.proofs.InsertionLaws.{list_all-insertion, list_any-insertion}
+use Rattle.table_entries.specs.Bins.{arranged, in_turn}
+use Rattle.table_entries.proofs.KeyLaws.{resource_order}
+use Rattle.table_entries.proofs.PlaceLaws.{insertion_agree}
+use Rattle.table_entries.proofs.SortLaws.{arranged-filter, sorted_is}
+use Rattle.lock_record.specs.declared.recorded.Record.{Record}
+use Rattle.lock_record.specs.Book.{Key, recorded, records_in}
+use Rattle.lock_record.specs.Recorded.{is_of, is_part_by, part_of, part_before, resource_at, resource_of, resources_by}
+use Rattle.lock_record.proofs.PartLaws.{part_order}
+
+-- what some of them have
+any_arranged : (p : Record → Bool) (xs : List Record)
+    → list_any p (arranged part_of part_before xs) ≡ list_any p xs
+unfolding arranged
+any_arranged p [] = refl
+any_arranged p (x ∷ xs) =
+    list_any-insertion p (λ y. part_before (part_of y) (part_of x)) x (arranged part_of part_before xs)
+    ∙ ap (λ (b : Bool). p x || b) (any_arranged p xs)
+
+pub any_in : (es : List (Key × List ℕ)) (p : Record → Bool)
+    → list_any p (map recorded es) ≡ list_any p (records_in es)
+any_in es p = sym (any_arranged p (map recorded es))
+
+-- one of them is a connector's
+pub there_at : (conn : ConnId) (xs : List Record) (k : ℕ)
+    → is_part_by conn (option_map part_of (slice_get xs k)) ≡ true → list_any (is_of conn) xs ≡ true
+there_at conn [] k h = h
+there_at conn (x ∷ xs) zero h = rw h refl
+there_at conn (x ∷ xs) (suc k) h = go (is_of conn x) (list_any (is_of conn) xs) (there_at conn xs k h)
+  where
+    go : (b c : Bool) → c ≡ true → b || c ≡ true
+    go true c e = refl
+    go false c e = e
+
+-- one that isn't is passed by
+pub skipped : (conn : ConnId) (xs : List Record) (k : ℕ) → k < length xs
+    → is_part_by conn (option_map part_of (slice_get xs k)) ≡ false
+    → list_any (is_of conn) (drop (k + 1) xs) ≡ list_any (is_of conn) (drop k xs)
+skipped conn [] k less h = absurd (omega (arith, less))
+skipped conn (x ∷ xs) zero less h = rw h refl
+skipped conn (x ∷ xs) (suc k) less h =
+    let next : suc k + 1 ≡ suc (k + 1) = omega arith in
+    rw next (skipped conn xs k (omega (arith, less)) h)
+
+-- ---- a connector's resources, one after another
+
+pub listed_next : (conn : ConnId) (xs : List Record) (k : ℕ) → k < length xs
+    → resources_by conn (drop k xs)
+    ≡ resource_at conn (option_map part_of (slice_get xs k)) ++ resources_by conn (drop (k + 1) xs)
+listed_next conn [] k less = absurd (omega (arith, less))
+listed_next conn (x ∷ xs) zero less = go (is_of conn x) refl
+  where
+    go : (b : Bool) → is_of conn x ≡ b → resources_by conn (x ∷ xs)
+        ≡ (if is_of conn x then x.r ∷ [] else []) ++ resources_by conn xs
+    go true e = rw e refl
+    go false e = rw e refl
+listed_next conn (x ∷ xs) (suc k) less =
+    let next : suc k + 1 ≡ suc (k + 1) = omega arith in
+    rw next (listed_next conn xs k (omega (arith, less)))
+
+-- with the same connector the order is that of the resources
+part_as_resource : (a b : Record) (conn : ConnId) → is_of conn a ≡ true → is_of conn b ≡ true
+    → part_before (part_of a) (part_of b) ≡ resource_before a.r b.r
+part_as_resource a b conn e f =
+    bits (resource_before a.r b.r) (same_resource a.r b.r) a.conn.0 b.conn.0 conn.0 e f
+  where
+    bits : (r s : Bool) (m n k : ℕ) → m == k ≡ true → n == k ≡ true → r || (s && nat_lt m n) ≡ r
+    bits r s m n k e f = grind (arith, nat_tests)
+
+all_arranged : (p : Record → Bool) (xs : List Record) → list_all p xs ≡ true
+    → list_all p (arranged part_of part_before xs) ≡ true
+unfolding arranged
+all_arranged p [] h = refl
+all_arranged p (x ∷ xs) h =
+    let parts = and_parts (p x) (list_all p xs) h in
+    list_all-insertion p (λ y. part_before (part_of y) (part_of x)) x (arranged part_of part_before xs)
+    ∙ and_from (p x) (list_all p (arranged part_of part_before xs)) parts.0 (all_arranged p xs parts.1)
+
+same_arranged : (conn : ConnId) (xs : List Record) → list_all (is_of conn) xs ≡ true
+    → arranged part_of part_before xs ≡ arranged resource_of resource_before xs
+unfolding arranged
+same_arranged conn [] h = refl
+same_arranged conn (x ∷ xs) h =
+    let parts = and_parts (is_of conn x) (list_all (is_of conn) xs) h in
+    insertion_agree (is_of conn) (λ y. part_before (part_of y) (part_of x)) (λ y. resource_before y.r x.r) x
+    (arranged part_of part_before xs) (all_arranged (is_of conn) xs parts.1)
+    (λ y e. part_as_resource y x conn e parts.0)
+    ∙ ap (λ (l : List Record). insertion (λ y. resource_before y.r x.r) x l) (same_arranged conn xs parts.1)
+
+-- a connector's resources, once they are sorted, are those of its record data in order
+pub sorted_resources : (conn : ConnId) (entries : List Record) (ks : List Resource)
+    → IsPermutation (resources_by conn entries) ks
+    → pairwise (in_turn (λ k. k) resource_before) ks ≡ true
+    → ks ≡ resources_by conn (arranged part_of part_before entries)
+sorted_resources conn entries ks perm turn =
+    sorted_is same_resource resource_before resource_order resource_of (filter (is_of conn) entries) ks perm turn
+    ∙ ap (map resource_of)
+    (sym (same_arranged conn (filter (is_of conn) entries) (list_all-filter_same (is_of conn) entries))
+    ∙ arranged-filter part_of same_part part_before part_order (is_of conn) entries)

@@ -1,0 +1,9 @@
+use Rattle.std.proofs.Common.{◌≡◌, ap, ◌∙◌, rules}
+use Rattle.std.proofs.lemmas.List.Elements.{same_from_all_zip}
+use Rattle.lock_record.specs.Book.{Book, records_in}
+use Rattle.lock_record.proofs.records.Records.copy.Goals as goal
+
+pub returns-clause-records : goal.returns-clause-records
+returns-clause-records c =
+    let same : c.in_ok-clone.field-0.entries ≡ c.self.inside.map.entries = search (rules, same_from_all_zip) in
+    ap records_in same ∙ ap (λ (b : Book). b.records) c.self.view_is

@@ -1,0 +1,8 @@
+use Rattle.std.proofs.Common.{◌≡◌, drop}
+use Rattle.std.specs.List.{list_any}
+use Rattle.lock_record.specs.Recorded.{is_of}
+use Rattle.lock_record.proofs.records.Records.has_of.Given as goal
+
+abbrev pub invariant-loop-k : goal.invariant-loop-k
+invariant-loop-k l =
+    list_any (is_of l.conn) (drop l.k l.self.entries) ≡ list_any (is_of l.conn) l.self.records

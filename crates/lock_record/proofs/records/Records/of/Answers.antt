@@ -1,0 +1,19 @@
+use Rattle.std.proofs.Common.{List, sym, ap, subst, arith, ◌∙◌}
+use Rattle.std.specs.List.Sorted.{IsPermutation}
+use Rattle.cf_types.specs.declared.resources.Resource.{Resource}
+use Rattle.cf_types.specs.Resources.{same_resource, resource_before}
+use Rattle.table_entries.proofs.KeyLaws.{resource_order}
+use Rattle.table_entries.proofs.SortLaws.{neighbours}
+use Rattle.lock_record.specs.declared.recorded.Record.{Record}
+use Rattle.lock_record.specs.Recorded.{resources_by}
+use Rattle.lock_record.proofs.WalkLaws.{sorted_resources}
+use Rattle.lock_record.proofs.records.Records.of.Goals as goal
+
+pub returns : goal.returns
+returns c =
+    sorted_resources c.args.conn c.args.self.now.entries c.sort.new.self.items
+    (subst (λ (l : List Resource). IsPermutation l c.sort.new.self.items) c.in_ok-list.ensures
+    c.in_ok-sort.ensures.permutation)
+    (neighbours same_resource resource_before resource_order c.sort.new.self.items
+    (λ k d less. c.in_ok-sort.ensures.sorted k d (omega arith) less))
+    ∙ ap (λ (l : List Record). resources_by c.args.conn l) (sym c.count.ensures.order)
