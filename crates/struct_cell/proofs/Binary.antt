@@ -7,7 +7,7 @@ use Rattle.std.proofs.lemmas.Nat.Bits.{bit_at_cat_low, bit_at_cat_high}
 use Rattle.vec_words.specs.Logged.{bit_in}
 use Rattle.struct_cell.specs.Words.{word_from, whole_word}
 
-abbrev one_if : Bool → ℕ
+abbrev pub one_if : Bool → ℕ
 one_if b = if b then 1 else 0
 
 pub word-small : (f : ℕ → Bool) (n : ℕ) → word_from f n < 2 ^ n
@@ -79,3 +79,7 @@ whole_bit f index =
 pub whole-small : (f : ℕ → Bool) → whole_word f < 2 ^ 32
 unfolding whole_word
 whole-small f = word-small f 32
+
+pub word_place : (f : ℕ → Bool) (k : ℕ) → k < 32 → bit_at (whole_word f) k ≡ one_if (f k)
+unfolding whole_word
+word_place f k less = bit-word f 32 k less

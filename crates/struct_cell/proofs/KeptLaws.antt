@@ -26,7 +26,7 @@ use Rattle.struct_machine.specs.Turns.{IsTurn}
 use Rattle.vec_words.specs.declared.logged.Logged.{Logged}
 use Rattle.vec_words.specs.declared.logged.Logged.TheVariants.{Committed}
 use Rattle.vec_words.specs.declared.stores.Place.{Place}
-use Rattle.vec_words.specs.Logged.{CallRecord, commits_of, count_of, bit_in}
+use Rattle.vec_words.specs.Logged.{CallRecord, commits_of, count_of, bit_in, words_of}
 use Rattle.vec_words.specs.Stores.{StoresEach, IsSpared}
 use Rattle.vec_words.specs.Tokens.{WordTable, SeatSeen}
 use Rattle.vec_words.proofs.Commits.{commits-commit}
@@ -35,8 +35,9 @@ use Rattle.vec_words.proofs.StoreLaws.{stores-commits}
 use Rattle.struct_cell.specs.declared.inside.CellKey.{CellKey}
 use Rattle.struct_cell.specs.Cells.{About, commit_of, IsCell, Shows}
 use Rattle.struct_cell.specs.Marks.{entered}
-use Rattle.struct_cell.specs.Touches.{TouchedWords, IsOfTable}
-use Rattle.struct_cell.specs.Words.{words_in}
+use Rattle.struct_cell.specs.Touches.{VectorWords, AreOfTable, AreWordsOf, word_at}
+use Rattle.struct_cell.specs.Words.{word_in, words_in}
+use Rattle.struct_cell.proofs.MirrorLaws.{stores_alike, words_alike}
 use Rattle.struct_cell.proofs.ShownLaws.{shows_next}
 use Rattle.struct_cell.proofs.TurnLaws.{length-entered, IsTaken, few_marks, turn_at, taken, links_more, links_none, room_more}
 
@@ -50,16 +51,17 @@ none_shown false = refl
 module _ {C R I S L : Type 0} (asks : L → Option ℕ) (downs : L → Option (List ℕ)) (faults : L → ℕ)
     (meaning : Meaning C R I S) where
   -- a cell begins so
-  pub cell_start : (key : CellKey C R L) (standing : StructureView S L) (touched : TouchedWords)
+  pub cell_start : (key : CellKey C R L) (standing : StructureView S L) (touched : VectorWords)
       (seat : SeatSeen (About C R)) (journal : List (Entry C R))
       → key ≡ record
       { form = standing.form; callers = seat.table.conns; limit = key.limit; words = seat.table; links = standing.links }
       → standing.machine ≡ opening meaning standing.form
       → ((conn : ConnId) (index : ℕ) → meaning.stands (meaning.empty (shape_of standing.form)) conn index ≡ false)
       → (touched.conns ≡ seat.table.conns) × (touched.len ≡ seat.table.len)
+      → AreWordsOf touched.conns touched.len touched.words (λ conn index. false)
       → seat.table.len ≡ standing.form.vector → seat.number ≡ 0 → seat.log ≡ [] → journal ≡ []
       → IsCell asks downs faults meaning key key.limit standing touched journal seat
-  cell_start key standing touched seat journal key_is machine_is clear touches len idle log none =
+  cell_start key standing touched seat journal key_is machine_is clear touches bare len idle log none =
       let form_is : key.form ≡ standing.form = ap (λ (k : CellKey C R L). k.form) key_is in
       let callers_are : key.callers ≡ seat.table.conns = ap (λ (k : CellKey C R L). k.callers) key_is in
       let words_are : key.words ≡ seat.table = ap (λ (k : CellKey C R L). k.words) key_is in
@@ -72,7 +74,12 @@ module _ {C R I S L : Type 0} (asks : L → Option ℕ) (downs : L → Option (L
             subst (λ (start : Links L). AreAsked asks downs faults (answers {C = C} {R = R} meaning key.form []) start standing.links)
             (sym links_are) (links_none asks downs faults meaning key.form standing.links);
         table = sym words_are;
-        touches = (touches.0 ∙ sym callers_are, touches.1 ∙ len ∙ ap (λ (f : StrForm). f.vector) (sym form_is));
+        vectors_of = (touches.0 ∙ sym callers_are, touches.1 ∙ len ∙ ap (λ (f : StrForm). f.vector) (sym form_is));
+        words =
+            words_alike touched.conns touched.len touched.words (λ conn index. false)
+            (meaning.stands standing.machine.content)
+            (λ conn index. sym (ap (λ (m : Machine S). meaning.stands m.content conn index) machine_is
+            ∙ clear conn index)) bare;
         conns = ap (λ (w : WordTable). w.conns) words_are ∙ sym callers_are;
         len = ap (λ (w : WordTable). w.len) words_are ∙ len ∙ ap (λ (f : StrForm). f.vector) (sym form_is);
         idle = idle;
@@ -94,14 +101,14 @@ module _ {C R I S L : Type 0} (asks : L → Option ℕ) (downs : L → Option (L
 
   -- a turn keeps it, where its words are stored and its call is committed
   pub cell_turned : (key : CellKey C R L) (limit : ℕ) (standing standing' : StructureView S L)
-      (touched touched' : TouchedWords) (journal : List (Entry C R))
+      (touched touched' : VectorWords) (journal : List (Entry C R))
       (seat begun stored seat' : SeatSeen (About C R)) (bits : ℕ → ℕ → ℕ) (turn : Turn C)
       (number : ℕ) (reply : Reply R)
       → IsCell asks downs faults meaning key limit standing touched journal seat
       → number ≡ number_added meaning key.form journal turn
       → reply ≡ (let call = call_added meaning key.form journal turn in call.reply)
       → standing'.machine ≡ replay meaning key.form (after_turn meaning key.form journal turn)
-      → standing'.form ≡ standing.form → IsOfTable touched touched' → turn.by.0 ≤ key.callers → number ≤ limit + 2
+      → standing'.form ≡ standing.form → AreOfTable touched touched' → turn.by.0 ≤ key.callers → number ≤ limit + 2
       → length journal < limit
       → AreAsked asks downs faults
       (answers_to turn.down (links_asked meaning key.form (replay meaning key.form journal) turn.by turn.ask))
@@ -109,6 +116,7 @@ module _ {C R I S L : Type 0} (asks : L → Option ℕ) (downs : L → Option (L
       → ((conn : ConnId) (index : ℕ) → 0 < conn.0 → conn.0 ≤ touched'.conns → index < touched'.len
       → IsSpared touched'.places conn.0 (index / 32)
       → stands_at meaning standing'.machine conn index ≡ stands_at meaning standing.machine conn index)
+      → AreWordsOf touched'.conns touched'.len touched'.words (meaning.stands standing'.machine.content)
       → begun ≡ record seat { number = number }
       → StoresEach key.words.conns key.words.len bits touched'.places begun stored
       → ((conn word : ℕ) → bits conn word ≡ words_in meaning standing'.form standing'.machine conn word)
@@ -116,7 +124,7 @@ module _ {C R I S L : Type 0} (asks : L → Option ℕ) (downs : L → Option (L
       ≡ record stored { number = 0; log = stored.log ++ Committed stored.number turn.by.0 (turn.ask, reply) ∷ [] }
       → IsCell asks downs faults meaning key limit standing' touched' (after_turn meaning key.form journal turn) seat'
   cell_turned key limit standing standing' touched touched' journal seat begun stored seat' bits turn number reply
-      cell number_is replies machine_is form_is same_table within few below asked kept begun_is each are seat_is =
+      cell number_is replies machine_is form_is same_table within few below asked kept words begun_is each are seat_is =
       let form = key.form in
       let history = after_turn meaning form journal turn in
       let about : About C R = (turn.ask, reply) in
@@ -147,7 +155,8 @@ module _ {C R I S L : Type 0} (asks : L → Option ℕ) (downs : L → Option (L
             links_more asks downs faults meaning form journal turn key.links standing.links standing'.links cell.legal
             cell.links asked;
         table = ap (λ (s : SeatSeen (About C R)). s.table) seat_is ∙ stored_table ∙ cell.table;
-        touches = (same_table.0 ∙ cell.touches.0, same_table.1 ∙ cell.touches.1);
+        vectors_of = (same_table.0 ∙ cell.vectors_of.0, same_table.1 ∙ cell.vectors_of.1);
+        words = words;
         conns = cell.conns;
         len = cell.len;
         idle = ap (λ (s : SeatSeen (About C R)). s.number) seat_is;
@@ -181,40 +190,33 @@ module _ {C R I S L : Type 0} (asks : L → Option ℕ) (downs : L → Option (L
             ∙ ap (λ (f : StrForm). words_in meaning f standing'.machine conn word) (form_is ∙ cell.form))
             machine_is
             (λ conn index some most inside spared.
-            kept conn index some (subst (λ (n : ℕ). conn.0 ≤ n) (sym (same_table.0 ∙ cell.touches.0)) most)
-            (subst (λ (n : ℕ). index < n) (sym (same_table.1 ∙ cell.touches.1)) inside) spared
+            kept conn index some (subst (λ (n : ℕ). conn.0 ≤ n) (sym (same_table.0 ∙ cell.vectors_of.0)) most)
+            (subst (λ (n : ℕ). index < n) (sym (same_table.1 ∙ cell.vectors_of.1)) inside) spared
             ∙ ap (λ (m : Machine S). meaning.stands m.content conn index) cell.machine));
       }
 
-  -- so does a step that leaves the seat as it was
-  pub cell_same : (key : CellKey C R L) (limit : ℕ) (standing : StructureView S L) (touched : TouchedWords)
-      (journal : List (Entry C R)) (seat seat' : SeatSeen (About C R))
-      → IsCell asks downs faults meaning key limit standing touched journal seat → seat' ≡ seat
-      → IsCell asks downs faults meaning key limit standing touched journal seat'
-  cell_same key limit standing touched journal seat seat' cell same =
-      subst (IsCell asks downs faults meaning key limit standing touched journal) (sym same) cell
-
   -- so does a turn of the machine, where its marks are entered, its words stored, and its call committed and entered
   pub cell_answered : (key : CellKey C R L) (limit : ℕ) (standing standing' : StructureView S L)
-      (touched touched' : TouchedWords) (journal marked journal' : List (Entry C R)) (marks : List Mark)
+      (touched touched' : VectorWords) (journal marked journal' : List (Entry C R)) (marks : List Mark)
       (seat learned begun stored seat' : SeatSeen (About C R)) (vectors : WordTable)
       (named : List Place) (count owner : ℕ) (by : ConnId) (ask : Ask C) (reply : Reply R)
       → IsCell asks downs faults meaning key limit standing touched journal seat
       → IsTurn asks downs faults meaning standing standing' by ask marks reply
-      → standing'.form ≡ standing.form → IsOfTable touched touched' → length journal < limit
+      → standing'.form ≡ standing.form → AreOfTable touched touched' → length journal < limit
       → ((conn : ConnId) (index : ℕ) → 0 < conn.0 → conn.0 ≤ touched'.conns → index < touched'.len
       → IsSpared touched'.places conn.0 (index / 32)
       → stands_at meaning standing'.machine conn index ≡ stands_at meaning standing.machine conn index)
+      → AreWordsOf touched'.conns touched'.len touched'.words (meaning.stands standing'.machine.content)
       → vectors ≡ key.words → named ≡ touched'.places → learned ≡ seat
       → marked ≡ entered journal marks → count ≡ length marked + 1
       → by.0 ≡ owner → owner ≤ vectors.conns → begun ≡ record learned { number = count }
-      → StoresEach vectors.conns vectors.len (words_in meaning standing'.form standing'.machine) named begun stored
+      → StoresEach vectors.conns vectors.len (word_at touched'.len touched'.words) named begun stored
       → seat' ≡ record stored { number = 0; log = stored.log ++ Committed stored.number owner (ask, reply) ∷ [] }
       → journal' ≡ marked ++ record { no = count; by = by; what = what.Call ask; reply = reply } ∷ []
       → IsCell asks downs faults meaning key limit standing' touched' journal' seat'
   cell_answered key limit standing standing' touched touched' journal marked journal' marks seat learned begun stored
       seat' vectors named count owner by ask reply
-      cell done form_is same_table few kept vectors_are named_are learned_is marked_is count_is by_is most begun_is each
+      cell done form_is same_table few kept words vectors_are named_are learned_is marked_is count_is by_is most begun_is each
       seat_is journal_is =
       let form = key.form in
       let it = turn_at asks downs faults meaning form (replay meaning form journal) standing standing' by ask marks reply
@@ -243,12 +245,20 @@ module _ {C R I S L : Type 0} (asks : L → Option ℕ) (downs : L → Option (L
       (subst (λ (n : ℕ). owner ≤ n) (ap (λ (w : WordTable). w.conns) vectors_are ∙ cell.conns) most) in
       let begun_seat : begun ≡ record seat { number = count } =
       begun_is ∙ ap (λ (s : SeatSeen (About C R)). record s { number = count }) learned_is in
+      let told : ℕ → ℕ → ℕ = word_at touched'.len touched'.words in
+      let lens : touched'.len ≡ key.form.vector = same_table.1 ∙ cell.vectors_of.1 in
       let stores : StoresEach key.words.conns key.words.len
       (words_in meaning standing'.form standing'.machine) touched'.places begun stored =
-      subst (λ (w : WordTable). StoresEach w.conns w.len
-      (words_in meaning standing'.form standing'.machine) touched'.places begun stored) vectors_are
-      (subst (λ (ps : List Place). StoresEach vectors.conns vectors.len
-      (words_in meaning standing'.form standing'.machine) ps begun stored) named_are each) in
+      stores_alike key.words.conns key.words.len told (words_in meaning standing'.form standing'.machine)
+      touched'.places begun stored
+      (λ conn word some most inside.
+      words conn word some
+      (subst (λ (n : ℕ). conn ≤ n) (cell.conns ∙ sym (same_table.0 ∙ cell.vectors_of.0)) most)
+      (subst (λ (n : ℕ). word < words_of n) (cell.len ∙ sym lens) inside)
+      ∙ ap (λ (n : ℕ). word_in n (meaning.stands standing'.machine.content) conn word)
+      (lens ∙ ap (λ (f : StrForm). f.vector) (sym (form_is ∙ cell.form))))
+      (subst (λ (w : WordTable). StoresEach w.conns w.len told touched'.places begun stored) vectors_are
+      (subst (λ (ps : List Place). StoresEach vectors.conns vectors.len told ps begun stored) named_are each)) in
       let two : length marks ≤ 2 = few_marks asks downs faults meaning standing standing' by ask marks reply done in
       let all : length marked ≡ length journal + length marks =
       ap length marked_is ∙ length-entered journal marks in
@@ -256,7 +266,7 @@ module _ {C R I S L : Type 0} (asks : L → Option ℕ) (downs : L → Option (L
       (sym call_is)
       (cell_turned key limit standing standing' touched touched' journal seat begun stored seat'
       (words_in meaning standing'.form standing'.machine) turn count reply cell number_is taken_so.reply_is
-      taken_so.machine_is form_is same_table within (omega (arith, few, two, all, count_is)) few it.asked kept begun_seat
+      taken_so.machine_is form_is same_table within (omega (arith, few, two, all, count_is)) few it.asked kept words begun_seat
       stores (λ conn word. refl)
       (seat_is
       ∙ ap (λ (n : ℕ). record stored { number = 0; log = stored.log ++ Committed stored.number n (ask, reply) ∷ [] })

@@ -1,6 +1,7 @@
 pub mod PlaceLaws
 pub mod SpotLaws
 pub mod Binary
+pub mod MirrorLaws
 pub mod ShownLaws
 pub mod TurnLaws
 pub mod KeptLaws

@@ -10,18 +10,12 @@ use Rattle.cf_types.specs.declared.numbers.ConnId.{ConnId}
 use Rattle.cf_types.specs.Gains.{is_for}
 use Rattle.vec_words.specs.declared.stores.Place.{Place}
 use Rattle.vec_words.specs.Stores.{IsAt, IsSpared, AreDistinct}
-use Rattle.std.proofs.lemmas.List.Quantifiers.{all_pairs_push}
 
 -- no place of a list and one more
 pub spared-front : (places : List Place) (place : Place) (conn word : ℕ) → IsSpared (places ++ place ∷ []) conn word
     → IsSpared places conn word
 spared-front places place conn word spared =
     (All-pop (λ p. ¬ IsAt conn word p) (places ++ place ∷ []) places (Some place) refl spared).0
-
-pub spared-last : (places : List Place) (place : Place) (conn word : ℕ) → IsSpared (places ++ place ∷ []) conn word
-    → ¬ IsAt conn word place
-spared-last places place conn word spared =
-    (All-pop (λ p. ¬ IsAt conn word p) (places ++ place ∷ []) places (Some place) refl spared).1
 
 -- a bit whose word isn't this one is another bit
 pub bit-apart : (change : BitChange) (conn : ConnId) (index : ℕ)
@@ -82,22 +76,6 @@ vectors-more places now words n others here before conn word some most below spa
       | inr high ↦ let same : conn ≡ n + 1 = omega arith in here word below
           (subst (λ c. IsSpared now c word) same spared)
     ]
-
--- one place more, that is none of the others
-pub distinct-push : (places : List Place) (place : Place) → AreDistinct places → (Contains places place → ⊥)
-    → AreDistinct (places ++ place ∷ [])
-distinct-push places place distinct apart =
-    all_pairs_push (λ (one other : Place). ¬ IsAt other.conn.0 other.word one) places place distinct
-    (λ k d less is. apart (k, less, get_or_default places k place d less ∙ same (get_or places k d) is))
-  where
-    same : (other : Place) → IsAt place.conn.0 place.word other → other ≡ place
-    same other is = λ j. record { conn = record { 0 = is.0 j }; word = is.1 j }
-
--- a place that is among others isn't spared by them
-pub contains-spared : (places : List Place) (place : Place) → Contains places place
-    → IsSpared places place.conn.0 place.word → ⊥
-contains-spared places place has spared = All-contains
-    (λ p. ¬ IsAt place.conn.0 place.word p) places place spared has (refl, refl)
 
 -- each of distinct places is spared by those before it
 pub spared-before : (places : List Place) (i : ℕ) (d : Place) → i < length places → AreDistinct places

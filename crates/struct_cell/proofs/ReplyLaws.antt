@@ -1,11 +1,9 @@
 -- The entry of a number in a journal, and the call of that number among its caller's calls: both have the same reply.
-use Rattle.std.proofs.Common.{◌≡◌, ℕ, zero, suc, ◌+◌, ◌-◌, ◌<◌, ◌≤◌, ◌==◌, Bool, true, false, List, [], ◌∷◌, map, None, Some, Option, refl, sym, ap, subst, ◌∙◌, arith}
+use Rattle.std.proofs.Common.{◌≡◌, ℕ, zero, suc, ◌+◌, ◌-◌, ◌≤◌, ◌==◌, Bool, true, false, List, [], ◌∷◌, map, None, Some, Option, refl, sym, ap, subst, ◌∙◌, arith}
 use Rattle.std.specs.Prelude.{option_and_then, slice_get}
 use Rattle.std.proofs.lemmas.Bool.Decides.{nat_tests}
-use Rattle.cf_types.specs.declared.forms.StrForm.{StrForm}
 use Rattle.cf_types.specs.declared.numbers.ConnId.{ConnId}
 use Rattle.engine_api.specs.declared.asks.Ask.{Ask}
-use Rattle.engine_api.specs.declared.asks.Reply.{Reply}
 use Rattle.engine_api.specs.declared.asks.What.{What}
 use Rattle.engine_api.specs.declared.asks.What.TheVariants as what
 use Rattle.engine_api.specs.declared.histories.Entry.{Entry}
@@ -19,7 +17,7 @@ use Rattle.struct_cell.specs.declared.inside.CellKey.{CellKey}
 use Rattle.reply_copy.specs.Journals.{reply_for, reply_at}
 use Rattle.struct_cell.specs.Calls.{reply_to}
 use Rattle.struct_cell.specs.Cells.{About, own_call_of, IsCell}
-use Rattle.struct_cell.specs.Touches.{TouchedWords}
+use Rattle.struct_cell.specs.Touches.{VectorWords}
 use Rattle.struct_cell.proofs.ToldLaws.{own_calls}
 
 module _ {C R : Type 0} where
@@ -123,7 +121,7 @@ module _ {C R : Type 0} where
 
 module _ {C R I S L : Type 0} (asks : L → Option ℕ) (downs : L → Option (List ℕ)) (faults : L → ℕ)
     (meaning : Meaning C R I S) (key : CellKey C R L) (limit : ℕ) (standing : StructureView S L)
-    (touched : TouchedWords)
+    (touched : VectorWords)
     (journal : List (Entry C R)) (seat : SeatSeen (About C R))
     (cell : IsCell asks downs faults meaning key limit standing touched journal seat) where
   -- of a cell's journal the entry of a number has for a caller what the caller's call of that number was replied

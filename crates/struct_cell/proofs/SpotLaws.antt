@@ -1,13 +1,13 @@
 -- Places that are found by their numbers, and places in order.
-use Rattle.std.proofs.Common.{◌≡◌, ℕ, ◌+◌, ◌*◌, ◌<◌, List, [], ◌∷◌, ◌++◌, length, get_or, set, Some, refl, sym, ap, subst, ◌∙◌, arith, inl, inr}
+use Rattle.std.proofs.Common.{◌≡◌, ℕ, ◌+◌, ◌<◌, List, [], ◌∷◌, ◌++◌, length, get_or, set, Some, sym, ap, ◌∙◌, arith, inl, inr}
 use Rattle.std.proofs.lemmas.Bool.{cases_lt}
-use Rattle.std.specs.Prelude.{Contains, ◌⊎◌, ◌≢◌, slice_get}
+use Rattle.std.specs.Prelude.{◌⊎◌, ◌≢◌, slice_get}
 use Rattle.std.proofs.lemmas.List.{get_or_append_left, get_or_push, get_or-set_same, get_or-set_other, length_push, length-set}
-use Rattle.std.proofs.lemmas.List.Elements.{All-push, All-weaker, All-contains}
+use Rattle.std.proofs.lemmas.List.Elements.{All-push, All-weaker}
 use Rattle.std.proofs.lemmas.Option.{slice_get-get_or}
 use Rattle.vec_words.specs.declared.stores.Place.{Place}
-use Rattle.vec_words.specs.Logged.{words_of, word_number}
-use Rattle.vec_words.specs.Stores.{IsWithin, AreDistinct}
+use Rattle.vec_words.specs.Logged.{word_number}
+use Rattle.vec_words.specs.Stores.{IsWithin}
 use Rattle.vec_words.proofs.Places.{word_number-same}
 use Rattle.struct_cell.specs.Touches.{AreSpotted, ComeBefore}
 
@@ -23,28 +23,6 @@ pub numbered : (conns len : ℕ) (one other : Place) → IsWithin conns len one 
 numbered conns len one other this that same =
     let both = word_number-same len one.conn.0 other.conn.0 one.word other.word this.0 that.0 this.2 that.2 same in
     same_place one other both.0 both.1
-
--- places that are found by their numbers are apart
-pub spotted_apart : (conns len : ℕ) (places : List Place) (spots : List ℕ) → AreSpotted conns len places spots
-    → AreDistinct places
-spotted_apart conns len places spots is i j d less within same =
-    let one = get_or places i d in
-    let other = get_or places j d in
-    let equal : one ≡ other = same_place one other same.0 same.1 in
-    let found : get_or spots (number_in len one) 0 ≡ i = is.spotted i d (omega (arith, less, within)) in
-    let there : get_or spots (number_in len other) 0 ≡ j = is.spotted j d within in
-    let equal' : i ≡ j = sym found ∙ ap (λ (p : Place). get_or spots (number_in len p) 0) equal ∙ there in
-    absurd (omega (arith, less, equal'))
-
--- none are
-pub spotted_none : (conns len : ℕ) (places : List Place) (spots : List ℕ) → places ≡ []
-    → length spots ≡ conns * words_of len → AreSpotted conns len places spots
-spotted_none conns len places spots none size =
-    subst (λ (ps : List Place). AreSpotted conns len ps spots) (sym none) (record {
-      within = λ k d below. absurd (omega (arith, below));
-      size = size;
-      spotted = λ k d below. absurd (omega (arith, below));
-    })
 
 -- one more
 pub spotted_push : (conns len : ℕ) (places : List Place) (spots : List ℕ) (place : Place) (number : ℕ)
@@ -77,30 +55,6 @@ spotted_push conns len places spots place number is here number_is below absent 
 }
 
 -- ---- places in order
-
--- a place that comes behind the others is none of them
-pub before_apart : (places : List Place) (place : Place) → ComeBefore places place.conn.0 place.word
-    → Contains places place → ⊥
-before_apart places place before has = elim (All-contains
-    (λ (p : Place). (p.conn.0 < place.conn.0) ⊎ ((p.conn.0 ≡ place.conn.0) × (p.word < place.word))) places place
-    before has) [
-      | inl less ↦ omega (arith, less)
-      | inr same ↦ (let less = same.1 in omega (arith, less))
-    ]
-
--- with it they come before the next word
-pub before_push : (places : List Place) (place : Place) → ComeBefore places place.conn.0 place.word
-    → ComeBefore (places ++ place ∷ []) place.conn.0 (place.word + 1)
-before_push places place before =
-    All-push (λ (p : Place). (p.conn.0 < place.conn.0) ⊎ ((p.conn.0 ≡ place.conn.0) × (p.word < place.word + 1)))
-    places place
-    (All-weaker (λ (p : Place). (p.conn.0 < place.conn.0) ⊎ ((p.conn.0 ≡ place.conn.0) × (p.word < place.word)))
-    (λ (p : Place). (p.conn.0 < place.conn.0) ⊎ ((p.conn.0 ≡ place.conn.0) × (p.word < place.word + 1)))
-    (λ p is. elim is [
-      | inl less ↦ inl less
-      | inr same ↦ (let less = same.1 in inr (same.0, omega (arith, less)))
-    ]) places before)
-    (inr (refl, omega arith))
 
 -- what comes before a word of a connector comes before all words of the next one
 pub before_next : (places : List Place) (conn word : ℕ) → ComeBefore places conn word

@@ -4,11 +4,6 @@ use Rattle.std.specs.Prelude.{Contains, Option}
 use Rattle.std.proofs.lemmas.Bool.Decides.{nat_tests}
 use Rattle.std.proofs.lemmas.List.{length-map, get_or-map}
 use Rattle.std.proofs.lemmas.List.Elements.{All-map, All-weaker}
-use Rattle.cf_types.specs.declared.limits.TheConstants.{VECTOR_BITS}
-use Rattle.cf_types.specs.declared.forms.StrForm.{StrForm}
-use Rattle.cf_types.specs.declared.forms.Kind.{Kind}
-use Rattle.cf_types.specs.declared.forms.Kind.TheVariants as kind
-use Rattle.cf_types.specs.Forms.{IsForm, IsVectorOf}
 use Rattle.cf_types.specs.declared.numbers.ConnId.{ConnId}
 use Rattle.cf_link.specs.declared.links.Links.{Links}
 use Rattle.cf_link.specs.Links.{AreAsked}
@@ -25,7 +20,7 @@ use Rattle.vec_words.proofs.Commits.{committed-all}
 use Rattle.engine_api.proofs.NumberLaws.{numbered_legal}
 use Rattle.struct_cell.specs.declared.inside.CellKey.{CellKey}
 use Rattle.struct_cell.specs.Cells.{About, own_call_of, commit_of, IsCell, shown_after, shown_below}
-use Rattle.struct_cell.specs.Touches.{TouchedWords}
+use Rattle.struct_cell.specs.Touches.{VectorWords}
 use Rattle.struct_cell.specs.Telling.{IsTold}
 
 module _ {C R : Type 0} where
@@ -53,7 +48,7 @@ module _ {C R : Type 0} where
 
 module _ {C R I S L : Type 0} (asks : L → Option ℕ) (downs : L → Option (List ℕ)) (faults : L → ℕ)
     (meaning : Meaning C R I S) (key : CellKey C R L) (limit : ℕ) (standing : StructureView S L)
-    (touched : TouchedWords)
+    (touched : VectorWords)
     (journal : List (Entry C R)) (seat : SeatSeen (About C R))
     (cell : IsCell asks downs faults meaning key limit standing touched journal seat) where
   -- a number that was issued is a point of the journal
@@ -142,7 +137,7 @@ module _ {C R I S L : Type 0} (asks : L → Option ℕ) (downs : L → Option (L
 
 module _ {C R I S L : Type 0} (asks : L → Option ℕ) (downs : L → Option (List ℕ)) (faults : L → ℕ)
     (meaning : Meaning C R I S) (key seen : CellKey C R L) (limit : ℕ)
-    (standing : StructureView S L) (touched : TouchedWords)
+    (standing : StructureView S L) (touched : VectorWords)
     (journal history : List (Entry C R)) (seat : SeatSeen (About C R))
     (passes : List (PassSeen (About C R)))
     (cell : IsCell asks downs faults meaning key limit standing touched journal seat) (key_is : key ≡ seen)
@@ -202,15 +197,6 @@ pub same_tables : {D : Type 0} (words other : WordTable) (passes same : List (Pa
 same_tables {D} words other passes same is list_is all =
     subst (λ (ps : List (PassSeen D)). All (λ (pass : PassSeen D). pass.table ≡ other) ps) (sym list_is)
     (subst (λ (w : WordTable). All (λ (pass : PassSeen D). pass.table ≡ w) passes) is all)
-
--- a form's vectors are small
-pub vector_small : (form : StrForm) → IsForm form → form.vector ≤ VECTOR_BITS
-vector_small form is = by_kind form.kind is.vector
-  where
-    by_kind : (k : Kind) → IsVectorOf k form.vector → form.vector ≤ VECTOR_BITS
-    by_kind kind.Cache it = it.1
-    by_kind (kind.List headers locks refs) it = it.1
-    by_kind kind.Lock it = omega (arith, it)
 
 pub same_shown : {D : Type 0} (seat : SeatSeen D) (passes same : List (PassSeen D)) → same ≡ passes
     → All (IsShown seat) same → All (IsShown seat) passes

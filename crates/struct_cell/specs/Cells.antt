@@ -16,7 +16,7 @@ use Rattle.vec_words.specs.Logged.{CallRecord, steps_of, commits_of, count_of, w
 use Rattle.vec_words.specs.Tokens.{SeatSeen}
 use Rattle.struct_cell.specs.declared.inside.CellKey.{CellKey}
 use Rattle.struct_cell.specs.Limits.{AreMadeBelow}
-use Rattle.struct_cell.specs.Touches.{TouchedWords}
+use Rattle.struct_cell.specs.Touches.{VectorWords, AreWordsOf}
 use Rattle.struct_cell.specs.Words.{shown_in}
 
 -- what the words are told of an answered call: what was asked, and the reply
@@ -48,16 +48,18 @@ module _ {C R I S : Type 0} (meaning : Meaning C R I S) (form : StrForm) where
       ≡ shown_below history (n + 1) conn index
 
 -- What lies under the lock stands to what never changes. Nothing is in flight; the log's commits are the journal's
--- calls; the journal is legal, and leads to the machine; the links were asked since the start as the journal's answers
--- say; each call found room in it; and at each number the words show what stood after the last call up to it.
+-- calls; the journal is legal, and leads to the machine; the words that are kept are those of the machine's bits; the
+-- links were asked since the start as the journal's answers say; each call found room in it; and at each number the
+-- words show what stood after the last call up to it.
 pub record IsCell {C R I S L : Type 0} (asks : L → Option ℕ) (downs : L → Option (List ℕ)) (faults : L → ℕ)
     (meaning : Meaning C R I S) (key : CellKey C R L) (limit : ℕ) (standing : StructureView S L)
-    (touched : TouchedWords) (journal : List (Entry C R)) (seat : SeatSeen (About C R)) : Type 0 where
+    (vectors : VectorWords) (journal : List (Entry C R)) (seat : SeatSeen (About C R)) : Type 0 where
   pub form : standing.form ≡ key.form
   pub limit_is : limit ≡ key.limit
   pub links : AreAsked asks downs faults (answers meaning key.form journal) key.links standing.links
   pub table : seat.table ≡ key.words
-  pub touches : (touched.conns ≡ key.callers) × (touched.len ≡ key.form.vector)
+  pub vectors_of : (vectors.conns ≡ key.callers) × (vectors.len ≡ key.form.vector)
+  pub words : AreWordsOf vectors.conns vectors.len vectors.words (meaning.stands standing.machine.content)
   pub conns : key.words.conns ≡ key.callers
   pub len : key.words.len ≡ key.form.vector
   pub idle : seat.number ≡ 0

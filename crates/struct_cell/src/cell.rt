@@ -178,11 +178,10 @@ impl<E: Engine, L: Link> Cell<E, L> {
         let reply = inside.machine.answer(alloc, by, &ask, &mut inside.changed)?;
         self.vectors.learn(&mut inside.seat, pass);
         enter_marks(&mut inside.journal, inside.changed.marks());
-        inside.touched.note(&inside.changed);
+        inside.touched.note(&inside.changed, &inside.machine);
         let no = inside.journal.len() as u32 + 1;
         self.vectors.begin(&mut inside.seat, no);
-        let words = inside.touched.places();
-        store_words(&self.vectors, &mut inside.seat, &inside.machine, words);
+        store_words(&self.vectors, &mut inside.seat, &inside.touched);
         self.vectors
             .commit_call(&mut inside.seat, pass, &ask, &reply);
         let told = Told::of(no, &ask, &reply);

@@ -5,6 +5,7 @@
 mod cell;
 mod closed;
 mod inside;
+mod mirror;
 mod place_set;
 mod refused;
 mod touched;

@@ -97,8 +97,8 @@ impl PlaceSet {
     }
 }
 
-// The number of a word among all words.
-fn number_of(conns: u8, len: u32, place: Place) -> usize
+/// The number of a word among all words.
+pub(crate) fn number_of(conns: u8, len: u32, place: Place) -> usize
     requires place { IsWithin conns len place }
     ensures number { result ≡ word_number len place.conn.0 place.word }
     ensures within { result < conns * words_of len }

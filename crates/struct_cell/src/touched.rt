@@ -1,66 +1,100 @@
 ghost use Rattle.std.specs.Prelude.{◌≡◌, ◌+◌, ◌/◌, ◌<◌, ◌≤◌, ℕ, [], true, false, IfOk, OnOk, All};
-ghost use Rattle.cf_types.specs.declared.limits.TheConstants.{VECTOR_BITS};
-ghost use Rattle.cf_types.specs.Gains.{is_for};
+ghost use Rattle.cf_types.specs.declared.limits.TheConstants.{CONNECTORS, VECTOR_BITS};
+ghost use Rattle.cf_types.specs.Gains.{Bits, is_for};
 ghost use Rattle.cf_types.specs.declared.numbers.ConnId.{ConnId};
-ghost use Rattle.struct_machine.specs.Changes.{IsUntouched};
-ghost use Rattle.struct_cell.specs.Touches.{IsOfTable, IsEvery, ComeBefore};
+ghost use Rattle.struct_machine.specs.Changes.{IsUntouched, Names};
+ghost use Rattle.struct_machine.specs.StructureView.{stands_at};
+ghost use Rattle.struct_cell.specs.Touches.{AreMirrorsOf, AreOfTable, AreWordsOf, IsOfTable, IsEvery, ComeBefore, word_at};
 ghost use Rattle.vec_words.specs.Logged.{words_of};
 ghost use Rattle.vec_words.specs.Stores.{IsWithin, IsSpared, AreDistinct};
 
+use crate::mirror::Mirror;
 use crate::place_set::PlaceSet;
+use cf_link::Link;
 use cf_types::{BitChange, ConnId, NoMemory};
+use engine_api::Engine;
 use std::alloc::Global;
 use std::marker::Model;
-use struct_machine::Changed;
+use struct_machine::{Changed, Machine};
 use vec_words::Place;
 
-/// The words of vectors in which a call may have changed a bit: those that are named, or every
-/// word.
+/// The words of all vectors, and those of them in which a call may have changed a bit: those that
+/// are named, or every word.
 #[derive(Drop)]
 pub(crate) struct Touched {
+    mirror: Mirror,
     every: Vec<Place>,
     named: PlaceSet,
     all: bool,
 }
 
 impl Model for Touched {
-    ghost use Rattle.std.specs.Prelude.{◌≤◌, All, if◌then◌else◌};
-    ghost use Rattle.struct_cell.specs.Touches.{TouchedWords, IsEvery};
+    ghost use Rattle.std.specs.Prelude.{◌≡◌, ◌≤◌, All, if◌then◌else◌};
+    ghost use Rattle.cf_types.specs.declared.limits.TheConstants.{CONNECTORS, VECTOR_BITS};
+    ghost use Rattle.struct_cell.specs.Touches.{VectorWords, IsEvery};
     ghost use Rattle.vec_words.specs.Stores.{IsWithin, AreDistinct};
 
-    ghost Value = { TouchedWords };
+    ghost Value = { VectorWords };
 
     ghost view = { λ t. record {
       conns = t.named.conns;
       len = t.named.len;
+      words = t.mirror.words;
       places = if t.all then t.every.items
           else t.named.places;
     } };
 
     ghost invariant = { λ t. All (IsWithin t.named.conns t.named.len) t.every.items
-        × AreDistinct t.every.items × IsEvery t.named.conns t.named.len t.every.items };
+        × AreDistinct t.every.items × IsEvery t.named.conns t.named.len t.every.items
+        × (t.mirror.conns ≡ t.named.conns) × (t.mirror.len ≡ t.named.len)
+        × (t.mirror.conns ≤ CONNECTORS) × (t.mirror.len ≤ VECTOR_BITS) };
 }
 
 impl Touched {
-    /// No word, of vectors of `len` bits for connectors 1 to `conns`.
+    /// Words without a bit, of vectors of `len` bits for connectors 1 to `conns`, and none of them
+    /// touched.
     pub(crate) fn none(alloc: Global, conns: u8, len: u32) -> Result<Touched, NoMemory>
-        requires { len ≤ VECTOR_BITS }
-        ensures { IfOk result (λ touched.
-            touched ≡ record { conns = conns; len = len; places = [] }) }
+        requires conns { conns ≤ CONNECTORS }
+        requires len { len ≤ VECTOR_BITS }
+        ensures conns { IfOk result (λ touched. touched.conns ≡ conns) }
+        ensures len { IfOk result (λ touched. touched.len ≡ len) }
+        ensures words { IfOk result
+            (λ touched. AreWordsOf conns len touched.words (λ conn index. false)) }
     {
+        let mirror = Mirror::new(alloc, conns, len)?;
         let every = every_word(alloc, conns, len)?;
         let named = PlaceSet::new(alloc, conns, len)?;
         Ok(Touched {
+            mirror,
             every,
             named,
             all: false,
         })
     }
 
-    /// The words of the bits that a call may have changed. It takes no memory: where there is no
-    /// room for all that are named, it is every word.
-    pub(crate) fn note(&mut self, changed: &Changed)
-        ensures table { IsOfTable self.old self.new }
+    /// A call has left the machine so: the words are brought to what it changed, and those in which
+    /// it may have changed a bit are the touched ones. It takes no memory: where there is no room
+    /// for all that are named, every word is touched.
+    pub(crate) fn note<E: Engine, L: Link>(&mut self, changed: &Changed, machine: &Machine<E, L>)
+        requires vector { self.old.len ≡ machine.now.form.vector }
+        ensures table { AreOfTable self.old self.new }
+        ensures words { (before : Bits)
+            → AreWordsOf self.old.conns self.old.len self.old.words before
+            → Names changed.now before (stands_at E.meaning machine.now.machine)
+            → AreWordsOf self.new.conns self.new.len self.new.words
+            (stands_at E.meaning machine.now.machine) }
+        ensures spared { (conn : ConnId) (index : ℕ) → 0 < conn.0 → conn.0 ≤ self.new.conns
+            → index < self.new.len → IsSpared self.new.places conn.0 (index / 32)
+            → IsUntouched changed.now conn index }
+    {
+        follow(&mut self.mirror, self.every.as_slice(), changed, machine);
+        self.touch(changed);
+    }
+
+    // The words of the bits that a call may have changed.
+    fn touch(&mut self, changed: &Changed)
+        ensures table { AreOfTable self.old self.new }
+        ensures words { self.new.words ≡ self.old.words }
         ensures spared { (conn : ConnId) (index : ℕ) → 0 < conn.0 → conn.0 ≤ self.new.conns
             → index < self.new.len → IsSpared self.new.places conn.0 (index / 32)
             → IsUntouched changed.now conn index }
@@ -73,7 +107,15 @@ impl Touched {
         self.all = !name_all(&mut self.named, changed.bits());
     }
 
-    /// The words.
+    /// A word.
+    pub(crate) fn word(&self, place: Place) -> u32
+        requires { IsWithin self.now.conns self.now.len place }
+        ensures { result ≡ word_at self.now.len self.now.words place.conn.0 place.word }
+    {
+        self.mirror.word(place)
+    }
+
+    /// The touched words.
     pub(crate) fn places(&self) -> &[Place]
         ensures places { result.now ≡ self.now.places }
         ensures within { All (IsWithin self.now.conns self.now.len) result.now }
@@ -85,6 +127,33 @@ impl Touched {
             self.named.places()
         }
     }
+}
+
+// Brings words to what a call has changed: to the bits that are told, or, where it may be any bit,
+// each to the machine's bits.
+fn follow<E: Engine, L: Link>(
+    mirror: &mut Mirror,
+    every: &[Place],
+    changed: &Changed,
+    machine: &Machine<E, L>,
+)
+    requires vector { mirror.old.len ≡ machine.now.form.vector }
+    requires conns { mirror.old.conns ≤ CONNECTORS }
+    requires len { mirror.old.len ≤ VECTOR_BITS }
+    requires within { All (IsWithin mirror.old.conns mirror.old.len) every.now }
+    requires every { IsEvery mirror.old.conns mirror.old.len every.now }
+    ensures table { AreMirrorsOf mirror.old mirror.new }
+    ensures words { (before : Bits)
+        → AreWordsOf mirror.old.conns mirror.old.len mirror.old.words before
+        → Names changed.now before (stands_at E.meaning machine.now.machine)
+        → AreWordsOf mirror.new.conns mirror.new.len mirror.new.words
+        (stands_at E.meaning machine.now.machine) }
+{
+    if changed.is_all() {
+        mirror.look_up(machine, every);
+        return;
+    }
+    mirror.take_over(changed.bits());
 }
 
 // Puts the words of these bits in. False where there is no room for all of them. Bits past the

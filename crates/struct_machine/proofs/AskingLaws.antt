@@ -1,5 +1,5 @@
 -- The links that a call asks, one after another.
-use Rattle.std.proofs.Common.{◌≡◌, ℕ, ◌==◌, Bool, true, false, not, ◌&&◌, ◌||◌, List, [], ◌∷◌, ◌++◌, ◌≢◌, refl, sym, ap, subst, subst₂, ◌∙◌}
+use Rattle.std.proofs.Common.{◌≡◌, ℕ, ◌==◌, Bool, true, false, not, ◌&&◌, ◌||◌, List, [], ◌∷◌, ◌++◌, ◌≢◌, refl, sym, ap, subst, ◌∙◌}
 use Rattle.std.specs.Prelude.{Option, None, Some, IfSome, All, filter, is_some, if◌then◌else◌}
 use Rattle.std.proofs.lemmas.List.Elements.{All-from_recursion}
 use Rattle.std.specs.List.{AllByRecursion}
@@ -204,16 +204,6 @@ marks_both asked lost other distinct here there goes =
     two =
         filtered_behind asked.second other (listed lost) there (λ cf h.
         not_told asked.first lost cf here (distinct_behind (listed asked.first) (listed asked.second) cf distinct h))
-
--- where it ends it, that is the only one
-pub marks_first : (asked : Asked) (lost : Option CfId) → is_some lost ≡ true → asked.stops ≡ true
-    → IfSome lost (λ cf. asked.first ≡ Some cf)
-    → listed lost ++ [] ≡ marks_of (has (listed lost ++ [])) (asks_in asked)
-marks_first asked None some stops is = absurd (cc)
-marks_first asked (Some cf) some stops is =
-    subst₂ (λ (first : Option CfId) (b : Bool). cf ∷ [] ≡ marks_of (has (cf ∷ []))
-    (record { links = listed first ++ listed asked.second; stops = b })) (sym is) (sym stops)
-    (sym (rw (itself cf) refl))
 
 -- ---- a single link
 

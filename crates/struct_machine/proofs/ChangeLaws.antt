@@ -1,18 +1,25 @@
 -- Which bits stand as before.
-use Rattle.std.proofs.Common.{◌≡◌, ℕ, Bool, true, false, List, [], ◌∷◌, All, Option, None, Some, is_some, option_map, map, filter, refl, sym, ap, ◌∙◌, subst}
+use Rattle.std.proofs.Common.{◌≡◌, ℕ, Bool, true, false, List, [], ◌∷◌, All, Option, None, Some, is_some, map, filter, refl, sym, ap, ◌∙◌, subst}
+use Rattle.std.specs.Prelude.{◌||◌, ◌&&◌, is_none}
 use Rattle.std.proofs.lemmas.List.Elements.{recursion_from_All}
 use Rattle.std.specs.List.{AllByRecursion}
 use Rattle.cf_types.specs.declared.effects.BitChange.{BitChange}
 use Rattle.cf_types.specs.declared.forms.StrForm.{StrForm}
 use Rattle.cf_types.specs.declared.numbers.CfId.{CfId}
 use Rattle.cf_types.specs.declared.numbers.ConnId.{ConnId}
+use Rattle.cf_types.specs.declared.refusals.Refusal.{Refusal}
+use Rattle.cf_types.proofs.GainsLaws.{gains_none}
 use Rattle.cf_types.specs.Gains.{Bits, Gains, is_for, bits_told, difference}
+use Rattle.engine_api.specs.declared.asks.Ask.{Ask}
+use Rattle.engine_api.specs.declared.asks.Ask.TheVariants as ask
 use Rattle.engine_api.specs.declared.deeds.Deeds.{Deeds}
-use Rattle.engine_api.specs.Machine.{content_after}
+use Rattle.engine_api.specs.Machine.{Machine, content_after, room_of}
+use Rattle.engine_api.specs.Shell.{call_cause}
 use Rattle.duplex_pair.specs.Pairs.{bits_of}
-use Rattle.engine_api.specs.Meaning.{Meaning, Held, with_departure}
+use Rattle.engine_api.specs.Meaning.{Meaning, Held}
 use Rattle.struct_machine.specs.Kept.{state_in}
-use Rattle.struct_machine.specs.Changes.{ChangeList, Covers, may_change_bits}
+use Rattle.struct_machine.specs.Changes.{ChangeList, IsUntouched, Names, any_failure, deeds_by, may_be_any, may_change_bits}
+use Rattle.struct_machine.specs.declared.marks.Mark.{Mark}
 
 -- ---- what is told covers what changed
 
@@ -34,13 +41,23 @@ difference_same false true none = absurd cc
 difference_same true false none = absurd cc
 difference_same true true none = refl
 
-pub covers_gains : (before after : Bits) (changed : ChangeList) → Gains before after [] changed.bits
-    → Covers changed before after
-covers_gains before after changed gains conn index untouched =
+-- a bit that is none of those that may have changed stands as before
+pub untouched_same : (before after : Bits) (changed : ChangeList) → Names changed before after
+    → (conn : ConnId) (index : ℕ) → IsUntouched changed conn index → after conn index ≡ before conn index
+untouched_same before after changed names conn index untouched =
+    let gains : Gains before after [] changed.bits = names untouched.not_all in
     let nothing : bits_told changed.bits conn index ≡ [] = told_unnamed changed.bits conn index untouched.unnamed in
     difference_same (before conn index) (after conn index)
     (sym (gains.exactly conn index) ∙ ap (λ (changes : List BitChange). bits_told changes conn index) (sym gains.behind)
     ∙ nothing)
+
+-- where nothing changed, nothing is named
+pub names_nothing : {S : Type 0} (bits_in : S → Bits) (was now : S) (changed : ChangeList) → changed.bits ≡ []
+    → (changed.all ≡ false → now ≡ was) → Names changed (bits_in was) (bits_in now)
+names_nothing {S} bits_in was now changed none same not_all =
+    subst (λ (bits : List BitChange). Gains (bits_in was) (bits_in now) [] bits) (sym none)
+    (gains_none (bits_in was) (bits_in now) []
+    (λ conn index. ap (λ (s : S). bits_in s conn index) (same not_all)))
 
 -- the same of a content that stands
 pub gains_held : {C R I S : Type 0} (meaning : Meaning C R I S) (form : StrForm) (was now : Option (Held S))
@@ -50,16 +67,6 @@ pub gains_held : {C R I S : Type 0} (meaning : Meaning C R I S) (form : StrForm)
 gains_held meaning form None now bits stands left gains = absurd (cc)
 gains_held meaning form (Some was) None bits stands left gains = absurd (cc)
 gains_held meaning form (Some was) (Some now) bits stands left gains = gains
-
--- and where somebody departed
-pub gains_departed : {C R I S : Type 0} (meaning : Meaning C R I S) (form : StrForm) (was now : Option (Held S))
-    (bits : List BitChange) (conn : ConnId) (keep : Bool) → is_some was ≡ true
-    → now ≡ option_map (λ (held : Held S). with_departure meaning held conn keep) was
-    → Gains (bits_of meaning was) (bits_of meaning now) [] bits
-    → Gains (meaning.stands (state_in meaning form was)) (meaning.stands (state_in meaning form now)) [] bits
-gains_departed meaning form None now bits conn keep stands same gains = absurd (cc)
-gains_departed meaning form (Some was) None bits conn keep stands same gains = absurd (cc)
-gains_departed meaning form (Some was) (Some now) bits conn keep stands same gains = gains
 
 -- ---- deeds that change no bits leave the content
 
@@ -87,18 +94,25 @@ module _ {C R I S : Type 0} (meaning : Meaning C R I S) (form : StrForm) where
       by_deeds true None (Some cf) false false none = refl
 
   -- a departure whose bits are named, and then a command's deeds
-  pub covers_deeds : (rebuilding : Bool) (deeds : Deeds) (before middle after : S) (named changed : ChangeList)
+  pub names_deeds : (rebuilding : Bool) (deeds : Deeds) (before middle after : S) (named changed : ChangeList)
       → changed ≡ record named { all = may_change_bits rebuilding deeds }
       → after ≡ content_after meaning form rebuilding deeds middle
       → Gains (meaning.stands before) (meaning.stands middle) [] named.bits
-      → Covers changed (meaning.stands before) (meaning.stands after)
-  covers_deeds rebuilding deeds before middle after named changed noted done gains =
-      subst (λ (list : ChangeList). Covers list (meaning.stands before) (meaning.stands after)) (sym noted)
-      (λ conn index untouched.
-      ap (λ (state : S). meaning.stands state conn index) (done ∙ content_kept rebuilding deeds middle
-      untouched.not_all)
-      ∙ covers_gains (meaning.stands before) (meaning.stands middle) (record named {
-        all = may_change_bits rebuilding
-            deeds;
-      }) gains
-      conn index untouched)
+      → Names changed (meaning.stands before) (meaning.stands after)
+  names_deeds rebuilding deeds before middle after named changed noted done gains =
+      subst (λ (list : ChangeList). Names list (meaning.stands before) (meaning.stands after)) (sym noted)
+      (λ not_all. subst (λ (state : S). Gains (meaning.stands before) (meaning.stands state) [] named.bits)
+      (sym (done ∙ content_kept rebuilding deeds middle not_all)) gains)
+
+-- ---- when any bit may have changed
+
+module _ {C R I S : Type 0} (meaning : Meaning C R I S) (form : StrForm) (machine : Machine S) (by : ConnId)
+    (marks : List Mark) (all : Bool) where
+  -- a call that is refused
+  pub refused_all : (call : Ask C) (refusal : Refusal)
+      → call_cause form (room_of meaning form machine) machine.shell by call ≡ Some refusal
+      → marks ≡ [] → all ≡ false → all ≡ may_be_any meaning form machine by call marks
+  refused_all (ask.Shell command) refusal is unmarked quiet =
+      quiet ∙ sym (λ i. any_failure (unmarked i) || (is_none (is i)
+      && may_change_bits (is_some machine.shell.rebuild) (deeds_by meaning form machine by command)))
+  refused_all (ask.Content command) refusal is unmarked quiet = quiet ∙ sym (ap any_failure unmarked)

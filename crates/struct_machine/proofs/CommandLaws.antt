@@ -38,8 +38,8 @@ use Rattle.shell_laws.proofs.StepLaws.{done}
 use Rattle.struct_machine.specs.Deeds.{Spares, AreSpares, AreAdmitted, MayMake, MayAdd, MayDrop, fresh_left, fresh_before, kept_past, places_past, makes_second, held_past, HasNone}
 use Rattle.struct_machine.specs.Kept.{AreOf, IsOf, machine_of, state_in, left_in, copied_in, caps_of}
 use Rattle.cf_types.specs.Gains.{Gains}
-use Rattle.struct_machine.specs.Changes.{ChangeList, Covers, may_change_bits}
-use Rattle.struct_machine.proofs.ChangeLaws.{covers_deeds}
+use Rattle.struct_machine.specs.Changes.{ChangeList, Names, may_change_bits}
+use Rattle.struct_machine.proofs.ChangeLaws.{names_deeds}
 use Rattle.struct_machine.proofs.DeedLaws.{IsEmptyOf, AreIdle, back_caller, caps_past, copied_past, of_past, state_past}
 use Rattle.struct_machine.proofs.InstanceLaws.{IsPlacing, IsSeconding, IsDropping, placing_command, facility_behind}
 use Rattle.struct_machine.proofs.KeptLaws.{caps_none, fresh_none, fresh_stands, fresh_under, held_stands, rebuild_held, room_left}
@@ -490,14 +490,21 @@ module _ {C R I S : Type 0} (meaning : Meaning C R I S) (form : StrForm)
     past_then after under fresh now acts of_rebuild of_fresh does =
         does ∙ (λ i. kept_past meaning (of_rebuild i) (acts i).deeds (of_fresh i) spares left)
 
+    -- whether any bit may have changed
+    pub all_then : (after : ShellOutcome) → after ≡ acted → (under : Bool) → under ≡ rebuilding
+        → (named changed : ChangeList) → changed ≡ record named { all = may_change_bits under after.deeds }
+        → changed.all ≡ may_change_bits rebuilding acted.deeds
+    all_then after acts under of_rebuild named changed noted =
+        ap (λ (list : ChangeList). list.all) noted ∙ (λ i. may_change_bits (of_rebuild i) (acts i).deeds)
+
     -- the bits that changed are told
-    pub covered_then : (after : ShellOutcome) (now : Kept S) → after ≡ acted → now ≡ past → (under : Bool)
+    pub named_then : (after : ShellOutcome) (now : Kept S) → after ≡ acted → now ≡ past → (under : Bool)
         → under ≡ rebuilding → (named changed : ChangeList)
         → changed ≡ record named { all = may_change_bits under after.deeds }
         → Gains (meaning.stands machine.content) (meaning.stands (state_in meaning form left.held)) [] named.bits
-        → Covers changed (meaning.stands machine.content) (meaning.stands (state_in meaning form now.held))
-    covered_then after now acts does under of_rebuild named changed noted gains =
-        covers_deeds meaning form under after.deeds machine.content gone.state (state_in meaning form now.held) named
+        → Names changed (meaning.stands machine.content) (meaning.stands (state_in meaning form now.held))
+    named_then after now acts does under of_rebuild named changed noted gains =
+        names_deeds meaning form under after.deeds machine.content gone.state (state_in meaning form now.held) named
         changed noted
         (ap (λ (outcome : CallOutcome R S). outcome.machine.content) (command_same after now acts does)
         ∙ (λ i. content_after meaning form (sym of_rebuild i) (sym acts i).deeds gone.state))

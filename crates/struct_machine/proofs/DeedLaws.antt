@@ -17,7 +17,7 @@ use Rattle.engine_api.specs.Asking.{MayCommand}
 use Rattle.engine_api.specs.Shapes.{shape_of}
 use Rattle.engine_api.specs.Meaning.{Meaning, Held, new_held}
 use Rattle.engine_api.specs.Machine.{content_after, copied_after, with_back_of}
-use Rattle.engine_api.specs.Shell.{Shell, Leaver, caps_in, caps_made, ShellOutcome, shell_done, leaver, take_event, responded, response_outcome, stop_outcome, rebuild_connect_outcome, complete_outcome, vary_outcome, simplex_again}
+use Rattle.engine_api.specs.Shell.{Shell, caps_in, caps_made, ShellOutcome, shell_done, take_event, responded, response_outcome, stop_outcome, rebuild_connect_outcome, complete_outcome, vary_outcome, simplex_again}
 use Rattle.rebuild_core.specs.declared.rebuild.Rebuild.{Rebuild}
 use Rattle.rebuild_core.specs.Stages.{is_response}
 use Rattle.rebuild_copy.specs.Filling.{Fresh, caps_or, emptied}
@@ -25,29 +25,6 @@ use Rattle.shell_laws.specs.Capacities.{caps_behind, fresh_behind, fresh_caps}
 use Rattle.struct_machine.specs.Deeds.{fresh_made, fresh_past, held_back, held_made, held_switched, held_past}
 use Rattle.struct_machine.specs.Kept.{copied_in, caps_of, state_in, left_in, IsOf}
 use Rattle.shell_laws.proofs.LossLaws.{vary-cases}
-
--- who departs is a caller
-pub leaver_caller : (shell : Shell) (by : ConnId) (command : ShellCmd) (who : Leaver) → MayCommand by command
-    → leaver shell by command ≡ Some who
-    → IsCaller who.conn
-leaver_caller shell by (cmd.Connect keep) who may e = absurd cc
-leaver_caller shell by cmd.Disconnect who may e = let is : by ≡ who.conn = cc in rw (← is) (omega (arith, may.1))
-leaver_caller shell by cmd.Fail who may e = let is : by ≡ who.conn = cc in rw (← is) (omega (arith, may.1))
-leaver_caller shell by cmd.Next who may e = absurd cc
-leaver_caller shell by cmd.Respond who may e = absurd cc
-leaver_caller shell by (cmd.RebuildStart caps) who may e = absurd cc
-leaver_caller shell by cmd.RebuildStop who may e = absurd cc
-leaver_caller shell by cmd.RebuildConnect who may e = absurd cc
-leaver_caller shell by (cmd.Copy n) who may e = absurd cc
-leaver_caller shell by cmd.RebuildComplete who may e = absurd cc
-leaver_caller shell by (cmd.ForceConn other) who may e = let is : other ≡ who.conn = cc in rw (← is)
-    (omega (arith, may.1.1))
-leaver_caller shell by cmd.ForceStr who may e = absurd cc
-leaver_caller shell by (cmd.LoseConn other cf) who may e = absurd cc
-leaver_caller shell by (cmd.RestoreConn other cf) who may e = absurd cc
-leaver_caller shell by (cmd.Vary cf off) who may e = absurd cc
-leaver_caller shell by cmd.DuplexStart who may e = absurd cc
-leaver_caller shell by cmd.DuplexStop who may e = absurd cc
 
 either_back : (b : Bool) (x y : ShellOutcome) → IfSome x.deeds.back IsCaller → IfSome y.deeds.back IsCaller
     → IfSome (cond b x y).deeds.back IsCaller

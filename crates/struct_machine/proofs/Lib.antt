@@ -1,9 +1,8 @@
 mod RoomLaws
-mod AskerLaws
 mod ToldLaws
 mod RefusalLaws
 mod PostedLaws
-mod ChangeLaws
+pub mod ChangeLaws
 mod FacilityLaws
 mod InstanceLaws
 mod DeedLaws

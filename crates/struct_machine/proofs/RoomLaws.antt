@@ -4,11 +4,9 @@ use Rattle.cf_types.specs.declared.forms.StrForm.{StrForm}
 use Rattle.cf_types.specs.declared.numbers.ConnId.{ConnId}
 use Rattle.cf_types.specs.declared.shell_commands.ShellCmd.{ShellCmd}
 use Rattle.cf_types.specs.declared.shell_commands.ShellCmd.TheVariants as cmd
-use Rattle.engine_api.specs.declared.asks.Ask.{Ask}
-use Rattle.engine_api.specs.declared.asks.Ask.TheVariants as ask
 use Rattle.engine_api.specs.declared.deeds.Room.{Room}
-use Rattle.engine_api.specs.Shell.{Shell, shell_cause, shell_done, call_cause}
-use Rattle.struct_machine.specs.Kept.{command_looks, looks_at_need, room_seen}
+use Rattle.engine_api.specs.Shell.{Shell, shell_cause, shell_done}
+use Rattle.struct_machine.specs.Kept.{command_looks, room_seen}
 
 pub cause_seen : (form : StrForm) (room : Room) (shell : Shell) (by : ConnId) (command : ShellCmd)
     → shell_cause form (room_seen (command_looks command) room) shell by command
@@ -51,8 +49,3 @@ done_seen form room shell by (cmd.RestoreConn other cf) = refl
 done_seen form room shell by (cmd.Vary cf off) = refl
 done_seen form room shell by cmd.DuplexStart = refl
 done_seen form room shell by cmd.DuplexStop = refl
-
-pub call_seen : {C : Type 0} (form : StrForm) (room : Room) (shell : Shell) (by : ConnId) (asked : Ask C)
-    → call_cause form (room_seen (looks_at_need asked) room) shell by asked ≡ call_cause form room shell by asked
-call_seen form room shell by (ask.Shell command) = cause_seen form room shell by command
-call_seen form room shell by (ask.Content command) = refl

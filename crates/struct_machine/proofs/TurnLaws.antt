@@ -1,6 +1,6 @@
 -- A call with the links that it asks, put together.
-use Rattle.std.proofs.Common.{◌≡◌, ℕ, Bool, true, false, List, [], ◌∷◌, ◌++◌, Option, None, Some, IfSome, refl, sym, ap, ◌∙◌, subst, subst₂}
-use Rattle.std.specs.Prelude.{if◌then◌else◌, filter, ◌||◌, Result, Ok, Err, IfOk}
+use Rattle.std.proofs.Common.{◌≡◌, ℕ, Bool, true, false, List, [], ◌∷◌, ◌++◌, Option, None, Some, refl, sym, ap, ◌∙◌, subst, subst₂}
+use Rattle.std.specs.Prelude.{if◌then◌else◌, filter, Result, Ok, Err, IfOk}
 use Rattle.std.proofs.lemmas.List.Sums.{fold-append}
 use Rattle.cf_link.specs.declared.links.Links.{Links}
 use Rattle.cf_link.specs.Links.{AreAsked, IsAskedAll, link_at}
@@ -15,17 +15,14 @@ use Rattle.engine_api.specs.declared.asks.Ask.{Ask}
 use Rattle.engine_api.specs.declared.asks.Ask.TheVariants as ask
 use Rattle.engine_api.specs.declared.asks.Reply.{Reply}
 use Rattle.engine_api.specs.declared.asks.Reply.TheVariants as reply
-use Rattle.engine_api.specs.Instances.{is_at}
 use Rattle.engine_api.specs.LinkAsks.{Asks, apart, asks_of, asks_of_command, asked_unless, has, links_asked, listed, marks_of, answers_to, reached}
-use Rattle.engine_api.specs.Machine.{Machine, CallOutcome, call_done, command_done, entered_machine, loss_step, room_of, unless, with_entered}
+use Rattle.engine_api.specs.Machine.{Machine, CallOutcome, call_done, command_done, loss_step, room_of, unless}
 use Rattle.engine_api.specs.Meaning.{Meaning}
-use Rattle.engine_api.specs.Rebuilds.{fresh_of}
-use Rattle.engine_api.specs.Shell.{Shell, ShellOutcome, call_cause, content_cause, mark_outcome, primary_loss, shell_cause, stands_at}
+use Rattle.engine_api.specs.Shell.{Shell, call_cause, content_cause, shell_cause}
 use Rattle.plex_shell.specs.Losses.{reply_as}
-use Rattle.engine_api.proofs.AskLaws.{itself}
 use Rattle.struct_machine.specs.declared.marks.Mark.{Mark}
 use Rattle.struct_machine.specs.Kept.{is_copying, items_named, judged}
-use Rattle.struct_machine.specs.Turns.{AreTold, IsTurn, IsJudgedTurn, marks_in, behind_marks, lost_at, lost_by}
+use Rattle.struct_machine.specs.Turns.{AreTold, IsJudgedTurn, copy_asks_of, marks_in, behind_marks, lost_at, lost_by}
 
 module _ {C R I S : Type 0} (meaning : Meaning C R I S) (form : StrForm) where
   -- one mark more
@@ -48,49 +45,6 @@ module _ {C R I S : Type 0} (meaning : Meaning C R I S) (form : StrForm) where
   behind_both machine one two first second is other =
       other ∙ ap (λ (m : Machine S). behind_marks meaning form m (listed second)) is
       ∙ sym (fold-append (lost_at meaning form) machine (listed first) (listed second))
-
-  -- of two instances the second one stands behind the loss of the first
-  pub second_stands : (machine now : Machine S) (first second : Option CfId)
-      → IfSome first (λ cf. machine.shell.instances.primary ≡ Some cf)
-      → IfSome second (λ cf. machine.shell.instances.secondary ≡ Some cf)
-      → now ≡ behind_marks meaning form machine (listed first)
-      → IfSome second (λ cf. stands_at now.shell cf ≡ true)
-  second_stands machine now first None is other behind = tt
-  second_stands machine now None (Some two) is other behind =
-      subst (λ (m : Machine S). stands_at m.shell two ≡ true) (sym behind)
-      (ap (λ (o : Option CfId). first_at || (is_at two o || fresh_at)) other
-      ∙ ap (λ (b : Bool). first_at || (b || fresh_at)) (itself two) ∙ or_second first_at)
-    where
-      first_at : Bool
-      first_at = is_at two machine.shell.instances.primary
-
-      fresh_at : Bool
-      fresh_at = is_at two (fresh_of machine.shell.rebuild)
-
-      or_second : (b : Bool) → b || true ≡ true
-      or_second true = refl
-      or_second false = refl
-  second_stands machine now (Some one) (Some two) is other behind =
-      subst (λ (m : Machine S). stands_at m.shell two ≡ true) (sym behind)
-      (ap (λ (o : Option CfId). is_at two o || rest) left ∙ ap (λ (b : Bool). b || rest) (itself two))
-    where
-      shell : Shell
-      shell = machine.shell
-
-      after : Shell
-      after = (mark_outcome form one shell).shell
-
-      rest : Bool
-      rest = is_at two after.instances.secondary || is_at two (fresh_of after.rebuild)
-
-      go : (b : Bool) (second : Option CfId) (others : ShellOutcome) → b ≡ true → second ≡ Some two
-          → (if b then primary_loss form one second shell else others).shell.instances.primary ≡ Some two
-      go true second others there at =
-          ap (λ (o : Option CfId). (primary_loss form one o shell).shell.instances.primary) at
-      go false second others there at = absurd (cc)
-
-      left : after.instances.primary ≡ Some two
-      left = go (is_at one shell.instances.primary) shell.instances.secondary _ (ap (is_at one) is ∙ itself one) other
 
   -- ---- a whole turn
 
@@ -148,21 +102,6 @@ module _ {C R I S : Type 0} (meaning : Meaning C R I S) (form : StrForm) where
             ap (λ (cfs : List CfId). if has (reached asks.stops (λ (c : CfId). false) cfs) cf then false ∷ [] else [])
             none
 
-    -- once it has come
-    pub turn_entered : (old new : Machine S) (before after : Links L) (by : ConnId) (call : Ask C) (marks : List Mark)
-        (reply : Reply R) (came : Machine S) → came ≡ entered_machine new
-        → IsJudgedTurn calls downs faults meaning form old new before after by call marks reply
-        → IsTurn calls downs faults meaning (record { form = form; machine = old; links = before })
-        (record { form = form; machine = came; links = after }) by call marks reply
-    turn_entered old new before after by call marks reply came is turn = record {
-      down = turn.down;
-      told = turn.told;
-      done =
-          ap (λ (m : Machine S). (let o : CallOutcome R S = record { reply = reply; machine = m } in o)) is
-          ∙ ap with_entered turn.done;
-      asked = turn.links;
-    }
-
   -- what asks no link
   pub refused_asks : (machine : Machine S) (by : ConnId) (call : Ask C) (refusal : Refusal)
       → call_cause form (room_of meaning form machine) machine.shell by call ≡ Some refusal
@@ -196,14 +135,9 @@ module _ {C R I S : Type 0} (meaning : Meaning C R I S) (form : StrForm) where
   pub copy_asks : (machine : Machine S) (by : ConnId) (call : Ask C) (n : ℕ) (shell : Shell)
       → call ≡ ask.Shell (cmd.Copy n)
       → shell_cause form (room_of meaning form machine) machine.shell by (cmd.Copy n) ≡ None → shell ≡ machine.shell
-      → Path Asks
-      (record { links = apart (listed shell.instances.primary ++ listed (fresh_of shell.rebuild)); stops = true })
-      (links_asked meaning form machine by call)
+      → copy_asks_of shell ≡ links_asked meaning form machine by call
   copy_asks machine by call n shell is accepted same =
-      ap (λ (s : Shell). (let asks : Asks = record {
-        links = apart (listed s.instances.primary ++ listed (fresh_of s.rebuild));
-        stops = true;
-      } in asks)) same
+      ap copy_asks_of same
       ∙ sym (ap (links_asked meaning form machine by) is
       ∙ ap (λ (cause : Option Refusal). asked_unless cause (asks_of_command machine.shell (cmd.Copy n))) accepted)
 

@@ -13,11 +13,11 @@ use Rattle.engine_api.specs.declared.asks.Reply.TheVariants as reply
 use Rattle.engine_api.specs.declared.asks.Ask.{Ask}
 use Rattle.engine_api.specs.declared.asks.Ask.TheVariants as ask
 use Rattle.engine_api.specs.declared.deeds.Room.{Room}
-use Rattle.engine_api.specs.Meaning.{Meaning, Held}
-use Rattle.engine_api.specs.Machine.{Machine, CallOutcome, room_of, call_done, unless}
+use Rattle.engine_api.specs.Meaning.{Meaning, Held, Departure}
+use Rattle.engine_api.specs.Machine.{Machine, CallOutcome, departure_from, room_of, call_done, unless}
 use Rattle.engine_api.specs.Rebuilds.{fresh_of}
 use Rattle.engine_api.specs.Shapes.{shape_of}
-use Rattle.engine_api.specs.Shell.{call_cause}
+use Rattle.engine_api.specs.Shell.{call_cause, leaver}
 use Rattle.plex_shell.specs.ShellView.{ShellView}
 use Rattle.rebuild_copy.specs.Filling.{Fresh}
 use Rattle.shell_laws.specs.Capacities.{fresh_caps}
@@ -30,6 +30,10 @@ abbrev pub judged : {C R I S : Type 0} → Meaning C R I S → StrForm → Machi
 judged meaning form machine by asked =
     unless meaning form (call_cause form (room_of meaning form machine) machine.shell by asked) machine
     (call_done meaning form machine by asked)
+
+-- a reply, and the machine that is left
+abbrev pub answered : {R S : Type 0} → Reply R → Machine S → CallOutcome R S
+answered reply machine = record { reply = reply; machine = machine }
 
 -- only who connects to the new instance is refused by what the content needs
 abbrev pub command_looks : ShellCmd → Bool
@@ -82,6 +86,11 @@ module _ {C R I S : Type 0} (meaning : Meaning C R I S) where
   abbrev pub machine_of : StrForm → ShellView → Kept S → Machine S
   machine_of form shelled kept =
       record { shell = shelled.shell; content = state_in form kept.held; copied = copied_in kept.fresh }
+
+  -- who departs by a common command leaves the content first
+  abbrev pub gone_by : StrForm → ShellView → Kept S → ConnId → ShellCmd → Departure S
+  gone_by form shelled kept by command =
+      departure_from meaning form (leaver shelled.shell by command) (machine_of form shelled kept)
 
   -- what an instance holds is of the form's shape, and of this capacity
   abbrev pub IsOf : StrForm → Caps → Option (Held S) → Type 0

@@ -1,5 +1,5 @@
 -- A call with the links that it asks: what it leaves, and what it tells.
-use Rattle.std.specs.Prelude.{◌≡◌, ℕ, Bool, List, [], ◌∷◌, ◌++◌, fold, Option}
+use Rattle.std.specs.Prelude.{◌≡◌, ℕ, Bool, List, [], ◌∷◌, ◌++◌, fold, Option, true}
 use Rattle.cf_link.specs.declared.links.Links.{Links}
 use Rattle.cf_link.specs.Links.{AreAsked}
 use Rattle.cf_types.specs.declared.forms.StrForm.{StrForm}
@@ -9,13 +9,17 @@ use Rattle.duplex_pair.specs.declared.lost.Lost.{Lost}
 use Rattle.engine_api.specs.declared.asks.Ask.{Ask}
 use Rattle.engine_api.specs.declared.asks.Reply.{Reply}
 use Rattle.engine_api.specs.declared.asks.Reply.TheVariants as reply
-use Rattle.engine_api.specs.LinkAsks.{Asks, links_asked, listed, marks_of, answers_to}
+use Rattle.engine_api.specs.LinkAsks.{Asks, apart, links_asked, listed, marks_of, answers_to}
 use Rattle.engine_api.specs.Machine.{Machine, loss_step, step}
-use Rattle.engine_api.specs.Meaning.{Meaning}
+use Rattle.engine_api.specs.Meaning.{Meaning, Held}
+use Rattle.engine_api.specs.Rebuilds.{fresh_of}
+use Rattle.engine_api.specs.Shell.{Shell}
 use Rattle.plex_shell.specs.Losses.{reply_as}
+use Rattle.plex_shell.specs.ShellView.{ShellView}
 use Rattle.struct_machine.specs.declared.asking.Asked.{Asked}
 use Rattle.struct_machine.specs.declared.marks.Mark.{Mark}
-use Rattle.struct_machine.specs.Kept.{judged}
+use Rattle.struct_machine.specs.Content.{ContentView, kept_of}
+use Rattle.struct_machine.specs.Kept.{judged, machine_of}
 use Rattle.struct_machine.specs.StructureView.{StructureView}
 
 -- ---- what is asked, and what is down
@@ -25,6 +29,11 @@ asks_in asked = record { links = listed asked.first ++ listed asked.second; stop
 
 abbrev pub marks_in : Lost → List CfId
 marks_in lost = listed lost.first ++ listed lost.second
+
+-- COPY asks the link of the old instance, and that of the new one unless the first is down
+abbrev pub copy_asks_of : Shell → Asks
+copy_asks_of shell =
+    record { links = apart (listed shell.instances.primary ++ listed (fresh_of shell.rebuild)); stops = true }
 
 module _ {C R I S : Type 0} (meaning : Meaning C R I S) (form : StrForm) where
   -- the machine behind marks
@@ -42,6 +51,10 @@ module _ {C R I S : Type 0} (meaning : Meaning C R I S) (form : StrForm) where
   AreTold machine (cf ∷ cfs) (mark ∷ marks) =
       (mark.cf ≡ cf) × (reply.Shell (reply_as mark.lost) ≡ (loss_step meaning form machine cf).reply)
       × AreTold (lost_at machine cf) cfs marks
+
+  -- marks of these facilities lead from one machine to another, and are told
+  abbrev pub LeadTo : Machine S → List CfId → List Mark → Machine S → Type 0
+  LeadTo start cfs marks machine = (machine ≡ behind_marks start cfs) × AreTold start cfs marks
 
   -- the facilities that a call marks, where links answer so
   abbrev pub lost_by : (CfId → Bool) → Machine S → ConnId → Ask C → List CfId
@@ -68,3 +81,15 @@ pub record IsJudgedTurn {C R I S L : Type 0} (calls : L → Option ℕ) (downs :
   pub done : record { reply = reply; machine = new }
       ≡ judged meaning form (behind_marks meaning form old (lost_by meaning form down old by call)) by call
   pub links : AreAsked calls downs faults (answers_to down (links_asked meaning form old by call)) before after
+
+-- a structure in its parts
+abbrev pub structure_of : {C R I S E L : Type 0} → Meaning C R I S → (E → Held S) → StrForm → ShellView
+    → ContentView E L → StructureView S L
+structure_of meaning holds form shelled content =
+    record { form = form; machine = machine_of meaning form shelled (kept_of holds content); links = content.pair.links }
+
+-- the same of structures
+abbrev pub IsJudgedCall : {C R I S L : Type 0} → (L → Option ℕ) → (L → Option (List ℕ)) → (L → ℕ) → Meaning C R I S
+    → StructureView S L → StructureView S L → ConnId → Ask C → List Mark → Reply R → Type 0
+IsJudgedCall calls downs faults meaning old new by call marks reply =
+    IsJudgedTurn calls downs faults meaning old.form old.machine new.machine old.links new.links by call marks reply

@@ -4,13 +4,12 @@ ghost use Rattle.cf_types.specs.Forms.{IsCaller};
 ghost use Rattle.cf_types.specs.Gains.{Gains};
 ghost use Rattle.duplex_pair.specs.Pairs.{instances_of, content_of, bits_of, letters_on_leave};
 ghost use Rattle.engine_api.specs.Asking.{MayCommand};
-ghost use Rattle.engine_api.specs.Machine.{departure_from};
 ghost use Rattle.engine_api.specs.Meaning.{with_departure};
 ghost use Rattle.engine_api.specs.Shell.{leaver, with_posted};
 ghost use Rattle.rebuild_copy.specs.Filling.{emptied, with_copied};
 ghost use Rattle.struct_machine.specs.Content.{kept_of, lacking_in};
 ghost use Rattle.struct_machine.specs.Deeds.{fresh_left, fresh_before};
-ghost use Rattle.struct_machine.specs.Kept.{AreOf, machine_of, state_in, left_in};
+ghost use Rattle.struct_machine.specs.Kept.{AreOf, gone_by, state_in, left_in};
 
 use crate::content::Content;
 use cf_link::Link;
@@ -37,15 +36,12 @@ pub(crate) fn prepare<E: Engine, L: Link>(
     ensures form { shell.new.form ≡ shell.old.form }
     ensures places { instances_of content.new.pair ≡ instances_of content.old.pair }
     ensures links { content.new.pair.links ≡ content.old.pair.links }
-    ensures ok_held { let gone = departure_from E.meaning form.now
-        (leaver shell.old.shell by cmd.now)
-        (machine_of E.meaning form.now shell.old (kept_of E.held content.old)) in
-        OnOk result (content_of E.held content.new.pair
-        ≡ left_in gone.state (content_of E.held content.old.pair)) }
-    ensures ok_shell { let gone = departure_from E.meaning form.now
-        (leaver shell.old.shell by cmd.now)
-        (machine_of E.meaning form.now shell.old (kept_of E.held content.old)) in
-        OnOk result (shell.new.shell ≡ with_posted gone.letters shell.old.shell) }
+    ensures ok_held { OnOk result (content_of E.held content.new.pair ≡ left_in
+        (gone_by E.meaning form.now shell.old (kept_of E.held content.old) by cmd.now).state
+        (content_of E.held content.old.pair)) }
+    ensures ok_shell { OnOk result (shell.new.shell ≡ with_posted
+        (gone_by E.meaning form.now shell.old (kept_of E.held content.old) by cmd.now).letters
+        shell.old.shell) }
     ensures ok_fresh { OnOk result (content.new.fresh ≡ fresh_before E.meaning shell.old.shell by
         cmd.now (content_of E.held content.old.pair) content.old.fresh) }
     ensures room { OnOk result (ACT_LETTERS ≤ shell.new.room) }
@@ -99,15 +95,12 @@ fn depart_first<E: Engine, L: Link>(
     ensures form { shell.new.form ≡ shell.old.form }
     ensures places { instances_of content.new.pair ≡ instances_of content.old.pair }
     ensures links { content.new.pair.links ≡ content.old.pair.links }
-    ensures ok_held { let gone = departure_from E.meaning form.now
-        (leaver shell.old.shell by cmd.now)
-        (machine_of E.meaning form.now shell.old (kept_of E.held content.old)) in
-        OnOk result (content_of E.held content.new.pair
-        ≡ left_in gone.state (content_of E.held content.old.pair)) }
-    ensures ok_shell { let gone = departure_from E.meaning form.now
-        (leaver shell.old.shell by cmd.now)
-        (machine_of E.meaning form.now shell.old (kept_of E.held content.old)) in
-        OnOk result (shell.new.shell ≡ with_posted gone.letters shell.old.shell) }
+    ensures ok_held { OnOk result (content_of E.held content.new.pair ≡ left_in
+        (gone_by E.meaning form.now shell.old (kept_of E.held content.old) by cmd.now).state
+        (content_of E.held content.old.pair)) }
+    ensures ok_shell { OnOk result (shell.new.shell ≡ with_posted
+        (gone_by E.meaning form.now shell.old (kept_of E.held content.old) by cmd.now).letters
+        shell.old.shell) }
     ensures ok_fresh { OnOk result (content.new.fresh
         ≡ fresh_left shell.old.shell (leaver shell.old.shell by cmd.now) content.old.fresh) }
     ensures room { OnOk result (ACT_LETTERS ≤ shell.new.room) }

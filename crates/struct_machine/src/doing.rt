@@ -6,15 +6,15 @@ ghost use Rattle.cf_types.specs.Gains.{Gains};
 ghost use Rattle.duplex_pair.specs.Pairs.{content_of, AreReady};
 ghost use Rattle.engine_api.specs.Asking.{MayAsk, MayCommand};
 ghost use Rattle.engine_api.specs.declared.asks.Ask.TheVariants as asks;
-ghost use Rattle.engine_api.specs.LinkAsks.{answers_to, apart, has, listed, marks_of};
+ghost use Rattle.engine_api.specs.LinkAsks.{answers_to, has, marks_of};
 ghost use Rattle.engine_api.specs.Machine.{content_done, content_reply, command_done, room_of};
 ghost use Rattle.engine_api.specs.Meaning.Wish.{ForCmd};
 ghost use Rattle.engine_api.specs.Rebuilds.{fresh_of};
 ghost use Rattle.engine_api.specs.Shell.{call_cause, shell_cause, shell_done, content_cause};
-ghost use Rattle.struct_machine.specs.Changes.{Covers};
+ghost use Rattle.struct_machine.specs.Changes.{Names, any_failure, deeds_by, may_be_any, may_change_bits};
 ghost use Rattle.struct_machine.specs.Content.{kept_of};
-ghost use Rattle.struct_machine.specs.Kept.{AreOf, machine_of, state_in, judged, command_looks, copy_reply, is_copying, items_named, looks_at_need, room_seen};
-ghost use Rattle.struct_machine.specs.Turns.{IsTurn, IsJudgedTurn, marks_in};
+ghost use Rattle.struct_machine.specs.Kept.{AreOf, answered, machine_of, state_in, judged, command_looks, copy_reply, is_copying, items_named, looks_at_need, room_seen};
+ghost use Rattle.struct_machine.specs.Turns.{IsTurn, IsJudgedCall, copy_asks_of, marks_in, structure_of};
 
 use crate::asking::{Asked, ask_links};
 use crate::changed::Changed;
@@ -44,6 +44,14 @@ const NO_ROOM: Room = Room {
     left: 0,
 };
 
+// A call: who asks what, and what the instances know where it is judged.
+#[derive(Drop)]
+struct Call<'a, C> {
+    by: ConnId,
+    ask: &'a Ask<C>,
+    room: Room,
+}
+
 // A call is judged, its links are asked, it is done where the shell doesn't refuse it behind what
 // they tell, and has come then. What bits may have changed is told.
 pub(crate) fn answer<E: Engine, L: Link>(
@@ -59,21 +67,18 @@ pub(crate) fn answer<E: Engine, L: Link>(
     requires may { MayAsk by ask.now }
     requires unnamed { changed.old.bits ≡ [] }
     requires unmarked { changed.old.marks ≡ [] }
+    requires quiet { changed.old.all ≡ false }
     requires of_form { AreOf E.meaning form.now shell.old (kept_of E.held content.old) }
     ensures turn { IfOk result (λ reply. IsTurn L.calls L.downs L.faults E.meaning
-        (record {
-          form = form.now;
-          machine = machine_of E.meaning form.now shell.old (kept_of E.held content.old);
-          links = content.old.pair.links;
-        })
-        (record {
-          form = form.now;
-          machine = machine_of E.meaning form.now shell.new (kept_of E.held content.new);
-          links = content.new.pair.links;
-        }) by ask.now changed.new.marks reply) }
-    ensures bits { OnOk result (Covers changed.new
+        (structure_of E.meaning E.held form.now shell.old content.old)
+        (structure_of E.meaning E.held form.now shell.new content.new)
+        by ask.now changed.new.marks reply) }
+    ensures bits { OnOk result (Names changed.new
         (E.meaning.stands (state_in E.meaning form.now (content_of E.held content.old.pair)))
         (E.meaning.stands (state_in E.meaning form.now (content_of E.held content.new.pair)))) }
+    ensures all { OnOk result (changed.new.all ≡ may_be_any E.meaning form.now
+        (machine_of E.meaning form.now shell.old (kept_of E.held content.old)) by ask.now
+        changed.new.marks) }
     ensures of_form { AreOf E.meaning form.now shell.new (kept_of E.held content.new) }
     ensures err { OnErr result (machine_of E.meaning form.now shell.new (kept_of E.held content.new)
         ≡ machine_of E.meaning form.now shell.old (kept_of E.held content.old)) }
@@ -99,14 +104,18 @@ fn answer_judged<E: Engine, L: Link>(
     requires may { MayAsk by ask.now }
     requires unnamed { changed.old.bits ≡ [] }
     requires unmarked { changed.old.marks ≡ [] }
+    requires quiet { changed.old.all ≡ false }
     requires of_form { AreOf E.meaning form.now shell.old (kept_of E.held content.old) }
-    ensures turn { IfOk result (λ reply. IsJudgedTurn L.calls L.downs L.faults E.meaning form.now
-        (machine_of E.meaning form.now shell.old (kept_of E.held content.old))
-        (machine_of E.meaning form.now shell.new (kept_of E.held content.new))
-        content.old.pair.links content.new.pair.links by ask.now changed.new.marks reply) }
-    ensures bits { OnOk result (Covers changed.new
+    ensures turn { IfOk result (λ reply. IsJudgedCall L.calls L.downs L.faults E.meaning
+        (structure_of E.meaning E.held form.now shell.old content.old)
+        (structure_of E.meaning E.held form.now shell.new content.new)
+        by ask.now changed.new.marks reply) }
+    ensures bits { OnOk result (Names changed.new
         (E.meaning.stands (state_in E.meaning form.now (content_of E.held content.old.pair)))
         (E.meaning.stands (state_in E.meaning form.now (content_of E.held content.new.pair)))) }
+    ensures all { OnOk result (changed.new.all ≡ may_be_any E.meaning form.now
+        (machine_of E.meaning form.now shell.old (kept_of E.held content.old)) by ask.now
+        changed.new.marks) }
     ensures of_form { AreOf E.meaning form.now shell.new (kept_of E.held content.new) }
     ensures err { OnErr result (machine_of E.meaning form.now shell.new (kept_of E.held content.new)
         ≡ machine_of E.meaning form.now shell.old (kept_of E.held content.old)) }
@@ -116,15 +125,16 @@ fn answer_judged<E: Engine, L: Link>(
     if let Some(refusal) = cause_of(form, shell, content, by, ask, &room) {
         return Ok(Reply::Refused(refusal));
     }
+    let call = Call { by, ask, room };
     match ask {
         Ask::Shell(cmd) => {
             if is_copying(cmd) {
-                do_copy(alloc, form, shell, content, changed, by, ask, cmd, &room)
+                do_copy(alloc, form, shell, content, changed, &call, cmd)
             } else {
-                do_command(alloc, form, shell, content, changed, by, cmd, &room)
+                do_command(alloc, form, shell, content, changed, &call, cmd)
             }
         }
-        Ask::Content(cmd) => do_content(form, shell, content, changed, by, ask, cmd),
+        Ask::Content(cmd) => do_content(form, shell, content, changed, &call, cmd),
     }
 }
 
@@ -227,23 +237,23 @@ fn do_content<E: Engine, L: Link>(
     shell: &mut Shell,
     content: &mut Content<E, L>,
     changed: &mut Changed,
-    by: ConnId,
-    ask: &Ask<E::Cmd>,
+    call: &Call<'_, E::Cmd>,
     cmd: &E::Cmd,
 ) -> Result<Reply<E::Reply>, NoMemory>
-    requires caller { IsConnector by }
-    requires asked { ask.now ≡ asks.Content cmd.now }
-    requires accepted { content_cause shell.old.shell by ≡ None }
+    requires caller { IsConnector call.now.by }
+    requires asked { call.now.ask.now ≡ asks.Content cmd.now }
+    requires accepted { content_cause shell.old.shell call.now.by ≡ None }
     requires unnamed { changed.old.bits ≡ [] }
     requires unmarked { changed.old.marks ≡ [] }
     requires of_form { AreOf E.meaning form.now shell.old (kept_of E.held content.old) }
-    ensures turn { IfOk result (λ reply. IsJudgedTurn L.calls L.downs L.faults E.meaning form.now
-        (machine_of E.meaning form.now shell.old (kept_of E.held content.old))
-        (machine_of E.meaning form.now shell.new (kept_of E.held content.new))
-        content.old.pair.links content.new.pair.links by ask.now changed.new.marks reply) }
-    ensures bits { OnOk result (Covers changed.new
+    ensures turn { IfOk result (λ reply. IsJudgedCall L.calls L.downs L.faults E.meaning
+        (structure_of E.meaning E.held form.now shell.old content.old)
+        (structure_of E.meaning E.held form.now shell.new content.new)
+        call.now.by call.now.ask.now changed.new.marks reply) }
+    ensures bits { OnOk result (Names changed.new
         (E.meaning.stands (state_in E.meaning form.now (content_of E.held content.old.pair)))
         (E.meaning.stands (state_in E.meaning form.now (content_of E.held content.new.pair)))) }
+    ensures failed { OnOk result (changed.new.all ≡ any_failure changed.new.marks) }
     ensures of_form { AreOf E.meaning form.now shell.new (kept_of E.held content.new) }
     ensures err { OnErr result (machine_of E.meaning form.now shell.new (kept_of E.held content.new)
         ≡ machine_of E.meaning form.now shell.old (kept_of E.held content.old)) }
@@ -251,18 +261,10 @@ fn do_content<E: Engine, L: Link>(
 {
     let out = &mut changed.effects;
     out.mail.clear();
-    content.ready(by, cmd, out)?;
+    content.ready(call.by, cmd, out)?;
     ready_letters(shell, out)?;
-    let (reply, failed) = ask_and_apply(
-        form,
-        shell,
-        content,
-        out,
-        &mut changed.marks,
-        by,
-        ask,
-        cmd,
-    );
+    let marks = &mut changed.marks;
+    let (reply, failed) = ask_and_apply(form, shell, content, out, marks, call, cmd);
     changed.all = failed;
     Ok(reply)
 }
@@ -288,23 +290,23 @@ fn ask_and_apply<E: Engine, L: Link>(
     content: &mut Content<E, L>,
     out: &mut Effects,
     marks: &mut Marks,
-    by: ConnId,
-    ask: &Ask<E::Cmd>,
+    call: &Call<'_, E::Cmd>,
     cmd: &E::Cmd,
 ) -> (Reply<E::Reply>, bool)
-    requires caller { IsConnector by }
-    requires asked { ask.now ≡ asks.Content cmd.now }
-    requires accepted { content_cause shell.old.shell by ≡ None }
+    requires caller { IsConnector call.now.by }
+    requires asked { call.now.ask.now ≡ asks.Content cmd.now }
+    requires accepted { content_cause shell.old.shell call.now.by ≡ None }
     requires unmarked { marks.old ≡ [] }
     requires unnamed { out.old.bits.items ≡ [] }
     requires unsent { out.old.mail.items ≡ [] }
-    requires ready { AreReady E.is_ready content.old.pair (ForCmd by cmd.now) out.old }
+    requires ready { AreReady E.is_ready content.old.pair (ForCmd call.now.by cmd.now) out.old }
     requires room { out.old.mail.room + MARK_LETTERS ≤ shell.old.room }
     requires of_form { AreOf E.meaning form.now shell.old (kept_of E.held content.old) }
-    ensures turn { IsJudgedTurn L.calls L.downs L.faults E.meaning form.now
-        (machine_of E.meaning form.now shell.old (kept_of E.held content.old))
-        (machine_of E.meaning form.now shell.new (kept_of E.held content.new))
-        content.old.pair.links content.new.pair.links by ask.now marks.new result.0 }
+    ensures turn { IsJudgedCall L.calls L.downs L.faults E.meaning
+        (structure_of E.meaning E.held form.now shell.old content.old)
+        (structure_of E.meaning E.held form.now shell.new content.new)
+        call.now.by call.now.ask.now marks.new result.0 }
+    ensures failed { result.1 ≡ any_failure marks.new }
     ensures bits { result.1 ≡ false → Gains
         (E.meaning.stands (state_in E.meaning form.now (content_of E.held content.old.pair)))
         (E.meaning.stands (state_in E.meaning form.now (content_of E.held content.new.pair)))
@@ -315,7 +317,7 @@ fn ask_and_apply<E: Engine, L: Link>(
     let lost = ask_links(content, Asked::both(first, second, false));
     let alone = mark(form, shell, content, marks, lost.first);
     let both = mark(form, shell, content, marks, lost.second);
-    let reply = apply_judged(form, shell, content, out, by, ask, cmd);
+    let reply = apply_judged(form, shell, content, out, call, cmd);
     (reply, alone || both)
 }
 
@@ -325,22 +327,22 @@ fn apply_judged<E: Engine, L: Link>(
     shell: &mut Shell,
     content: &mut Content<E, L>,
     out: &mut Effects,
-    by: ConnId,
-    ask: &Ask<E::Cmd>,
+    call: &Call<'_, E::Cmd>,
     cmd: &E::Cmd,
 ) -> Reply<E::Reply>
-    requires caller { IsConnector by }
-    requires asked { ask.now ≡ asks.Content cmd.now }
+    requires caller { IsConnector call.now.by }
+    requires asked { call.now.ask.now ≡ asks.Content cmd.now }
     requires unnamed { out.old.bits.items ≡ [] }
     requires unsent { out.old.mail.items ≡ [] }
-    requires ready { AreReady E.is_ready content.old.pair (ForCmd by cmd.now) out.old }
+    requires ready { AreReady E.is_ready content.old.pair (ForCmd call.now.by cmd.now) out.old }
     requires room { out.old.mail.room ≤ shell.old.room }
     requires of_form { AreOf E.meaning form.now shell.old (kept_of E.held content.old) }
     ensures done { record {
       reply = result;
       machine = machine_of E.meaning form.now shell.new (kept_of E.held content.new);
     } ≡ judged E.meaning form.now
-        (machine_of E.meaning form.now shell.old (kept_of E.held content.old)) by ask.now }
+        (machine_of E.meaning form.now shell.old (kept_of E.held content.old)) call.now.by
+        call.now.ask.now }
     ensures bits { Gains
         (E.meaning.stands (state_in E.meaning form.now (content_of E.held content.old.pair)))
         (E.meaning.stands (state_in E.meaning form.now (content_of E.held content.new.pair)))
@@ -348,9 +350,9 @@ fn apply_judged<E: Engine, L: Link>(
     ensures of_form { AreOf E.meaning form.now shell.new (kept_of E.held content.new) }
     ensures links { content.new.pair.links ≡ content.old.pair.links }
 {
-    match refusal_of(shell, by, ask, &NO_ROOM) {
+    match refusal_of(shell, call.by, call.ask, &NO_ROOM) {
         Some(refusal) => Reply::Refused(refusal),
-        None => apply(form, shell, content, out, by, cmd),
+        None => apply(form, shell, content, out, call.by, cmd),
     }
 }
 
@@ -396,29 +398,28 @@ fn do_copy<E: Engine, L: Link>(
     shell: &mut Shell,
     content: &mut Content<E, L>,
     changed: &mut Changed,
-    by: ConnId,
-    ask: &Ask<E::Cmd>,
+    call: &Call<'_, E::Cmd>,
     cmd: &ShellCmd,
-    room: &Room,
 ) -> Result<Reply<E::Reply>, NoMemory>
-    requires may { MayCommand by cmd.now }
-    requires asked { ask.now ≡ asks.Shell cmd.now }
+    requires may { MayCommand call.now.by cmd.now }
+    requires asked { call.now.ask.now ≡ asks.Shell cmd.now }
     requires copying { is_copying cmd.now ≡ true }
-    requires room { room.now ≡ room_seen (command_looks cmd.now) (room_of E.meaning form.now
+    requires room { call.now.room ≡ room_seen (command_looks cmd.now) (room_of E.meaning form.now
         (machine_of E.meaning form.now shell.old (kept_of E.held content.old))) }
     requires accepted { shell_cause form.now (room_of E.meaning form.now
-        (machine_of E.meaning form.now shell.old (kept_of E.held content.old))) shell.old.shell by
-        cmd.now ≡ None }
+        (machine_of E.meaning form.now shell.old (kept_of E.held content.old))) shell.old.shell
+        call.now.by cmd.now ≡ None }
     requires unnamed { changed.old.bits ≡ [] }
     requires unmarked { changed.old.marks ≡ [] }
     requires of_form { AreOf E.meaning form.now shell.old (kept_of E.held content.old) }
-    ensures turn { IfOk result (λ reply. IsJudgedTurn L.calls L.downs L.faults E.meaning form.now
-        (machine_of E.meaning form.now shell.old (kept_of E.held content.old))
-        (machine_of E.meaning form.now shell.new (kept_of E.held content.new))
-        content.old.pair.links content.new.pair.links by ask.now changed.new.marks reply) }
-    ensures bits { OnOk result (Covers changed.new
+    ensures turn { IfOk result (λ reply. IsJudgedCall L.calls L.downs L.faults E.meaning
+        (structure_of E.meaning E.held form.now shell.old content.old)
+        (structure_of E.meaning E.held form.now shell.new content.new)
+        call.now.by call.now.ask.now changed.new.marks reply) }
+    ensures bits { OnOk result (Names changed.new
         (E.meaning.stands (state_in E.meaning form.now (content_of E.held content.old.pair)))
         (E.meaning.stands (state_in E.meaning form.now (content_of E.held content.new.pair)))) }
+    ensures failed { OnOk result (changed.new.all ≡ any_failure changed.new.marks) }
     ensures of_form { AreOf E.meaning form.now shell.new (kept_of E.held content.new) }
     ensures err { OnErr result (machine_of E.meaning form.now shell.new (kept_of E.held content.new)
         ≡ machine_of E.meaning form.now shell.old (kept_of E.held content.old)) }
@@ -430,7 +431,7 @@ fn do_copy<E: Engine, L: Link>(
     let alone = mark(form, shell, content, &mut changed.marks, lost.first);
     let both = mark(form, shell, content, &mut changed.marks, lost.second);
     changed.all = alone || both;
-    Ok(copy_judged(shell, by, ask, cmd, room))
+    Ok(copy_judged(shell, call, cmd))
 }
 
 // How many items COPY names.
@@ -447,16 +448,11 @@ fn items_of(cmd: &ShellCmd) -> u32
 // down.
 fn ask_copy<E: Engine, L: Link>(form: &StrForm, shell: &Shell, content: &mut Content<E, L>) -> Lost
     requires of_form { AreOf E.meaning form.now shell.now (kept_of E.held content.old) }
-    ensures marks { marks_in result ≡ marks_of (has (marks_in result)) (record {
-      links = apart (listed shell.now.shell.instances.primary
-          ++ listed (fresh_of shell.now.shell.rebuild));
-      stops = true;
-    }) }
-    ensures asked { AreAsked L.calls L.downs L.faults (answers_to (has (marks_in result)) (record {
-      links = apart (listed shell.now.shell.instances.primary
-          ++ listed (fresh_of shell.now.shell.rebuild));
-      stops = true;
-    })) content.old.pair.links content.new.pair.links }
+    ensures marks { marks_in result
+        ≡ marks_of (has (marks_in result)) (copy_asks_of shell.now.shell) }
+    ensures asked { AreAsked L.calls L.downs L.faults
+        (answers_to (has (marks_in result)) (copy_asks_of shell.now.shell))
+        content.old.pair.links content.new.pair.links }
     ensures first { IfSome result.first
         (λ cf. shell.now.shell.instances.primary ≡ Some cf) }
     ensures first_at { IfSome result.first IsFacility }
@@ -474,27 +470,21 @@ fn ask_copy<E: Engine, L: Link>(form: &StrForm, shell: &Shell, content: &mut Con
 }
 
 // COPY is judged, and told where nothing refuses it.
-fn copy_judged<R: Drop, C>(
-    shell: &mut Shell,
-    by: ConnId,
-    ask: &Ask<C>,
-    cmd: &ShellCmd,
-    room: &Room,
-) -> Reply<R>
-    requires may { MayCommand by cmd.now }
-    requires asked { ask.now ≡ asks.Shell cmd.now }
+fn copy_judged<R: Drop, C>(shell: &mut Shell, call: &Call<'_, C>, cmd: &ShellCmd) -> Reply<R>
+    requires may { MayCommand call.now.by cmd.now }
+    requires asked { call.now.ask.now ≡ asks.Shell cmd.now }
     requires copying { is_copying cmd.now ≡ true }
     requires room { ACT_LETTERS ≤ shell.old.room }
     ensures form { shell.new.form ≡ shell.old.form }
     ensures shell { shell.new.shell ≡ shell.old.shell }
     ensures reply { result ≡ copy_reply
-        (shell_cause shell.old.form room.now shell.old.shell by cmd.now)
-        (shell_done shell.old.form room.now shell.old.shell by cmd.now).reply }
+        (shell_cause shell.old.form call.now.room shell.old.shell call.now.by cmd.now)
+        (shell_done shell.old.form call.now.room shell.old.shell call.now.by cmd.now).reply }
 {
-    match refusal_of(shell, by, ask, room) {
+    match refusal_of(shell, call.by, call.ask, &call.room) {
         Some(refusal) => Reply::Refused(refusal),
         None => {
-            let (reply, _) = shell.act(by, cmd, room);
+            let (reply, _) = shell.act(call.by, cmd, &call.room);
             Reply::Shell(reply)
         }
     }
@@ -507,27 +497,30 @@ fn do_command<E: Engine, L: Link>(
     shell: &mut Shell,
     content: &mut Content<E, L>,
     changed: &mut Changed,
-    by: ConnId,
+    call: &Call<'_, E::Cmd>,
     cmd: &ShellCmd,
-    room: &Room,
 ) -> Result<Reply<E::Reply>, NoMemory>
     requires kind { IsTrue (E.is_kind form.now.kind) }
-    requires may { MayCommand by cmd.now }
-    requires room { room.now ≡ room_seen (command_looks cmd.now) (room_of E.meaning form.now
+    requires may { MayCommand call.now.by cmd.now }
+    requires room { call.now.room ≡ room_seen (command_looks cmd.now) (room_of E.meaning form.now
         (machine_of E.meaning form.now shell.old (kept_of E.held content.old))) }
     requires accepted { shell_cause form.now (room_of E.meaning form.now
-        (machine_of E.meaning form.now shell.old (kept_of E.held content.old))) shell.old.shell by
-        cmd.now ≡ None }
+        (machine_of E.meaning form.now shell.old (kept_of E.held content.old))) shell.old.shell
+        call.now.by cmd.now ≡ None }
     requires unnamed { changed.old.bits ≡ [] }
     requires of_form { AreOf E.meaning form.now shell.old (kept_of E.held content.old) }
-    ensures ok { IfOk result (λ reply. record {
-      reply = reply;
-      machine = machine_of E.meaning form.now shell.new (kept_of E.held content.new);
-    } ≡ command_done E.meaning form.now
-        (machine_of E.meaning form.now shell.old (kept_of E.held content.old)) by cmd.now) }
-    ensures bits { OnOk result (Covers changed.new
+    ensures ok { IfOk result (λ reply. answered reply
+        (machine_of E.meaning form.now shell.new (kept_of E.held content.new))
+        ≡ command_done E.meaning form.now
+        (machine_of E.meaning form.now shell.old (kept_of E.held content.old)) call.now.by
+        cmd.now) }
+    ensures bits { OnOk result (Names changed.new
         (E.meaning.stands (state_in E.meaning form.now (content_of E.held content.old.pair)))
         (E.meaning.stands (state_in E.meaning form.now (content_of E.held content.new.pair)))) }
+    ensures all { OnOk result (changed.new.all
+        ≡ may_change_bits (is_some shell.old.shell.rebuild) (deeds_by E.meaning form.now
+        (machine_of E.meaning form.now shell.old (kept_of E.held content.old)) call.now.by
+        cmd.now)) }
     ensures of_form { AreOf E.meaning form.now shell.new (kept_of E.held content.new) }
     ensures links { content.new.pair.links ≡ content.old.pair.links }
     ensures marks { changed.new.marks ≡ changed.old.marks }
@@ -535,10 +528,18 @@ fn do_command<E: Engine, L: Link>(
         ≡ machine_of E.meaning form.now shell.old (kept_of E.held content.old)) }
 {
     let made = make_engines(alloc, form, shell, content, cmd)?;
-    prepare(alloc, form, shell, content, &mut changed.effects, by, cmd)?;
+    prepare(
+        alloc,
+        form,
+        shell,
+        content,
+        &mut changed.effects,
+        call.by,
+        cmd,
+    )?;
     let rebuilding = shell.is_rebuilding();
     let (_, _, fresh) = shell.instances();
-    let (reply, deeds) = shell.act(by, cmd, room);
+    let (reply, deeds) = shell.act(call.by, cmd, &call.room);
     changed.note(deeds, rebuilding);
     do_deeds(form, content, made, deeds, rebuilding, fresh);
     Ok(Reply::Shell(reply))

@@ -1,5 +1,5 @@
 //! What links tell before a call is done.
-ghost use Rattle.std.specs.Prelude.{◌≡◌, ◌≤◌, ◌+◌, ◌++◌, IfSome, List, false, true, length};
+ghost use Rattle.std.specs.Prelude.{◌≡◌, ◌≤◌, ◌+◌, ◌++◌, ◌||◌, IfSome, List, false, true, length};
 ghost use Rattle.cf_types.specs.declared.effects.Effects.{Effects};
 ghost use Rattle.cf_types.specs.declared.numbers.CfId.{CfId};
 ghost use Rattle.cf_types.specs.Forms.{IsFacility};
@@ -9,10 +9,11 @@ ghost use Rattle.engine_api.specs.Machine.{Machine};
 ghost use Rattle.engine_api.specs.Meaning.{Wish};
 ghost use Rattle.engine_api.specs.Shell.{mark_outcome, stands_at};
 ghost use Rattle.plex_shell.specs.Losses.{reply_as};
+ghost use Rattle.struct_machine.specs.Changes.{any_failure};
 ghost use Rattle.struct_machine.specs.Marks.{is_failure};
 ghost use Rattle.struct_machine.specs.Content.{kept_of};
 ghost use Rattle.struct_machine.specs.Kept.{AreOf, machine_of};
-ghost use Rattle.struct_machine.specs.Turns.{AreTold, behind_marks, lost_at};
+ghost use Rattle.struct_machine.specs.Turns.{AreTold, LeadTo, behind_marks, lost_at};
 ghost use Rattle.struct_machine.specs.Losses.{IsEnding, kept_without};
 ghost use Rattle.struct_machine.specs.declared.marks.TheConstants.{MARKS};
 
@@ -41,10 +42,10 @@ pub(crate) fn mark<E: Engine, L: Link>(
         ≡ behind_marks E.meaning form.now
         (machine_of E.meaning form.now shell.old (kept_of E.held content.old)) (listed lost) }
     ensures told { (start : Machine E.State) (cfs : List CfId)
-        → machine_of E.meaning form.now shell.old (kept_of E.held content.old)
-        ≡ behind_marks E.meaning form.now start cfs
-        → AreTold E.meaning form.now start cfs marks.old
+        → LeadTo E.meaning form.now start cfs marks.old
+        (machine_of E.meaning form.now shell.old (kept_of E.held content.old))
         → AreTold E.meaning form.now start (cfs ++ listed lost) marks.new }
+    ensures failed { any_failure marks.new ≡ any_failure marks.old || result }
     ensures count { length marks.new ≡ length marks.old + length (listed lost) }
     ensures of_form { AreOf E.meaning form.now shell.new (kept_of E.held content.new) }
     ensures links { content.new.pair.links ≡ content.old.pair.links }

@@ -6,7 +6,7 @@ ghost use Rattle.engine_api.specs.Meaning.{items_of};
 ghost use Rattle.engine_api.specs.Rebuilds.{fresh_of};
 ghost use Rattle.engine_api.specs.Shapes.{shape_of};
 ghost use Rattle.shell_laws.specs.Capacities.{fresh_caps};
-ghost use Rattle.struct_machine.specs.Changes.{IsUntouched};
+ghost use Rattle.struct_machine.specs.Changes.{Names, may_be_any};
 ghost use Rattle.struct_machine.specs.Turns.{IsTurn};
 ghost use Rattle.struct_machine.specs.StructureView.{new_structure, stands_at, copied_items};
 
@@ -101,8 +101,9 @@ impl<E: Engine, L: Link> Machine<E, L> {
     }
 
     /// A call is judged, its links are asked, and it is judged again behind what they tell and done
-    /// where nothing refuses it. The marks are told, and what vector bits may have changed. Want of
-    /// memory changes nothing of the structure, and asks no link.
+    /// where nothing refuses it. The marks are told, and the vector bits that changed: any of them
+    /// where a mark or the command's deeds may have changed others than those that are named. Want
+    /// of memory changes nothing of the structure, and asks no link.
     pub fn answer(
         &mut self,
         alloc: Global,
@@ -114,9 +115,10 @@ impl<E: Engine, L: Link> Machine<E, L> {
         ensures form { self.new.form ≡ self.old.form }
         ensures turn { IfOk result (λ reply. IsTurn L.calls L.downs L.faults E.meaning
             self.old self.new by ask.now changed.new.marks reply) }
-        ensures bits { OnOk result ((conn : ConnId) (index : ℕ) → IsUntouched changed.new conn index
-            → stands_at E.meaning self.new.machine conn index
-            ≡ stands_at E.meaning self.old.machine conn index) }
+        ensures all { OnOk result (changed.new.all ≡ may_be_any E.meaning self.old.form
+            self.old.machine by ask.now changed.new.marks) }
+        ensures bits { OnOk result (Names changed.new (stands_at E.meaning self.old.machine)
+            (stands_at E.meaning self.new.machine)) }
         ensures err { OnErr result (self.new ≡ self.old) }
     {
         changed.clear();

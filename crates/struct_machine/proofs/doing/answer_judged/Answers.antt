@@ -8,6 +8,7 @@ use Rattle.struct_machine.specs.Content.{kept_of}
 use Rattle.engine_api.specs.Shell.{shell_cause}
 use Rattle.struct_machine.specs.Kept.{is_copying, machine_of}
 use Rattle.struct_machine.specs.Turns.{IsJudgedTurn}
+use Rattle.struct_machine.proofs.ChangeLaws.{refused_all}
 use Rattle.struct_machine.proofs.TurnLaws.{command_asks, command_judged, ok_map, refused_asks, refused_done, turn_quiet}
 use Rattle.struct_machine.proofs.doing.answer_judged.Goals as goal
 
@@ -46,3 +47,12 @@ returns-else-is_copying-clause-turn g c =
     (c.do_command.ensures.marks ∙ c.requires.unmarked)
     (done ∙ command_judged g.E.Engine.meaning c.args.form.now machine c.args.by c.in-Shell.cmd accepted))
     c.do_command.ensures.ok)
+
+-- whether any bit may have changed
+
+pub returns-in-Some-clause-all : goal.returns-in-Some-clause-all
+returns-in-Some-clause-all g c =
+    refused_all g.E.Engine.meaning c.args.form.now
+    (machine_of g.E.Engine.meaning c.args.form.now c.args.shell.now (kept_of g.E.Engine.held c.args.content.now))
+    c.args.by c.args.changed.now.marks c.args.changed.now.all c.args.ask.now c.in-Some.refusal
+    (sym c.cause_of.ensures ∙ c.in-Some.is) c.requires.unmarked c.requires.quiet

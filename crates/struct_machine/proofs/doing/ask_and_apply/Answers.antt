@@ -29,16 +29,15 @@ returns-clause-turn g c =
     (machine_of meaning form c.mark-alone.new.shell (kept_of g.E.Engine.held c.mark-alone.new.content))
     (machine_of meaning form c.mark-both.new.shell (kept_of g.E.Engine.held c.mark-both.new.content))
     lost.first lost.second one c.mark-both.ensures.machine in
-    let first_told = c.mark-alone.ensures.told machine [] same
-    (subst (λ (marks : List Mark). AreTold meaning form machine [] marks) (sym c.requires.unmarked) tt) in
-    let told = c.mark-both.ensures.told machine (listed lost.first) one first_told in
+    let first_told = c.mark-alone.ensures.told machine [] (same, subst (λ (marks : List Mark). AreTold meaning form machine [] marks) (sym c.requires.unmarked) tt) in
+    let told = c.mark-both.ensures.told machine (listed lost.first) (one, first_told) in
     let after = c.apply_judged-reply.ensures.links ∙ c.mark-both.ensures.links ∙ c.mark-alone.ensures.links in
     turn_made meaning form g.L.Link.calls g.L.Link.downs g.L.Link.faults machine
     (machine_of meaning form c.apply_judged-reply.new.shell (kept_of g.E.Engine.held c.apply_judged-reply.new.content))
-    c.args.content.now.pair.links c.apply_judged-reply.new.content.pair.links c.args.by c.args.ask.now
+    c.args.content.now.pair.links c.apply_judged-reply.new.content.pair.links c.args.call.now.by c.args.call.now.ask.now
     (asks_in c.both.result) lost c.mark-both.new.marks c.apply_judged-reply.result
     (c.both.ensures.asks
-    ∙ content_asks meaning form machine c.args.by c.args.ask.now c.args.cmd.now c.places-first.result.0
+    ∙ content_asks meaning form machine c.args.call.now.by c.args.call.now.ask.now c.args.cmd.now c.places-first.result.0
     c.places-first.result.1 c.requires.asked c.requires.accepted
     (c.places-first.ensures.first ∙ ap (λ (at : Instances). at.primary) of.places)
     (c.places-first.ensures.second ∙ ap (λ (at : Instances). at.secondary) of.places))
@@ -48,4 +47,4 @@ returns-clause-turn g c =
     c.ask_links-lost.ensures.asked)
     told
     (c.apply_judged-reply.ensures.done
-    ∙ ap (λ (m : Machine g.row.E-State.Denot). judged meaning form m c.args.by c.args.ask.now) two)
+    ∙ ap (λ (m : Machine g.row.E-State.Denot). judged meaning form m c.args.call.now.by c.args.call.now.ask.now) two)

@@ -1,6 +1,7 @@
 -- COPY is done behind the marks that its links make: with a loss it is refused, and its items have gone.
 use Rattle.std.proofs.Common.{◌≡◌, ℕ, [], None, IfSome, sym, ap, ◌∙◌, subst, subst₂, List}
-use Rattle.std.specs.Prelude.{◌++◌, Some, true, min}
+use Rattle.std.proofs.lemmas.Bool.{both_ways}
+use Rattle.std.specs.Prelude.{Option, Some, false, refl, min}
 use Rattle.cf_types.specs.declared.numbers.CfId.{CfId}
 use Rattle.cf_types.specs.declared.shell_commands.ShellCmd.{ShellCmd}
 use Rattle.cf_types.specs.declared.shell_commands.ShellCmd.TheVariants as cmd
@@ -10,19 +11,22 @@ use Rattle.duplex_pair.specs.Pairs.{PairView, content_of, instances_of}
 use Rattle.engine_api.specs.declared.asks.Ask.{Ask}
 use Rattle.engine_api.specs.declared.asks.Ask.TheVariants as ask
 use Rattle.engine_api.specs.declared.deeds.Room.{Room}
-use Rattle.engine_api.specs.LinkAsks.{answers_to, apart, has, listed}
+use Rattle.engine_api.specs.LinkAsks.{answers_to, has, listed}
 use Rattle.engine_api.specs.Machine.{Machine, moved_by, room_of}
 use Rattle.engine_api.specs.Rebuilds.{fresh_of}
 use Rattle.engine_api.specs.Shell.{Shell, shell_cause, shell_done}
+use Rattle.engine_api.specs.Meaning.{Held}
 use Rattle.rebuild_copy.specs.Filling.{with_copied}
 use Rattle.struct_machine.specs.Changes.{ChangeList}
 use Rattle.struct_machine.specs.Content.{ContentView, kept_of, lacking_in}
-use Rattle.struct_machine.specs.Kept.{copy_reply, items_named, judged, machine_of}
-use Rattle.struct_machine.specs.Turns.{AreTold, behind_marks, marks_in}
+use Rattle.struct_machine.specs.Kept.{copy_reply, items_named, judged, machine_of, state_in}
+use Rattle.struct_machine.specs.Turns.{AreTold, behind_marks, copy_asks_of, marks_in}
 use Rattle.struct_machine.specs.declared.marks.Mark.{Mark}
+use Rattle.struct_machine.proofs.ChangeLaws.{names_nothing}
 use Rattle.struct_machine.proofs.CopyLaws.{copied_machine, copy_done, kept_copied, told_before, with_items}
 use Rattle.struct_machine.proofs.TurnLaws.{behind_both, copy_asks, copy_is, turn_made}
 use Rattle.struct_machine.proofs.doing.do_copy.Goals as goal
+use Rattle.struct_machine.proofs.doing.do_copy.Goals.{then-alone, else-alone}
 
 pub mark-alone-requires-clause-of_form : goal.mark-alone-requires-clause-of_form
 mark-alone-requires-clause-of_form g c κs within =
@@ -33,9 +37,9 @@ mark-alone-requires-clause-of_form g c κs within =
     let machine = machine_of meaning form c.args.shell.now kept in
     let n = items_named c.args.cmd.now in
     let is : c.args.cmd.now ≡ cmd.Copy n = copy_is c.args.cmd.now c.requires.copying in
-    let accepted : shell_cause form (room_of meaning form machine) c.args.shell.now.shell c.args.by (cmd.Copy n) ≡
+    let accepted : shell_cause form (room_of meaning form machine) c.args.shell.now.shell c.args.call.now.by (cmd.Copy n) ≡
     None =
-    subst (λ (command : ShellCmd). shell_cause form (room_of meaning form machine) c.args.shell.now.shell c.args.by
+    subst (λ (command : ShellCmd). shell_cause form (room_of meaning form machine) c.args.shell.now.shell c.args.call.now.by
     command ≡ None) is c.requires.accepted in
     let after = kept_of g.E.Engine.held c.ask_copy-lost.new.content in
     let at : after.at ≡ kept.at =
@@ -48,7 +52,7 @@ mark-alone-requires-clause-of_form g c κs within =
     ap (λ (v : ContentView g.row.E.Denot g.row.L.Denot). v.fresh) c.ask_copy-lost.ensures.same
     ∙ c.in_ok-copy.ensures.ok
     ∙ ap (λ (m : ℕ). with_copied (min m (lacking_in meaning kept.held kept.fresh)) kept.fresh) c.items_of.ensures in
-    kept_copied meaning form c.args.shell.now kept of c.args.by n accepted c.ready.new.self after c.ready.ensures.form
+    kept_copied meaning form c.args.shell.now kept of c.args.call.now.by n accepted c.ready.new.self after c.ready.ensures.form
     c.ready.ensures.shell at holds copied
 
 pub returns-clause-turn : goal.returns-clause-turn
@@ -60,9 +64,9 @@ returns-clause-turn g c =
     let machine = machine_of meaning form c.args.shell.now kept in
     let n = items_named c.args.cmd.now in
     let is : c.args.cmd.now ≡ cmd.Copy n = copy_is c.args.cmd.now c.requires.copying in
-    let accepted : shell_cause form (room_of meaning form machine) c.args.shell.now.shell c.args.by (cmd.Copy n) ≡
+    let accepted : shell_cause form (room_of meaning form machine) c.args.shell.now.shell c.args.call.now.by (cmd.Copy n) ≡
     None =
-    subst (λ (command : ShellCmd). shell_cause form (room_of meaning form machine) c.args.shell.now.shell c.args.by
+    subst (λ (command : ShellCmd). shell_cause form (room_of meaning form machine) c.args.shell.now.shell c.args.call.now.by
     command ≡ None) is c.requires.accepted in
     let after = kept_of g.E.Engine.held c.ask_copy-lost.new.content in
     let at : after.at ≡ kept.at =
@@ -77,9 +81,9 @@ returns-clause-turn g c =
     ∙ ap (λ (m : ℕ). with_copied (min m (lacking_in meaning kept.held kept.fresh)) kept.fresh) c.items_of.ensures in
     let lost = c.ask_copy-lost.result in
     let shell : c.ready.new.self.shell ≡ c.args.shell.now.shell = c.ready.ensures.shell in
-    let items = with_items meaning form machine c.args.by n of.manned accepted (moved_by (room_of meaning form
+    let items = with_items meaning form machine c.args.call.now.by n of.manned accepted (moved_by (room_of meaning form
     machine) (cmd.Copy n)) in
-    let copies = copied_machine meaning form c.args.shell.now kept of c.args.by n accepted c.ready.new.self after
+    let copies = copied_machine meaning form c.args.shell.now kept of c.args.call.now.by n accepted c.ready.new.self after
     c.ready.ensures.form c.ready.ensures.shell at holds copied in
     let one = c.mark-alone.ensures.machine ∙ ap (λ (m : Machine g.row.E-State.Denot). behind_marks meaning form m
     (listed lost.first)) copies in
@@ -92,44 +96,58 @@ returns-clause-turn g c =
     ap (λ (s : Shell). (let m : Machine g.row.E-State.Denot = record now { shell = s } in m))
     c.copy_judged.ensures.shell
     ∙ two in
-    let first_told = c.mark-alone.ensures.told items [] copies
-    (subst (λ (marks : List Mark). AreTold meaning form items [] marks) (sym (ap (λ (l : ChangeList). l.marks)
-    c.changed.view_is ∙ c.requires.unmarked)) tt) in
-    let told = c.mark-both.ensures.told items (listed lost.first) one first_told in
+    let first_told = c.mark-alone.ensures.told items [] (
+      copies,
+      subst (λ (marks : List Mark). AreTold meaning form items [] marks) (sym (ap (λ (l : ChangeList). l.marks)
+          c.changed.view_is ∙ c.requires.unmarked)) tt,
+    ) in
+    let told = c.mark-both.ensures.told items (listed lost.first) (one, first_told) in
     let calls = c.requires.asked ∙ ap (λ (command : ShellCmd). (let a : Ask g.row.E-Cmd.Denot = ask.Shell command in
     a)) is in
     let replied = c.copy_judged.ensures.reply in
     turn_made meaning form g.L.Link.calls g.L.Link.downs g.L.Link.faults machine now
-    c.args.content.now.pair.links c.mark-both.new.content.pair.links c.args.by c.args.ask.now
-    (record {
-      links = apart (listed c.ready.new.self.shell.instances.primary ++ listed (fresh_of
-          c.ready.new.self.shell.rebuild));
-      stops = true;
-    }) lost c.mark-both.new.marks c.copy_judged.result
-    (copy_asks meaning form machine c.args.by c.args.ask.now n c.ready.new.self.shell calls accepted shell)
+    c.args.content.now.pair.links c.mark-both.new.content.pair.links c.args.call.now.by c.args.call.now.ask.now
+    (copy_asks_of c.ready.new.self.shell) lost c.mark-both.new.marks c.copy_judged.result
+    (copy_asks meaning form machine c.args.call.now.by c.args.call.now.ask.now n c.ready.new.self.shell calls accepted shell)
     c.ask_copy-lost.ensures.marks
     (subst₂ (λ (start after : Links g.row.L.Denot). AreAsked g.L.Link.calls g.L.Link.downs g.L.Link.faults
-    (answers_to (has (marks_in lost)) (record {
-      links = apart (listed c.ready.new.self.shell.instances.primary ++ listed (fresh_of
-          c.ready.new.self.shell.rebuild));
-      stops = true;
-    })) start after)
+    (answers_to (has (marks_in lost)) (copy_asks_of c.ready.new.self.shell)) start after)
     (ap (λ (p : PairView g.row.E.Denot g.row.L.Denot). p.links) c.copy.ensures.pair)
     (sym (c.mark-both.ensures.links ∙ c.mark-alone.ensures.links)) c.ask_copy-lost.ensures.asked)
-    (told_before meaning form machine c.args.by n of.manned accepted lost
+    (told_before meaning form machine c.args.call.now.by n of.manned accepted lost
     (moved_by (room_of meaning form machine) (cmd.Copy n)) c.mark-both.new.marks c.ask_copy-lost.ensures.stopped told)
-    (copy_done meaning form machine c.args.by n of.manned accepted lost now c.args.room.now c.copy_judged.result
+    (copy_done meaning form machine c.args.call.now.by n of.manned accepted lost now c.args.call.now.room c.copy_judged.result
     (subst (λ (s : Shell). IfSome lost.first (λ (cf : CfId). s.instances.primary ≡ Some cf)) shell
     c.ask_copy-lost.ensures.first)
     (subst (λ (s : Shell). IfSome lost.second (λ (cf : CfId). fresh_of s.rebuild ≡ Some cf)) shell
     c.ask_copy-lost.ensures.second)
     c.ask_copy-lost.ensures.stopped behind (ap (λ (r : Room). r.left) c.requires.room)
     (replied ∙ (λ i. copy_reply
-    (shell_cause (c.mark-both.ensures.of_form.shell_form i) c.args.room.now (sym c.copy_judged.ensures.shell i)
-    c.args.by
+    (shell_cause (c.mark-both.ensures.of_form.shell_form i) c.args.call.now.room (sym c.copy_judged.ensures.shell i)
+    c.args.call.now.by
     (is i))
-    (shell_done (c.mark-both.ensures.of_form.shell_form i) c.args.room.now (sym c.copy_judged.ensures.shell i) c.args.by
+    (shell_done (c.mark-both.ensures.of_form.shell_form i) c.args.call.now.room (sym c.copy_judged.ensures.shell i) c.args.call.now.by
     (is i)).reply))
     ∙ ap (λ (a : Ask g.row.E-Cmd.Denot). judged meaning form (behind_marks meaning form machine (marks_in lost))
-    c.args.by
+    c.args.call.now.by
     a) (sym calls))
+
+-- a copy changes no bit, unless a loss ends the structure
+
+pub returns-clause-bits : goal.returns-clause-bits
+returns-clause-bits g c = λ quiet.
+    let meaning = g.E.Engine.meaning in
+    let form = c.args.form.now in
+    let was = content_of g.E.Engine.held c.args.content.now.pair in
+    let now = content_of g.E.Engine.held c.mark-both.new.content.pair in
+    let asked : content_of g.E.Engine.held c.ask_copy-lost.new.content.pair ≡ was =
+    ap (λ (v : ContentView g.row.E.Denot g.row.L.Denot). content_of g.E.Engine.held v.pair) c.ask_copy-lost.ensures.same
+    ∙ ap (λ (p : PairView g.row.E.Denot g.row.L.Denot). content_of g.E.Engine.held p) c.copy.ensures.pair in
+    let same : now ≡ was = elim c.if-alone.branch [
+      | then-alone w ↦ absurd (both_ways c.if-alone.changed quiet (w.changed-is ∙ w.if-alone.true))
+      | else-alone w ↦
+          c.mark-both.ensures.same (sym w.changed-is ∙ quiet) ∙ c.mark-alone.ensures.same w.if-alone.false ∙ asked
+    ] in
+    names_nothing (λ (held : Option (Held g.row.E-State.Denot)). meaning.stands (state_in meaning form held)) was now
+    (record { all = false; bits = c.changed.inside.effects.bits.items; marks = [] })
+    (ap (λ (l : ChangeList). l.bits) c.changed.view_is ∙ c.requires.unnamed) (λ not_all. same) refl

@@ -1,22 +1,13 @@
 use Rattle.std.proofs.Common.{rules, arith, ◌≡◌, ◌<◌, ◌≤◌, ◌+◌, length, refl, ap, sym, subst, ◌∙◌}
 use Rattle.std.specs.Vec.{vec_len}
-use Rattle.cf_types.specs.declared.limits.TheConstants.{VECTOR_BITS}
-use Rattle.cf_types.specs.Forms.{IsForm}
 use Rattle.vec_words.specs.Logged.{count_of}
+use Rattle.struct_machine.specs.StructureView.{stands_at}
+use Rattle.struct_machine.proofs.ChangeLaws.{untouched_same}
 use Rattle.struct_cell.specs.Marks.{entered}
 use Rattle.struct_cell.proofs.KeptLaws.{cell_answered}
 use Rattle.struct_cell.proofs.TurnLaws.{told-number, number-later, count-entered, few_marks}
-use Rattle.struct_cell.proofs.ToldLaws.{issued_within, vector_small}
+use Rattle.struct_cell.proofs.ToldLaws.{issued_within}
 use Rattle.struct_cell.proofs.cell.Cell.answer.Goals as goal
-
-pub store_words-requires-clause-len : goal.store_words-requires-clause-len
-store_words-requires-clause-len g c κs within =
-    let key = c.self.inside.lock.key in
-    let same : c.self.inside.vectors.len ≡ c.args.self.now.form.vector =
-    ap (λ w. w.len) (sym c.self.invariant.0) ∙ ap (λ k. k.words.len) c.self.view_is ∙ c.requires.cell.len in
-    let small : c.args.self.now.form.vector ≤ VECTOR_BITS =
-    vector_small c.args.self.now.form (subst (λ k. IsForm k.form) c.self.view_is c.self.invariant.3) in
-    omega (arith, same, small)
 
 pub returns-clause-cell : goal.returns-clause-cell
 returns-clause-cell g c =
@@ -25,13 +16,17 @@ returns-clause-cell g c =
     c.args.inside.now.touched c.note.new.self c.args.inside.now.journal.items c.enter_marks.new.journal.items
     c.push_reserved.new.self.items c.answer.new.changed.marks
     c.args.inside.now.seat c.learn.new.seat c.begin.new.seat c.store_words.new.seat c.commit_call.new.seat
-    c.self.inside.vectors c.places-words.result.now _ c.args.pass.now.owner
+    c.self.inside.vectors c.note.new.self.places _ c.args.pass.now.owner
     c.owner-by.result c.args.ask c.in_ok-reply.reply
     c.requires.cell c.in_ok-reply.ensures.turn c.answer.ensures.form c.note.ensures.table (search rules)
-    (λ conn index some most inside spared. c.in_ok-reply.ensures.bits conn index
+    (λ conn index some most inside spared.
+    untouched_same (stands_at g.E.Engine.meaning c.args.inside.now.machine.machine)
+    (stands_at g.E.Engine.meaning c.answer.new.self.machine) c.answer.new.changed c.in_ok-reply.ensures.bits conn index
     (c.note.ensures.spared conn index some most inside spared))
+    (c.note.ensures.words (stands_at g.E.Engine.meaning c.args.inside.now.machine.machine) c.requires.cell.words
+    c.in_ok-reply.ensures.bits)
     (sym c.self.invariant.0 ∙ ap (λ k. k.words) c.self.view_is)
-    c.places-words.ensures.places c.learn.ensures.seat
+    refl c.learn.ensures.seat
     (c.enter_marks.ensures.items ∙ ap (λ h. entered h c.marks.result.now) c.in_ok-reserve_entries.ensures.items
     ∙ ap (entered c.args.inside.now.journal.items) c.marks.ensures) (search rules) (search rules)
     c.learn.ensures.owner

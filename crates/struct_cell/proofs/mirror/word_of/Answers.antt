@@ -1,7 +1,7 @@
 use Rattle.std.proofs.Common.{◌*◌, ◌+◌, ◌^◌, ◌<◌, sym, subst, arith}
 use Rattle.struct_cell.specs.Words.{shown_in}
 use Rattle.struct_cell.proofs.Binary.{word-small, next_bit, whole}
-use Rattle.struct_cell.proofs.words.word_of.Goals as goal
+use Rattle.struct_cell.proofs.mirror.word_of.Goals as goal
 
 pub with_bit-bits-requires-clause-bits : goal.with_bit-bits-requires-clause-bits
 with_bit-bits-requires-clause-bits g c =

@@ -1,6 +1,6 @@
 use Rattle.std.proofs.Common.{◌≡◌, ◌+◌, ◌*◌}
 use Rattle.struct_cell.specs.Words.{word_from, shown_in}
-use Rattle.struct_cell.proofs.words.word_of.Given as goal
+use Rattle.struct_cell.proofs.mirror.word_of.Given as goal
 
 abbrev pub invariant-loop-k : goal.invariant-loop-k
 invariant-loop-k g l = (l.vector ≡ l.machine.form.vector)

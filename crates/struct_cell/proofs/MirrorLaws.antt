@@ -1,0 +1,341 @@
+-- Words that are brought to the bits that are told.
+use Rattle.std.proofs.Common.{◌≡◌, ℕ, zero, suc, ◌+◌, ◌*◌, ◌/◌, ◌%◌, ◌^◌, ◌<◌, ◌≤◌, ◌==◌, ◌⊎◌, inl, inr, Bool, true, false, nat_lt, List, [], ◌∷◌, ◌++◌, length, get_or, set, take, fold, refl, sym, ap, ◌∙◌, subst, subst₂, arith}
+use Rattle.std.specs.Prelude.{◌≢◌, ◌&&◌, if◌then◌else◌, replicate}
+use Rattle.std.specs.Int.{bit_at}
+use Rattle.std.specs.List.{AllByRecursion}
+use Rattle.std.proofs.lemmas.Bool.Decides.{nat_tests}
+use Rattle.std.proofs.lemmas.Nat.Bits.{same_from_bits_below}
+use Rattle.std.proofs.lemmas.List.{get_or-replicate, get_or-set_other, get_or_past, length-replicate, take_more}
+use Rattle.std.proofs.lemmas.Bool.{cases_lt}
+use Rattle.std.proofs.lemmas.List.Elements.{All-push, All-weaker, recursion_from_All}
+use Rattle.std.proofs.lemmas.List.Sums.{fold_push}
+use Rattle.cf_types.specs.declared.effects.BitChange.{BitChange}
+use Rattle.cf_types.specs.declared.numbers.ConnId.{ConnId}
+use Rattle.cf_types.specs.Gains.{Bits, Gains, bits_told, difference, is_for}
+use Rattle.vec_words.specs.declared.logged.Logged.{Logged}
+use Rattle.vec_words.specs.declared.logged.Logged.TheVariants.{Stored}
+use Rattle.vec_words.specs.declared.stores.Place.{Place}
+use Rattle.vec_words.specs.Logged.{word_number, words_of}
+use Rattle.vec_words.specs.Stores.{IsAt, IsSpared, IsWithin, StoresEach, stores_of}
+use Rattle.vec_words.specs.Tokens.{SeatSeen}
+use Rattle.vec_words.proofs.Places.{word_number-same}
+use Rattle.struct_cell.specs.Touches.{AreMirrorsOf, AreWordsOf, IsEvery, MirrorWords, with_told, word_at}
+use Rattle.struct_cell.specs.Words.{bit_of, whole_word, word_from, word_in}
+use Rattle.struct_cell.proofs.Binary.{one_if, whole-small, word_place}
+use Rattle.struct_cell.proofs.PlaceLaws.{bit-past}
+
+-- ---- words by their bits
+
+word_alike : (f g : ℕ → Bool) (n : ℕ) → ((k : ℕ) → k < n → f k ≡ g k) → word_from f n ≡ word_from g n
+word_alike f g zero same = refl
+word_alike f g (suc n) same =
+    let here : f n ≡ g n = same n (omega arith) in
+    let rest : word_from f n ≡ word_from g n = word_alike f g n (λ k less. same k (omega (arith, less))) in
+    ap (λ (b : Bool). one_if b * 2 ^ n + word_from f n) here ∙ ap (λ (w : ℕ). one_if (g n) * 2 ^ n + w) rest
+
+pub whole_alike : (f g : ℕ → Bool) → ((k : ℕ) → k < 32 → f k ≡ g k) → whole_word f ≡ whole_word g
+unfolding whole_word
+whole_alike f g same = word_alike f g 32 same
+
+-- a word in which one bit was put
+pub bit_put : (f : ℕ → Bool) (bits after place : ℕ) (bit : Bool) → after < 2 ^ 32
+    → bit_at after place ≡ one_if bit
+    → ((k : ℕ) → k < 32 → k ≢ place → bit_at after k ≡ bit_at bits k)
+    → bits ≡ whole_word f → after ≡ whole_word (λ k. if k == place then bit else f k)
+bit_put f bits after place bit small here others was =
+    same_from_bits_below 32 after (whole_word g) small (whole-small g) (λ k below. at k below (k == place) refl)
+  where
+    g : ℕ → Bool
+    g k = if k == place then bit else f k
+
+    at : (k : ℕ) → k < 32 → (b : Bool) → k == place ≡ b → bit_at after k ≡ bit_at (whole_word g) k
+    at k below true is =
+        let same : k ≡ place = grind (arith, nat_tests) in
+        ap (bit_at after) same ∙ here ∙ ap (λ (b : Bool). one_if (if b then bit else f k)) (sym is)
+        ∙ sym (word_place g k below)
+    at k below false is =
+        let apart : k ≢ place = grind (arith, nat_tests) in
+        others k below apart ∙ ap (λ (w : ℕ). bit_at w k) was ∙ word_place f k below
+        ∙ ap (λ (b : Bool). one_if (if b then bit else f k)) (sym is) ∙ sym (word_place g k below)
+
+no_bits : (n : ℕ) → word_from (λ k. false) n ≡ 0
+no_bits zero = refl
+no_bits (suc n) = let rest : word_from (λ k. false) n ≡ 0 = no_bits n in omega (arith, rest)
+
+none_whole : whole_word (λ k. false) ≡ 0
+unfolding whole_word
+none_whole = no_bits 32
+
+none_past : (b : Bool) → b && false ≡ false
+none_past true = refl
+none_past false = refl
+
+zeros : (none count i : ℕ) → get_or (replicate count none) i none ≡ none
+zeros none count i = elim (cases_lt i count) [
+  | inl low ↦ get_or-replicate count i none none low
+  | inr high ↦ (let all : length (replicate count none) ≡ count = length-replicate count none in
+      get_or_past (replicate count none) i none (omega (arith, high, all)))
+]
+
+-- words without a bit
+pub words_none : (conns len count : ℕ) (words : List ℕ) → words ≡ replicate count 0
+    → AreWordsOf conns len words (λ conn index. false)
+words_none conns len count words is conn word some most within =
+    let none : ℕ = 0 in
+    ap (λ (ws : List ℕ). get_or ws (word_number len conn word) none) is
+    ∙ zeros none count (word_number len conn word)
+    ∙ sym none_whole
+    ∙ whole_alike (λ k. false) (λ k. nat_lt (32 * word + k) len && false)
+    (λ k less. sym (none_past (nat_lt (32 * word + k) len)))
+
+-- ---- bits that are told
+
+-- the word of a bit that is told
+told_here : (len : ℕ) (bits : Bits) (change : BitChange) (conn word k : ℕ) → change.conn.0 ≡ conn
+    → change.index / 32 ≡ word → change.index < len → k < 32
+    → (if k == change.index % 32 then change.bit else bit_of len bits (record { 0 = conn }) (32 * word + k))
+    ≡ bit_of len (with_told bits change) (record { 0 = conn }) (32 * word + k)
+told_here len bits change conn word k conns words below less = go (k == change.index % 32) refl
+  where
+    index : ℕ
+    index = 32 * word + k
+
+    go : (b : Bool) → k == change.index % 32 ≡ b
+        → (if b then change.bit else bit_of len bits (record { 0 = conn }) index)
+        ≡ bit_of len (with_told bits change) (record { 0 = conn }) index
+    go true is =
+        let place : k ≡ change.index % 32 = grind (arith, nat_tests) in
+        let same : change.index ≡ index = omega (arith, place, words) in
+        let inside : nat_lt index len ≡ true = grind (arith, nat_tests) in
+        let here : is_for (record { 0 = conn }) index change ≡ true = grind (arith, nat_tests) in
+        rw (inside, here) refl
+    go false is =
+        let place : k ≢ change.index % 32 = grind (arith, nat_tests) in
+        let apart : change.index ≢ index = λ same. place (omega (arith, same, words, less)) in
+        let other : is_for (record { 0 = conn }) index change ≡ false = grind (arith, nat_tests) in
+        rw other refl
+
+-- another word
+told_apart : (len : ℕ) (bits : Bits) (change : BitChange) (conn word k : ℕ) → k < 32
+    → ¬ IsAt conn word (record { conn = change.conn; word = change.index / 32 })
+    → bit_of len bits (record { 0 = conn }) (32 * word + k)
+    ≡ bit_of len (with_told bits change) (record { 0 = conn }) (32 * word + k)
+told_apart len bits change conn word k less apart = go (is_for (record { 0 = conn }) (32 * word + k) change) refl
+  where
+    go : (b : Bool) → is_for (record { 0 = conn }) (32 * word + k) change ≡ b
+        → bit_of len bits (record { 0 = conn }) (32 * word + k)
+        ≡ bit_of len (with_told bits change) (record { 0 = conn }) (32 * word + k)
+    go true is =
+        let conns : change.conn.0 ≡ conn = grind (arith, nat_tests) in
+        let same : change.index ≡ 32 * word + k = grind (arith, nat_tests) in
+        let words : change.index / 32 ≡ word = omega (arith, same, less) in
+        absurd (apart (conns, words))
+    go false is = rw is refl
+
+-- the words, once a bit is told
+pub words_told : (conns len : ℕ) (old new : List ℕ) (bits : Bits) (change : BitChange) (after : ℕ)
+    → 0 < change.conn.0 → change.index < len
+    → ((f : ℕ → Bool) → word_at len old change.conn.0 (change.index / 32) ≡ whole_word f
+    → after ≡ whole_word (λ k. if k == change.index % 32 then change.bit else f k))
+    → word_at len new change.conn.0 (change.index / 32) ≡ after
+    → ((conn word : ℕ) → 0 < conn → word < words_of len
+    → ¬ IsAt conn word (record { conn = change.conn; word = change.index / 32 })
+    → word_at len new conn word ≡ word_at len old conn word)
+    → AreWordsOf conns len old bits → AreWordsOf conns len new (with_told bits change)
+words_told conns len old new bits change after positive below changed here others were conn word some most within =
+    go (change.conn.0 == conn) refl (change.index / 32 == word) refl
+  where
+    else_where : ¬ IsAt conn word (record { conn = change.conn; word = change.index / 32 })
+        → word_at len new conn word ≡ word_in len (with_told bits change) conn word
+    else_where apart =
+        others conn word some within apart ∙ were conn word some most within
+        ∙ whole_alike _ _ (λ k less. told_apart len bits change conn word k less apart)
+
+    go : (b : Bool) → change.conn.0 == conn ≡ b → (e : Bool) → change.index / 32 == word ≡ e
+        → word_at len new conn word ≡ word_in len (with_told bits change) conn word
+    go true is true at =
+        let conns_are : change.conn.0 ≡ conn = grind (arith, nat_tests) in
+        let words_are : change.index / 32 ≡ word = grind (arith, nat_tests) in
+        let was : word_at len old change.conn.0 (change.index / 32) ≡ word_in len bits conn word =
+        (λ i. word_at len old (conns_are i) (words_are i)) ∙ were conn word some most within in
+        (λ i. word_at len new (sym conns_are i) (sym words_are i)) ∙ here
+        ∙ changed (λ k. bit_of len bits (record { 0 = conn }) (32 * word + k)) was
+        ∙ whole_alike _ _ (λ k less. told_here len bits change conn word k conns_are words_are below less)
+    go true is false at =
+        let apart : change.index / 32 ≢ word = grind (arith, nat_tests) in else_where (λ same. apart same.1)
+    go false is e at =
+        let apart : change.conn.0 ≢ conn = grind (arith, nat_tests) in else_where (λ same. apart same.0)
+
+-- a bit past the vectors
+pub words_past : (conns len : ℕ) (words : List ℕ) (bits : Bits) (change : BitChange)
+    → (change.conn.0 ≡ 0) ⊎ ((conns < change.conn.0) ⊎ (len ≤ change.index))
+    → AreWordsOf conns len words bits → AreWordsOf conns len words (with_told bits change)
+words_past conns len words bits change past were conn word some most within =
+    were conn word some most within ∙ whole_alike _ _ (λ k less. go (32 * word + k) (nat_lt (32 * word + k) len) refl)
+  where
+    go : (index : ℕ) (b : Bool) → nat_lt index len ≡ b
+        → bit_of len bits (record { 0 = conn }) index ≡ bit_of len (with_told bits change) (record { 0 = conn }) index
+    go index true is =
+        let below : index < len = grind (arith, nat_tests) in
+        let other : is_for (record { 0 = conn }) index change ≡ false =
+        bit-past change conns len (record { 0 = conn }) index past some most below in
+        rw other refl
+    go index false is = rw is refl
+
+-- one bit more
+pub told_more : (before : Bits) (changes : List BitChange) (i : ℕ) (d : BitChange) → i < length changes
+    → with_told (fold with_told before (take i changes)) (get_or changes i d)
+    ≡ fold with_told before (take (i + 1) changes)
+told_more before changes i d below =
+    sym (ap (fold with_told before) (take_more changes i d below)
+    ∙ fold_push with_told before (take i changes) (get_or changes i d))
+
+abbrev last_told : Bool → List Bool → Bool
+last_told before told = fold (λ (was now : Bool). now) before told
+
+folded : (changes : List BitChange) (before : Bits) (conn : ConnId) (index : ℕ)
+    → fold with_told before changes conn index ≡ last_told (before conn index) (bits_told changes conn index)
+folded [] before conn index = refl
+folded (change ∷ changes) before conn index =
+    folded changes (with_told before change) conn index ∙ go (is_for conn index change) refl
+  where
+    go : (b : Bool) → is_for conn index change ≡ b
+        → last_told (with_told before change conn index) (bits_told changes conn index)
+        ≡ last_told (before conn index) (bits_told (change ∷ changes) conn index)
+    go true is = rw is refl
+    go false is = rw is refl
+
+last_is : (before after : Bool) → last_told before (difference before after) ≡ after
+last_is false false = refl
+last_is false true = refl
+last_is true false = refl
+last_is true true = refl
+
+-- all that changed
+pub words_gained : (conns len : ℕ) (words : List ℕ) (before after : Bits) (changes : List BitChange)
+    → Gains before after [] changes → AreWordsOf conns len words (fold with_told before changes)
+    → AreWordsOf conns len words after
+words_gained conns len words before after changes gains are conn word some most within =
+    are conn word some most within
+    ∙ whole_alike _ _ (λ k less. ap (λ (b : Bool). nat_lt (32 * word + k) len && b)
+    (told (record { 0 = conn }) (32 * word + k)))
+  where
+    told : (conn : ConnId) (index : ℕ) → fold with_told before changes conn index ≡ after conn index
+    told conn index =
+        folded changes before conn index
+        ∙ ap (last_told (before conn index)) (ap (λ (all : List BitChange). bits_told all conn index) gains.behind
+        ∙ gains.exactly conn index)
+        ∙ last_is (before conn index) (after conn index)
+
+-- the same where the words are another mirror's
+pub bit_taken : (old new : MirrorWords) (bits : Bits) (change : BitChange) (after : ℕ) → AreMirrorsOf old new
+    → 0 < change.conn.0 → change.index < old.len
+    → ((f : ℕ → Bool) → word_at old.len old.words change.conn.0 (change.index / 32) ≡ whole_word f
+    → after ≡ whole_word (λ k. if k == change.index % 32 then change.bit else f k))
+    → word_at new.len new.words change.conn.0 (change.index / 32) ≡ after
+    → ((conn word : ℕ) → 0 < conn → word < words_of old.len
+    → ¬ IsAt conn word (record { conn = change.conn; word = change.index / 32 })
+    → word_at new.len new.words conn word ≡ word_at old.len old.words conn word)
+    → AreWordsOf old.conns old.len old.words bits → AreWordsOf new.conns new.len new.words (with_told bits change)
+bit_taken old new bits change after table positive below changed here others were =
+    subst₂ (λ (n l : ℕ). AreWordsOf n l new.words (with_told bits change)) (sym table.0) (sym table.1)
+    (words_told old.conns old.len old.words new.words bits change after positive below changed
+    (ap (λ (l : ℕ). word_at l new.words change.conn.0 (change.index / 32)) (sym table.1) ∙ here)
+    (λ conn word some within apart. ap (λ (l : ℕ). word_at l new.words conn word) (sym table.1)
+    ∙ others conn word some within apart) were)
+
+-- one word that is put in leaves the others
+pub put_other : (conns len : ℕ) (words : List ℕ) (place : Place) (number bits conn word : ℕ)
+    → IsWithin conns len place → number ≡ word_number len place.conn.0 place.word → 0 < conn → word < words_of len
+    → ¬ IsAt conn word place → word_at len (set words number bits) conn word ≡ word_at len words conn word
+put_other conns len words place number bits conn word here is some within apart =
+    get_or-set_other words number (word_number len conn word) bits 0
+    (λ same. (let both = word_number-same len conn place.conn.0 word place.word some here.0 within here.2 (same ∙ is) in
+    apart (sym both.0, sym both.1)))
+
+-- ---- words that are looked up
+
+pub looked_more : (start old new : MirrorWords) (bits : ℕ → ℕ → ℕ) (places : List Place) (i : ℕ) (d : Place)
+    → i < length places → AreMirrorsOf start old
+    → word_at new.len new.words (get_or places i d).conn.0 (get_or places i d).word
+    ≡ bits (get_or places i d).conn.0 (get_or places i d).word
+    → ((conn word : ℕ) → 0 < conn → word < words_of old.len → ¬ IsAt conn word (get_or places i d)
+    → word_at new.len new.words conn word ≡ word_at old.len old.words conn word)
+    → ((conn word : ℕ) → 0 < conn → word < words_of start.len
+    → IsSpared (take i places) conn word ⊎ (word_at old.len old.words conn word ≡ bits conn word))
+    → (conn word : ℕ) → 0 < conn → word < words_of start.len
+    → IsSpared (take (i + 1) places) conn word ⊎ (word_at new.len new.words conn word ≡ bits conn word)
+looked_more start old new bits places i d below table here others was conn word some within =
+    go (place.conn.0 == conn) refl (place.word == word) refl
+  where
+    place : Place
+    place = get_or places i d
+
+    else_where : ¬ IsAt conn word place
+        → IsSpared (take (i + 1) places) conn word ⊎ (word_at new.len new.words conn word ≡ bits conn word)
+    else_where apart = elim (was conn word some within) [
+      | inl spared ↦ inl (subst (λ (ps : List Place). IsSpared ps conn word) (sym (take_more places i d below))
+          (All-push (λ (p : Place). ¬ IsAt conn word p) (take i places) place spared apart))
+      | inr is ↦ inr (others conn word some (subst (λ (n : ℕ). word < words_of n) (sym table.1) within) apart ∙ is)
+    ]
+
+    go : (b : Bool) → place.conn.0 == conn ≡ b → (e : Bool) → place.word == word ≡ e
+        → IsSpared (take (i + 1) places) conn word ⊎ (word_at new.len new.words conn word ≡ bits conn word)
+    go true is true at =
+        let conns : place.conn.0 ≡ conn = grind (arith, nat_tests) in
+        let words : place.word ≡ word = grind (arith, nat_tests) in
+        inr (subst₂ (λ (c w : ℕ). word_at new.len new.words c w ≡ bits c w) conns words here)
+    go true is false at =
+        let apart : place.word ≢ word = grind (arith, nat_tests) in else_where (λ same. apart same.1)
+    go false is e at =
+        let apart : place.conn.0 ≢ conn = grind (arith, nat_tests) in else_where (λ same. apart same.0)
+
+-- every word was
+pub looked_all : (start new : MirrorWords) (vector : ℕ) (bits : Bits) (places : List Place) → AreMirrorsOf start new
+    → IsEvery start.conns start.len places → start.len ≡ vector
+    → ((conn word : ℕ) → 0 < conn → word < words_of start.len
+    → IsSpared places conn word ⊎ (word_at new.len new.words conn word ≡ word_in vector bits conn word))
+    → AreWordsOf new.conns new.len new.words bits
+looked_all start new vector bits places table every same are conn word some most within =
+    let inside : word < words_of start.len = subst (λ (n : ℕ). word < words_of n) table.1 within in
+    elim (are conn word some inside) [
+      | inl spared ↦ absurd (every conn word some (subst (λ (n : ℕ). conn ≤ n) table.0 most) inside spared)
+      | inr is ↦ is ∙ ap (λ (n : ℕ). word_in n bits conn word) (sym (table.1 ∙ same))
+    ]
+
+-- the same bits by another name
+pub words_alike : (conns len : ℕ) (words : List ℕ) (before after : Bits)
+    → ((conn : ConnId) (index : ℕ) → before conn index ≡ after conn index)
+    → AreWordsOf conns len words before → AreWordsOf conns len words after
+words_alike conns len words before after same are conn word some most within =
+    are conn word some most within
+    ∙ whole_alike _ _ (λ k less. ap (λ (b : Bool). nat_lt (32 * word + k) len && b)
+    (same (record { 0 = conn }) (32 * word + k)))
+
+-- ---- stores of them
+
+module _ {D : Type 0} where
+  stores_same : (len : ℕ) (one other : ℕ → ℕ → ℕ) (number : ℕ) (places : List Place)
+      → AllByRecursion (λ place. one place.conn.0 place.word ≡ other place.conn.0 place.word) places
+      → stores_of {D = D} len one number places ≡ stores_of {D = D} len other number places
+  stores_same len one other number [] same = refl
+  stores_same len one other number (place ∷ places) same =
+      (λ i. Stored (word_number len place.conn.0 place.word) (same.0 i) number
+      ∷ stores_same len one other number places same.1 i)
+
+  pub stores_alike : (conns len : ℕ) (one other : ℕ → ℕ → ℕ) (named : List Place) (before after : SeatSeen D)
+      → ((conn word : ℕ) → 0 < conn → conn ≤ conns → word < words_of len → one conn word ≡ other conn word)
+      → StoresEach conns len one named before after → StoresEach conns len other named before after
+  stores_alike conns len one other named before after same each = record {
+    places = each.places;
+    seat =
+        each.seat
+        ∙ ap (λ (some : List (Logged D)). record before { log = before.log ++ some })
+        (stores_same len one other before.number each.places
+        (recursion_from_All (λ (place : Place). one place.conn.0 place.word ≡ other place.conn.0 place.word) each.places
+        (All-weaker (IsWithin conns len) (λ (place : Place). one place.conn.0 place.word ≡ other place.conn.0 place.word)
+        (λ place within. same place.conn.0 place.word within.0 within.1 within.2) each.places each.within)));
+    within = each.within;
+    once = each.once;
+    same = each.same;
+  }

@@ -1,0 +1,13 @@
+use Rattle.std.proofs.Common.{◌≡◌, ℕ, ◌<◌, ◌⊎◌, take}
+use Rattle.vec_words.specs.Logged.{words_of}
+use Rattle.vec_words.specs.Stores.{IsSpared}
+use Rattle.struct_cell.specs.Touches.{AreMirrorsOf, word_at}
+use Rattle.struct_cell.specs.Words.{words_in}
+use Rattle.struct_cell.proofs.mirror.Mirror.look_up.Given as goal
+
+abbrev pub invariant-loop-place : goal.invariant-loop-place
+invariant-loop-place g l =
+    AreMirrorsOf l.fn.self l.self
+    × ((conn word : ℕ) → 0 < conn → word < words_of l.fn.self.len
+    → IsSpared (take l.place-index l.places) conn word ⊎ (word_at l.self.len l.self.words conn word
+    ≡ words_in g.E.Engine.meaning l.machine.form l.machine.machine conn word))

@@ -1,0 +1,18 @@
+use Rattle.std.proofs.Common.{◌≡◌, ◌<◌, ◌≤◌, ◌⊎◌, subst, ◌∙◌}
+use Rattle.struct_cell.specs.Touches.{MirrorWords}
+use Rattle.struct_cell.proofs.MirrorLaws.{bit_taken, words_past}
+use Rattle.struct_cell.proofs.mirror.Mirror.take_bit.Goals as goal
+
+pub returns-then-is_past-clause-words : goal.returns-then-is_past-clause-words
+returns-then-is_past-clause-words c = λ before are.
+    let change = c.args.change.now in
+    words_past c.args.self.now.conns c.args.self.now.len c.args.self.now.words before change
+    (subst (λ (m : MirrorWords). (change.conn.0 ≡ 0) ⊎ ((m.conns < change.conn.0) ⊎ (m.len ≤ change.index)))
+    c.self.view_is (c.is_past.ensures.past c.if-is_past.true)) are
+
+pub returns-clause-words : goal.returns-clause-words
+returns-clause-words c = λ before are.
+    let inside = c.is_past.ensures.inside c.if-is_past.false in
+    bit_taken c.args.self.now c.put.new.self before c.args.change.now c.changed_bit.result c.put.ensures.table inside.0
+    (subst (λ (m : MirrorWords). c.args.change.now.index < m.len) c.self.view_is inside.2)
+    (λ f is. c.changed_bit.ensures f (c.word-bits.ensures ∙ is)) c.put.ensures.here c.put.ensures.others are

@@ -1,0 +1,9 @@
+use Rattle.std.proofs.Common.{w32}
+use Rattle.std.proofs.lemmas.Nat.Bits.{bit_at_set_same, bit_at_set_other}
+use Rattle.struct_cell.proofs.mirror.with_one.Goals as goal
+
+pub returns-clause-here : goal.returns-clause-here
+returns-clause-here c = bit_at_set_same w32 c.args.bits c.args.place c.requires
+
+pub returns-clause-others : goal.returns-clause-others
+returns-clause-others c = λ k apart. bit_at_set_other w32 c.args.bits c.args.place c.requires k apart
