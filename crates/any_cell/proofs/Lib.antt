@@ -1,2 +1,3 @@
+mod CallLaws
 mod ShownLaws
 pub mod UnusedLaws

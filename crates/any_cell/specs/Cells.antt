@@ -1,8 +1,10 @@
 -- What contracts see of a cell, what goes with it, and what its history says of its callers.
-use Rattle.std.specs.Prelude.{◌≡◌, ℕ}
+use Rattle.std.specs.Prelude.{◌≡◌, ℕ, List, map}
 use Rattle.cf_types.specs.declared.forms.StrForm.{StrForm}
 use Rattle.cf_types.specs.declared.numbers.ConnId.{ConnId}
 use Rattle.cf_link.specs.declared.links.Links.{Links}
+use Rattle.engine_api.specs.declared.asks.Reply.{Reply}
+use Rattle.engine_api.specs.History.{Call, own}
 use Rattle.cache_model.specs.Meaning.{cache_meaning}
 use Rattle.list_model.specs.Meaning.{list_meaning}
 use Rattle.lock_model.specs.Meaning.{lock_meaning}
@@ -15,8 +17,10 @@ use Rattle.struct_cell.specs.declared.inside.CellKey.{CellKey}
 use Rattle.struct_cell.specs.Telling.{IsTold}
 use Rattle.any_cell.specs.declared.any_cell.AnyCell.{AnyCell}
 use Rattle.any_cell.specs.declared.any_cell.AnyCell.TheVariants as cell
+use Rattle.any_cell.specs.declared.any_reply.AnyReply.{AnyReply}
+use Rattle.any_cell.specs.declared.any_reply.AnyReply.TheVariants as reply
 use Rattle.run_model.specs.Types.{StrType, OfCache, OfList, OfLock, type_of_ask}
-use Rattle.any_cell.specs.Passes.{PassShown, NoteShown}
+use Rattle.any_cell.specs.Passes.{PassShown, NoteShown, Replied}
 
 -- a cell: the type of its structure, and what of it never changes
 pub record CellShown (L : Type 0) : Type 0 where
@@ -60,3 +64,12 @@ abbrev pub IsAnyTold : StrForm → AnyHistory → ConnId → Sight → Type 0
 IsAnyTold form (history.Cache entries) owner test = IsTold cache_meaning form entries owner.0 test
 IsAnyTold form (history.List entries) owner test = IsTold list_meaning form entries owner.0 test
 IsAnyTold form (history.Lock entries) owner test = IsTold lock_meaning form entries owner.0 test
+
+-- the replies to a caller's own calls, with their numbers, in order
+abbrev pub replied : {C R : Type 0} → (Reply R → AnyReply) → Call C R → Replied
+replied told call = record { no = call.no; reply = told call.reply }
+
+abbrev pub own_replies : AnyHistory → ConnId → List Replied
+own_replies (history.Cache entries) owner = map (replied reply.Cache) (own entries owner)
+own_replies (history.List entries) owner = map (replied reply.List) (own entries owner)
+own_replies (history.Lock entries) owner = map (replied reply.Lock) (own entries owner)

@@ -1,23 +1,24 @@
 //! A cell of whatever type of structure.
-ghost use Rattle.std.specs.Prelude.{◌≡◌, ◌≢◌, ◌+◌, ◌<◌, ◌≤◌, ◌++◌, ◌∷◌, [], IfOk, IfErr, All, map, max};
+ghost use Rattle.std.specs.Prelude.{◌≡◌, ◌≢◌, ◌+◌, ◌<◌, ◌≤◌, ◌++◌, ◌∷◌, [], IfOk, IfErr, All, is_some, map, max};
 ghost use Rattle.std.specs.List.{range_with_len};
 ghost use Rattle.cf_types.specs.declared.limits.TheConstants.{CONNECTORS};
 ghost use Rattle.cf_link.specs.Links.{AreAsked};
 ghost use Rattle.cf_types.specs.Forms.{IsForm};
-ghost use Rattle.plex_script.specs.Heard.{any_calls, any_length, own_calls};
+ghost use Rattle.plex_script.specs.Heard.{any_calls, any_length, call_numbered, own_calls};
 ghost use Rattle.struct_cell.specs.declared.refused.CallRefused.TheVariants as refused;
 ghost use Rattle.vec_words.specs.Logged.{words_of, indices_of, sight};
 ghost use Rattle.struct_cell.specs.Limits.{AreMadeBelow};
 ghost use Rattle.run_model.specs.Kinds.{MayAskAny, IsAnyLegal, IsAnyPoint, any_answers, any_numbers};
 ghost use Rattle.run_model.specs.Types.{type_of_kind, type_of_history};
-ghost use Rattle.any_cell.specs.Passes.{IsLater, pass_shown, passes_shown, type_of_passes, room_of, note_shown, note_of, unused_pass, with_call};
-ghost use Rattle.any_cell.specs.Cells.{IsPassOf, IsNoteOf, IsAskOf, IsAnyTold, cell_shown};
+ghost use Rattle.any_cell.specs.Passes.{IsAnswered, IsLater, pass_shown, passes_shown, type_of_passes, room_of, note_shown, note_of, unused_pass, reply_numbered};
+ghost use Rattle.any_cell.specs.Cells.{IsPassOf, IsNoteOf, IsAskOf, IsAnyTold, cell_shown, own_replies};
 
 use crate::any_note::AnyNote;
 use crate::any_pass::{AnyPass, AnyPasses};
+use crate::any_reply::{AnyReply, of_cache, of_list, of_lock};
 use cache_core::CacheEngine;
 use cf_link::{Link, Links};
-use cf_types::{Kind, StrForm};
+use cf_types::{Kind, NoMemory, StrForm};
 use engine_api::Told;
 use list_core::ListEngine;
 use lock_core::LockEngine;
@@ -105,8 +106,8 @@ impl<L: Link> AnyCell<L> {
         requires ask { IsAskOf (cell_shown self.now) ask }
         requires may { MayAskAny (pass_shown pass.old).owner ask }
         ensures later { IfOk result (λ told. (pass_shown pass.old).known < told.no) }
-        ensures answered { IfOk result (λ told. pass_shown pass.new
-            ≡ with_call ask told (pass_shown pass.old)) }
+        ensures answered { IfOk result (λ told. IsAnswered ask told (pass_shown pass.old)
+            (pass_shown pass.new)) }
         ensures refused { IfErr result (λ _. IsLater (pass_shown pass.old) (pass_shown pass.new)) }
         ensures no_memory { IfErr result (λ refusal. refusal ≡ refused.NoMemory
             → pass_shown pass.new ≡ pass_shown pass.old) }
@@ -116,13 +117,52 @@ impl<L: Link> AnyCell<L> {
     {
         match (self, pass, ask) {
             (AnyCell::Cache(cell), AnyPass::Cache(pass), AnyAsk::Cache(ask)) => {
-                cell.call(rt, alloc, pass, ask)
+                return cell.call(rt, alloc, pass, ask);
             }
             (AnyCell::List(cell), AnyPass::List(pass), AnyAsk::List(ask)) => {
-                cell.call(rt, alloc, pass, ask)
+                return cell.call(rt, alloc, pass, ask);
             }
             (AnyCell::Lock(cell), AnyPass::Lock(pass), AnyAsk::Lock(ask)) => {
-                cell.call(rt, alloc, pass, ask)
+                return cell.call(rt, alloc, pass, ask);
+            }
+            _ => unreachable!(),
+        }
+    }
+
+    /// The reply to a call of the pass's owner, by the call's number: `None` where no call of the
+    /// owner's has that number. It waits for its turn, by which the pass may have seen more
+    /// complete.
+    ///
+    /// # Errors
+    ///
+    /// `NoMemory` for the copy; then the pass is as it was, and the reply may be asked for again.
+    pub fn reply(
+        &self,
+        rt: &impl Wait,
+        alloc: Global,
+        pass: &mut AnyPass,
+        no: u32,
+    ) -> Result<Option<AnyReply>, NoMemory>
+        requires pass { IsPassOf (cell_shown self.now) (pass_shown pass.old) }
+        ensures reply { IfOk result (λ reply. reply
+            ≡ reply_numbered no (pass_shown pass.old).replies) }
+        ensures own { IfOk result (λ reply. is_some reply
+            ≡ is_some (call_numbered no (pass_shown pass.old).calls)) }
+        ensures later { IsLater (pass_shown pass.old) (pass_shown pass.new) }
+        ensures no_memory { IfErr result (λ _. pass_shown pass.new ≡ pass_shown pass.old) }
+    {
+        match (self, pass) {
+            (AnyCell::Cache(cell), AnyPass::Cache(pass)) => {
+                let reply = cell.reply(rt, alloc, pass, no)?;
+                return Ok(of_cache(reply));
+            }
+            (AnyCell::List(cell), AnyPass::List(pass)) => {
+                let reply = cell.reply(rt, alloc, pass, no)?;
+                return Ok(of_list(reply));
+            }
+            (AnyCell::Lock(cell), AnyPass::Lock(pass)) => {
+                let reply = cell.reply(rt, alloc, pass, no)?;
+                return Ok(of_lock(reply));
             }
             _ => unreachable!(),
         }
@@ -251,6 +291,8 @@ impl<L: Link> AnyCell<L> {
         ensures callers { All (λ call. call.by.0 ≤ (cell_shown self).callers)
             (any_calls result.0) }
         ensures mine { All (λ pass. pass.calls ≡ own_calls (any_calls result.0) pass.owner)
+            (passes_shown passes) }
+        ensures replies { All (λ pass. pass.replies ≡ own_replies result.0 pass.owner)
             (passes_shown passes) }
         ensures tests { All (λ pass. All (IsAnyTold (cell_shown self).form result.0 pass.owner)
             pass.tests) (passes_shown passes) }

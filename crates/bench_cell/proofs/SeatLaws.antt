@@ -14,9 +14,8 @@ use Rattle.plex_script.specs.declared.scripts.AnyAsk.{AnyAsk}
 use Rattle.plex_script.specs.declared.scripts.AnyAsk.TheVariants as any_ask
 use Rattle.struct_cell.specs.declared.refused.CallRefused.{CallRefused}
 use Rattle.run_model.specs.Types.{type_of_kind}
-use Rattle.any_cell.specs.Passes.{with_call}
 use Rattle.any_cell.specs.Cells.{CellShown, IsAskOf}
-use Rattle.desk_model.specs.Desks.{DeskShown, IsLaterOn, pass_at, with_pass}
+use Rattle.desk_model.specs.Desks.{DeskShown, IsAnsweredOn, IsLaterOn}
 use Rattle.desk_model.specs.Boards.{BoardShown, IsPolicy, IsStarted, IsDeskOf, cell_on, new_desk}
 use Rattle.desk_model.proofs.DeskLaws.{new_desk-of_board}
 use Rattle.bench_cell.proofs.LastLaws.{last-some}
@@ -78,9 +77,9 @@ module _ {L : Type 0} where
 
 -- a call leaves the desk its owner's
 pub call-owner : (answer : Result Told CallRefused) (asked : AnyAsk) (before after : DeskShown)
-    → IfOk answer (λ told. after ≡ with_pass pool (with_call asked told (pass_at before pool)) before)
+    → IfOk answer (λ told. IsAnsweredOn pool asked told before after)
     → IfErr answer (λ refusal. IsLaterOn pool before after) → after.owner ≡ before.owner
-call-owner (Ok told) asked before after is none = ap (λ (d : DeskShown). d.owner) is
+call-owner (Ok told) asked before after is none = ap (λ (d : DeskShown). d.owner) is.desk
 call-owner (Err refusal) asked before after none later = ap (λ (d : DeskShown). d.owner) later.rest
 
 module _ {L : Type 0} (board : BoardShown L) where

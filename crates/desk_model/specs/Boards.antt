@@ -15,7 +15,7 @@ use Rattle.run_model.specs.Types.{type_of_kind, type_of_history}
 use Rattle.any_cell.specs.Passes.{PassShown, NoteShown, unused_pass}
 use Rattle.struct_cell.specs.Limits.{AreMadeBelow}
 use Rattle.run_model.specs.Kinds.{IsAnyLegal, IsAnyPoint, any_numbers, any_answers}
-use Rattle.any_cell.specs.Cells.{CellShown, IsNoteOf, IsAnyTold}
+use Rattle.any_cell.specs.Cells.{CellShown, IsNoteOf, IsAnyTold, own_replies}
 use Rattle.desk_model.specs.Desks.{DeskShown, Fixed, fixed_of, pass_at}
 
 -- the cells of the structures, the number of connectors, and the links that no structure has
@@ -92,10 +92,11 @@ pub record IsClosed {L : Type 0} (cell : CellShown L) (entries : AnyHistory) : T
   pub room : AreMadeBelow cell.limit 0 (any_numbers entries)
   pub callers : All (λ call. call.by.0 ≤ cell.callers) (any_calls entries)
 
--- what the history says of a caller's pass: its owner's calls, each once and in order; what its tests answered; and
--- that the number that it knows is a point of the history
+-- what the history says of a caller's pass: its owner's calls, each once and in order, and the replies to them; what its
+-- tests answered; and that the number that it knows is a point of the history
 pub record IsAccount {L : Type 0} (cell : CellShown L) (entries : AnyHistory) (pass : PassShown) : Type 0 where
   pub mine : pass.calls ≡ own_calls (any_calls entries) pass.owner
+  pub replies : pass.replies ≡ own_replies entries pass.owner
   pub tests : All (IsAnyTold cell.form entries pass.owner) pass.tests
   pub point : IsAnyPoint entries pass.known
   pub known : pass.known ≤ any_length entries

@@ -5,7 +5,10 @@ use Rattle.cf_types.specs.declared.numbers.ConnId.{ConnId}
 use Rattle.cf_types.specs.declared.numbers.StrNo.{StrNo}
 use Rattle.vec_words.specs.Tokens.{WordTable}
 use Rattle.run_model.specs.Types.{StrType, OfCache}
-use Rattle.any_cell.specs.Passes.{PassShown, IsLater, unused_pass}
+use Rattle.engine_api.specs.declared.told.Told.{Told}
+use Rattle.plex_script.specs.declared.scripts.AnyAsk.{AnyAsk}
+use Rattle.any_cell.specs.declared.any_reply.AnyReply.{AnyReply}
+use Rattle.any_cell.specs.Passes.{PassShown, IsLater, unused_pass, with_call}
 
 pub record DeskShown : Type 0 where
   pub owner : ConnId
@@ -32,6 +35,12 @@ pass_at desk on = slice_index_or desk.passes on.0 no_pass
 -- the desk once its pass to a structure became this
 abbrev pub with_pass : StrNo → PassShown → DeskShown → DeskShown
 with_pass on pass desk = record desk { passes = slice_set desk.passes on.0 pass }
+
+-- a call of the desk's owner to a structure was answered, with what is told of it and a reply: its pass there has the
+-- call, and nothing else of the desk is different
+pub record IsAnsweredOn (on : StrNo) (asked : AnyAsk) (told : Told) (before after : DeskShown) : Type 0 where
+  pub reply : AnyReply
+  pub desk : after ≡ with_pass on (with_call asked told reply (pass_at before on)) before
 
 -- the desk knows as much of a structure as before, or more
 pub record IsLaterOn (on : StrNo) (before after : DeskShown) : Type 0 where

@@ -22,6 +22,7 @@ use Rattle.plex_script.specs.Agent.{first_step, step_after, asked_by, shell_ask}
 use Rattle.plex_script.specs.Heard.{is_linked}
 use Rattle.vec_words.specs.Logged.{indices_of, sight}
 use Rattle.run_model.specs.Kinds.{MayAskAny}
+use Rattle.any_cell.specs.declared.any_reply.AnyReply.{AnyReply}
 use Rattle.any_cell.specs.Passes.{PassShown, with_call}
 use Rattle.any_cell.specs.Cells.{CellShown, IsAskOf}
 use Rattle.desk_model.specs.Desks.{DeskShown, pass_at, with_pass, IsLaterOn}
@@ -58,12 +59,12 @@ call_item on told = shown.Call on told.no
 -- ---- calls
 
 -- A caller's steps at a structure, from one step to another, with what it was told of each call: a call asks what its
--- step asks, its number is above all that the pass knew, and the next step goes by what was told of it
+-- step asks, its number is above all that the pass knew, it has a reply, and the next step goes by what was told of it
 abbrev pub Steps : Kind → Option AnyAsk → Step → PassShown → List Told → Step → PassShown → Type 0
 Steps kind line now pass [] last after = (last ≡ now) × (after ≡ pass)
 Steps kind line now pass (told ∷ tolds) last after =
-    (asked : AnyAsk) × (asked_by kind line now ≡ Some asked) × (pass.known < told.no)
-    × Steps kind line (step_after now told) (with_call asked told pass) tolds last after
+    (asked : AnyAsk) × (asked_by kind line now ≡ Some asked) × (pass.known < told.no) × (reply : AnyReply)
+    × Steps kind line (step_after now told) (with_call asked told reply pass) tolds last after
 
 -- the caller came to a next call, which wasn't made: the desk knows what it knew, or more, and has seen complete no
 -- more than it knows

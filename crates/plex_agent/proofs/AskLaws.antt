@@ -36,7 +36,7 @@ module _ (limit : ℕ) (kind : Kind) (line : Option AnyAsk) (on : StrNo) where
       → Asks limit kind line on now before after
   asks_more now next before between after there one rest =
       let told = one.told in
-      let passes : pass_at between.desk on ≡ with_call one.asked told (pass_at before.desk on) =
+      let passes : pass_at between.desk on ≡ with_call one.asked told one.reply (pass_at before.desk on) =
       ap (λ (d : DeskShown). pass_at d on) one.desk ∙ pass_at-with_pass_same before.desk on _ there in
       let twice : with_pass on rest.pass between.desk ≡ with_pass on rest.pass before.desk =
       ap (with_pass on rest.pass) one.desk ∙ with_pass_twice on _ rest.pass before.desk in
@@ -48,6 +48,7 @@ module _ (limit : ℕ) (kind : Kind) (line : Option AnyAsk) (on : StrNo) where
           one.asked,
           one.asks,
           one.later,
+          one.reply,
           subst (λ (pass : PassShown). Steps kind line (step_after now told) pass rest.tolds rest.last rest.pass)
               passes
               (subst (λ (at : Step). Steps kind line at (pass_at between.desk on) rest.tolds rest.last rest.pass)

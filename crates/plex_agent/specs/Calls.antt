@@ -14,6 +14,7 @@ use Rattle.plex_script.specs.declared.transcripts.AgentEnd.TheVariants as ended
 use Rattle.plex_script.specs.declared.transcripts.Shown.{Shown}
 use Rattle.plex_script.specs.Agent.{step_after, asked_by}
 use Rattle.run_model.specs.Kinds.{MayAskAny}
+use Rattle.any_cell.specs.declared.any_reply.AnyReply.{AnyReply}
 use Rattle.any_cell.specs.Passes.{with_call}
 use Rattle.any_cell.specs.Cells.{CellShown, IsAskOf}
 use Rattle.desk_model.specs.Desks.{DeskShown, pass_at, with_pass}
@@ -32,10 +33,11 @@ pub record IsAsked (kind : Kind) (line : Option AnyAsk) (on : StrNo) (now next :
     : Type 0 where
   pub asked : AnyAsk
   pub told : Told
+  pub reply : AnyReply
   pub asks : asked_by kind line now ≡ Some asked
   pub later : (pass_at before.desk on).known < told.no
   pub next_is : next ≡ step_after now told
-  pub desk : after.desk ≡ with_pass on (with_call asked told (pass_at before.desk on)) before.desk
+  pub desk : after.desk ≡ with_pass on (with_call asked told reply (pass_at before.desk on)) before.desk
   pub items : after.shown.items ≡ before.shown.items ++ call_item on told ∷ []
 
 -- how a caller's work ends where its call wasn't made

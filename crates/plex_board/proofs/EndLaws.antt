@@ -7,7 +7,7 @@ use Rattle.plex_script.specs.declared.asks.AnyHistory.{AnyHistory}
 use Rattle.plex_script.specs.Heard.{any_calls, any_length, own_calls}
 use Rattle.any_cell.specs.declared.any_pass.AnyPasses.{AnyPasses}
 use Rattle.any_cell.specs.Passes.{PassShown, passes_shown}
-use Rattle.any_cell.specs.Cells.{CellShown, IsAnyTold}
+use Rattle.any_cell.specs.Cells.{CellShown, IsAnyTold, own_replies}
 use Rattle.cf_link.specs.Links.{AreAsked}
 use Rattle.run_model.specs.Kinds.{IsAnyPoint, any_answers}
 use Rattle.desk_model.specs.Boards.{IsClosed, IsAccount, AreEachAsked, four_of}
@@ -27,12 +27,14 @@ module _ {L : Type 0} where
   -- what a history says of all passes
   pub all-accounts : (cell : CellShown L) (entries : AnyHistory) (passes : List PassShown)
       → All (λ (pass : PassShown). pass.calls ≡ own_calls (any_calls entries) pass.owner) passes
+      → All (λ (pass : PassShown). pass.replies ≡ own_replies entries pass.owner) passes
       → All (λ (pass : PassShown). All (IsAnyTold cell.form entries pass.owner) pass.tests) passes
       → All (λ (pass : PassShown). IsAnyPoint entries pass.known × (pass.known ≤ any_length entries)) passes
       → All (IsAccount cell entries) passes
-  all-accounts cell entries passes mine tests known k d below =
+  all-accounts cell entries passes mine replies tests known k d below =
       record {
         mine = mine k d below;
+        replies = replies k d below;
         tests = tests k d below;
         point = (known k d below).0;
         known = (known k d below).1;

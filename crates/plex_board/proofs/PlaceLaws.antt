@@ -9,10 +9,10 @@ use Rattle.engine_api.specs.declared.told.Told.{Told}
 use Rattle.plex_script.specs.declared.scripts.AnyAsk.{AnyAsk}
 use Rattle.struct_cell.specs.declared.refused.CallRefused.{CallRefused}
 use Rattle.struct_cell.specs.declared.refused.CallRefused.TheVariants as refused
-use Rattle.any_cell.specs.Passes.{PassShown, NoteShown, IsLater, with_call}
+use Rattle.any_cell.specs.Passes.{PassShown, NoteShown, IsAnswered, IsLater, with_call}
 use Rattle.desk_model.specs.Notes.{with_any_note}
 use Rattle.any_cell.specs.Cells.{CellShown, IsPassOf}
-use Rattle.desk_model.specs.Desks.{DeskShown, fixed_of, no_pass, pass_at}
+use Rattle.desk_model.specs.Desks.{DeskShown, IsAnsweredOn, fixed_of, no_pass, pass_at, with_pass}
 use Rattle.desk_model.specs.Boards.{BoardShown, cell_on, IsDeskOf}
 use Rattle.desk_model.proofs.DeskLaws.{desk-length, desk-pass_is, desk-pass_owner}
 
@@ -117,11 +117,36 @@ still-on desk has j place after (Ok told) same is still = still
 still-on desk has j place after (Err refusal) same is still =
     λ none. put_again desk has j place after same is (still none)
 
+-- and so it is where a reply found no memory
+pub unread-on : {X E : Type 0} (desk has : DeskShown) (j : ℕ) (place after : PassShown) (answer : Result X E)
+    → desk ≡ has → place ≡ get_or has.passes j place → IfErr answer (λ _. after ≡ place)
+    → IfErr answer (λ _. (let changed : DeskShown = record { owner = has.owner; passes = set has.passes j after } in
+    changed) ≡ desk)
+unread-on desk has j place after (Ok read) same is still = tt
+unread-on desk has j place after (Err refusal) same is still = put_again desk has j place after same is still
+
+-- a call that was answered to the place was answered to the desk
+pub answered-on : (desk has : DeskShown) (on : StrNo) (j : ℕ) (place after : PassShown) (asked : AnyAsk)
+    (answer : Result Told CallRefused) → desk ≡ has → j ≡ on.0 → pass_at desk on ≡ place
+    → IfOk answer (λ told. IsAnswered asked told place after)
+    → IfOk answer (λ told. IsAnsweredOn on asked told desk
+    (record { owner = has.owner; passes = set has.passes j after }))
+answered-on desk has on j place after asked (Ok told) same at is made =
+    let new : after ≡ with_call asked told made.reply (pass_at desk on) =
+    made.pass ∙ ap (with_call asked told made.reply) (sym is) in
+    record {
+      reply = made.reply;
+      desk = ap (λ (n : ℕ). (let d : DeskShown = record { owner = has.owner; passes = set has.passes n after } in d)) at
+          ∙ ap (λ (p : PassShown). with_pass on p has) new
+          ∙ ap (with_pass on (with_call asked told made.reply (pass_at desk on))) (sym same);
+    }
+answered-on desk has on j place after asked (Err refusal) same at is made = tt
+
 -- a call keeps what is fixed, made or not
 pub call-fixed : (answer : Result Told CallRefused) (asked : AnyAsk) (before after : PassShown)
-    → IfOk answer (λ told. after ≡ with_call asked told before) → IfErr answer (λ _. IsLater before after)
+    → IfOk answer (λ told. IsAnswered asked told before after) → IfErr answer (λ _. IsLater before after)
     → fixed_of after ≡ fixed_of before
-call-fixed (Ok told) asked before after made unmade = ap fixed_of made
+call-fixed (Ok told) asked before after made unmade = ap fixed_of made.pass
 call-fixed (Err refusal) asked before after made unmade = ap fixed_of unmade.same
 
 -- so does what a note tells

@@ -1,16 +1,17 @@
 //! The board.
-ghost use Rattle.std.specs.Prelude.{◌≡◌, ◌≢◌, ◌+◌, ◌<◌, ◌≤◌, ◌++◌, ◌∷◌, [], IfOk, IfErr, IfSome, All, length, map, slice_set, Some};
+ghost use Rattle.std.specs.Prelude.{◌≡◌, ◌≢◌, ◌+◌, ◌<◌, ◌≤◌, ◌++◌, ◌∷◌, [], IfOk, IfErr, IfSome, All, is_some, length, map, slice_set, Some};
 ghost use Rattle.std.specs.Vec.{vec_len};
 ghost use Rattle.std.specs.List.{range_with_len};
 ghost use Rattle.cf_types.specs.declared.limits.TheConstants.{LINKS};
 ghost use Rattle.struct_cell.specs.declared.refused.CallRefused.TheVariants as refused;
 ghost use Rattle.vec_words.specs.Logged.{words_of, indices_of, sight};
+ghost use Rattle.plex_script.specs.Heard.{call_numbered};
 ghost use Rattle.run_model.specs.Types.{type_of_kind};
 ghost use Rattle.run_model.specs.Kinds.{MayAskAny};
-ghost use Rattle.any_cell.specs.Passes.{note_of, with_call};
+ghost use Rattle.any_cell.specs.Passes.{note_of, reply_numbered};
 ghost use Rattle.any_cell.specs.Cells.{IsAskOf};
 ghost use Rattle.desk_model.specs.Notes.{with_note, with_any_note};
-ghost use Rattle.desk_model.specs.Desks.{pass_at, with_pass, IsLaterOn};
+ghost use Rattle.desk_model.specs.Desks.{pass_at, with_pass, IsAnsweredOn, IsLaterOn};
 ghost use Rattle.plex_board.specs.Rests.{IsReady};
 ghost use Rattle.desk_model.specs.Boards.{IsPolicy, IsStarted, IsDeskOf, IsTrayOf, AreClosed, AreLinksAsked, cell_on, links_of, new_desk, no_notes, note_in};
 
@@ -19,6 +20,7 @@ use crate::ending::{end, gather};
 use crate::opening::{Opening, next_four};
 use crate::rest::Rest;
 use crate::tray::Tray;
+use any_cell::AnyReply;
 use cf_link::Link;
 use cf_turn::KeyLock;
 use cf_types::{Kind, NoMemory, StrNo};
@@ -162,8 +164,7 @@ impl<L: Link> Board<L> {
         requires ask { IfSome (cell_on self.now on) (λ cell. IsAskOf cell ask) }
         requires may { MayAskAny desk.old.owner ask }
         ensures later { IfOk result (λ told. (pass_at desk.old on).known < told.no) }
-        ensures answered { IfOk result (λ told. desk.new
-            ≡ with_pass on (with_call ask told (pass_at desk.old on)) desk.old) }
+        ensures answered { IfOk result (λ told. IsAnsweredOn on ask told desk.old desk.new) }
         ensures refused { IfErr result (λ _. IsLaterOn on desk.old desk.new) }
         ensures no_memory { IfErr result (λ refusal. refusal ≡ refused.NoMemory
             → desk.new ≡ desk.old) }
@@ -173,6 +174,35 @@ impl<L: Link> Board<L> {
         ensures of_board { IsDeskOf self.now desk.new }
     {
         self.stations[usize::from(on.0)].call(rt, alloc, &mut desk.places[usize::from(on.0)], ask)
+    }
+
+    /// The reply to a call of the desk's owner to a structure, by the call's number: a copy of the
+    /// one that the structure's history has. `None` where no call of the owner's there has that
+    /// number. It is no call itself: it waits for its turn, stands in no journal, and changes nothing
+    /// of the structure. The desk may have seen more of the structure complete by it.
+    ///
+    /// # Errors
+    ///
+    /// `NoMemory` for the copy; then the desk is as it was, and the reply may be asked for again.
+    pub fn reply(
+        &self,
+        rt: &impl Wait,
+        alloc: Global,
+        desk: &mut Desk,
+        on: StrNo,
+        no: u32,
+    ) -> Result<Option<AnyReply>, NoMemory>
+        requires desk { IsDeskOf self.now desk.old }
+        requires place { on.0 < length self.now.cells }
+        ensures reply { IfOk result (λ reply. reply
+            ≡ reply_numbered no (pass_at desk.old on).replies) }
+        ensures own { IfOk result (λ reply. is_some reply
+            ≡ is_some (call_numbered no (pass_at desk.old on).calls)) }
+        ensures later { IsLaterOn on desk.old desk.new }
+        ensures no_memory { IfErr result (λ _. desk.new ≡ desk.old) }
+        ensures of_board { IsDeskOf self.now desk.new }
+    {
+        self.stations[usize::from(on.0)].reply(rt, alloc, &mut desk.places[usize::from(on.0)], no)
     }
 
     /// Tests a bit of the owner's vector at a structure: no lock, no memory, no waiting (IXLVECTR

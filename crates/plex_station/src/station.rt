@@ -1,25 +1,25 @@
 //! A structure's cell with its box.
-ghost use Rattle.std.specs.Prelude.{◌≡◌, ◌≢◌, ◌+◌, ◌<◌, ◌≤◌, ◌++◌, ◌∷◌, [], IfOk, IfErr, IfSome, All, Some, map, option_map};
+ghost use Rattle.std.specs.Prelude.{◌≡◌, ◌≢◌, ◌+◌, ◌<◌, ◌≤◌, ◌++◌, ◌∷◌, [], IfOk, IfErr, IfSome, All, Some, is_some, map, option_map};
 ghost use Rattle.std.specs.List.{range_with_len};
 ghost use Rattle.cf_types.specs.declared.limits.TheConstants.{CONNECTORS};
 ghost use Rattle.cf_link.specs.Links.{AreAsked};
 ghost use Rattle.cf_types.specs.Forms.{IsForm};
-ghost use Rattle.plex_script.specs.Heard.{any_calls, any_length, own_calls};
+ghost use Rattle.plex_script.specs.Heard.{any_calls, any_length, call_numbered, own_calls};
 ghost use Rattle.struct_cell.specs.declared.refused.CallRefused.TheVariants as refused;
 ghost use Rattle.vec_words.specs.Logged.{words_of, indices_of, sight};
 ghost use Rattle.run_model.specs.Types.{type_of_kind, type_of_history};
 ghost use Rattle.struct_cell.specs.Limits.{AreMadeBelow};
 ghost use Rattle.run_model.specs.Kinds.{MayAskAny, IsAnyLegal, IsAnyPoint, any_answers, any_numbers};
-ghost use Rattle.any_cell.specs.Passes.{IsLater, passes_shown, type_of_passes, room_of, note_shown, note_of, unused_pass, with_call};
-ghost use Rattle.any_cell.specs.Cells.{IsPassOf, IsNoteOf, IsAskOf, IsAnyTold, cell_shown};
+ghost use Rattle.any_cell.specs.Passes.{IsAnswered, IsLater, passes_shown, type_of_passes, room_of, note_shown, note_of, unused_pass, reply_numbered};
+ghost use Rattle.any_cell.specs.Cells.{IsPassOf, IsNoteOf, IsAskOf, IsAnyTold, cell_shown, own_replies};
 ghost use Rattle.desk_model.specs.Notes.{with_note, with_any_note};
 
 use crate::note_box::NoteBox;
 use crate::place::Place;
-use any_cell::{AnyCell, AnyNote, AnyPasses};
+use any_cell::{AnyCell, AnyNote, AnyPasses, AnyReply};
 use cf_link::{Link, Links};
 use cf_turn::KeyLock;
-use cf_types::{Kind, StrForm};
+use cf_types::{Kind, NoMemory, StrForm};
 use engine_api::Told;
 use plex_script::{AnyAsk, AnyHistory};
 use std::alloc::Global;
@@ -144,7 +144,7 @@ impl<L: Link> Station<L> {
         requires ask { IsAskOf self.now ask }
         requires may { MayAskAny place.old.owner ask }
         ensures later { IfOk result (λ told. place.old.known < told.no) }
-        ensures answered { IfOk result (λ told. place.new ≡ with_call ask told place.old) }
+        ensures answered { IfOk result (λ told. IsAnswered ask told place.old place.new) }
         ensures refused { IfErr result (λ _. IsLater place.old place.new) }
         ensures no_memory { IfErr result (λ refusal. refusal ≡ refused.NoMemory
             → place.new ≡ place.old) }
@@ -155,6 +155,29 @@ impl<L: Link> Station<L> {
         let told = self.cell.call(rt, alloc, &mut place.pass, ask)?;
         place.linked = told.linked.unwrap_or(place.linked);
         Ok(told)
+    }
+
+    /// The reply to a call of the place's caller, by the call's number: `None` where no call of the
+    /// caller's has that number. It waits for its turn.
+    ///
+    /// # Errors
+    ///
+    /// `NoMemory` for the copy; then the place is as it was.
+    pub fn reply(
+        &self,
+        rt: &impl Wait,
+        alloc: Global,
+        place: &mut Place,
+        no: u32,
+    ) -> Result<Option<AnyReply>, NoMemory>
+        requires place { IsPassOf self.now place.old }
+        ensures reply { IfOk result (λ reply. reply ≡ reply_numbered no place.old.replies) }
+        ensures own { IfOk result (λ reply. is_some reply
+            ≡ is_some (call_numbered no place.old.calls)) }
+        ensures later { IsLater place.old place.new }
+        ensures no_memory { IfErr result (λ _. place.new ≡ place.old) }
+    {
+        self.cell.reply(rt, alloc, &mut place.pass, no)
     }
 
     /// Tests a bit of the caller's own vector: no lock, no memory, no waiting (IXLVECTR
@@ -276,6 +299,8 @@ impl<L: Link> Station<L> {
         ensures room { AreMadeBelow self.limit 0 (any_numbers result.0) }
         ensures callers { All (λ call. call.by.0 ≤ self.callers) (any_calls result.0) }
         ensures mine { All (λ pass. pass.calls ≡ own_calls (any_calls result.0) pass.owner)
+            (passes_shown passes) }
+        ensures replies { All (λ pass. pass.replies ≡ own_replies result.0 pass.owner)
             (passes_shown passes) }
         ensures tests { All (λ pass. All (IsAnyTold self.form result.0 pass.owner) pass.tests)
             (passes_shown passes) }

@@ -22,6 +22,7 @@ use Rattle.plex_script.proofs.StepLaws.{rests, fewer_asks, some_goes}
 use Rattle.plex_script.specs.Heard.{any_length}
 use Rattle.run_model.specs.Kinds.{any_take, any_told, end_of}
 use Rattle.run_model.specs.Serial.{Run, stopped_at, steps_made}
+use Rattle.any_cell.specs.declared.any_reply.AnyReply.{AnyReply}
 use Rattle.any_cell.specs.Passes.{PassShown, IsLater, with_call}
 use Rattle.desk_model.specs.Turns.{Steps, call_item}
 use Rattle.serial_exact.proofs.Spots.{conn, str, put, put_same, put_other, Spot, moved, called}
@@ -192,13 +193,13 @@ module _ (stage : Stage) (is : IsStage stage) (line : Option AnyAsk) (on by : �
 
   -- ---- a call, and the steps behind it
 
-  call_moved : (asked : AnyAsk) (told : Told) (before : State)
-      → IsMoved on by (with_call asked told ((before.spots on).passes by))
+  call_moved : (asked : AnyAsk) (told : Told) (reply : AnyReply) (before : State)
+      → IsMoved on by (with_call asked told reply ((before.spots on).passes by))
       (record (before.shown by) { items = (before.shown by).items ++ shown.Call (str on) told.no ∷ [] }) before
-      (called_state on by asked told before)
-  call_moved asked told before =
-      let spot : Spot = called by asked told (before.spots on) in
-      let pass : PassShown = with_call asked told ((before.spots on).passes by) in
+      (called_state on by asked told reply before)
+  call_moved asked told reply before =
+      let spot : Spot = called by asked told reply (before.spots on) in
+      let pass : PassShown = with_call asked told reply ((before.spots on).passes by) in
       let transcript : Transcript = record (before.shown by)
       { items = (before.shown by).items ++ shown.Call (str on) told.no ∷ [] } in
       let now : put on spot before.spots on ≡ spot = put_same on spot before.spots in
@@ -236,8 +237,8 @@ module _ (stage : Stage) (is : IsStage stage) (line : Option AnyAsk) (on by : �
       let test : nat_le stage.limit (any_length entries) ≡ false = grind (arith, nat_tests) in
       rw (asks, there, test, answer) refl
 
-  call_go : (shows shows' : Shows) (most : ℕ) (now : Step) (asked : AnyAsk) (told : Told) (pass : PassShown)
-      (end : AgentEnd) (items : List Shown)
+  call_go : (shows shows' : Shows) (most : ℕ) (now : Step) (asked : AnyAsk) (told : Told) (reply : AnyReply)
+      (pass : PassShown) (end : AgentEnd) (items : List Shown)
       (before : State)
       → SaysLess shows shows' on by → (before.shown by).end ≡ ended.Done → (before.spots on).last ≡ Some (conn by)
       → most_asks now ≤ most → asked_by kind_here line now ≡ Some asked → ((before.spots on).passes by).known <
@@ -245,43 +246,43 @@ module _ (stage : Stage) (is : IsStage stage) (line : Option AnyAsk) (on by : �
       → ((less : ℕ) → most_asks (step_after now told) ≤ less
       → StepsGo shows' shows' less (step_after now told) pass
       (record { items = ((before.shown by).items ++ shown.Call (str on) told.no ∷ []) ++ items; end = end })
-      (called_state on by asked told before))
+      (called_state on by asked told reply before))
       → StepsGo shows shows' most now pass
       (record { items = (before.shown by).items ++ shown.Call (str on) told.no ∷ items; end = end }) before
-  call_go shows shows' most now asked told pass end items before says works last enough asks above rest =
+  call_go shows shows' most now asked told reply pass end items before says works last enough asks above rest =
       let left : (less : ℕ) × (most ≡ suc less) = some_left kind_here line now asked most asks enough in
       let fewer : suc (most_asks (step_after now told)) ≤ most_asks now =
       fewer_asks now told (some_goes kind_here line now asked asks) in
       let then = rest left.0 (omega (arith, left.1)) in
-      let between : State = called_state on by asked told before in
+      let between : State = called_state on by asked told reply before in
       record {
         after = then.after;
         is_moved = subst (λ (t : List Shown). IsMoved on by pass (record { items = t; end = end }) before then.after)
             (append_assoc (before.shown by).items (shown.Call (str on) told.no ∷ []) items)
-            (moved_then (with_call asked told ((before.spots on).passes by)) pass
+            (moved_then (with_call asked told reply ((before.spots on).passes by)) pass
             (record (before.shown by) { items = (before.shown by).items ++ shown.Call (str on) told.no ∷ [] })
             (record { items = ((before.shown by).items ++ shown.Call (str on) told.no ∷ []) ++ items; end = end })
-            before between then.after (call_moved asked told before) then.is_moved);
+            before between then.after (call_moved asked told reply before) then.is_moved);
         goes = record {
-          known = λ known. then.goes.known (known_call stage on by asked told before within caller last above known);
+          known = λ known. then.goes.known (known_call stage on by asked told reply before within caller last above known);
           back = λ known fits.
               let known' : Known stage between =
-              known_call stage on by asked told before within caller last above known in
-              back_call stage is on by asked told before within caller last works above known (then.goes.back known' fits);
+              known_call stage on by asked told reply before within caller last above known in
+              back_call stage is on by asked told reply before within caller last works above known (then.goes.back known' fits);
           agrees = λ known fits run agrees.
               let known' : Known stage between =
-              known_call stage on by asked told before within caller last above known in
+              known_call stage on by asked told reply before within caller last above known in
               let fits' : Fits stage between = then.goes.back known' fits in
               let entries : AnyHistory = any_take (end_of (before.spots on).events) (stage.entries on) in
               let next : IsNextCall stage.limit (stage.form on) (stage.told on) (stage.entries on) by
               (end_of (before.spots on).events) asked told =
-              next_here stage is on by asked told before within fits' in
+              next_here stage is on by asked told reply before within fits' in
               subst (Agrees stage shows' then.after)
               (sym (ap (λ (m : ℕ). steps_here m now run) left.1
               ∙ call_made_here left.0 now asked told entries run asks (agrees.at on within).history_is
               (omega (arith, next.size, next.room)) next.answer))
               (then.goes.agrees known' fits (run_called (stage.form on) (stage.told on) on by asked entries run)
-              (agrees_call stage is shows shows' on by asked told before run within caller last above works says known
+              (agrees_call stage is shows shows' on by asked told reply before run within caller last above works says known
               fits' agrees));
         };
       }
@@ -306,12 +307,12 @@ module _ (stage : Stage) (is : IsStage stage) (line : Option AnyAsk) (on by : �
       (subst (λ (p : PassShown). IsHalted kind_here line now p pass') steps.1
       (subst (λ (s : Step). IsHalted kind_here line s pass pass') steps.0 ends))
   steps_go shows (told ∷ tolds) most now last pass pass' end before works lasts enough steps ends =
-      let between : State = called_state on by steps.0 told before in
-      let step_moved : IsMoved on by (with_call steps.0 told ((before.spots on).passes by))
+      let between : State = called_state on by steps.0 told steps.3 before in
+      let step_moved : IsMoved on by (with_call steps.0 told steps.3 ((before.spots on).passes by))
       (record (before.shown by) { items = (before.shown by).items ++ shown.Call (str on) told.no ∷ [] }) before
       between =
-      call_moved steps.0 told before in
-      call_go shows shows most now steps.0 told pass' end (map (call_item (str on)) tolds) before
+      call_moved steps.0 told steps.3 before in
+      call_go shows shows most now steps.0 told steps.3 pass' end (map (call_item (str on)) tolds) before
       (says_same shows on by) works lasts
       enough steps.1 steps.2
       (λ less enough'.
@@ -320,7 +321,7 @@ module _ (stage : Stage) (is : IsStage stage) (line : Option AnyAsk) (on by : �
       (steps_go shows tolds less (step_after now told) last pass pass' end between
       (ap (λ (t : Transcript). t.end) step_moved.shown ∙ works) (step_moved.last ∙ lasts) enough'
       (subst (λ (p : PassShown). Steps kind_here line (step_after now told) p tolds last pass) (sym step_moved.here)
-      steps.3) ends))
+      steps.4) ends))
 
   pub steps_first : (shows shows' : Shows) (tolds : List Told) (most : ℕ) (now last : Step) (pass pass' : PassShown)
       (end : AgentEnd) (before : State)
@@ -344,12 +345,12 @@ module _ (stage : Stage) (is : IsStage stage) (line : Option AnyAsk) (on by : �
       (subst (λ (s : Step). IsHalted kind_here line s pass pass') steps.0 ends))
   steps_first shows shows' (told ∷ tolds) most now last pass pass' end before goes says works lasts enough steps ends
       =
-      let between : State = called_state on by steps.0 told before in
-      let step_moved : IsMoved on by (with_call steps.0 told ((before.spots on).passes by))
+      let between : State = called_state on by steps.0 told steps.3 before in
+      let step_moved : IsMoved on by (with_call steps.0 told steps.3 ((before.spots on).passes by))
       (record (before.shown by) { items = (before.shown by).items ++ shown.Call (str on) told.no ∷ [] }) before
       between =
-      call_moved steps.0 told before in
-      call_go shows shows' most now steps.0 told pass' end (map (call_item (str on)) tolds) before says works lasts
+      call_moved steps.0 told steps.3 before in
+      call_go shows shows' most now steps.0 told steps.3 pass' end (map (call_item (str on)) tolds) before says works lasts
       enough steps.1 steps.2
       (λ less enough'.
       subst (λ (t : Transcript). StepsGo shows' shows' less (step_after now told) pass'
@@ -357,4 +358,4 @@ module _ (stage : Stage) (is : IsStage stage) (line : Option AnyAsk) (on by : �
       (steps_go shows' tolds less (step_after now told) last pass pass' end between
       (ap (λ (t : Transcript). t.end) step_moved.shown ∙ works) (step_moved.last ∙ lasts) enough'
       (subst (λ (p : PassShown). Steps kind_here line (step_after now told) p tolds last pass) (sym step_moved.here)
-      steps.3) ends))
+      steps.4) ends))

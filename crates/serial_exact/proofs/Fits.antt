@@ -12,6 +12,7 @@ use Rattle.plex_script.specs.Heard.{AnyCall, any_calls, any_length}
 use Rattle.run_model.specs.Kinds.{IsAnyLegal, AreAnyAsTold, any_take, any_next, any_told, any_numbers, end_of, last_number}
 use Rattle.run_model.proofs.SeamLaws.{IsNextOf, next_call, IsFrontOf, front_of, numbers_of, numbers_any, IsBefore}
 use Rattle.struct_cell.specs.Limits.{AreMadeBelow}
+use Rattle.any_cell.specs.declared.any_reply.AnyReply.{AnyReply}
 use Rattle.any_cell.specs.Passes.{PassShown, with_call, note_of}
 use Rattle.any_cell.specs.Cells.{IsAnyTold}
 use Rattle.desk_model.specs.Notes.{with_note}
@@ -64,17 +65,17 @@ fits_put form entries callers by spot pass last front later tests fits =
     }
 
 pub fits_called : (form : StrForm) (entries : AnyHistory) (callers by : ℕ) (spot : Spot) (asked : AnyAsk)
-    (told : Told)
-    → spot.front < told.no → FitsAt form entries callers (called by asked told spot)
+    (told : Told) (reply : AnyReply)
+    → spot.front < told.no → FitsAt form entries callers (called by asked told reply spot)
     → FitsAt form entries callers spot
-fits_called form entries callers by spot asked told above fits =
+fits_called form entries callers by spot asked told reply above fits =
     record {
       more = event by asked told ∷ fits.more;
       calls = fits.calls ∙ append_assoc spot.events (event by asked told ∷ []) fits.more;
       before = above;
       tests = λ c within.
           put_back (λ c pass. All (IsAnyTold form entries (conn c)) pass.tests) by
-          (with_call asked told (spot.passes by))
+          (with_call asked told reply (spot.passes by))
           spot.passes (λ is. is) c (fits.tests c within);
     }
 
@@ -94,11 +95,11 @@ pub record IsNextCall (limit : ℕ) (form : StrForm) (tells : CfId → Telling) 
   pub answer : told ≡ any_told form tells (any_take n entries) (conn by) asked
 
 pub is_next_call : (limit : ℕ) (form : StrForm) (tells : CfId → Telling) (entries : AnyHistory) (callers by : ℕ)
-    (spot : Spot) (asked : AnyAsk) (told : Told)
+    (spot : Spot) (asked : AnyAsk) (told : Told) (reply : AnyReply)
     → IsAnyLegal form entries → AreAnyAsTold form tells entries → AreMadeBelow limit 0 (any_numbers entries)
-    → FitsAt form entries callers (called by asked told spot)
+    → FitsAt form entries callers (called by asked told reply spot)
     → IsNextCall limit form tells entries by (end_of spot.events) asked told
-is_next_call limit form tells entries callers by spot asked told legal as_told made fits =
+is_next_call limit form tells entries callers by spot asked told reply legal as_told made fits =
     let calls : any_calls entries ≡ spot.events ++ event by asked told ∷ fits.more =
     fits.calls ∙ append_assoc spot.events (event by asked told ∷ []) fits.more in
     let next : IsNextOf form tells entries (any_take (end_of spot.events) entries) (event by asked told) =

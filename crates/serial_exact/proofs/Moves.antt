@@ -20,6 +20,7 @@ use Rattle.run_model.proofs.HistoryLaws.{calls_rise}
 use Rattle.run_model.proofs.SeamLaws.{IsFrontOf, point_end}
 use Rattle.run_model.specs.Numbers.{shown_on, seen_on}
 use Rattle.run_model.specs.Serial.{Run, shown_to, stopped_at, transcript_of, transcript_at}
+use Rattle.any_cell.specs.declared.any_reply.AnyReply.{AnyReply}
 use Rattle.any_cell.specs.Passes.{PassShown, with_call, IsLater}
 use Rattle.any_cell.specs.Cells.{IsAnyTold}
 use Rattle.list_laws.proofs.TableLaws.{set_same}
@@ -125,33 +126,33 @@ goes_heard stage shows shows' on by state within caller works less silent =
 
 -- ---- calls
 
-abbrev pub called_state : ℕ → ℕ → AnyAsk → Told → State → State
-called_state on by asked told state =
-    acted on by (called by asked told (state.spots on))
+abbrev pub called_state : ℕ → ℕ → AnyAsk → Told → AnyReply → State → State
+called_state on by asked told reply state =
+    acted on by (called by asked told reply (state.spots on))
     (record (state.shown by) { items = (state.shown by).items ++ shown.Call (str on) told.no ∷ [] }) state
 
-pub known_call : (stage : Stage) (on by : ℕ) (asked : AnyAsk) (told : Told) (state : State) → on < stage.cells
+pub known_call : (stage : Stage) (on by : ℕ) (asked : AnyAsk) (told : Told) (reply : AnyReply) (state : State) → on < stage.cells
     → by ≤ stage.callers → (state.spots on).last ≡ Some (conn by) → ((state.spots on).passes by).known < told.no
-    → Known stage state → Known stage (called_state on by asked told state)
-known_call stage on by asked told state within caller last above known =
+    → Known stage state → Known stage (called_state on by asked told reply state)
+known_call stage on by asked told reply state within caller last above known =
     let front : ((state.spots on).passes by).known ≡ (state.spots on).front =
     knows_front stage.callers by (state.spots on) (known on within) last in
-    known_acted stage on by (called by asked told (state.spots on)) (state.shown by) state
-    (λ inside. known_called stage.callers by (state.spots on) asked told caller (known on within) last (omega arith))
+    known_acted stage on by (called by asked told reply (state.spots on)) (state.shown by) state
+    (λ inside. known_called stage.callers by (state.spots on) asked told reply caller (known on within) last (omega arith))
     known
 
-pub back_call : (stage : Stage) → IsStage stage → (on by : ℕ) (asked : AnyAsk) (told : Told) (state : State)
+pub back_call : (stage : Stage) → IsStage stage → (on by : ℕ) (asked : AnyAsk) (told : Told) (reply : AnyReply) (state : State)
     → on < stage.cells
     → by ≤ stage.callers → (state.spots on).last ≡ Some (conn by) → (state.shown by).end ≡ ended.Done
     → ((state.spots on).passes by).known < told.no
-    → Known stage state → Fits stage (called_state on by asked told state) → Fits stage state
-back_call stage is on by asked told state within caller last works above known fits =
+    → Known stage state → Fits stage (called_state on by asked told reply state) → Fits stage state
+back_call stage is on by asked told reply state within caller last works above known fits =
     let front : ((state.spots on).passes by).known ≡ (state.spots on).front =
     knows_front stage.callers by (state.spots on) (known on within) last in
-    fits_acted stage on by (called by asked told (state.spots on)) _ state
-    (λ inside fits. fits_called (stage.form on) (stage.entries on) stage.callers by (state.spots on) asked told
+    fits_acted stage on by (called by asked told reply (state.spots on)) _ state
+    (λ inside fits. fits_called (stage.form on) (stage.entries on) stage.callers by (state.spots on) asked told reply
     (omega arith) fits)
-    (λ c apart. put_other by (with_call asked told ((state.spots on).passes by)) (state.spots on).passes c apart) works
+    (λ c apart. put_other by (with_call asked told reply ((state.spots on).passes by)) (state.spots on).passes c apart) works
     fits
 
 -- what the run by the machine alone makes of the call
@@ -160,15 +161,15 @@ run_called form tells on by asked entries run =
     shown_to (conn by) (shown.Call (str on) (any_length (any_next form tells entries (conn by) asked)))
     (record run { histories = set run.histories on (any_next form tells entries (conn by) asked) })
 
-pub next_here : (stage : Stage) → IsStage stage → (on by : ℕ) (asked : AnyAsk) (told : Told) (state : State)
+pub next_here : (stage : Stage) → IsStage stage → (on by : ℕ) (asked : AnyAsk) (told : Told) (reply : AnyReply) (state : State)
     → on < stage.cells
-    → Fits stage (called_state on by asked told state)
+    → Fits stage (called_state on by asked told reply state)
     → IsNextCall stage.limit (stage.form on) (stage.told on) (stage.entries on) by (end_of (state.spots on).events)
     asked told
-next_here stage is on by asked told state within fits =
+next_here stage is on by asked told reply state within fits =
     is_next_call stage.limit (stage.form on) (stage.told on) (stage.entries on) stage.callers by (state.spots on) asked
-    told (is.legal on within) (is.as_told on within)
-    (is.made on within) (fits_here stage on by (called by asked told (state.spots on)) _ state within fits)
+    told reply (is.legal on within) (is.as_told on within)
+    (is.made on within) (fits_here stage on by (called by asked told reply (state.spots on)) _ state within fits)
 
 call_shown : (on x n : ℕ) → x ≢ on → shown_on (str x) (shown.Call (str on) n) ≡ None
 call_shown on x n apart =
@@ -178,31 +179,31 @@ call_shown_here : (on n : ℕ) → shown_on (str on) (shown.Call (str on) n) ≡
 call_shown_here on n = let same : on == on ≡ true = grind (arith, nat_tests) in rw same refl
 
 pub agrees_call : (stage : Stage) → IsStage stage
-    → (shows shows' : Shows) (on by : ℕ) (asked : AnyAsk) (told : Told) (state : State)
+    → (shows shows' : Shows) (on by : ℕ) (asked : AnyAsk) (told : Told) (reply : AnyReply) (state : State)
     (run : Run) → on < stage.cells → by ≤ stage.callers → (state.spots on).last ≡ Some (conn by)
     → ((state.spots on).passes by).known < told.no → (state.shown by).end ≡ ended.Done → SaysLess shows shows' on by
-    → Known stage state → Fits stage (called_state on by asked told state) → Agrees stage shows state run
-    → Agrees stage shows' (called_state on by asked told state)
+    → Known stage state → Fits stage (called_state on by asked told reply state) → Agrees stage shows state run
+    → Agrees stage shows' (called_state on by asked told reply state)
     (run_called (stage.form on) (stage.told on) on by asked (any_take (end_of (state.spots on).events) (stage.entries on)) run)
-agrees_call stage is shows shows' on by asked told state run within caller last above works less known fits agrees =
+agrees_call stage is shows shows' on by asked told reply state run within caller last above works less known fits agrees =
     let spot : Spot = state.spots on in
     let n : ℕ = end_of spot.events in
     let entries : AnyHistory = any_take n (stage.entries on) in
     let transcript : Transcript =
     record (state.shown by) { items = (state.shown by).items ++ shown.Call (str on) told.no ∷ [] } in
     let next : IsNextCall stage.limit (stage.form on) (stage.told on) (stage.entries on) by n asked told =
-    next_here stage is on by asked told state within fits in
+    next_here stage is on by asked told reply state within fits in
     let at : AgreesAt stage.callers (stage.entries on) on (shows on) spot state.shown
     (slice_get run.histories on) (slice_get run.posted on) = agrees.at on within in
     let number : any_length (any_next (stage.form on) (stage.told on) entries (conn by) asked) ≡ told.no =
     sym next.number in
     let seen_now : seen_on (str on) transcript.items ≡ max (seen_on (str on) (state.shown by).items) told.no =
     seen_push (str on) (state.shown by).items (shown.Call (str on) told.no) told.no (call_shown_here on told.no) in
-    let pass : PassShown = with_call asked told (spot.passes by) in
+    let pass : PassShown = with_call asked told reply (spot.passes by) in
     let before : IsSeen (str on) (spot.passes by) (state.shown by).items (shows on by) = at.seen by caller works in
     let ends : end_of (spot.events ++ event by asked told ∷ []) ≡ told.no =
     fold_push last_number 0 spot.events (event by asked told) in
-    agrees_acted stage shows shows' on by (called by asked told spot) transcript state
+    agrees_acted stage shows shows' on by (called by asked told reply spot) transcript state
     (any_next (stage.form on) (stage.told on) entries (conn by) asked) (sure_in spot.note) run _ within caller agrees
     (record {
       histories = refl;

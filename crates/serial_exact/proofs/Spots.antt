@@ -9,6 +9,7 @@ use Rattle.engine_api.specs.declared.told.Told.{Told}
 use Rattle.plex_script.specs.declared.scripts.AnyAsk.{AnyAsk}
 use Rattle.plex_script.specs.Heard.{AnyCall, own_calls}
 use Rattle.run_model.specs.Kinds.{Rising}
+use Rattle.any_cell.specs.declared.any_reply.AnyReply.{AnyReply}
 use Rattle.any_cell.specs.Passes.{PassShown, NoteShown, with_call}
 
 abbrev pub conn : ℕ → ConnId
@@ -143,9 +144,9 @@ abbrev pub event : ℕ → AnyAsk → Told → AnyCall
 event by asked told = record { no = told.no; by = conn by; ask = asked; told = told }
 
 -- it was answered a call
-abbrev pub called : ℕ → AnyAsk → Told → Spot → Spot
-called by asked told spot = record {
-  passes = put by (with_call asked told (spot.passes by)) spot.passes;
+abbrev pub called : ℕ → AnyAsk → Told → AnyReply → Spot → Spot
+called by asked told reply spot = record {
+  passes = put by (with_call asked told reply (spot.passes by)) spot.passes;
   note = spot.note;
   last = spot.last;
   events = spot.events ++ event by asked told ∷ [];
@@ -237,9 +238,10 @@ known_posted callers spot note known sure within =
     same_last None is = is
     same_last (Some c) is = is
 
-pub known_called : (callers by : ℕ) (spot : Spot) (asked : AnyAsk) (told : Told) → by ≤ callers → IsKnown callers spot
-    → spot.last ≡ Some (conn by) → spot.front < told.no → IsKnown callers (called by asked told spot)
-known_called callers by spot asked told caller known last above =
+pub known_called : (callers by : ℕ) (spot : Spot) (asked : AnyAsk) (told : Told) (reply : AnyReply) → by ≤ callers
+    → IsKnown callers spot
+    → spot.last ≡ Some (conn by) → spot.front < told.no → IsKnown callers (called by asked told reply spot)
+known_called callers by spot asked told reply caller known last above =
     let call : AnyCall = event by asked told in
     let before : PassShown = spot.passes by in
     let mine : IsKnownPass spot.events spot.front by before = known.pass by caller in
@@ -248,7 +250,7 @@ known_called callers by spot asked told caller known last above =
     ap (λ (o : ConnId). before.calls ++ record { no = told.no; by = o; ask = asked; told = told } ∷ []) mine.owner in
     record {
       pass = put_all (λ c pass'. c ≤ callers → IsKnownPass (spot.events ++ call ∷ []) told.no c pass') by
-          (with_call asked told before) spot.passes
+          (with_call asked told reply before) spot.passes
           (λ within. record {
             owner = mine.owner;
             sure = omega arith;
@@ -269,7 +271,7 @@ known_called callers by spot asked told caller known last above =
       by = All-push (λ (call : AnyCall). call.by.0 ≤ callers) spot.events call known.by caller;
       lasts = rw last (
         caller,
-        ap (λ (p : PassShown). p.known) (put_same by (with_call asked told before)
+        ap (λ (p : PassShown). p.known) (put_same by (with_call asked told reply before)
             spot.passes),
       );
       noted = note_later spot.front told.no spot.note (omega arith) known.noted;

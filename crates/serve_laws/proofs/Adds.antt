@@ -27,6 +27,7 @@ use Rattle.run_model.specs.Headline.{TellsBit, TellsWord, place_of}
 use Rattle.vec_words.specs.declared.logged.Sight.{Sight}
 use Rattle.vec_words.specs.Logged.{bit_in, sight, indices_of}
 use Rattle.struct_cell.specs.Telling.{IsTold}
+use Rattle.any_cell.specs.declared.any_reply.AnyReply.{AnyReply}
 use Rattle.any_cell.specs.Passes.{PassShown, IsLater, with_call}
 use Rattle.any_cell.specs.Cells.{IsAnyTold}
 use Rattle.desk_model.proofs.SightLaws.{told_past, each_sight, bit_in_word}
@@ -128,9 +129,9 @@ module _ (form : StrForm) (entries : AnyHistory) (conn : ConnId) (on : StrNo) (b
 -- ---- items
 
 module _ (me : Caller) (on : StrNo) (pass : PassShown) where
-  pub call_adds : (asked : AnyAsk) (told : Told) → pass.known < told.no
-      → Adds me on pass (with_call asked told pass) (shown.Call on told.no)
-  call_adds asked told above =
+  pub call_adds : (asked : AnyAsk) (told : Told) (reply : AnyReply) → pass.known < told.no
+      → Adds me on pass (with_call asked told reply pass) (shown.Call on told.no)
+  call_adds asked told reply above =
       let one : numbers_on on (shown.Call on told.no ∷ []) ≡ told.no ∷ [] = rw (itself on.0) refl in
       record {
         of = of_item (shown.Call on told.no);

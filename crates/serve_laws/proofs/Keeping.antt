@@ -88,8 +88,8 @@ keeps_then first second third one two =
 steps_order : (kind : Kind) (line : Option AnyAsk) (now : Step) (pass : PassShown) (tolds : List Told) (last : Step)
     (pass' : PassShown) → Steps kind line now pass tolds last pass' → IsInOrder pass → IsInOrder pass'
 steps_order kind line now pass [] last pass' steps order = subst IsInOrder (sym steps.1) order
-steps_order kind line now pass (told ∷ tolds) last pass' (asked, next, above, rest) order =
-    steps_order kind line (step_after now told) (with_call asked told pass) tolds last pass' rest (omega arith)
+steps_order kind line now pass (told ∷ tolds) last pass' (asked, next, above, reply, rest) order =
+    steps_order kind line (step_after now told) (with_call asked told reply pass) tolds last pass' rest (omega arith)
 
 halts_keep : (kind : Kind) (line : Option AnyAsk) (on : StrNo) (last : Step) (before after : DeskShown)
     → Halts kind line on last before after → Keeps before after

@@ -14,6 +14,7 @@ use Rattle.plex_script.specs.declared.transcripts.Shown.{Shown}
 use Rattle.plex_script.specs.Agent.{step_after, asked_by}
 use Rattle.plex_script.specs.Heard.{AnyCall, call_numbered, calls_on, length_on}
 use Rattle.plex_script.specs.Follows.{IsHeard, Runs, RunsUpTo}
+use Rattle.any_cell.specs.declared.any_reply.AnyReply.{AnyReply}
 use Rattle.any_cell.specs.Passes.{PassShown, with_call}
 use Rattle.run_model.specs.Kinds.{Rising}
 use Rattle.desk_model.specs.Desks.{DeskShown, pass_at, with_pass}
@@ -32,19 +33,19 @@ module _ (me : Caller) where
       → Advances me on pass pass' (map (call_item on) tolds)
   steps_advance kind line on now pass [] last pass' steps =
       subst (λ (p : PassShown). Advances me on pass p []) (sym steps.1) (advances_none me on pass)
-  steps_advance kind line on now pass (told ∷ tolds) last pass' (asked, next, above, rest) =
-      advances_then me on pass (with_call asked told pass) pass' (call_item on told ∷ []) (map (call_item on) tolds)
-      (advances_one me on pass (with_call asked told pass) (call_item on told)
-      (call_adds me on pass asked told above))
-      (steps_advance kind line on (step_after now told) (with_call asked told pass) tolds last pass' rest)
+  steps_advance kind line on now pass (told ∷ tolds) last pass' (asked, next, above, reply, rest) =
+      advances_then me on pass (with_call asked told reply pass) pass' (call_item on told ∷ []) (map (call_item on) tolds)
+      (advances_one me on pass (with_call asked told reply pass) (call_item on told)
+      (call_adds me on pass asked told reply above))
+      (steps_advance kind line on (step_after now told) (with_call asked told reply pass) tolds last pass' rest)
 
   -- a call of a pass that is in the histories is heard there
-  call_heard : (on : StrNo) (by : ConnId) (asked : AnyAsk) (told : Told) (pass : PassShown)
+  call_heard : (on : StrNo) (by : ConnId) (asked : AnyAsk) (told : Told) (reply : AnyReply) (pass : PassShown)
       → Rising 0 (calls_on me.histories on) → pass.owner ≡ by
-      → IsWithin me on (with_call asked told pass)
+      → IsWithin me on (with_call asked told reply pass)
       → call_numbered told.no (calls_on me.histories on)
       ≡ Some (record { no = told.no; by = by; ask = asked; told = told })
-  call_heard on by asked told pass rise owner within =
+  call_heard on by asked told reply pass rise owner within =
       let call : AnyCall = record { no = told.no; by = pass.owner; ask = asked; told = told } in
       let found : call_numbered told.no (calls_on me.histories on) ≡ Some call =
       own_heard 0 (calls_on me.histories on) me.conn pass.calls call within.calls.more rise
@@ -58,25 +59,26 @@ module _ (me : Caller) where
     abbrev AreHeard : Step → Told → Type 0
     AreHeard now told = IsHeard (calls_on me.histories on) by (asked_by kind line now) told.no told
 
-    step_heard : (now : Step) (asked : AnyAsk) (told : Told) (pass : PassShown) → asked_by kind line now ≡ Some asked
+    step_heard : (now : Step) (asked : AnyAsk) (told : Told) (reply : AnyReply) (pass : PassShown)
+        → asked_by kind line now ≡ Some asked
         → pass.owner ≡ by
-        → IsWithin me on (with_call asked told pass) → AreHeard now told
-    step_heard now asked told pass next owner within =
+        → IsWithin me on (with_call asked told reply pass) → AreHeard now told
+    step_heard now asked told reply pass next owner within =
         subst (λ (o : Option AnyAsk). IsHeard (calls_on me.histories on) by o told.no told) (sym next)
-        (call_heard on by asked told pass rise owner within)
+        (call_heard on by asked told reply pass rise owner within)
 
     steps_run : (now : Step) (pass : PassShown) (tolds : List Told) (last : Step) (pass' : PassShown)
         → Steps kind line now pass tolds last pass'
         → pass.owner ≡ by → IsWithin me on pass' → last ≡ step.Rest
         → Runs kind line (calls_on me.histories on) by on now (map (call_item on) tolds)
     steps_run now pass [] last pass' steps owner within rests = sym steps.0 ∙ rests
-    steps_run now pass (told ∷ tolds) last pass' (asked, next, above, rest) owner within rests = (
+    steps_run now pass (told ∷ tolds) last pass' (asked, next, above, reply, rest) owner within rests = (
       told,
       refl,
-      step_heard now asked told pass next owner
-          ((steps_advance kind line on (step_after now told) (with_call asked told pass) tolds last pass' rest).back
+      step_heard now asked told reply pass next owner
+          ((steps_advance kind line on (step_after now told) (with_call asked told reply pass) tolds last pass' rest).back
           within),
-      steps_run (step_after now told) (with_call asked told pass) tolds last pass' rest owner within rests,
+      steps_run (step_after now told) (with_call asked told reply pass) tolds last pass' rest owner within rests,
     )
 
     steps_run_up_to : (now : Step) (pass : PassShown) (tolds : List Told) (last : Step) (pass' : PassShown)
@@ -85,13 +87,13 @@ module _ (me : Caller) where
         → RunsUpTo kind line (calls_on me.histories on) by on now (map (call_item on) tolds)
     steps_run_up_to now pass [] last pass' steps owner within ask asks =
         (ask, ap (asked_by kind line) (sym steps.0) ∙ asks)
-    steps_run_up_to now pass (told ∷ tolds) last pass' (asked, next, above, rest) owner within ask asks = (
+    steps_run_up_to now pass (told ∷ tolds) last pass' (asked, next, above, reply, rest) owner within ask asks = (
       told,
       refl,
-      step_heard now asked told pass next owner
-          ((steps_advance kind line on (step_after now told) (with_call asked told pass) tolds last pass' rest).back
+      step_heard now asked told reply pass next owner
+          ((steps_advance kind line on (step_after now told) (with_call asked told reply pass) tolds last pass' rest).back
           within),
-      steps_run_up_to (step_after now told) (with_call asked told pass) tolds last pass' rest owner within ask asks,
+      steps_run_up_to (step_after now told) (with_call asked told reply pass) tolds last pass' rest owner within ask asks,
     )
 
   -- ---- turns

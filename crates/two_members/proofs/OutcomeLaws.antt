@@ -9,12 +9,13 @@ use Rattle.cf_types.specs.declared.forms.StrForm.{StrForm}
 use Rattle.plex_script.specs.declared.asks.AnyHistory.{AnyHistory}
 use Rattle.plex_script.specs.declared.asks.AnyHistory.TheVariants as history
 use Rattle.plex_script.specs.declared.scripts.Script.{Script}
-use Rattle.vec_words.specs.declared.logged.Tested.{Tested}
-use Rattle.any_cell.specs.Cells.{CellShown, IsAnyTold}
+use Rattle.any_cell.specs.Passes.{reply_numbered}
+use Rattle.any_cell.specs.Cells.{CellShown, IsAnyTold, own_replies}
 use Rattle.desk_model.specs.Desks.{DeskShown, pass_at}
 use Rattle.desk_model.specs.Boards.{BoardShown, IsDeskOf, IsAccount, AreClosed}
 use Rattle.desk_model.proofs.DeskLaws.{desk-pass_owner}
-use Rattle.two_members.specs.Members.{HasPool, HasTested, IsOutcome, gbp, reader, sight_of}
+use Rattle.two_members.specs.Members.{HasPool, HasRead, HasTested, IsOutcome, gbp, reader, sight_of}
+use Rattle.two_members.specs.declared.seen.Seen.{Seen}
 
 -- what holds of each holds of the last
 all_last : {A : Type 0} (P : A → Type 0) (front all : List A) (x : A) → all ≡ front ++ x ∷ [] → All P all → P x
@@ -23,12 +24,12 @@ all_last P front all x are each =
     subst P (ap (λ l. get_or l (length front) x) are ∙ get_or-append_seam front x [] x) (each (length front) x below)
 
 module _ {L : Type 0} (board : BoardShown L) (script : Script) (histories : List AnyHistory)
-    (left desks : List DeskShown) (b : DeskShown) (tested : Tested) where
-  -- the history of the structure is legal, and tells what the last test at the reader's desk told
+    (left desks : List DeskShown) (b : DeskShown) (seen : Seen) where
+  -- the history of the structure is legal, and tells what the reply and the last test at the reader's desk told
   pub outcome : HasPool board → map (λ cell. cell.form) board.cells ≡ script.structures
       → AreClosed board desks histories → desks ≡ left ++ b ∷ [] → IsDeskOf board b → b.owner ≡ reader
-      → HasTested b tested → IsOutcome script histories tested
-  outcome pool forms closed last of_board owner has =
+      → HasRead b seen.no seen.reply → HasTested b seen.tested → IsOutcome script histories seen
+  outcome pool forms closed last of_board owner read has =
       let entries : AnyHistory = get_or histories 0 (history.Cache []) in
       let some : 0 < length board.cells = slice_get_within board.cells 0 pool.cell pool.there in
       let first : slice_get histories 0 ≡ Some entries =
@@ -46,7 +47,8 @@ module _ {L : Type 0} (board : BoardShown L) (script : Script) (histories : List
             ∙ ap (option_map (λ (cell : CellShown L). cell.form)) pool.there;
         history_is = first;
         legal = says.0.legal;
-        told = subst (λ owner. IsAnyTold pool.cell.form entries owner (sight_of tested has.sure)) whose
+        read = read ∙ ap (reply_numbered seen.no) (account.replies ∙ ap (own_replies entries) whose);
+        told = subst (λ owner. IsAnyTold pool.cell.form entries owner (sight_of seen.tested has.sure)) whose
             (all_last (IsAnyTold pool.cell.form entries (pass_at b gbp).owner) has.before (pass_at b gbp).tests
-            (sight_of tested has.sure) has.tests account.tests);
+            (sight_of seen.tested has.sure) has.tests account.tests);
       }

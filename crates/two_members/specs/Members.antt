@@ -1,5 +1,5 @@
 -- The members at work: the structure that they share, a member's desk, and what is left of their work.
-use Rattle.std.specs.Prelude.{◌≡◌, ℕ, ◌<◌, List, [], ◌∷◌, ◌++◌, slice_get, Some}
+use Rattle.std.specs.Prelude.{◌≡◌, ℕ, ◌<◌, List, [], ◌∷◌, ◌++◌, slice_get, Option, Some}
 use Rattle.cf_types.specs.declared.forms.StrForm.{StrForm}
 use Rattle.cf_types.specs.declared.numbers.ConnId.{ConnId}
 use Rattle.cf_types.specs.declared.numbers.StrNo.{StrNo}
@@ -10,9 +10,12 @@ use Rattle.vec_words.specs.declared.logged.Sight.{Sight}
 use Rattle.vec_words.specs.declared.logged.Tested.{Tested}
 use Rattle.run_model.specs.Types.{OfCache}
 use Rattle.run_model.specs.Kinds.{IsAnyLegal}
-use Rattle.any_cell.specs.Cells.{CellShown, IsAnyTold}
+use Rattle.any_cell.specs.declared.any_reply.AnyReply.{AnyReply}
+use Rattle.any_cell.specs.Passes.{Replied, reply_numbered}
+use Rattle.any_cell.specs.Cells.{CellShown, IsAnyTold, own_replies}
 use Rattle.desk_model.specs.Desks.{DeskShown, pass_at}
 use Rattle.desk_model.specs.Boards.{BoardShown, IsDeskOf, cell_on}
+use Rattle.two_members.specs.declared.seen.Seen.{Seen}
 
 -- the first structure of the policy
 abbrev pub gbp : StrNo
@@ -36,6 +39,13 @@ pub record Stays {L : Type 0} (board : BoardShown L) (before after : DeskShown) 
   pub of_board : IsDeskOf board after
   pub owner : after.owner ≡ before.owner
 
+-- the replies to the member's calls, and the one to its call of this number
+abbrev pub replies_at : DeskShown → List Replied
+replies_at desk = (pass_at desk gbp).replies
+
+abbrev pub HasRead : DeskShown → ℕ → Option AnyReply → Type 0
+HasRead desk number reply = reply ≡ reply_numbered number (replies_at desk)
+
 -- a test of the bit that tells of the copy, by one who had seen so much complete
 abbrev pub sight_of : Tested → ℕ → Sight
 sight_of tested sure = record { index = 0; bit = tested.bit; at = tested.at; sure = sure }
@@ -50,13 +60,15 @@ pub record HasTested (desk : DeskShown) (tested : Tested) : Type 0 where
 abbrev pub reader : ConnId
 reader = record { 0 = 2 }
 
--- The history of the first structure is one that a single thread could have made, and the reader's test told the bit
--- as it stood at that number of it, which isn't before what the reader had seen complete.
-pub record IsOutcome (script : Script) (histories : List AnyHistory) (tested : Tested) : Type 0 where
+-- The history of the first structure is one that a single thread could have made, the reader's reply is the one that it
+-- has for the reader's call of that number, and the reader's test told the bit as it stood at that number of it, which
+-- isn't before what the reader had seen complete.
+pub record IsOutcome (script : Script) (histories : List AnyHistory) (seen : Seen) : Type 0 where
   pub form : StrForm
   pub entries : AnyHistory
   pub sure : ℕ
   pub form_is : slice_get script.structures 0 ≡ Some form
   pub history_is : slice_get histories 0 ≡ Some entries
   pub legal : IsAnyLegal form entries
-  pub told : IsAnyTold form entries reader (sight_of tested sure)
+  pub read : seen.reply ≡ reply_numbered seen.no (own_replies entries reader)
+  pub told : IsAnyTold form entries reader (sight_of seen.tested sure)

@@ -4,10 +4,11 @@
 
 mod fault;
 mod roles;
+mod seen;
 
 ghost use Rattle.std.specs.Prelude.{◌≡◌, IsTrue, IfOk, false};
 ghost use Rattle.desk_model.specs.Boards.{IsPolicy};
-ghost use Rattle.two_members.specs.Members.{HasPool, IsMember, Stays, HasTested, IsOutcome};
+ghost use Rattle.two_members.specs.Members.{HasPool, IsMember, Stays, HasRead, HasTested, IsOutcome};
 
 use cf_link::Steady;
 use cf_types::Kind;
@@ -16,11 +17,11 @@ use plex_board::{Board, Desk};
 use plex_report::render;
 use plex_script::{AnyHistory, Script, read};
 use roles::{COPY, GBP, reader, writer};
+use seen::Seen;
 use std::alloc::Global;
 use std::io::Write;
 use std::sync::Wait;
 use std::thread::{Threads, join_mut};
-use vec_words::Tested;
 
 /// The policy: a facility, a cache structure in it, and its two connectors.
 const POLICY: &str = "FACILITY CF1 100\n\
@@ -38,32 +39,36 @@ const CALLS: u32 = 100;
 fn main(rt: HostRuntime) -> Result<(), Fault> {
     let alloc = rt.alloc();
     let script = read(alloc, POLICY.as_bytes())?;
-    let (histories, last) = members(&rt, alloc, &script)?;
+    let (histories, seen) = members(&rt, alloc, &script)?;
     let report = render(alloc, &script, histories.as_slice(), &[])?;
     rt.stdout().write_all(report.as_slice())?;
-    print_test(&rt, last)
+    print_seen(&rt, &seen)
 }
 
-// Prints the reader's last test: its bit, and the number of the call at which it stood so.
-fn print_test(rt: &impl Print, Tested { bit, at }: Tested) -> Result<(), Fault> {
-    let word = if bit { "VALID" } else { "INVALID" };
+// Prints the reply to the reader's READ, by the call's number, and its last test: the bit, and the
+// number of the call at which it stood so.
+fn print_seen(rt: &impl Print, seen: &Seen) -> Result<(), Fault> {
+    let (no, word) = (seen.no, seen.word());
+    println!(rt; "B GBP READ {no} {word}")?;
+    let at = seen.tested.at;
+    let word = if seen.tested.bit { "VALID" } else { "INVALID" };
     println!(rt; "B GBP TEST {COPY} {word} {at}")?;
     Ok(())
 }
 
 // Starts the structures of the policy, has both members work at the first, and ends them. What is
-// left is their histories, and the reader's last test.
+// left is their histories, and what the reader saw.
 fn members<R: Threads + Wait + Sync>(
     rt: &R,
     alloc: Global,
     script: &Script,
-) -> Result<(Vec<AnyHistory>, Tested), Fault>
+) -> Result<(Vec<AnyHistory>, Seen), Fault>
     requires { IsPolicy script.now }
     // The copy isn't valid any more.
-    ensures invalid { IfOk result (λ left. left.1.bit ≡ false) }
+    ensures invalid { IfOk result (λ left. left.1.tested.bit ≡ false) }
 
-    // The history is one that a single thread could have made, and the test told what stood at that
-    // number of it.
+    // The history is one that a single thread could have made, it has the reply, and the test told
+    // what stood at that number of it.
     ensures outcome { IfOk result (λ left. IsOutcome script.now left.0.items left.1) }
 {
     let Ok(links) = vec![in alloc; Steady; LINKS] else {
@@ -94,11 +99,12 @@ fn work<R: Threads + Wait + Sync>(
     board: &Board<Steady>,
     a: &mut Desk,
     b: &mut Desk,
-) -> (Result<(), Fault>, Result<Tested, Fault>)
+) -> (Result<(), Fault>, Result<Seen, Fault>)
     requires members { IsMember board.now a.old × IsMember board.now b.old }
     ensures stay { Stays board.now a.old a.new × Stays board.now b.old b.new }
-    ensures invalid { IfOk result.1 (λ tested. tested.bit ≡ false) }
-    ensures tested { IfOk result.1 (λ tested. HasTested b.new tested) }
+    ensures invalid { IfOk result.1 (λ seen. seen.tested.bit ≡ false) }
+    ensures read { IfOk result.1 (λ seen. HasRead b.new seen.no seen.reply) }
+    ensures tested { IfOk result.1 (λ seen. HasTested b.new seen.tested) }
 {
     join_mut(
         rt,

@@ -2,9 +2,10 @@
 ghost use Rattle.std.specs.Prelude.{◌≡◌, IfOk, false};
 ghost use Rattle.run_model.specs.Kinds.{MayAskAny};
 ghost use Rattle.plex_script.specs.declared.scripts.AnyAsk.TheVariants as any;
-ghost use Rattle.two_members.specs.Members.{IsMember, Stays, HasTested};
+ghost use Rattle.two_members.specs.Members.{IsMember, Stays, HasRead, HasTested, replies_at};
 
 use crate::fault::Fault;
+use crate::seen::Seen;
 use cf_link::Steady;
 use cf_types::{CacheCmd, Name16, ShellCmd, StrNo, parse_body};
 use engine_api::Ask;
@@ -56,17 +57,19 @@ pub fn writer(
     Ok(())
 }
 
-/// Member B: connects, reads the page, and tests its copy till it isn't valid any more.
+/// Member B: connects, reads the page, looks at the reply, and tests its copy till it isn't valid
+/// any more.
 pub fn reader(
     rt: &impl Wait,
     alloc: Global,
     board: &Board<Steady>,
     desk: &mut Desk,
-) -> Result<Tested, Fault>
+) -> Result<Seen, Fault>
     requires { IsMember board.now desk.old }
     ensures stays { Stays board.now desk.old desk.new }
-    ensures invalid { IfOk result (λ tested. tested.bit ≡ false) }
-    ensures tested { IfOk result (λ tested. HasTested desk.new tested) }
+    ensures invalid { IfOk result (λ seen. seen.tested.bit ≡ false) }
+    ensures read { IfOk result (λ seen. HasRead desk.new seen.no seen.reply) }
+    ensures tested { IfOk result (λ seen. HasTested desk.new seen.tested) }
 {
     wait_past(rt, board, desk, 0)?;
     connect(rt, alloc, board, desk)?;
@@ -77,15 +80,18 @@ pub fn reader(
         old: None,
         stg: 1,
     };
-    call(rt, alloc, board, desk, Ask::Content(read))?;
+    let no = call(rt, alloc, board, desk, Ask::Content(read))?;
+    let reply = board.reply(rt, alloc, desk, GBP, no)?;
     board.post(rt, desk, GBP);
-    test_copy(board, desk)
+    let tested = test_copy(board, desk)?;
+    Ok(Seen { no, reply, tested })
 }
 
 // Tests the bit of the copy till the copy isn't valid.
 fn test_copy(board: &Board<Steady>, desk: &mut Desk) -> Result<Tested, Fault>
     requires { IsMember board.now desk.old }
     ensures stays { Stays board.now desk.old desk.new }
+    ensures replies { replies_at desk.new ≡ replies_at desk.old }
     ensures invalid { IfOk result (λ tested. tested.bit ≡ false) }
     ensures tested { IfOk result (λ tested. HasTested desk.new tested) }
 {

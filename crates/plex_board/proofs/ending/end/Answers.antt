@@ -15,7 +15,7 @@ loop-station-preserved g c =
       ended =
           end-ended _ _ _ _ _ _ left at _ _ _ _ _ c.push_reserved.ensures.items before.ended
           (record { history_type = said.history_type; legal = said.legal; most = said.most; room = said.room; callers = said.callers })
-          (all-accounts _ _ _ said.mine said.tests said.known);
+          (all-accounts _ _ _ said.mine said.replies said.tests said.known);
       links =
           end-asked _ _ _ _ _ _ left at g.L.Link.calls g.L.Link.downs g.L.Link.faults _ _ _ _ _ _ _ _
           c.push_reserved.ensures.items c.push_four.ensures.items said.links before.links;

@@ -1,7 +1,7 @@
 use Rattle.std.proofs.Common.{set, sym, subst}
 use Rattle.any_cell.specs.Cells.{IsAskOf}
 use Rattle.run_model.specs.Kinds.{MayAskAny}
-use Rattle.plex_board.proofs.PlaceLaws.{place-is, cell-is, cell-some, changed-of_board, changed-at, full-on, still-on, call-fixed}
+use Rattle.plex_board.proofs.PlaceLaws.{place-is, cell-is, cell-some, changed-of_board, changed-at, full-on, still-on, answered-on, call-fixed}
 use Rattle.plex_board.proofs.board.Board.call.Goals as goal
 
 pub call-requires-clause-place : goal.call-requires-clause-place
@@ -21,6 +21,15 @@ call-requires-clause-may g c κs within =
     (sym (place-is _ _ _ _ c.args.on _ _ _ _ (sym c.self.view_is) (sym c.desk.view_is) c.requires.desk
     c.requires.place
     c.from.ensures c.from-2.ensures c.index.ensures c.index_mut.ensures.value).owner_is) c.requires.may
+
+pub returns-clause-answered : goal.returns-clause-answered
+returns-clause-answered g c =
+    answered-on c.args.desk.now
+    (record { owner = c.desk.inside.owner; passes = c.desk.inside.places.items }) c.args.on c.from-2.result
+    c.index_mut.result.now c.call.new.place c.args.ask c.call.result (sym c.desk.view_is) c.from-2.ensures
+    (place-is _ _ _ _ c.args.on _ _ _ _ (sym c.self.view_is) (sym c.desk.view_is) c.requires.desk c.requires.place
+    c.from.ensures c.from-2.ensures c.index.ensures c.index_mut.ensures.value).pass_is
+    c.call.ensures.answered
 
 pub returns-clause-full : goal.returns-clause-full
 returns-clause-full g c =
