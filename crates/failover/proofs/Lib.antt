@@ -1,0 +1,3 @@
+pub mod DownLaws
+pub mod SeatLaws
+pub mod OutcomeLaws

@@ -1,0 +1,14 @@
+-- Links that are down once.
+use Rattle.std.specs.Prelude.{◌≡◌, ℕ, List, [], ◌∷◌}
+use Rattle.cf_link.specs.declared.list_link.ListLink.{ListLink}
+
+-- a link that wasn't asked yet, and is down at this call alone
+pub record IsDownAt (call : ℕ) (link : ListLink) : Type 0 where
+  pub unasked : link.calls ≡ 0
+  pub down : link.fails.items ≡ call ∷ []
+
+-- of these links the first is down at its third call alone, and the second at its fifth
+abbrev pub AreDownOnce : List ListLink → Type 0
+AreDownOnce [] = ⊥
+AreDownOnce (one ∷ []) = ⊥
+AreDownOnce (one ∷ two ∷ others) = IsDownAt 3 one × IsDownAt 5 two
