@@ -9,7 +9,12 @@ form_hint() {
     esac
     set -- "$1" $2
     case $2$3$4 in *[a-z]*) echo 'words are in capital letters'; return ;; esac
-    case $2 in FACILITY | STRUCTURE | PREF | CONNECTOR) echo 'it has none of the forms of the policy'; return ;; esac
+    case $2 in
+    FACILITY | STRUCTURE | PREF | CONNECTOR) echo 'it has none of the forms of the policy'; return ;;
+    FAC* | STR* | PRE* | CON*) echo 'the policy has FACILITY, STRUCTURE, PREF and CONNECTOR lines'; return ;;
+    esac
+    case $4 in TEST | TESTWORD) echo 'a test has one number behind it, and no RETRY'; return ;; esac
+    case $2 in OP) echo 'it has none of the forms, or is a command that the operator (OP) does not give'; return ;; esac
     if head -n "$1" /proc/self/fd/0 | grep -q "^[[:blank:]]*CONNECTOR[[:blank:]]"; then
         echo 'it has none of the forms'
     else
@@ -25,6 +30,7 @@ hint() {
     UNKNOWN) echo 'it names a facility, structure or connector that no line before it declares' ;;
     TWICE) echo 'it was declared before' ;;
     SPACE) echo 'the PREF lines set more units aside than the facility has' ;;
+    NOTWORDS) echo 'plexrun locks does OBTAIN and RELEASE on one lock structure alone, without REC or RETRY' ;;
     esac
 }
 
@@ -32,7 +38,7 @@ hint() {
 explain() {
     set -- $1
     [ -f /proc/self/fd/0 ] && [ "$1" = SCRIPT ] || return 0
-    line=$(sed -n "$2{p;q;}" /proc/self/fd/0 | tr -d '\r' | cut -b 1-160 | cat -v)
+    line=$(sed -n "$2{p;q;}" /proc/self/fd/0 | sed 's/\r$//' | cut -b 1-160 | cat -v)
     say "line $2 is: $line"
     say "$3: $(hint "$2" "$3" "$line") (docs/SCRIPT.md, \"What is wrong with a text\")"
 }

@@ -21,7 +21,7 @@ import zlib
 PROGRAM = "plex_main"
 SHOWN = 40
 # What one rt takes of memory at most, in kilobytes.
-NEEDED = 2_500_000
+NEEDED = 4_500_000
 WAITS = re.compile(r"rt: waiting for another rt .*|.*another copy of the repository is building.*")
 
 
@@ -69,9 +69,10 @@ def lines_of(folder):
 
 
 class Crate:
-    def __init__(self, top, name):
+    def __init__(self, top, name, waits):
         self.name, self.needs, self.above = name, [], []
-        self.cost = 50 + lines_of(f"{top}/crates/{name}")
+        # (a line is dearer where threads share what it speaks of)
+        self.cost = (50 + lines_of(f"{top}/crates/{name}")) * (3 if waits else 1)
         self.is_done = self.is_begun = False
 
     @functools.cached_property
@@ -89,13 +90,15 @@ class Crate:
 
 def read_crates(top, names):
     """The crates of these names, as crates.txt has them, each with those that it needs."""
-    lists = {}
+    lists, waiting = {}, set()
     with open(f"{top}/crates.txt", encoding="utf-8") as it:
         for line in it:
             if re.match("[a-z]", line):
                 head, _, needs = line.partition(":")
                 lists[head.split()[0]] = needs.split()
-    crates = {it: Crate(top, it) for it in lists if it in names}
+                if "may_wait=" in head:
+                    waiting.add(head.split()[0])
+    crates = {it: Crate(top, it, it in waiting) for it in lists if it in names}
     for it in crates.values():
         it.needs = [crates[need] for need in lists[it.name] if need in crates]
         for need in it.needs:
@@ -192,7 +195,7 @@ class Run:
         verb = ["run", "--jobs", str(jobs), "--", "serial"] if crate.name == PROGRAM else ["lib", "--jobs", str(jobs)]
         with open(log, "wb") as it:
             self.process = subprocess.Popen(
-                [sys.executable, f"{os.path.dirname(os.path.realpath(__file__))}/rt.py", *verb],
+                ["rt", *verb],
                 cwd=f"{lane.folder}/crates/{crate.name}",
                 stdin=subprocess.DEVNULL,
                 stdout=it,

@@ -105,27 +105,3 @@ module _ {L : Type 0} (calls : L → Option ℕ) (downs : L → Option (List ℕ
           subst (λ (n : ℕ). (answer ≡ true) ↔ IsListed told.downs (calls_after front n)) (sym same) here
 
 -- ---- the counts in numbers
-
--- the count of calls rose by how many there were, or stands at the end of its type
-pub calls_number : (answers : List Bool) (count most : ℕ) → most ≡ 2 ^ 64 - 1 → count ≤ most
-    → calls_after answers count ≡ min (count + length answers) most
-calls_number [] count most at within = sym (min-eq_left (let same : count + 0 ≤ most = omega arith in same) ∙ omega arith)
-calls_number (answer ∷ answers) count most at within =
-    elim (cases_lt count most) [
-      | inl below ↦
-          let one : one_more count ≡ count + 1 =
-          subst (λ (m : ℕ). min (count + 1) m ≡ count + 1) at (min-eq_left (let fits : count + 1 ≤ most = omega arith in
-          fits)) in
-          ap (λ (n : ℕ). calls_after answers n) one
-          ∙ calls_number answers (count + 1) most at (omega arith)
-          ∙ ap (λ (n : ℕ). min n most) (let same : count + 1 + length answers ≡ count + length (answer ∷ answers) =
-          omega arith in same)
-      | inr full ↦
-          let one : one_more count ≡ most =
-          subst (λ (m : ℕ). min (count + 1) m ≡ m) at (min-eq_right (let fits : most ≤ count + 1 = omega arith in fits))
-          ∙ sym at in
-          ap (λ (n : ℕ). calls_after answers n) one
-          ∙ calls_number answers most most at (omega arith)
-          ∙ min-eq_right (let fits : most ≤ most + length answers = omega arith in fits)
-          ∙ sym (min-eq_right (let fits : most ≤ count + length (answer ∷ answers) = omega arith in fits))
-    ]

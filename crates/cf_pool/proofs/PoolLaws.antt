@@ -256,9 +256,6 @@ module _ (cells : List (List ℕ)) (next lens : List ℕ) (head free : ℕ) (s :
     link : (x k : ℕ) → s.owner x ≡ k → k ≢ at → get_or (set next (behind next (n - 1) at) head) x 0 ≡ get_or next x 0
     link x k o ne = get_or-set_other next _ x head 0 (λ e. ne (sym o ∙ ap s.owner e ∙ last_is.1))
 
-    pub free_fits : free + n ≤ length next
-    free_fits = omega (arith, s.all, is, get_or-le-sum_by need_of lens at 0 (omega (arith, s.all_lens, lt)))
-
     pub give_shared : IsShared cells (set next (behind next (n - 1) at) head) (set lens at 0) at (free + n)
     give_shared =
         let links = length-set next (behind next (n - 1) at) head in
@@ -441,9 +438,6 @@ module _ (cells : List (List ℕ)) (next lens : List ℕ) (head free : ℕ) (s :
     pub at_bytes : slice_get (chains_in cells next lens) at
         ≡ Some (Some (take (get_or lens at 0) (walked cells next (need_of (get_or lens at 0)) at)))
     at_bytes = h.1 ∙ ap (λ b. Some (Some b)) there.2
-
-    pub at_fits : free + need_of (get_or lens at 0) < 4294967296
-    at_fits = omega (arith, free_fits at there.0 there.1 (need_of (get_or lens at 0)) refl, s.few)
 
     module _ (n last : ℕ) (is : n ≡ need_of (get_or lens at 0)) (ends : last ≡ behind next (n - 1) at) where
       pub unlink_last : last < length next

@@ -29,9 +29,3 @@ pub set_same : {X : Type 0} (xs : List X) (i : ℕ) (x : X) → slice_get xs i �
 set_same [] i x e = refl
 set_same (z ∷ xs) zero x e = let same : x ≡ z = cc in ap (λ (w : _). w ∷ xs) same
 set_same (z ∷ xs) (suc i) x e = ap (λ (t : List _). z ∷ t) (set_same xs i x e)
-
--- a number that is put somewhere is there, if anything is
-pub set_most : (xs : List ℕ) (i y n : ℕ) → y ≤ n → slice_index (set xs i y) i ≤ n
-set_most [] i y n le = omega arith
-set_most (x ∷ xs) zero y n le = le
-set_most (x ∷ xs) (suc i) y n le = set_most xs i y n le

@@ -3,10 +3,6 @@ use Rattle.std.specs.Prelude.{◌≡◌, ◌==◌, ◌+◌, ◌<◌, ◌≤◌, 
 use Rattle.std.specs.Prelude.{count_by, if◌then◌else◌}
 use Rattle.lock_words.specs.declared.view.Hold.{Hold}
 
--- the value of a word that is held EXCL
-abbrev pub excl_value : ℕ
-excl_value = 9223372036854775808
-
 -- whether the value says EXCL
 abbrev pub says_excl : ℕ → Bool
 says_excl value = value == 9223372036854775808

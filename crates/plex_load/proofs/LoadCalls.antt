@@ -91,11 +91,6 @@ module _ (on : StrNo) where
       at_test true p q r s d e f g = omega arith
       at_test false p q r s d e f g = omega arith
 
--- 3,004 calls of lines, and four departures
-pub calls_of_load : (n : ℕ) → asks_of (load_script n) (record { 0 = 0 }) ≡ 3008
-unfolding load_script
-calls_of_load n = ap (λ (lines : ℕ). lines + 4) (asks_lines (record { 0 = 0 }) n)
-
 pub load_calls : (n : ℕ) (on : StrNo) → asks_of (load_script n) on ≤ 3008
 unfolding load_script
 load_calls n on = at_test (0 == on.0) (asks_lines on n)

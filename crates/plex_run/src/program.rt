@@ -25,10 +25,8 @@ use cf_io::{Sink, Source, read_all};
 use cf_link::Link;
 use cf_types::NoMemory;
 use plex_agent::Gate;
-use run_laws::within_script;
-use run_laws::only_reading;
 use plex_script::{ReadFault, never_both, one_script, read, well_formed};
-use run_laws::valid_is_fresh;
+use run_laws::{only_reading, valid_is_fresh, within_script};
 use std::alloc::Global;
 use std::sync::Wait;
 use std::thread::Threads;
@@ -132,12 +130,12 @@ fn judged<R: Threads + Wait + Sync, K: Sink, L: Link, G: Gate>(
 /// | 8 | a call came to a journal of 65,536 entries or more | `JOURNALFULL structure 65536`, and the report: whole unless a write failed |
 ///
 /// With 3 the line is the first faulty one, and why is LATE, SYNTAX, LIMIT, UNKNOWN, TWICE or
-/// SPACE; or else, with `locks`, the first that lock words can't do, and NOTWORDS. With 8 the structure is the first in
-/// the policy whose journal got full. Lines are counted from 1. The causes are tried in the order
-/// 2, 4, 7, 3, 8, 5; want of memory may stand in place of any but 2. The report goes out in pieces
-/// of 32,768 bytes at most, and a longer line alone; memory is taken for one piece, before anything
-/// is written, and for one line at a time. A load has 0, 5 or 6, and locks don't have 8; with 6 nothing stands before
-/// their line.
+/// SPACE; or else, with `locks`, the first that lock words can't do, and NOTWORDS. With 8 the
+/// structure is the first in the policy whose journal got full. Lines are counted from 1. The causes
+/// are tried in the order 2, 4, 7, 3, 8, 5; want of memory may stand in place of any but 2. The
+/// report goes out in pieces of 32,768 bytes at most, and a longer line alone; memory is taken for
+/// one piece, before anything is written, and for one line at a time. A load has 0, 5 or 6, and
+/// locks don't have 8; with 6 nothing stands before their line.
 pub fn run<R: Threads + Wait + Sync, S: Source, K: Sink, L: Link, G: Gate>(
     rt: &R,
     alloc: Global,
@@ -150,19 +148,20 @@ pub fn run<R: Threads + Wait + Sync, S: Source, K: Sink, L: Link, G: Gate>(
     requires links { vec_len links.old ≡ LINKS }
 
     // With `serial` or `threads`, whatever bytes the source had left, the status says what they are
-    // and what was written. With 0 and 8 they are a script, and the report that is written shows a legal history of each structure, each caller's calls in them once and in
-    // their order, and tests that tell what stood at a numbered point; where a cache's test tells
-    // VALID, the connector's copy was fresh there. A history has at most as many marks of a
-    // facility as the faults of that structure's link to it rose by; where the link tells its
-    // calls, they rose by as many as the history has that ask it; and where it tells which are
-    // down, of those that ask it exactly those have a mark. With `serial`, and links that all tell
-    // which calls are down, it is the report of the run on one thread. With 0 every caller's work was done, and no other legal histories, with transcripts
-    // that follow the script to their ends, have that report, whatever the tests in them tell: only
-    // the width of what a test shows counts, a number of at most 64 bits, or a word of 32. With 8 a
-    // journal got full, which is told before the report; and the script can fill it: the calls of
-    // its lines on that structure, as often as each may ask again, their event rounds, and one
-    // departure of each connector, with two marks for each, come to 65,536 entries or more. With 5 and 6 a front of such a
-    // report may have been written.
+    // and what was written. With 0 and 8 they are a script, and the report that is written shows a
+    // legal history of each structure, each caller's calls in them once and in their order, and
+    // tests that tell what stood at a numbered point; where a cache's test tells VALID, the
+    // connector's copy was fresh there. A history has at most as many marks of a facility as the
+    // faults of that structure's link to it rose by; where the link tells its calls, they rose by as
+    // many as the history has that ask it; and where it tells which are down, of those that ask it
+    // exactly those have a mark. With `serial`, and links that all tell which calls are down, it is
+    // the report of the run on one thread. With 0 every caller's work was done, and no other legal
+    // histories, with transcripts that follow the script to their ends, have that report, whatever
+    // the tests in them tell: only the width of what a test shows counts, a number of at most 64
+    // bits, or a word of 32. With 8 a journal got full, which is told before the report; and the
+    // script can fill it: the calls of its lines on that structure, as often as each may ask again,
+    // their event rounds, and one departure of each connector, with two marks for each, come to
+    // 65,536 entries or more. With 5 and 6 a front of such a report may have been written.
     //
     // Where no read failed and there was memory, the text decides which status it is: 7 where it is
     // too long, 3 where it is no script, and else 0, 5 or 8; with `serial`, and links that tell
@@ -219,6 +218,7 @@ pub fn run<R: Threads + Wait + Sync, S: Source, K: Sink, L: Link, G: Gate>(
     ensures links { length links.new.items ≡ length links.old.items }
     ensures unasked { (result ≡ 2) ⊎ ((result ≡ 3) ⊎ ((result ≡ 4) ⊎ (result ≡ 7)))
         → links.new.items ≡ links.old.items }
+    ensures locks_unasked { Say words.now works.Locks → links.new.items ≡ links.old.items }
 {
     let way = match work_of(words) {
         Some(Work::Script(way)) => way,

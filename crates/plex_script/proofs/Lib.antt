@@ -1,4 +1,3 @@
-pub mod UnitLaws
 pub mod FirstWords
 pub mod AskLaws
 pub mod ActLaws

@@ -114,29 +114,6 @@ IsRead-more text script number rest line more next after h lines is adds =
       fine = AddsAll-more empty_script 0 h.front script line next h.fine (rw zero_more (rw as_count at adds));
     }
 
-pub IsScript-read : (text : List ℕ) (script : Script) (number : ℕ) (rest : List ℕ) → IsRead text script number rest
-    → length rest ≡ 0 → IsScript text script
-IsScript-read text script number [] h e = let all : lines_of text ≡ h.front = h.whole ∙ append-nil h.front in rw all
-    h.fine
-IsScript-read text script number (b ∷ rest) h e = absurd (omega (arith, e))
-
-pub fault-read : (text : List ℕ) (script : Script) (number : ℕ) (rest line more : List ℕ) (after : ℕ)
-    (fault : LineFault) → IsRead text script number rest
-    → lines_of rest ≡ line ∷ lines_of more → after ≡ min (number + 1) 4294967295 → IsFaultBy (LineCause script line)
-    fault → TellsFault text (fault_at after fault)
-fault-read text script number rest line more after (Wrong why) h lines is cause =
-    record {
-      front = h.front;
-      line = line;
-      behind = lines_of more;
-      whole = h.whole ∙ ap (λ (ls : List (List ℕ)). h.front ++ ls) lines;
-      before = script;
-      fine = h.fine;
-      cause = cause;
-      here = is ∙ number_more number (length h.front) h.count;
-    }
-fault-read text script number rest line more after NoMemory h lines is cause = tt
-
 drop_whole : (xs : List ℕ) → drop (length xs) xs ≡ []
 drop_whole [] = refl
 drop_whole (x ∷ xs) = drop_whole xs

@@ -1,2 +1,1 @@
 pub mod CallerSets
-pub mod LossLaws

@@ -57,9 +57,6 @@ Spells-split rigour declared (t ∷ ts) us (w ∷ ws) rest h =
 
 -- ---- single words
 
-pair : {V : Type 0} → V → Words → V × Words
-pair v ws = (v, ws)
-
 pub single-sound : {V : Type 0} (rigour : Rigour) (declared : Declared) (f : List ℕ → Option V) (token : V → Token)
     → ((w : List ℕ) (v : V) → f w ≡ Some v → IsWord rigour declared (token v) w)
     → (ws rest : Words) (v : V) → on_first f ws ≡ Some (v, rest) → Spells rigour declared (token v ∷ []) ws rest

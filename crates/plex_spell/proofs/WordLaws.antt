@@ -157,11 +157,6 @@ limits_at_names Form P Q e h = absurd (cc)
 limits_at_names Limits P Q e h = absurd (cc)
 limits_at_names Names P Q e h = h
 
-pub names_at_names : (rigour : Rigour) (P Q : Type 0) → is_names rigour ≡ true → AtNames rigour P Q → Q
-names_at_names Form P Q e h = absurd (cc)
-names_at_names Limits P Q e h = absurd (cc)
-names_at_names Names P Q e h = h
-
 -- ---- names and keys
 
 pub name-sound : (rigour : Rigour) (word : List ℕ) (name : Name16) → name_of rigour word ≡ Some name

@@ -51,10 +51,6 @@ words_of-first (b ∷ text) h =
     ap (filter is_nonempty) front.split ∙ (rw some (ap (λ (ws : List (List ℕ)). take_while is_mark (b ∷ text) ∷ ws)
     front.rest))
 
--- a text that begins with no word is told by the rest of it
-pub words_of-blank : (b : ℕ) (text : List ℕ) → is_blank b ≡ true → words_of (b ∷ text) ≡ words_of text
-words_of-blank b text h = rw h refl
-
 -- the place of the first blank, or the length
 pub place_or_length : (p : ℕ → Bool) (xs : List ℕ) → unwrap_or (position p xs) (length xs) ≡ position_or_len p xs
 place_or_length p xs = grind (arith, common_steps, prefix_len-le-length (λ x. not (p x)) xs)

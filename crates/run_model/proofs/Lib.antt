@@ -1,4 +1,3 @@
-pub mod TypeLaws
 pub mod WordLaws
 pub mod HistoryLaws
 pub mod ToldLaws

@@ -40,19 +40,6 @@ word_below bits (suc n) = by_bit (bits n) refl (word_below bits n)
         let value : worth bits n ≡ 0 = rw clear refl in
         omega (arith, word_next bits n, below, value, pow-suc 2 n)
 
--- what is added up fits 32 bits
-pub word_fits : (bits : ℕ → Bool) (k value unit : ℕ) → value ≡ sum_by (worth bits) (numbers_from 0 k) → unit ≡ 2 ^ k
-    → k ≤ 32
-    → (value + 1 ≤ 4294967296) × (unit ≤ 4294967296)
-word_fits bits k value unit added is small =
-    let most : 2 ^ k ≤ 2 ^ 32 = pow_mono small in
-    (omega (arith, added, word_below bits k, most), omega (arith, is, most))
-
--- a bit adds at most the worth of its place
-pub worth_most : (set : Bool) (unit added : ℕ) → added ≡ (if set then unit else 0) → added ≤ unit
-worth_most true unit added is = omega (arith, is)
-worth_most false unit added is = omega (arith, is)
-
 worth_of_bit : (bit unit : ℕ) → bit < 2 → (if bit == 1 then unit else 0) ≡ bit * unit
 worth_of_bit zero unit small = omega arith
 worth_of_bit (suc zero) unit small = omega arith

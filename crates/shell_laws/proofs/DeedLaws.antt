@@ -734,10 +734,3 @@ module _ {C R I S : Type 0} (meaning : Meaning C R I S) (form : StrForm) (machin
   fitting-command (cmd.Vary cf off) manned fine = fitting_vary cf off
   fitting-command cmd.DuplexStart manned fine = fitting_any _ refl refl refl
   fitting-command cmd.DuplexStop manned fine = fitting_again machine.shell.instances.secondary
-
--- and so are those of a mark
-pub fitting-loss : {C R I S : Type 0} (meaning : Meaning C R I S) (form : StrForm) (machine : Machine S) (cf : CfId)
-    → AreFitting meaning form machine (mark_outcome form cf machine.shell).deeds
-fitting-loss meaning form machine cf =
-    loss-cases form cf machine.shell (λ acted. AreFitting meaning form machine acted.deeds)
-    (fitting_lost meaning form machine (record { 0 = 0 }) cf machine.shell)

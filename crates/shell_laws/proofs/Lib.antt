@@ -1,4 +1,4 @@
-pub mod Examples
+pub mod Checks
 pub mod ListFacts
 pub mod StageLaws
 pub mod GivenLaws

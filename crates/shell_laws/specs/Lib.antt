@@ -5,4 +5,5 @@ pub mod History
 pub mod Members
 pub mod Filling
 pub mod Capacities
+pub mod Stops
 pub mod Accepted

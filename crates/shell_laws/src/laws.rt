@@ -8,7 +8,7 @@ ghost use Rattle.engine_api.specs.declared.asks.Ask.TheVariants as ask;
 ghost use Rattle.engine_api.specs.declared.asks.Reply.TheVariants as reply;
 ghost use Rattle.shell_laws.specs.Readings.{rebuild_told};
 ghost use Rattle.rebuild_core.specs.declared.rebuild.Rebuild.{Rebuild};
-ghost use Rattle.engine_api.specs.Rebuilds.{fresh_of, is_held_up};
+ghost use Rattle.engine_api.specs.Rebuilds.{is_held_up};
 ghost use Rattle.engine_api.specs.Shell.{content_cause};
 ghost use Rattle.shell_laws.specs.Members.{HasMembers};
 ghost use Rattle.shell_laws.specs.Capacities.{IsHeld};
@@ -16,6 +16,7 @@ ghost use Rattle.shell_laws.specs.Filling.{IsFilled};
 ghost use Rattle.engine_api.specs.Machine.{Machine, loss_step, opening, step};
 ghost use Rattle.engine_api.specs.History.{replay};
 ghost use Rattle.shell_laws.specs.History.{AreAnswered, actives_after};
+ghost use Rattle.shell_laws.specs.Stops.{KeepsTheOld};
 
 use cf_types::StrForm;
 use engine_api::{Engine, History};
@@ -76,16 +77,10 @@ pub fn holds_at_its_capacity<E: Engine>(form: &StrForm, history: &History<E::Cmd
 pub fn loss_of_the_new_keeps_the_content<E: Engine>(form: &StrForm)
     ensures mark { (machine : Machine E.State) (cf : CfId) (number : ℕ)
         → (loss_step E.meaning form.now machine cf).reply ≡ reply.Shell (shown.Stopped number)
-        → let stopped = (loss_step E.meaning form.now machine cf).machine in
-        (stopped.content ≡ machine.content)
-        × (stopped.shell.instances ≡ machine.shell.instances)
-        × (fresh_of stopped.shell.rebuild ≡ None) }
+        → KeepsTheOld machine (loss_step E.meaning form.now machine cf).machine }
     ensures vary { (machine : Machine E.State) (by : ConnId) (cf : CfId) (off : Bool) (number : ℕ)
         → let varied = step E.meaning form.now machine by (ask.Shell (cmd.Vary cf off)) in
-        varied.reply ≡ reply.Shell (shown.Stopped number)
-        → (varied.machine.content ≡ machine.content)
-        × (varied.machine.shell.instances ≡ machine.shell.instances)
-        × (fresh_of varied.machine.shell.rebuild ≡ None) }
+        varied.reply ≡ reply.Shell (shown.Stopped number) → KeepsTheOld machine varied.machine }
 {}
 
 /// A REBUILD STOP that is accepted leaves the content as it was, the primary where it stood, and no
@@ -94,8 +89,5 @@ pub fn stop_keeps_the_content<E: Engine>(form: &StrForm)
     ensures stop { (machine : Machine E.State) (by : ConnId)
         → (step E.meaning form.now machine by (ask.Shell cmd.RebuildStop)).reply
         ≡ reply.Shell shown.Ok
-        → let stopped = (step E.meaning form.now machine by (ask.Shell cmd.RebuildStop)).machine in
-        (stopped.content ≡ machine.content)
-        × (stopped.shell.instances ≡ machine.shell.instances)
-        × (fresh_of stopped.shell.rebuild ≡ None) }
+        → KeepsTheOld machine (step E.meaning form.now machine by (ask.Shell cmd.RebuildStop)).machine }
 {}

@@ -3,7 +3,6 @@ pub mod Commits
 pub mod Kept
 pub mod Learned
 pub mod Logs
-pub mod OrderlyLaws
 pub mod Places
 pub mod Sound
 pub mod Steps

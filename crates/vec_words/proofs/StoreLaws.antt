@@ -54,13 +54,6 @@ module _ {D : Type 0} (len : ℕ) (bits : ℕ → ℕ → ℕ) (number : ℕ) wh
       ∙ stores_of-below (log ++ store_of len bits number p ∷ []) ps word k low
       ∙ bits-above log (word_number len p.conn.0 p.word) (bits p.conn.0 p.word) number word k low
 
-  -- they leave the count, and commit nothing
-  pub stores_of-count : (log : List (Logged D)) (places : List Place) → count_of (log ++ made places) ≡ count_of log
-  stores_of-count log [] = ap count_of (append-nil log)
-  stores_of-count log (p ∷ ps) =
-      ap count_of (sym (made-cons log p ps)) ∙ stores_of-count (log ++ store_of len bits number p ∷ []) ps
-      ∙ count-push log (store_of len bits number p)
-
   no_commits : (places : List Place) → commits_of (made places) ≡ []
   no_commits [] = refl
   no_commits (p ∷ ps) = no_commits ps
@@ -128,11 +121,6 @@ module _ {D : Type 0} (conns len : ℕ) (bits : ℕ → ℕ → ℕ) (named : Li
   stores-below word k each low =
       ap (λ l. bits_at (steps_of l) word k) (log_is each each.places each.seat)
       ∙ stores_of-below len bits before.number before.log each.places word k low
-
-  -- they leave the count and the commits
-  pub stores-count : StoresEach conns len bits named before after → count_of after.log ≡ count_of before.log
-  stores-count each =
-      ap count_of (log_is each each.places each.seat) ∙ stores_of-count len bits before.number before.log each.places
 
   pub stores-commits : StoresEach conns len bits named before after → commits_of after.log ≡ commits_of before.log
   stores-commits each =
