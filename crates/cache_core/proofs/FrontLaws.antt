@@ -1,7 +1,7 @@
 -- The names of the rows that are reclaimed, counted a row at a time.
-use Rattle.std.proofs.Common.{◌≡◌, ℕ, suc, zero, Option, None, option_map, slice_get, append-nil, subst, ◌+◌, ◌≤◌, ◌<◌, Bool, true, false, not, cond, List, [], ◌∷◌, ◌++◌, append_assoc, length, length-append, drop, ◌^◌, filter, map, sum_by, get_or, refl, sym, ap, ◌∙◌, arith}
+use Rattle.std.proofs.Common.{◌≡◌, ℕ, suc, zero, Option, None, option_map, slice_get, append-nil, subst, ◌+◌, ◌≤◌, Bool, true, false, not, cond, List, [], ◌∷◌, ◌++◌, append_assoc, length, length-append, drop, filter, map, sum_by, refl, sym, ap, ◌∙◌, arith}
 use Rattle.std.specs.Option.{option_to_list}
-use Rattle.std.proofs.lemmas.List.{drop_more, drop_all, length-map}
+use Rattle.std.proofs.lemmas.List.{drop_all, length-map}
 use Rattle.std.proofs.lemmas.List.Elements.{filter-append}
 use Rattle.std.proofs.lemmas.List.Sums.{sum_by-cons, sum_by-append}
 use Rattle.std.proofs.lemmas.List.Filters.{length-filter_both, sum_by-filter_both}
@@ -15,7 +15,7 @@ use Rattle.cache_model.specs.declared.items.CacheItem.{CacheItem}
 use Rattle.cache_model.specs.declared.requests.Request.{Request}
 use Rattle.cache_core.specs.declared.room.Room.{Room}
 use Rattle.cache_core.specs.declared.room.Reclaimable.{Reclaimable}
-use Rattle.cache_model.specs.Rows.{is_row_of, has_storage, elements_of, elements_in}
+use Rattle.cache_model.specs.Rows.{is_row_of, has_storage, elements_in}
 use Rattle.cache_model.specs.Room as room
 use Rattle.cache_model.specs.Room.{is_reclaimable, reclaim_order, victims}
 use Rattle.cf_types.specs.declared.refusals.Refusal.TheVariants.{DirectoryFull}

@@ -36,7 +36,6 @@ fn name_at(names: &[Name16], k: u32) -> Name16
 }
 
 /// A cache structure (IXLCACHE): its rows, and its registrations.
-#[derive(Drop)]
 pub struct CacheEngine {
     alloc: Global,
     shape: Shape,
@@ -54,6 +53,19 @@ impl Model for CacheEngine {
     ghost view = { view_of };
 
     ghost invariant = { IsKept };
+}
+
+impl Drop for CacheEngine {
+    fn drop(self) {
+        let CacheEngine {
+            alloc: _,
+            shape: _,
+            caps: _,
+            rows: _,
+            regs: _,
+            plan: _,
+        } = self;
+    }
 }
 
 impl Engine for CacheEngine {

@@ -2,18 +2,8 @@
 ghost use Rattle.std.specs.Prelude.{◌≡◌, IfOk};
 
 use cache_model::CacheItem;
-use cf_types::{Body, NoMemory, copy_body};
+use cf_types::{NoMemory, copy_data};
 use std::alloc::Global;
-
-// A copy of data, where there are any.
-fn copy_data(alloc: Global, body: &Option<Body>) -> Result<Option<Body>, NoMemory>
-    ensures { IfOk result (λ copy. copy ≡ body.now) }
-{
-    match body {
-        None => Ok(None),
-        Some(body) => Ok(Some(copy_body(alloc, body)?)),
-    }
-}
 
 /// A copy of a row with its data. Only want of memory is refused.
 pub fn copy_row(alloc: Global, row: &CacheItem) -> Result<CacheItem, NoMemory>

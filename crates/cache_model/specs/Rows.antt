@@ -9,6 +9,7 @@ use Rattle.list_laws.specs.Pairwise.{pairwise}
 use Rattle.list_laws.specs.Insertions.{insertion}
 use Rattle.cache_model.specs.declared.items.CacheItem.{CacheItem}
 use Rattle.cache_model.specs.declared.items.Holder.{Holder}
+pub use Rattle.cf_types.specs.Stored.{elements_of}
 
 abbrev pub is_row_of : Name16 → CacheItem → Bool
 is_row_of name row = same_name row.name name
@@ -16,11 +17,6 @@ is_row_of name row = same_name row.name name
 -- a row is changed where it has a castout class: its data are newer than those of the permanent store
 abbrev pub is_changed : CacheItem → Bool
 is_changed row = is_some row.class
-
--- data lie in elements of 256 bytes
-abbrev pub elements_of : Option (List ℕ) → ℕ
-elements_of None = 0
-elements_of (Some body) = (length body + 255) / 256
 
 abbrev pub elements_in : List CacheItem → ℕ
 elements_in rows = sum_by (λ row. elements_of row.body) rows

@@ -1,9 +1,9 @@
-ghost use Rattle.std.specs.Prelude.{◌≡◌, ℕ, ◌≤◌, length, OnOk, IfOk, IfErr};
+ghost use Rattle.std.specs.Prelude.{◌≡◌, ℕ, ◌≤◌, Some, length, OnOk, IfOk, IfErr};
 ghost use Rattle.cf_types.specs.declared.limits.TheConstants.{BODY_BYTES};
 ghost use Rattle.cf_types.specs.Term.{IsTerm};
-ghost use Rattle.cf_types.specs.Stored.{IsBodyFaultOf};
+ghost use Rattle.cf_types.specs.Stored.{elements_of, IsBodyFaultOf};
 
-use crate::limits::BODY_BYTES;
+use crate::limits::{BODY_BYTES, ELEMENT_BYTES};
 use crate::memory::NoMemory;
 use crate::names::{NameFault, checked};
 use std::alloc::Global;
@@ -38,6 +38,15 @@ pub enum BodyFault {
 }
 
 impl Body {
+    /// The data that have these bytes.
+    pub fn from_vec(bytes: Vec<u8>) -> Body
+        requires some { 1 ≤ length bytes.items }
+        requires few { length bytes.items ≤ BODY_BYTES }
+        ensures { result ≡ bytes.items }
+    {
+        Body { bytes }
+    }
+
     /// The bytes, 1 to 4,096 of them.
     pub fn bytes(&self) -> &[u8]
         ensures value { result.now ≡ self.now }
@@ -45,6 +54,26 @@ impl Body {
         ensures short { length self.now ≤ BODY_BYTES }
     {
         self.bytes.as_slice()
+    }
+
+    /// How many elements of 256 bytes the data take, 1 to 16; one that is filled in part counts
+    /// whole.
+    pub fn elements(&self) -> u32
+        ensures elements { result ≡ elements_of (Some self.now) }
+        ensures few { result ≤ 16 }
+    {
+        ((self.bytes.len() + (ELEMENT_BYTES - 1)) / ELEMENT_BYTES) as u32
+    }
+}
+
+/// How many elements of 256 bytes data take; none where there are no data.
+pub fn elements_of(body: &Option<Body>) -> u32
+    ensures elements { result ≡ elements_of body.now }
+    ensures few { result ≤ 16 }
+{
+    match body {
+        None => 0,
+        Some(body) => body.elements(),
     }
 }
 
@@ -70,4 +99,14 @@ pub fn copy_body(alloc: Global, body: &Body) -> Result<Body, NoMemory>
 {
     let bytes = Vec::from_slice(alloc, body.bytes.as_slice())?;
     Ok(Body { bytes })
+}
+
+/// A copy of data, where there are any.
+pub fn copy_data(alloc: Global, body: &Option<Body>) -> Result<Option<Body>, NoMemory>
+    ensures { IfOk result (λ copy. copy ≡ body.now) }
+{
+    match body {
+        None => Ok(None),
+        Some(body) => Ok(Some(copy_body(alloc, body)?)),
+    }
 }

@@ -24,7 +24,7 @@ mod shell_commands;
 
 pub use adjuncts::{Adjunct, parse_adjunct};
 pub use batches::Batch;
-pub use bodies::{Body, BodyFault, copy_body, parse_body};
+pub use bodies::{Body, BodyFault, copy_body, copy_data, elements_of, parse_body};
 pub use cache_commands::{CacheCmd, CacheReply};
 pub use conn_sets::ConnSet;
 pub use connections::ConnState;

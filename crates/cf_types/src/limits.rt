@@ -32,6 +32,8 @@ pub const NAME_BYTES: usize = 16;
 pub const ADJUNCT_BYTES: usize = 64;
 /// Bytes of data.
 pub const BODY_BYTES: usize = 4096;
+/// Bytes of an element, of which data take as many as they need.
+pub const ELEMENT_BYTES: usize = 256;
 /// Bytes of a line of a script.
 pub const LINE_BYTES: usize = 8192;
 /// Links of a plex: one for each structure and facility.

@@ -21,7 +21,6 @@ impl Model for ListContent {
 }
 
 /// A list structure (IXLLIST): its records, limits, list locks and monitors.
-#[derive(Drop)]
 pub struct ListEngine {
     alloc: Global,
     shape: Shape,
@@ -38,6 +37,18 @@ impl Model for ListEngine {
     ghost view = { view_of };
 
     ghost invariant = { IsKept };
+}
+
+impl Drop for ListEngine {
+    fn drop(self) {
+        let ListEngine {
+            alloc: _,
+            shape: _,
+            caps: _,
+            kept: _,
+            plan: _,
+        } = self;
+    }
 }
 
 impl Engine for ListEngine {

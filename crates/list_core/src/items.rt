@@ -6,8 +6,7 @@ ghost use Rattle.list_watch.specs.declared.monitors.Watched.{Watched};
 ghost use Rattle.list_model.specs.Items.{has_controls, controls_of, row_of, rows_from, items_of, triple_of, content_with};
 ghost use Rattle.list_core.specs.Rows.{told_row, IsPlaceable};
 
-use crate::data::copy_data;
-use cf_types::{ConnId, Listing, NoMemory};
+use cf_types::{ConnId, Listing, NoMemory, copy_data};
 use engine_api::Shape;
 use list_kept::{Kept, count};
 use list_model::ListItem;

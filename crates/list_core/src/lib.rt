@@ -3,7 +3,6 @@
 #![tactic(auto)]
 
 mod commands;
-mod data;
 mod engine;
 mod items;
 mod plans;

@@ -15,8 +15,7 @@ use crate::commands::{
     delete, l_controls, lock_reset, lock_set, lock_test, monitor, move_record, read, read_list,
     set_limit, unmonitor, update, write,
 };
-use crate::data::copy_data;
-use cf_types::{Body, Caps, ConnId, Effects, ListCmd, ListReply, NoMemory, Refusal};
+use cf_types::{Body, Caps, ConnId, Effects, ListCmd, ListReply, NoMemory, Refusal, copy_data};
 use engine_api::Shape;
 use list_kept::Kept;
 use std::alloc::Global;

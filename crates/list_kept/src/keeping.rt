@@ -11,8 +11,7 @@ ghost use Rattle.list_model.specs.Contents.{no_content, headers_of, locks_of, ho
 ghost use Rattle.list_model.specs.Lists.{header_of, stands_before, with_record};
 
 use crate::placing::{add_name, drop_name, has_records, place_of, put, put_again, take};
-use crate::reading::elements_of;
-use cf_types::{ConnId, Effects, EntryId, Key16, Kind, Name16, NoMemory};
+use cf_types::{ConnId, Effects, EntryId, Key16, Kind, Name16, NoMemory, elements_of};
 use engine_api::Shape;
 use list_keys::Keys;
 use list_store::{Rec, Store};

@@ -7,4 +7,4 @@ mod placing;
 mod reading;
 
 pub use keeping::{Kept, headers_of, locks_of};
-pub use reading::{count, elements_of, elements_of_others, id_at, record_at};
+pub use reading::{count, elements_of_others, id_at, record_at};

@@ -1,23 +1,12 @@
 //! Records that are named, and how much there is.
 ghost use Rattle.std.specs.Prelude.{◌≡◌, ◌<◌, ◌^◌, option_map, find, slice_get};
 ghost use Rattle.list_store.specs.Lists.{all_records, records_of, records_without, count_of};
-ghost use Rattle.list_model.specs.Records.{has_key, elements_of, elements_in};
+ghost use Rattle.list_model.specs.Records.{has_key, elements_in};
 ghost use Rattle.list_model.specs.Lists.{last_record, record_at, the_record};
 
 use crate::keeping::Kept;
-use cf_types::{At, Body, EntryId, Key16};
+use cf_types::{At, EntryId, Key16, elements_of};
 use list_store::Rec;
-
-/// How many elements of 256 bytes data take, the last one perhaps in part; 0 where there are no
-/// data.
-pub fn elements_of(body: &Option<Body>) -> u32
-    ensures { result ≡ elements_of body.now }
-{
-    match body {
-        None => 0,
-        Some(body) => (body.bytes().len() as u32 + 255) / 256,
-    }
-}
 
 /// How many elements of 256 bytes the data of all records take, but for the record with an id.
 pub fn elements_of_others(kept: &Kept, id: EntryId) -> u32

@@ -7,6 +7,7 @@ use Rattle.cf_types.specs.declared.names.Name16.{Name16}
 use Rattle.cf_types.specs.Name.{same_name}
 use Rattle.list_store.specs.declared.records.Rec.{Rec}
 use Rattle.list_model.specs.Keys.{same_key, key_up_to}
+pub use Rattle.cf_types.specs.Stored.{elements_of}
 
 abbrev pub has_name : Name16 → Rec → Bool
 has_name name rec = is_it rec.name
@@ -25,11 +26,6 @@ has_key key rec = is_it rec.key
 -- the version after an update: one greater, and 1 after the greatest
 abbrev pub next_version : ℕ → ℕ
 next_version version = if nat_lt version 4294967295 then version + 1 else 1
-
--- data lie in elements of 256 bytes
-abbrev pub elements_of : Option (List ℕ) → ℕ
-elements_of None = 0
-elements_of (Some body) = (length body + 255) / 256
 
 abbrev pub elements_in : List Rec → ℕ
 elements_in recs = sum_by (λ rec. elements_of rec.body) recs

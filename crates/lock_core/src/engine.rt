@@ -23,7 +23,6 @@ impl Model for LockContent {
 }
 
 /// A lock structure (IXLLOCK, IXLRT): its interests with their record data, and its waiters.
-#[derive(Drop)]
 pub struct LockEngine {
     alloc: Global,
     shape: Shape,
@@ -41,6 +40,19 @@ impl Model for LockEngine {
     ghost view = { view_of };
 
     ghost invariant = { IsKept };
+}
+
+impl Drop for LockEngine {
+    fn drop(self) {
+        let LockEngine {
+            alloc: _,
+            shape: _,
+            caps: _,
+            locks: _,
+            plan: _,
+            leaving: _,
+        } = self;
+    }
 }
 
 impl Engine for LockEngine {

@@ -1,18 +1,9 @@
 ghost use Rattle.std.specs.Prelude.{◌≡◌, IfOk};
 
 use crate::scripts::AnyAsk;
-use cf_types::{Body, CacheCmd, ListCmd, NoMemory, copy_body};
+use cf_types::{CacheCmd, ListCmd, NoMemory, copy_body, copy_data};
 use engine_api::Ask;
 use std::alloc::Global;
-
-fn copy_data(alloc: Global, body: &Option<Body>) -> Result<Option<Body>, NoMemory>
-    ensures { IfOk result (λ copy. copy ≡ body.now) }
-{
-    match body {
-        Some(body) => Ok(Some(copy_body(alloc, body)?)),
-        None => Ok(None),
-    }
-}
 
 fn copy_cache(alloc: Global, cmd: &CacheCmd) -> Result<CacheCmd, NoMemory>
     ensures { IfOk result (λ copy. copy ≡ cmd.now) }

@@ -1,6 +1,6 @@
 //! Copies of the answers of a list structure.
-use crate::replies::{TryClone, copy_data, copy_listing};
-use cf_types::{ListReply, NoMemory};
+use crate::replies::{TryClone, copy_listing};
+use cf_types::{ListReply, NoMemory, copy_data};
 use std::alloc::Global;
 
 impl TryClone for ListReply {

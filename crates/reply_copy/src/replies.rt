@@ -1,7 +1,7 @@
 //! Copies of a reply, whatever it replies to.
 ghost use Rattle.std.specs.Prelude.{◌≡◌, IfOk};
 
-use cf_types::{Body, Listing, NoMemory, copy_body};
+use cf_types::{Listing, NoMemory};
 use engine_api::Reply;
 use std::alloc::Global;
 
@@ -20,16 +20,6 @@ pub fn copy_reply<R: TryClone>(alloc: Global, reply: &Reply<R>) -> Result<Reply<
         Reply::Shell(answer) => Ok(Reply::Shell(*answer)),
         Reply::Content(answer) => Ok(Reply::Content(answer.try_clone(alloc)?)),
         Reply::Refused(refusal) => Ok(Reply::Refused(*refusal)),
-    }
-}
-
-// A copy of data, where there are any.
-pub(crate) fn copy_data(alloc: Global, body: &Option<Body>) -> Result<Option<Body>, NoMemory>
-    ensures { IfOk result (λ copy. copy ≡ body.now) }
-{
-    match body {
-        Some(body) => Ok(Some(copy_body(alloc, body)?)),
-        None => Ok(None),
     }
 }
 

@@ -17,7 +17,7 @@ use crate::refusals::{
 use crate::room::room_refusal;
 use cache_model::Request;
 use cache_regs::Regs;
-use cache_rows::{Rows, elements_of_body};
+use cache_rows::Rows;
 use cf_types::{Adjunct, Body, Caps, ConnId, Effects, Name16, Refusal};
 
 /// What the command asks room for.
@@ -26,7 +26,7 @@ pub(crate) fn request(name: &Name16, body: &Body, stg: u32) -> Request
 {
     Request {
         name: *name,
-        elements: elements_of_body(body),
+        elements: body.elements(),
         stg,
     }
 }

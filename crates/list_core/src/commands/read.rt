@@ -3,12 +3,11 @@ ghost use Rattle.std.specs.Prelude.{◌≡◌, IfOk};
 ghost use Rattle.engine_api.specs.Meaning.{first_refusal};
 ghost use Rattle.list_model.specs.Commands.Read as read;
 
-use crate::data::copy_data;
 use crate::refusals::{
     cond_lock_refusal, cond_refusal, first_refusal, record_refusal, ref_form_refusal,
     ref_header_refusal, refs_of,
 };
-use cf_types::{At, Cond, ConnId, EntryId, ListReply, NoMemory, Refusal};
+use cf_types::{At, Cond, ConnId, EntryId, ListReply, NoMemory, Refusal, copy_data};
 use engine_api::Shape;
 use list_kept::{Kept, headers_of, locks_of, record_at};
 use std::alloc::Global;

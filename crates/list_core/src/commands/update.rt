@@ -9,14 +9,15 @@ ghost use Rattle.list_model.specs.Lists.{the_record};
 ghost use Rattle.list_model.specs.Commands.Update as update;
 ghost use Rattle.list_core.specs.Found.{IsFound};
 
-use crate::data::copy_data;
 use crate::refusals::{
     cond_lock_refusal, cond_refusal, elements_refusal, first_refusal, record_refusal,
     ref_form_refusal, ref_header_refusal, refs_of, version_refusal,
 };
-use cf_types::{Adjunct, At, Body, Caps, Cond, ConnId, ListReply, NoMemory, Refusal};
+use cf_types::{
+    Adjunct, At, Body, Caps, Cond, ConnId, ListReply, NoMemory, Refusal, copy_data, elements_of,
+};
 use engine_api::Shape;
-use list_kept::{Kept, elements_of, headers_of, id_at, locks_of, record_at};
+use list_kept::{Kept, headers_of, id_at, locks_of, record_at};
 use list_store::Rec;
 use std::alloc::Global;
 

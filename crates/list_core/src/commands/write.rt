@@ -16,9 +16,10 @@ use crate::refusals::{
 };
 use cf_types::{
     Adjunct, Body, Caps, Cond, ConnId, Effects, EntryId, Key16, ListReply, Name16, Refusal,
+    elements_of,
 };
 use engine_api::Shape;
-use list_kept::{Kept, elements_of, headers_of, locks_of};
+use list_kept::{Kept, headers_of, locks_of};
 use list_store::Rec;
 
 // The data need more elements than all records leave free. No record has the next id.

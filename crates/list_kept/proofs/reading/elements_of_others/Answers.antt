@@ -12,7 +12,7 @@ overflow_sub-result c =
     omega (
       arith,
       c.elements.ensures,
-      c.elements_of.ensures,
+      c.elements_of.ensures.elements,
       elements_found c.args.id lists c.in-Some.rec.now c.get.ensures.apart there,
     )
 
@@ -24,7 +24,7 @@ returns-in-Some c =
     omega (
       arith,
       c.elements.ensures,
-      c.elements_of.ensures,
+      c.elements_of.ensures.elements,
       elements_found c.args.id lists c.in-Some.rec.now c.get.ensures.apart there,
     )
 

@@ -51,7 +51,7 @@ invariant_of-self c =
       counted = omega (
         arith,
         c.self.invariant.counted,
-        c.elements_of.ensures,
+        c.elements_of.ensures.elements,
         ap (λ (l : Lists). elements_in (all_records l)) c.in-Some.ensures.without,
         elements_with c.in-Some.rec (all_records rest) (all_records lists) with,
       );
@@ -64,7 +64,7 @@ overflow_sub-self c =
     omega (
       arith,
       c.self.invariant.counted,
-      c.elements_of.ensures,
+      c.elements_of.ensures.elements,
       elements_with c.in-Some.rec (all_records rest) (all_records lists)
           (taken c.in-Some.rec.id lists c.in-Some.rec c.pop.ensures.apart c.in-Some.ensures.found),
     )

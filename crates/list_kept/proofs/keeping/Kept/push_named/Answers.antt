@@ -49,7 +49,7 @@ overflow_add-self c =
     omega (
       arith,
       c.self.invariant.counted,
-      c.elements_of-need.ensures,
+      c.elements_of-need.ensures.elements,
       elements_with c.args.rec (all_records lists)
           (all_records (with_records lists c.args.header (records_of lists c.args.header ++ c.args.rec ∷ [])))
           (came_last c.args.header c.args.rec lists lt),
@@ -82,7 +82,7 @@ invariant_of-self c =
       counted = omega (
         arith,
         c.self.invariant.counted,
-        c.elements_of-need.ensures,
+        c.elements_of-need.ensures.elements,
         ap (λ (l : Lists). elements_in (all_records l)) (pushed c),
         elements_with c.args.rec (all_records lists) (all_records after) with,
       );

@@ -51,7 +51,7 @@ invariant_of-self c =
       counted = omega (
         arith,
         c.self.invariant.counted,
-        c.elements_of.ensures,
+        c.elements_of.ensures.elements,
         ap (λ (l : Lists). elements_in (all_records l)) c.take-rec.ensures.lists,
         elements_with c.take-rec.result (all_records rest) (all_records lists) with,
       );
@@ -64,7 +64,7 @@ overflow_sub-self c =
     omega (
       arith,
       c.self.invariant.counted,
-      c.elements_of.ensures,
+      c.elements_of.ensures.elements,
       elements_with c.take-rec.result (all_records rest) (all_records lists)
           (taken c.args.id lists c.take-rec.result c.take-rec.ensures.apart c.take-rec.ensures.«record»),
     )

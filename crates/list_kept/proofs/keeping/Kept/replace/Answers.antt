@@ -32,7 +32,7 @@ overflow_sub-self c =
     omega (
       arith,
       c.self.invariant.counted,
-      c.elements_of.ensures,
+      c.elements_of.ensures.elements,
       elements_with c.set-old.result r.others (all_records lists) r.before,
     )
 
@@ -43,8 +43,8 @@ overflow_add-self c =
     omega (
       arith,
       c.self.invariant.counted,
-      c.elements_of.ensures,
-      c.elements_of-need.ensures,
+      c.elements_of.ensures.elements,
+      c.elements_of-need.ensures.elements,
       elements_with c.set-old.result r.others (all_records lists) r.before,
       elements_with c.args.rec r.others (all_records (lists_replaced c.args.rec lists)) r.after,
       (stays c.args.rec c.self.inside c.args.self.now c.self.view_is c.requires.orderly).elements,
@@ -75,8 +75,8 @@ invariant_of-self c =
       counted = omega (
         arith,
         c.self.invariant.counted,
-        c.elements_of.ensures,
-        c.elements_of-need.ensures,
+        c.elements_of.ensures.elements,
+        c.elements_of-need.ensures.elements,
         ap (λ (l : Lists). elements_in (all_records l)) c.set-old.ensures.lists,
         elements_with old r.others (all_records lists) r.before,
         elements_with rec r.others (all_records after) r.after,

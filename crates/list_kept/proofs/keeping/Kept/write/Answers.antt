@@ -57,7 +57,7 @@ overflow_add-self c =
     omega (
       arith,
       c.self.invariant.counted,
-      c.elements_of-need.ensures,
+      c.elements_of-need.ensures.elements,
       elements_with c.args.rec (all_records lists)
           (all_records (with_record c.args.head c.args.header c.args.rec lists))
           (came c.args.head c.args.header c.args.rec lists lt),
@@ -84,7 +84,7 @@ invariant_of-self c =
       counted = omega (
         arith,
         c.self.invariant.counted,
-        c.elements_of-need.ensures,
+        c.elements_of-need.ensures.elements,
         ap (λ (l : Lists). elements_in (all_records l)) c.put.ensures,
         elements_with c.args.rec (all_records lists) (all_records after) with,
       );
