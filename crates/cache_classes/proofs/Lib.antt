@@ -1,3 +1,4 @@
 pub mod NameOrder
-pub mod CastoutLaws
-pub mod PlaceLaws
+pub mod MapLaws
+pub mod WalkLaws
+pub mod LastLaws

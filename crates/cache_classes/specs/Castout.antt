@@ -1,5 +1,5 @@
 -- Changed names with their castout classes, in the order of names.
-use Rattle.std.specs.Prelude.{ℕ, Bool, false, not, ◌==◌, List, filter, map, length, Option, Some, None}
+use Rattle.std.specs.Prelude.{ℕ, ◌-◌, Bool, not, ◌==◌, if◌then◌else◌, List, filter, map, length, Option, Some, None, option_map, slice_get}
 use Rattle.cf_types.specs.declared.names.Name16.{Name16}
 use Rattle.cf_types.specs.Name.{same_name, name_before}
 use Rattle.list_laws.specs.Insertions.{insertion}
@@ -14,13 +14,8 @@ is_of_class class changed = changed.class == class
 abbrev pub stands_before : Changed → Changed → Bool
 stands_before changed other = name_before changed.name other.name
 
--- whether a name stands before another; whether what stands at a place is of this name
-abbrev pub is_before : Name16 → Changed → Bool
-is_before name changed = name_before changed.name name
-
-abbrev pub is_there : Name16 → Option Changed → Bool
-is_there name None = false
-is_there name (Some changed) = is_named name changed
+abbrev pub name_of : Changed → Name16
+name_of changed = changed.name
 
 abbrev pub names_without : Name16 → List Changed → List Changed
 names_without name names = filter (λ changed. not (is_named name changed)) names
@@ -48,3 +43,13 @@ names_of class names = map (λ changed. changed.name) (filter (is_of_class class
 
 abbrev pub count_of : ℕ → List Changed → ℕ
 count_of class names = length (filter (is_of_class class) names)
+
+-- the last of them
+abbrev pub last_name : List Changed → Option Name16
+last_name names = option_map name_of (slice_get names (length names - 1))
+
+-- the later of two names, or the one that there is
+abbrev pub later : Option Name16 → Option Name16 → Option Name16
+later None name = name
+later (Some last) None = Some last
+later (Some last) (Some name) = if name_before last name then Some name else Some last

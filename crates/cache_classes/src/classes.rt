@@ -1,20 +1,28 @@
-ghost use Rattle.std.specs.Prelude.{◌≡◌, ◌+◌, ◌≤◌, ◌<◌, ◌++◌, ◌∷◌, [], IsTrue, IfOk, OnOk, length, option_map, slice_get};
-ghost use Rattle.std.specs.List.{prefix_len, insert};
-ghost use Rattle.std.specs.Vec.{vec_len, vec_capacity};
-ghost use Rattle.list_laws.specs.Pairwise.{pairwise};
-ghost use Rattle.cache_classes.specs.Castout.{is_of_class, is_before, is_there, stands_before, names_without, names_with, names_set, room_taken, names_of, count_of, names_in};
+ghost use Rattle.std.specs.Prelude.{Bool, ◌≡◌, ◌+◌, ◌-◌, ◌≤◌, ◌<◌, ◌++◌, ◌∷◌, [], None, Some, nat_eq, IfOk, OnOk, if◌then◌else◌, length, filter, option_map, slice_get};
+ghost use Rattle.std.specs.List.{IsDistinct};
+ghost use Rattle.std.specs.Map.{keys_of};
+ghost use Rattle.std.specs.Cmp.Lexicographic.{pointwise};
+ghost use Rattle.indexmap.specs.IndexMap.{spare};
+ghost use Rattle.cf_types.specs.declared.names.Name16.{Name16};
 ghost use Rattle.cache_classes.specs.declared.changed.Changed.{Changed};
+ghost use Rattle.cache_classes.specs.Castout.{names_without, names_with, names_set, name_of, names_in, names_of, count_of, last_name, later, room_taken};
+ghost use Rattle.cache_classes.specs.ClassBatch.{entries_in, classes_in, Writes};
 
-use crate::changed::Changed;
+use cf_types::limits::NAME_BYTES;
 use cf_types::{Name16, NoMemory};
+use indexmap::IndexMap;
 use std::alloc::Global;
 use std::marker::Model;
 
-/// The castout classes of changed names, one class for a name. Contracts see the names with their
-/// classes, in the order of names, and for how many more there is room.
+/// Castout classes by the bytes of names.
+type Entries = IndexMap<[u8; NAME_BYTES], u32>;
+
+/// The castout classes of changed names, one class for a name, in a map. Contracts see the names
+/// with their classes in the order of names, and as they lie in the map, in no order that matters;
+/// and for how many more there is room.
 #[derive(Drop)]
 pub struct Classes {
-    names: Vec<Changed>,
+    map: Entries,
 }
 
 impl Model for Classes {
@@ -27,113 +35,148 @@ impl Model for Classes {
     ghost invariant = { IsKept };
 }
 
-// Where a name stands, or would stand.
-fn place_of(names: &[Changed], name: &Name16) -> usize
-    requires { IsTrue (pairwise stands_before names.now) }
-    ensures { result ≡ prefix_len (is_before name.now) names.now }
-{
-    names.partition_point(|changed| changed.name.cmp(name).is_lt())
-}
-
-// Whether a name stands at a place.
-fn is_there(names: &[Changed], at: usize, name: &Name16) -> bool
-    ensures { result ≡ is_there name.now (slice_get names.now at) }
-{
-    match names.get(at) {
-        Some(changed) => changed.name == *name,
-        None => false,
-    }
-}
-
-// Puts a name at a place, where there is room for it.
-fn insert_at(names: &mut Vec<Changed>, at: usize, new: Changed)
-    requires place { at ≤ vec_len names.old }
-    requires room { vec_len names.old < vec_capacity names.old }
-    ensures items { names.new.items ≡ insert names.old.items at new }
-    ensures len { vec_len names.new ≡ vec_len names.old + 1 }
-    ensures capacity { vec_capacity names.old ≤ vec_capacity names.new }
-{
-    let _ = names.insert(at, new);
-}
-
-// Puts a name in its place, where there is room for it.
-fn put(names: &mut Vec<Changed>, new: Changed)
-    requires ordered { IsTrue (pairwise stands_before names.old.items) }
-    requires room { vec_len names.old < vec_capacity names.old }
-    ensures items { names.new.items ≡ names_with new names.old.items }
-    ensures len { vec_len names.new ≡ vec_len names.old + 1 }
-    ensures capacity { vec_capacity names.old ≤ vec_capacity names.new }
-{
-    let at = place_of(names, &new.name);
-    insert_at(names, at, new);
-}
-
 // Takes out a name, if it is there.
-fn take_out(names: &mut Vec<Changed>, name: &Name16)
-    requires { IsTrue (pairwise stands_before names.old.items) }
-    ensures items { names.new.items ≡ names_without name.now names.old.items }
-    ensures len { vec_len names.new ≤ vec_len names.old }
-    ensures capacity { vec_capacity names.new ≡ vec_capacity names.old }
+fn take_out(map: &mut Entries, name: &Name16)
+    requires { IsDistinct (pointwise nat_eq) (keys_of map.old.entries) }
+    ensures unique { IsDistinct (pointwise nat_eq) (keys_of map.new.entries) }
+    ensures names { classes_in map.new.entries
+        ≡ names_without name.now (classes_in map.old.entries) }
+    ensures len { length map.new.entries ≤ length map.old.entries }
+    ensures spare { spare map.old ≤ spare map.new }
 {
-    let at = place_of(names, name);
-    if is_there(names, at, name) {
-        names.remove(at);
-    }
+    map.swap_remove(&name.0);
+}
+
+// Writes the class of a name, for which there is room.
+fn write(map: &mut Entries, name: Name16, class: u32)
+    requires { 1 ≤ spare map.old }
+    ensures writes { Writes map.old.entries name (Some class) map.new.entries }
+    ensures unique { IsDistinct (pointwise nat_eq) (keys_of map.new.entries) }
+    ensures len { length map.new.entries ≤ length map.old.entries + 1 }
+    ensures spare { spare map.old ≤ spare map.new + 1 }
+{
+    let _ = map.insert(name.0, class);
+}
+
+// A name takes a class, in place of the one that it had, where there is room for it.
+fn put(map: &mut Entries, name: Name16, class: u32)
+    requires unique { IsDistinct (pointwise nat_eq) (keys_of map.old.entries) }
+    requires room { 1 ≤ spare map.old }
+    ensures unique { IsDistinct (pointwise nat_eq) (keys_of map.new.entries) }
+    ensures names { classes_in map.new.entries
+        ≡ names_set name (Some class) (classes_in map.old.entries) }
+    ensures len { length map.new.entries ≤ length map.old.entries + 1 }
+    ensures spare { spare map.old ≤ spare map.new + 1 }
+{
+    write(map, name, class);
 }
 
 // A name takes a class, or has none any more.
-fn set(names: &mut Vec<Changed>, name: Name16, class: Option<u32>)
-    requires ordered { IsTrue (pairwise stands_before names.old.items) }
-    requires room { vec_len names.old + room_taken class ≤ vec_capacity names.old }
-    ensures items { names.new.items ≡ names_set name class names.old.items }
-    ensures len { vec_len names.new ≤ vec_len names.old + room_taken class }
-    ensures capacity { vec_capacity names.old ≤ vec_capacity names.new }
+fn set(map: &mut Entries, name: Name16, class: Option<u32>)
+    requires unique { IsDistinct (pointwise nat_eq) (keys_of map.old.entries) }
+    requires room { room_taken class ≤ spare map.old }
+    ensures unique { IsDistinct (pointwise nat_eq) (keys_of map.new.entries) }
+    ensures names { classes_in map.new.entries ≡ names_set name class (classes_in map.old.entries) }
+    ensures len { length map.new.entries ≤ length map.old.entries + room_taken class }
+    ensures spare { spare map.old ≤ spare map.new + room_taken class }
 {
-    take_out(names, &name);
-    if let Some(class) = class {
-        put(names, Changed { name, class });
+    match class {
+        Some(class) => put(map, name, class),
+        None => take_out(map, &name),
     }
 }
 
-// The names of a class.
-fn names_of(alloc: Global, names: &[Changed], class: u32) -> Result<Vec<Name16>, NoMemory>
-    ensures { IfOk result (λ list. list.items ≡ names_of class names.now) }
+// One name more, where it is.
+fn push_own(list: &mut Vec<Name16>, name: &[u8; NAME_BYTES], own: bool) -> Result<(), NoMemory>
+    ensures { OnOk result (list.new.items
+        ≡ list.old.items ++ (if own then record { 0 = name.now } ∷ [] else [])) }
+{
+    if own {
+        list.push(Name16(*name))?;
+    }
+    Ok(())
+}
+
+// The names of a class, as they lie in the map.
+fn unsorted_of(alloc: Global, map: &Entries, class: u32) -> Result<Vec<Name16>, NoMemory>
+    ensures { IfOk result (λ list. list.items ≡ names_of class (entries_in map.now.entries)) }
 {
     let mut list = Vec::new(alloc);
-    for changed in names {
-        if changed.class == class {
-            list.push(changed.name)?;
-        }
+    for (name, own) in map.iter() {
+        push_own(&mut list, name, *own == class)?;
     }
     Ok(list)
 }
 
-// How many names a class has.
-fn count_of(names: &[Changed], class: u32) -> u32
-    requires { length names.now < 4294967296 }
-    ensures { result ≡ count_of class names.now }
+// All names, as they lie in the map.
+fn unsorted(alloc: Global, map: &Entries) -> Result<Vec<Name16>, NoMemory>
+    ensures { IfOk result (λ list. list.items ≡ names_in (entries_in map.now.entries)) }
 {
-    names
-        .iter()
-        .filter(|changed| changed.class == class)
-        .count() as u32
-}
-
-// The name at a place.
-fn name_at(names: &[Changed], k: usize) -> Option<Name16>
-    ensures { result ≡ option_map (λ (changed : Changed). changed.name) (slice_get names.now k) }
-{
-    names.get(k).map(|changed| changed.name)
-}
-
-// Puts all names behind others.
-fn push_names(names: &[Changed], list: &mut Vec<Name16>) -> Result<(), NoMemory>
-    ensures { OnOk result (list.new.items ≡ list.old.items ++ names_in names.now) }
-{
-    for changed in names {
-        list.push(changed.name)?;
+    let mut list = Vec::new(alloc);
+    for (name, _) in map.iter() {
+        push_own(&mut list, name, true)?;
     }
-    Ok(())
+    Ok(list)
+}
+
+// One where it is, and nothing where it isn't.
+fn one_if(own: bool) -> u32
+    ensures { result ≡ (if own then 1 else 0) }
+{
+    if own { 1 } else { 0 }
+}
+
+// How many names a class has.
+fn count_of(map: &Entries, class: u32) -> u32
+    requires { length map.now.entries < 4294967296 }
+    ensures { result ≡ count_of class (entries_in map.now.entries) }
+{
+    let mut count = 0;
+    for (_, own) in map.iter() {
+        count += one_if(*own == class);
+    }
+    count
+}
+
+// The name at a place of the map.
+fn name_at(map: &Entries, k: usize) -> Option<Name16>
+    ensures { result ≡ option_map name_of (slice_get (entries_in map.now.entries) k) }
+{
+    match map.get_index(k) {
+        Some((name, _)) => Some(Name16(*name)),
+        None => None,
+    }
+}
+
+// The later of two names.
+fn later_of(last: Name16, name: Name16) -> Name16
+    ensures { Some result ≡ later (Some last) (Some name) }
+{
+    if last.cmp(&name).is_lt() { name } else { last }
+}
+
+// The later of two names, or the one that there is.
+fn later(last: Option<Name16>, name: Option<Name16>) -> Option<Name16>
+    ensures { result ≡ later last name }
+{
+    match (last, name) {
+        (Some(last), Some(name)) => Some(later_of(last, name)),
+        (None, name) => name,
+        (last, None) => last,
+    }
+}
+
+// The last name of all.
+fn last_of(map: &Entries) -> Option<Name16>
+    ensures { result ≡ last_name (classes_in map.now.entries) }
+{
+    let mut last = None;
+    let mut k = map.len();
+    while k > 0 {
+        k -= 1;
+        last = later(last, name_at(map, k));
+    }
+    last
 }
 
 impl Classes {
@@ -142,7 +185,7 @@ impl Classes {
         ensures { IfOk result (λ classes. classes.names ≡ []) }
     {
         Ok(Classes {
-            names: Vec::new(alloc),
+            map: IndexMap::new(alloc),
         })
     }
 
@@ -150,8 +193,20 @@ impl Classes {
     pub fn copy(&self, alloc: Global) -> Result<Classes, NoMemory>
         ensures { IfOk result (λ copy. copy.names ≡ self.now.names) }
     {
-        let names = Vec::from_slice(alloc, self.names.as_slice())?;
-        Ok(Classes { names })
+        let _ = alloc;
+        Ok(Classes {
+            map: self.map.clone()?,
+        })
+    }
+
+    /// How many names there are.
+    pub fn len(&self) -> usize
+        ensures names { result ≡ length self.now.names }
+        ensures entries { result ≡ length self.now.entries }
+        ensures alike { (p : Changed → Bool) → length (filter p self.now.entries)
+            ≡ length (filter p self.now.names) }
+    {
+        self.map.len()
     }
 
     /// Takes room for one name more. Want of memory changes nothing.
@@ -159,10 +214,10 @@ impl Classes {
         ensures names { self.new.names ≡ self.old.names }
         ensures room { OnOk result (1 ≤ self.new.room) }
     {
-        if self.names.len() >= u32::MAX as usize {
+        if self.map.len() >= u32::MAX as usize {
             return Err(NoMemory);
         }
-        self.names.reserve(1)?;
+        self.map.reserve(1)?;
         Ok(())
     }
 
@@ -173,41 +228,46 @@ impl Classes {
         ensures names { self.new.names ≡ names_set name class self.old.names }
         ensures room { self.old.room ≤ self.new.room + room_taken class }
     {
-        set(&mut self.names, name, class);
+        set(&mut self.map, name, class);
     }
 
-    /// The names of a castout class, in the order of names (READ_COCLASS of IXLCACHE).
+    /// The names of a castout class, in the order of names (READ_COCLASS of IXLCACHE). Only want of
+    /// memory is refused.
     pub fn names(&self, alloc: Global, class: u32) -> Result<Vec<Name16>, NoMemory>
         ensures { IfOk result (λ list. list.items ≡ names_of class self.now.names) }
     {
-        names_of(alloc, &self.names, class)
+        let mut list = unsorted_of(alloc, &self.map, class)?;
+        list.sort()?;
+        Ok(list)
+    }
+
+    /// All names, in their order. Only want of memory is refused.
+    pub fn all_names(&self, alloc: Global) -> Result<Vec<Name16>, NoMemory>
+        ensures { IfOk result (λ list. list.items ≡ names_in self.now.names) }
+    {
+        let mut list = unsorted(alloc, &self.map)?;
+        list.sort()?;
+        Ok(list)
     }
 
     /// How many names a castout class has (READ_COSTATS of IXLCACHE).
     pub fn count(&self, class: u32) -> u32
         ensures { result ≡ count_of class self.now.names }
     {
-        count_of(&self.names, class)
-    }
-    /// How many names there are.
-    pub fn len(&self) -> usize
-        ensures { result ≡ length self.now.names }
-    {
-        self.names.len()
+        count_of(&self.map, class)
     }
 
-    /// The name at a place (from 0), in the order of names.
+    /// The name at a place of the map (from 0). None past the end.
     pub fn name_at(&self, k: usize) -> Option<Name16>
-        ensures { result ≡ option_map (λ (changed : Changed). changed.name)
-            (slice_get self.now.names k) }
+        ensures { result ≡ option_map name_of (slice_get self.now.entries k) }
     {
-        name_at(&self.names, k)
+        name_at(&self.map, k)
     }
 
-    /// Puts all names, in their order, behind others. Only want of memory is refused.
-    pub fn push_names(&self, list: &mut Vec<Name16>) -> Result<(), NoMemory>
-        ensures { OnOk result (list.new.items ≡ list.old.items ++ names_in self.now.names) }
+    /// The last name in the order of names, if there is one. It looks at each.
+    pub fn last(&self) -> Option<Name16>
+        ensures { result ≡ last_name self.now.names }
     {
-        push_names(&self.names, list)
+        last_of(&self.map)
     }
 }

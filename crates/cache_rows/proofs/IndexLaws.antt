@@ -2,14 +2,14 @@
 use Rattle.std.proofs.Common.{◌≡◌, ℕ, ◌+◌, ◌≤◌, Bool, true, false, not, ◌&&◌, ◌||◌, cond, List, [], ◌∷◌, ◌++◌, append-nil, Option, Some, None, is_some, unwrap_or, length, filter, map, drop, get_or, refl, sym, ap, ◌∙◌, arith}
 use Rattle.std.specs.List.{list_all}
 use Rattle.std.proofs.lemmas.Bool.{and_parts, or_left, or_right, false≢true}
-use Rattle.std.proofs.lemmas.List.{map-append, length-map, drop_more, drop_all}
+use Rattle.std.proofs.lemmas.List.{map-append, drop_more, drop_all}
 use Rattle.std.proofs.lemmas.List.Elements.{filter_agree, filter-append}
 use Rattle.cf_types.specs.declared.names.Name16.{Name16}
 use Rattle.cf_types.specs.declared.numbers.ConnId.{ConnId}
 use Rattle.cf_types.specs.Name.{same_name, name_before}
 use Rattle.list_laws.specs.Pairwise.{pairwise}
 use Rattle.list_laws.specs.Insertions.{insertion}
-use Rattle.list_laws.proofs.FilterLaws.{filter-filter, filter_swap, filter_none, filter_all, none_from_all, list_all_weaker, list_all_always, length-filter-le}
+use Rattle.list_laws.proofs.FilterLaws.{filter-filter, filter_swap, filter_none, filter_all, none_from_all, list_all_weaker, list_all_always}
 use Rattle.list_laws.proofs.InsertionLaws.{filter-insertion_out}
 use Rattle.list_laws.proofs.PairwiseLaws.{FindsPlace, pairwise-insertion, pairwise_push}
 use Rattle.cache_classes.specs.declared.changed.Changed.{Changed}

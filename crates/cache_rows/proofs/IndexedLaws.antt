@@ -151,6 +151,21 @@ module _ (rows : List CacheItem) (at : Name16 → Option CacheItem) (names : Lis
       (k - length (castout.names_in names)) (omega (arith, le, long)))
       ∙ sym (row_at_place k)
 
+  fewer_changed : length names ≤ length rows
+  fewer_changed =
+      let long : length names ≡ length (filter is_changed rows) =
+      ap (λ (l : List Changed). length l) is.classed ∙ length-map (filter is_changed rows) changed_of in
+      omega (arith, long, length-filter-le is_changed rows)
+
+  -- the name of the last row, where none is unchanged
+  pub last_in_front : (n : ℕ) (name : Option Name16) → n ≡ length rows → 0 < n → n ≤ length names
+      → name ≡ option_map (λ (changed : Changed). changed.name) (slice_get names (length names - 1))
+      → name ≡ option_map name_of (slice_get rows (n - 1))
+  last_in_front n name all some le e =
+      let same : length names - 1 ≡ n - 1 = omega (arith, all, some, le, fewer_changed) in
+      name_in_front (n - 1) name (omega (arith, some, le))
+      (e ∙ ap (λ k. option_map (λ (changed : Changed). changed.name) (slice_get names k)) same)
+
   -- ---- how many rows are of a storage class
 
   pub changed_storage : (stg : ℕ)

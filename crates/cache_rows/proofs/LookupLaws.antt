@@ -162,6 +162,13 @@ past-named [] k lt e = omega (arith, lt)
 past-named (x ∷ xs) zero lt e = absurd (cc)
 past-named (x ∷ xs) (suc k) lt e = past-named xs k (omega (arith, lt)) e
 
+-- what stands at a place of their names
+pub listed-name : (rows : List CacheItem) (names : List Name16) (k : ℕ) (name : Option Name16)
+    → names ≡ map name_of rows → name ≡ slice_get names k
+    → name ≡ option_map name_of (slice_get rows k)
+listed-name rows names k name listed e =
+    e ∙ ap (λ (l : List Name16). slice_get l k) listed ∙ slice_get-map name_of rows k
+
 pub popped : (rows : List CacheItem) (name : Name16) → pairwise names_apart rows ≡ true
     → Some name ≡ option_map name_of (slice_get rows (length rows - 1))
     → rows_without name rows ≡ take (length rows - 1) rows

@@ -1,6 +1,6 @@
 //! Rows by name, with the castout classes of the changed ones and the order of last use of the
 //! others.
-ghost use Rattle.std.specs.Prelude.{◌≡◌, ◌+◌, ◌^◌, ◌<◌, ◌≤◌, ◌&&◌, [], IsTrue, IfOk, OnOk, Some, None, true, false, filter, length, map, option_map, option_to_list, slice_get};
+ghost use Rattle.std.specs.Prelude.{◌≡◌, ◌+◌, ◌-◌, ◌^◌, ◌<◌, ◌≤◌, ◌&&◌, [], IsTrue, IfOk, OnOk, Some, None, true, false, filter, length, map, option_map, option_to_list, slice_get};
 ghost use Rattle.list_laws.specs.Pairwise.{pairwise};
 ghost use Rattle.cf_types.specs.declared.names.Name16.{Name16};
 ghost use Rattle.cache_classes.specs.declared.changed.Changed.{Changed};
@@ -71,9 +71,9 @@ fn storage_of(dir: &Dir, name: &Name16) -> u32
     }
 }
 
-// Whether the changed row at a place is of a storage class, as a number.
+// Whether the changed row at a place of its index is of a storage class, as a number.
 fn counts_at(dir: &Dir, classes: &Classes, stg: u32, k: usize) -> u32
-    ensures count { result ≡ counts_at stg (row_at dir.now.entries) classes.now.names k }
+    ensures count { result ≡ counts_at stg (row_at dir.now.entries) classes.now.entries k }
     ensures one { result ≤ 1 }
 {
     match classes.name_at(k) {
@@ -93,6 +93,13 @@ fn count_changed(dir: &Dir, classes: &Classes, stg: u32) -> u32
         count += counts_at(dir, classes, stg, k);
     }
     count
+}
+
+// The name at a place of a list.
+fn nth(names: &[Name16], k: usize) -> Option<Name16>
+    ensures { result ≡ slice_get names.now k }
+{
+    names.get(k).copied()
 }
 
 /// The rows of a directory, found by name. Contracts see them in order, the changed ones first, for
@@ -153,29 +160,41 @@ impl Directory {
         row_in(&self.dir, name)
     }
 
-    /// The name of the row at a place (from 0).
-    pub(crate) fn name_at(&self, k: usize) -> Option<Name16>
+    /// The name of the last of so many rows, of which there is one at least.
+    pub(crate) fn last_name(&self, rows: usize) -> Option<Name16>
+        requires all { rows ≡ length self.now.rows }
+        requires some { 0 < rows }
         ensures name { result ≡ option_map (λ (row : CacheItem). row.name)
-            (slice_get self.now.rows k) }
+            (slice_get self.now.rows (rows - 1)) }
         ensures apart { IsTrue (pairwise names_apart self.now.rows) }
     {
         let changed = self.classes.len();
-        if k < changed {
-            self.classes.name_at(k)
+        if changed < rows {
+            self.order.name_at(rows - 1 - changed)
         } else {
-            self.order.name_at(k - changed)
+            self.classes.last()
         }
     }
 
     /// The names of all rows, in their order.
     pub(crate) fn names(&self, alloc: Global) -> Result<Vec<Name16>, NoMemory>
-        ensures { IfOk result (λ names. names.items
+        ensures names { IfOk result (λ names. names.items
             ≡ map (λ (row : CacheItem). row.name) self.now.rows) }
+        ensures apart { IsTrue (pairwise names_apart self.now.rows) }
     {
-        let mut names = Vec::new(alloc);
-        self.classes.push_names(&mut names)?;
+        let mut names = self.classes.all_names(alloc)?;
         self.order.push_names(&mut names)?;
         Ok(names)
+    }
+
+    /// The name of the row at a place (from 0).
+    pub(crate) fn name_at(&self, alloc: Global, k: usize) -> Result<Option<Name16>, NoMemory>
+        ensures name { IfOk result (λ name. name ≡ option_map (λ (row : CacheItem). row.name)
+            (slice_get self.now.rows k)) }
+        ensures apart { IsTrue (pairwise names_apart self.now.rows) }
+    {
+        let names = self.names(alloc)?;
+        Ok(nth(&names, k))
     }
 
     /// A copy of the row of a name that has one.

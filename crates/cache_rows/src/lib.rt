@@ -6,12 +6,10 @@
 #![tactic(auto)]
 
 mod changes;
-mod counts;
 mod directory;
 mod row;
 mod rows;
 mod tally;
 
-pub use counts::elements_of_body;
 pub use row::Row;
 pub use rows::Rows;

@@ -3,9 +3,8 @@ ghost use Rattle.std.specs.Prelude.{◌≡◌, ◌≤◌, IfOk};
 ghost use Rattle.cache_model.specs.Rows.{elements_of};
 ghost use Rattle.cache_model.specs.Commands.Unlock.{is_rewritten};
 
-use crate::counts::elements_of;
 use cache_model::{CacheItem, Holder};
-use cf_types::{Adjunct, Body, Name16, NoMemory, copy_body};
+use cf_types::{Adjunct, Body, Name16, NoMemory, copy_data, elements_of};
 use std::alloc::Global;
 use std::marker::Model;
 
@@ -78,17 +77,14 @@ impl<'a> Row<'a> {
         ensures elements { result ≡ elements_of self.now.body }
         ensures few { result ≤ 16 }
     {
-        elements_of(self.row)
+        elements_of(&self.row.body)
     }
 
     /// A copy of its data, where it has some. Only want of memory is refused.
     pub fn body(&self, alloc: Global) -> Result<Option<Body>, NoMemory>
         ensures { IfOk result (λ body. body ≡ self.now.body) }
     {
-        match &self.row.body {
-            None => Ok(None),
-            Some(body) => Ok(Some(copy_body(alloc, body)?)),
-        }
+        copy_data(alloc, &self.row.body)
     }
 }
 

@@ -74,8 +74,8 @@ impl Model for Rows {
 }
 
 impl Rows {
-    /// No rows; later there may be `entries` of them at most, for which there is memory from now
-    /// on. Only want of memory is refused.
+    /// No rows; later there may be `entries` of them at most. The map of rows and the slots of the
+    /// order of last use have places for all of them from now on. Only want of memory is refused.
     pub fn new(alloc: Global, entries: u32) -> Result<Rows, NoMemory>
         ensures rows { IfOk result (λ rows. rows.rows ≡ []) }
         ensures entries { IfOk result (λ rows. rows.entries ≡ entries) }
@@ -146,7 +146,8 @@ impl Rows {
         requires { k < length self.now.rows }
         ensures { IfOk result (λ item. slice_get self.now.rows k ≡ Some item) }
     {
-        match self.directory.name_at(k as usize) {
+        let name = self.directory.name_at(alloc, k as usize)?;
+        match name {
             Some(name) => self.directory.copy_of(alloc, &name),
             None => unreachable!(),
         }
@@ -313,14 +314,14 @@ impl Rows {
         }
     }
 
-    // The name of the last row.
+    // The name of the last row; there is one at least.
     fn last_name(&self) -> Option<Name16>
+        requires { 0 < length self.now.rows }
         ensures name { result ≡ option_map (λ (row : CacheItem). row.name)
             (slice_get self.now.rows (length self.now.rows - 1)) }
         ensures apart { IsTrue (pairwise names_apart self.now.rows) }
     {
-        self.directory
-            .name_at(self.tally.rows.saturating_sub(1) as usize)
+        self.directory.last_name(self.tally.rows as usize)
     }
 
     /// Takes the last row away; there is one at least.

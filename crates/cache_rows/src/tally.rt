@@ -2,8 +2,8 @@
 ghost use Rattle.std.specs.Prelude.{◌≡◌, IsTrue, is_none, if◌then◌else◌};
 ghost use Rattle.cache_rows.specs.Tallies.{tally_with, is_small, CanGrow, CanShrink};
 
-use crate::counts::elements_of;
 use cache_model::CacheItem;
+use cf_types::elements_of;
 
 /// How many rows there are and how many elements their data take; and the same of those that are
 /// unchanged.
@@ -44,7 +44,7 @@ impl Tally {
         ensures with { self.new ≡ tally_with row.now self.old }
         ensures small { IsTrue (is_small row.now) }
     {
-        let elements = elements_of(row);
+        let elements = elements_of(&row.body);
         self.rows += 1;
         self.elements += elements as u64;
         self.unchanged += unless_changed(row.class, 1);
@@ -56,7 +56,7 @@ impl Tally {
         requires { CanShrink row.now self.old }
         ensures { tally_with row.now self.new ≡ self.old }
     {
-        let elements = elements_of(row);
+        let elements = elements_of(&row.body);
         self.rows -= 1;
         self.elements -= elements as u64;
         self.unchanged -= unless_changed(row.class, 1);

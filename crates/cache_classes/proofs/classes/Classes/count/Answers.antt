@@ -1,0 +1,10 @@
+use Rattle.std.proofs.Common.{ap, ◌∙◌}
+use Rattle.cache_classes.specs.Castout.{is_of_class, count_of}
+use Rattle.cache_classes.specs.ClassBatch.{ClassBatch}
+use Rattle.cache_classes.proofs.WalkLaws.{alike_in}
+use Rattle.cache_classes.proofs.classes.Classes.count.Goals as goal
+
+pub returns : goal.returns
+returns c =
+    c.count_of.ensures ∙ alike_in c.self.inside.map.entries (is_of_class c.args.class)
+    ∙ ap (λ (b : ClassBatch). count_of c.args.class b.names) c.self.view_is

@@ -1,0 +1,11 @@
+use Rattle.std.proofs.Common.{◌≡◌, ◌≤◌, length, drop}
+use Rattle.cache_classes.specs.Castout.{last_name}
+use Rattle.cache_classes.specs.ClassBatch.{classes_in}
+use Rattle.cache_classes.proofs.classes.last_of.Given as goal
+
+abbrev pub invariant-loop-k : goal.invariant-loop-k
+invariant-loop-k l =
+    (l.last ≡ last_name (classes_in (drop l.k l.map.entries))) × (l.k ≤ length l.map.entries)
+
+abbrev pub decreases-loop-k : goal.decreases-loop-k
+decreases-loop-k l = l.k

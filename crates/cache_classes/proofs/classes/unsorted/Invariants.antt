@@ -1,0 +1,7 @@
+use Rattle.std.proofs.Common.{◌≡◌, ◌++◌}
+use Rattle.cache_classes.specs.Castout.{names_in}
+use Rattle.cache_classes.specs.ClassBatch.{entries_in}
+use Rattle.cache_classes.proofs.classes.unsorted.Given as goal
+
+abbrev pub invariant-loop-name : goal.invariant-loop-name
+invariant-loop-name l = l.list.items ++ names_in (entries_in l.name-iterator) ≡ names_in (entries_in l.map.entries)
