@@ -37,7 +37,6 @@ use struct_machine::{Changed, Machine};
 use vec_words::{EngineSeat, Pass, Vectors};
 
 /// A structure that threads share by `&`. Contracts see what never changes.
-#[derive(Drop)]
 pub struct Cell<E: Engine, L: Link> {
     lock: KeyLock<CellFact<E, L>>,
     vectors: Vectors<(Ask<E::Cmd>, Reply<E::Reply>)>,
@@ -63,6 +62,15 @@ impl<E: Engine, L: Link> Model for Cell<E, L> {
 
     ghost invariant = { λ c. (c.lock.key.words ≡ c.vectors) × (c.lock.key.limit ≤ 4294967000)
         × (c.lock.key.callers ≤ CONNECTORS) × IsForm c.lock.key.form };
+}
+
+impl<E: Engine, L: Link> Drop for Cell<E, L> {
+    fn drop(self) {
+        let Cell {
+            lock: _,
+            vectors: _,
+        } = self;
+    }
 }
 
 impl<E: Engine, L: Link> Cell<E, L> {

@@ -15,13 +15,13 @@ use cf_types::CfId;
 use duplex_pair::Lost;
 use engine_api::Engine;
 
-/// The facilities whose links a call asks, in order, each once; and whether the first that is down
-/// ends that.
+/// The facilities whose links a call asks: `first` before `second`, each once.
 #[derive(Clone, Copy)]
-pub(crate) struct Asked {
-    pub(crate) first: Option<CfId>,
-    pub(crate) second: Option<CfId>,
-    pub(crate) stops: bool,
+pub struct Asked {
+    pub first: Option<CfId>,
+    pub second: Option<CfId>,
+    /// Whether `second` is left out where the link to `first` is down.
+    pub stops: bool,
 }
 
 impl Asked {

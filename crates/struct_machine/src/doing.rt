@@ -139,7 +139,7 @@ fn answer_judged<E: Engine, L: Link>(
 }
 
 // Whether a common command asks links.
-fn is_copying(cmd: &ShellCmd) -> bool
+pub(crate) fn is_copying(cmd: &ShellCmd) -> bool
     ensures { result ≡ is_copying cmd.now }
 {
     match cmd {
@@ -149,7 +149,7 @@ fn is_copying(cmd: &ShellCmd) -> bool
 }
 
 // Whether the content's need is among what a call is judged by.
-fn looks_at_need<C>(ask: &Ask<C>) -> bool
+pub(crate) fn looks_at_need<C>(ask: &Ask<C>) -> bool
     ensures { result ≡ looks_at_need ask.now }
 {
     match ask {
@@ -170,7 +170,7 @@ fn command_looks(cmd: &ShellCmd) -> bool
 
 // What the instances know. The need, for which the whole content is gone through, is found only
 // where it is looked at.
-fn room_of<E: Engine, L: Link>(
+pub(crate) fn room_of<E: Engine, L: Link>(
     form: &StrForm,
     shell: &Shell,
     content: &Content<E, L>,
@@ -207,7 +207,7 @@ fn refusal_of<C>(shell: &Shell, by: ConnId, ask: &Ask<C>, room: &Room) -> Option
 }
 
 // The same by all that the instances know, also where `room` leaves out the need.
-fn cause_of<E: Engine, L: Link>(
+pub(crate) fn cause_of<E: Engine, L: Link>(
     form: &StrForm,
     shell: &Shell,
     content: &Content<E, L>,

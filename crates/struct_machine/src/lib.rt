@@ -2,6 +2,7 @@
 #![tactic(auto)]
 
 mod asking;
+mod asks;
 mod changed;
 mod content;
 mod deeds;
@@ -11,6 +12,7 @@ mod losing;
 mod machine;
 mod marks;
 
+pub use asking::Asked;
 pub use changed::Changed;
 pub use machine::{Machine, Parts};
 pub use marks::{MARKS, Mark};

@@ -1,18 +1,19 @@
 //! What links tell before a call is done.
-ghost use Rattle.std.specs.Prelude.{◌≡◌, ◌≤◌, ◌+◌, ◌++◌, ◌||◌, IfSome, List, false, true, length};
+ghost use Rattle.std.specs.Prelude.{◌≡◌, ◌≤◌, ◌+◌, ◌++◌, ◌||◌, IfOk, IfSome, List, OnErr, false, true, length};
 ghost use Rattle.cf_types.specs.declared.effects.Effects.{Effects};
 ghost use Rattle.cf_types.specs.declared.numbers.CfId.{CfId};
 ghost use Rattle.cf_types.specs.Forms.{IsFacility};
 ghost use Rattle.duplex_pair.specs.Pairs.{content_of, AreReady};
+ghost use Rattle.engine_api.specs.declared.asks.Reply.TheVariants as replies;
 ghost use Rattle.engine_api.specs.LinkAsks.{listed};
-ghost use Rattle.engine_api.specs.Machine.{Machine};
+ghost use Rattle.engine_api.specs.Machine.{Machine, loss_step};
 ghost use Rattle.engine_api.specs.Meaning.{Wish};
 ghost use Rattle.engine_api.specs.Shell.{mark_outcome, stands_at};
 ghost use Rattle.plex_shell.specs.Losses.{reply_as};
 ghost use Rattle.struct_machine.specs.Changes.{any_failure};
 ghost use Rattle.struct_machine.specs.Marks.{is_failure};
 ghost use Rattle.struct_machine.specs.Content.{kept_of};
-ghost use Rattle.struct_machine.specs.Kept.{AreOf, machine_of};
+ghost use Rattle.struct_machine.specs.Kept.{AreOf, answered, machine_of};
 ghost use Rattle.struct_machine.specs.Turns.{AreTold, LeadTo, behind_marks, lost_at};
 ghost use Rattle.struct_machine.specs.Losses.{IsEnding, kept_without};
 ghost use Rattle.struct_machine.specs.declared.marks.TheConstants.{MARKS};
@@ -20,7 +21,7 @@ ghost use Rattle.struct_machine.specs.declared.marks.TheConstants.{MARKS};
 use crate::content::Content;
 use crate::marks::{Marks, is_failure};
 use cf_link::Link;
-use cf_types::{CfId, StrForm};
+use cf_types::{CfId, NoMemory, StrForm};
 use engine_api::Engine;
 use plex_shell::{ACT_LETTERS, LostAs, Shell};
 
@@ -64,6 +65,29 @@ pub(crate) fn mark<E: Engine, L: Link>(
         }
         None => false,
     }
+}
+
+/// What stands in a facility is lost, as a mark tells it. Room is taken for the letters first.
+pub(crate) fn lose_marked<E: Engine, L: Link>(
+    form: &StrForm,
+    shell: &mut Shell,
+    content: &mut Content<E, L>,
+    cf: CfId,
+) -> Result<LostAs, NoMemory>
+    requires of_form { AreOf E.meaning form.now shell.old (kept_of E.held content.old) }
+    requires facility { IsFacility cf }
+    requires there { stands_at shell.old.shell cf ≡ true }
+    ensures lost { IfOk result (λ lost. answered (replies.Shell (reply_as lost))
+        (machine_of E.meaning form.now shell.new (kept_of E.held content.new))
+        ≡ loss_step E.meaning form.now
+        (machine_of E.meaning form.now shell.old (kept_of E.held content.old)) cf) }
+    ensures of_form { AreOf E.meaning form.now shell.new (kept_of E.held content.new) }
+    ensures links { content.new.pair.links ≡ content.old.pair.links }
+    ensures err { OnErr result (machine_of E.meaning form.now shell.new (kept_of E.held content.new)
+        ≡ machine_of E.meaning form.now shell.old (kept_of E.held content.old)) }
+{
+    shell.ready(ACT_LETTERS)?;
+    Ok(lose(form, shell, content, cf))
 }
 
 /// A link has told that what stands in a facility is lost. Of two instances the other one is left;

@@ -1,23 +1,32 @@
-ghost use Rattle.std.specs.Prelude.{◌≡◌, ℕ, IfOk, IfErr, OnOk, OnErr, IsTrue, IfSome, Some, is_some, option_map};
-ghost use Rattle.cf_types.specs.Forms.{IsForm, IsCaller};
+ghost use Rattle.std.specs.Prelude.{◌≡◌, ℕ, All, IfOk, IfErr, OnOk, OnErr, IsTrue, IfSome, Some, is_some, option_map, true};
+ghost use Rattle.cf_types.specs.Forms.{IsForm, IsCaller, IsFacility};
 ghost use Rattle.cf_types.specs.declared.numbers.ConnId.{ConnId};
 ghost use Rattle.engine_api.specs.Asking.{MayAsk};
+ghost use Rattle.engine_api.specs.declared.asks.Reply.TheVariants as replies;
+ghost use Rattle.engine_api.specs.LinkAsks.{links_asked};
+ghost use Rattle.engine_api.specs.Machine.{loss_step};
 ghost use Rattle.engine_api.specs.Meaning.{items_of};
 ghost use Rattle.engine_api.specs.Rebuilds.{fresh_of};
 ghost use Rattle.engine_api.specs.Shapes.{shape_of};
+ghost use Rattle.engine_api.specs.Shell.{stands_at as is_place};
+ghost use Rattle.plex_shell.specs.Losses.{reply_as};
 ghost use Rattle.shell_laws.specs.Capacities.{fresh_caps};
 ghost use Rattle.struct_machine.specs.Changes.{Names, may_be_any};
-ghost use Rattle.struct_machine.specs.Turns.{IsTurn};
+ghost use Rattle.struct_machine.specs.Kept.{answered};
+ghost use Rattle.struct_machine.specs.Turns.{IsTurn, asks_in};
 ghost use Rattle.struct_machine.specs.StructureView.{new_structure, stands_at, copied_items};
 
+use crate::asking::Asked;
+use crate::asks::asks;
 use crate::changed::Changed;
 use crate::content::{Content, Left};
 use crate::doing::answer;
+use crate::losing::lose_marked;
 use cf_link::{Link, Links};
 use cf_types::limits::CONNECTORS;
-use cf_types::{ConnId, NoMemory, StrForm};
+use cf_types::{CfId, ConnId, NoMemory, StrForm};
 use engine_api::{Ask, Engine, Reply};
-use plex_shell::Shell;
+use plex_shell::{LostAs, Shell};
 use std::alloc::Global;
 use std::marker::Model;
 
@@ -131,6 +140,35 @@ impl<E: Engine, L: Link> Machine<E, L> {
             by,
             ask,
         )
+    }
+
+    /// The links that a call would ask: none where it is refused. Nothing is asked yet; `answer` asks
+    /// these.
+    pub fn asks(&self, by: ConnId, ask: &Ask<E::Cmd>) -> Asked
+        requires may { MayAsk by ask.now }
+        ensures asks { asks_in result
+            ≡ links_asked E.meaning self.now.form self.now.machine by ask.now }
+        ensures places { All IsFacility (asks_in result).links }
+    {
+        asks(&self.form, &self.shell, &self.content, by, ask)
+    }
+
+    /// The instance in a facility is lost, as a mark tells it, and what becomes of the structure is
+    /// told. No link is asked: the mark is taken at its word.
+    ///
+    /// # Errors
+    ///
+    /// Want of memory for the letters that tell connectors of it. Nothing has changed then.
+    pub fn lose(&mut self, cf: CfId) -> Result<LostAs, NoMemory>
+        requires facility { IsFacility cf }
+        requires there { is_place self.old.machine.shell cf ≡ true }
+        ensures form { self.new.form ≡ self.old.form }
+        ensures links { self.new.links ≡ self.old.links }
+        ensures lost { IfOk result (λ lost. answered (replies.Shell (reply_as lost)) self.new.machine
+            ≡ loss_step E.meaning self.old.form self.old.machine cf) }
+        ensures err { OnErr result (self.new ≡ self.old) }
+    {
+        lose_marked(&self.form, &mut self.shell, &mut self.content, cf)
     }
 
     /// The instances where they stand: all of the structure's shape, the primary and the secondary
