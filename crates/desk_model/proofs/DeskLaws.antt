@@ -1,8 +1,7 @@
 -- A desk's passes: what replaces one does to the desk, and what a desk of a board has.
-use Rattle.std.proofs.Common.{◌≡◌, ◌≢◌, ℕ, ◌<◌, List, length, get_or, sym, ap, ◌∙◌, arith, get_or-set_same, get_or-set_other}
+use Rattle.std.proofs.Common.{◌≡◌, ℕ, ◌<◌, List, length, get_or, sym, ap, ◌∙◌, arith, get_or-set_same}
 use Rattle.std.specs.Prelude.{Some}
-use Rattle.std.proofs.Math.Seq.{map-set_same}
-use Rattle.std.proofs.lemmas.List.{length-set, length-map, set-get_or, get_or-map}
+use Rattle.std.proofs.lemmas.List.{length-map, set-get_or, get_or-map}
 use Rattle.std.proofs.lemmas.Option.{slice_get_within, get_or_from_slice_get}
 use Rattle.std.proofs.lemmas.Simd.{map-map}
 use Rattle.cf_types.specs.declared.numbers.StrNo.{StrNo}
@@ -18,15 +17,6 @@ pub pass_at-with_pass_same : (desk : DeskShown) (on : StrNo) (pass : PassShown) 
     → pass_at (with_pass on pass desk) on ≡ pass
 pass_at-with_pass_same desk on pass below = get_or-set_same desk.passes on.0 pass no_pass below
 
--- the others are as they were
-pub pass_at-with_pass_other : (desk : DeskShown) (on other : StrNo) (pass : PassShown) → other.0 ≢ on.0
-    → pass_at (with_pass on pass desk) other ≡ pass_at desk other
-pass_at-with_pass_other desk on other pass apart = get_or-set_other desk.passes on.0 other.0 pass no_pass apart
-
-pub with_pass-length : (desk : DeskShown) (on : StrNo) (pass : PassShown)
-    → length (with_pass on pass desk).passes ≡ length desk.passes
-with_pass-length desk on pass = length-set desk.passes on.0 pass
-
 -- the desk with the pass that it has
 pub with_pass-pass_at : (desk : DeskShown) (on : StrNo) → with_pass on (pass_at desk on) desk ≡ desk
 with_pass-pass_at desk on =
@@ -36,11 +26,6 @@ with_pass-pass_at desk on =
 -- ---- what a desk of a board has
 
 module _ {L : Type 0} (board : BoardShown L) where
-  -- the desk stays the board's where the pass keeps what is fixed
-  pub with_pass-of_board : (desk : DeskShown) (on : StrNo) (pass : PassShown) → IsDeskOf board desk
-      → fixed_of pass ≡ fixed_of (pass_at desk on) → IsDeskOf board (with_pass on pass desk)
-  with_pass-of_board desk on pass of same = map-set_same fixed_of desk.passes on.0 pass no_pass same ∙ of
-
   -- as many passes as the board has structures
   pub desk-length : (desk : DeskShown) → IsDeskOf board desk → length desk.passes ≡ length board.cells
   desk-length desk of =

@@ -1,13 +1,11 @@
 -- What a caller's whole work does: its lines, one after another, and then its departures.
 use Rattle.std.specs.Prelude.{◌≡◌, ℕ, ◌+◌, ◌==◌, MatchBool, List, [], ◌∷◌, filter, Some}
 use Rattle.cf_types.specs.declared.numbers.ConnId.{ConnId}
-use Rattle.cf_types.specs.Forms.{IsCaller}
 use Rattle.plex_script.specs.declared.scripts.Line.{Line}
 use Rattle.plex_script.specs.declared.transcripts.AgentEnd.TheVariants as ended
 use Rattle.plex_script.specs.declared.transcripts.Transcript.{Transcript}
 use Rattle.any_cell.specs.Cells.{CellShown}
-use Rattle.desk_model.specs.Desks.{DeskShown}
-use Rattle.desk_model.specs.Boards.{BoardShown, IsDeskOf, cell_on}
+use Rattle.desk_model.specs.Boards.{BoardShown, cell_on}
 use Rattle.desk_model.specs.Turns.{AtWork, MayAct, Turns, Departs}
 
 -- a line for this board: its structure is there, and its caller may do what it says
@@ -15,11 +13,6 @@ pub record IsLineFor {L : Type 0} (board : BoardShown L) (line : Line) : Type 0 
   pub cell : CellShown L
   pub there : cell_on board line.on ≡ Some cell
   pub may : MayAct cell line.by line.act
-
--- the desk of a caller at this board
-pub record IsSeat {L : Type 0} (board : BoardShown L) (desk : DeskShown) : Type 0 where
-  pub of_board : IsDeskOf board desk
-  pub owner : IsCaller desk.owner
 
 -- nothing was shown yet
 abbrev pub no_items : Transcript

@@ -2,4 +2,3 @@ pub mod StepLaws
 pub mod CellLaws
 pub mod AskLaws
 pub mod CallerLaws
-pub mod LineLaws

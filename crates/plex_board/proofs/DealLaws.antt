@@ -22,9 +22,6 @@ module _ (all front : List PassShown) (pass : PassShown) (owner : ℕ) (all_is :
   pub deal-next : owner - 1 ≡ length front
   deal-next = omega (arith, counted)
 
-  pub deal-there : (most : ℕ) → owner ≤ most → owner - 1 < most
-  deal-there most few = omega (arith, counted, few)
-
   pub deal-desks : (desks : List DeskShown) (desk after : DeskShown) → owner ≤ length desks
       → desk ≡ get_or desks (owner - 1) desk → after ≡ desk_with pass desk
       → each_with desk_with front (set desks (owner - 1) after) ≡ each_with desk_with all desks

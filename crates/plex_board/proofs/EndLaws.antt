@@ -11,7 +11,7 @@ use Rattle.any_cell.specs.Cells.{CellShown, IsAnyTold, own_replies}
 use Rattle.cf_link.specs.Links.{AreAsked}
 use Rattle.run_model.specs.Kinds.{IsAnyPoint, any_answers}
 use Rattle.desk_model.specs.Boards.{IsClosed, IsAccount, AreEachAsked, four_of}
-use Rattle.plex_board.specs.Rests.{HomeShown, home_shown, homes_shown, IsHomeOf, AreHomes, AreEnded}
+use Rattle.plex_board.specs.Rests.{HomeShown, home_shown, homes_shown, AreHomes, AreEnded}
 use Rattle.plex_board.proofs.OpenLaws.{ended-step}
 
 -- what was taken out stood first
@@ -49,9 +49,6 @@ module _ {L : Type 0} where
 
     pub end-homes : AreHomes 0 left (homes_shown at) → AreHomes 0 rest (homes_shown later)
     end-homes are = (both are).1
-
-    pub end-here : AreHomes 0 left (homes_shown at) → IsHomeOf 0 station (home_shown home)
-    end-here are = (both are).0
 
     pub end-ended : (cells : List (CellShown L)) (homes : List HomeShown) (histories after : List AnyHistory)
         (entries : AnyHistory) → after ≡ histories ++ entries ∷ []

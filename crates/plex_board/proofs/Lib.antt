@@ -1,3 +1,4 @@
+pub mod StationLaws
 pub mod RowLaws
 pub mod HomeLaws
 pub mod OpenLaws

@@ -1,14 +1,14 @@
 -- What is known of a tray whose slot on a structure is read or written.
-use Rattle.std.proofs.Common.{◌≡◌, ℕ, zero, suc, ◌<◌, List, [], ◌∷◌, length, get_or, set, map, replicate, refl, sym, ap, subst, ◌∙◌, arith, ◌⊎◌, inl, inr}
+use Rattle.std.proofs.Common.{◌≡◌, ℕ, zero, suc, ◌<◌, List, [], ◌∷◌, length, get_or, set, map, refl, sym, ap, subst, ◌∙◌, arith, ◌⊎◌, inl, inr}
 use Rattle.std.specs.Prelude.{Some, None, Option, slice_get, IfSome, option_map}
-use Rattle.std.proofs.lemmas.List.{length-set, length-map, length-replicate, map-set}
+use Rattle.std.proofs.lemmas.List.{length-set, length-map, map-set}
 use Rattle.std.proofs.Math.Seq.{map-set_same}
 use Rattle.std.proofs.lemmas.Option.{slice_get_read, slice_get-map, slice_get_within}
 use Rattle.cf_types.specs.declared.numbers.StrNo.{StrNo}
 use Rattle.any_cell.specs.declared.any_note.AnyNote.{AnyNote}
 use Rattle.any_cell.specs.Passes.{NoteShown, note_shown}
 use Rattle.any_cell.specs.Cells.{CellShown, IsNoteOf}
-use Rattle.desk_model.specs.Boards.{BoardShown, cell_on, IsTrayOf, no_notes}
+use Rattle.desk_model.specs.Boards.{BoardShown, cell_on, IsTrayOf}
 
 -- an element after one was written: the written one, or what was there
 element-after : {X : Type 0} (xs : List X) (i x : ℕ) (v w : X) → slice_get (set xs i v) x ≡ Some w
@@ -20,18 +20,7 @@ element-after (y ∷ xs) (suc i) zero v w at = inr at
 element-after {X} (y ∷ xs) (suc i) (suc x) v w at =
     elim (element-after xs i x v w at) [ inl e ↦ inl (e.0, ap suc e.1) | inr e ↦ inr e ]
 
-none-in : {X : Type 0} (n x : ℕ) (v : X) → slice_get (replicate n None) x ≡ Some (Some v) → ⊥
-none-in zero x v at = cc
-none-in (suc n) zero v at = cc
-none-in (suc n) (suc x) v at = none-in n x v at
-
 module _ {L : Type 0} (board : BoardShown L) where
-  pub no_notes-of_board : IsTrayOf board (no_notes board)
-  no_notes-of_board = record {
-    slots = length-replicate (length board.cells) None;
-    notes = λ x cell note at is. absurd (none-in (length board.cells) x note is);
-  }
-
   module _ (tray : List (Option NoteShown)) (on : StrNo) (cell : CellShown L) (of : IsTrayOf board tray)
       (cell_is : cell_on board on ≡ Some cell) where
     -- the tray stays the board's where a note of the cell comes in

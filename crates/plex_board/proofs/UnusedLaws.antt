@@ -1,12 +1,11 @@
 -- Structures that nobody has called yet, as they end.
-use Rattle.std.proofs.Common.{◌≡◌, ℕ, zero, suc, ◌+◌, ◌<◌, ◌≤◌, Bool, List, [], ◌∷◌, ◌++◌, length, get_or, map, All, refl, sym, ap, subst, ◌∙◌, arith, append_assoc}
+use Rattle.std.proofs.Common.{◌≡◌, ℕ, suc, ◌+◌, ◌<◌, ◌≤◌, List, [], ◌∷◌, ◌++◌, length, get_or, map, All, refl, sym, ap, subst, ◌∙◌, arith, append_assoc}
 use Rattle.std.specs.Prelude.{Option, Some, slice_get}
 use Rattle.std.specs.List.{flat_map, range_with_len}
 use Rattle.std.proofs.lemmas.List.{length-map, get_or-map}
 use Rattle.std.proofs.lemmas.List.FromFn.{length-range_with_len, get_or-map-range_with_len}
 use Rattle.std.proofs.lemmas.List.Elements.{All-map, All-weaker}
 use Rattle.std.proofs.lemmas.Option.{slice_get_within, get_or_from_slice_get}
-use Rattle.cf_types.specs.declared.numbers.CfId.{CfId}
 use Rattle.cf_types.specs.declared.numbers.ConnId.{ConnId}
 use Rattle.cf_link.specs.declared.links.Links.{Links}
 use Rattle.cf_link.specs.Links.{AreAsked}
@@ -17,7 +16,7 @@ use Rattle.any_cell.specs.Passes.{PassShown, unused_pass}
 use Rattle.any_cell.specs.Cells.{CellShown}
 use Rattle.any_cell.proofs.UnusedLaws.{unused_links}
 use Rattle.desk_model.specs.Desks.{DeskShown, no_pass, fixed_of}
-use Rattle.desk_model.specs.Boards.{IsStarted, IsClosed, IsAccount, IsDeskOf, AreEachAsked, four_of, fixed_at}
+use Rattle.desk_model.specs.Boards.{IsStarted, IsClosed, IsAccount, AreEachAsked, four_of, fixed_at}
 use Rattle.desk_model.proofs.DeskLaws.{new_desk-of_board}
 use Rattle.plex_board.specs.declared.opening.Opening.{Opening}
 use Rattle.plex_board.specs.Rests.{HomeShown, homes_shown, AllFit, homes_gathered, AreHomes, AreEnded}

@@ -3,8 +3,8 @@ ghost use Rattle.std.specs.Prelude.{◌≡◌, ◌<◌, ◌≤◌, length};
 ghost use Rattle.plex_script.specs.Heard.{is_linked};
 ghost use Rattle.desk_model.specs.Desks.{pass_at};
 
+use crate::place::Place;
 use cf_types::{ConnId, StrNo};
-use plex_station::Place;
 use std::marker::Model;
 
 /// What a caller has to use the structures of a board: a place at each. It may go to another

@@ -8,11 +8,12 @@ ghost use Rattle.plex_board.specs.Openings.{IsUnused};
 ghost use Rattle.plex_board.specs.Rests.{each_with, home_with, homes_shown, Fits, AllFit, homes_gathered, AreHomes, AreEnded, IsRoomy};
 
 use crate::desk::Desk;
+use crate::place::Place;
 use crate::rest::Rest;
+use crate::station::Station;
 use any_cell::AnyPasses;
 use cf_link::{Link, Links};
 use plex_script::AnyHistory;
-use plex_station::{Place, Station};
 use std::sync::Wait;
 use std::vec::IntoIter;
 

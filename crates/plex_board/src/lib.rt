@@ -4,8 +4,11 @@
 mod board;
 mod desk;
 mod ending;
+mod note_box;
 mod opening;
+mod place;
 mod rest;
+mod station;
 mod tray;
 
 pub use board::Board;

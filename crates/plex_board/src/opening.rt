@@ -13,14 +13,15 @@ ghost use Rattle.plex_board.specs.Openings.{IsOpening, bare_desk, desk_at, desk_
 use crate::board::Board;
 use crate::desk::Desk;
 use crate::ending::{end_unused, push_four, push_left};
+use crate::place::Place;
 use crate::rest::Rest;
+use crate::station::Station;
 use any_cell::{AnyPass, AnyPasses};
 use cf_link::{Link, Links};
 use cf_turn::KeyLock;
 use cf_types::limits::{LINKS, STRUCTURES};
 use cf_types::{ConnId, NoMemory, StrForm};
 use plex_shell::copy_form;
-use plex_station::{Place, Station};
 use std::alloc::Global;
 use std::sync::Wait;
 use std::vec::IntoIter;

@@ -94,17 +94,6 @@ module _ (me : Caller) where
     pub back : AreWithin after.desk → AreWithin before.desk
     pub forth : AreWithin after.desk → IsTranscript before → IsTranscript after
 
-  pub goes_none : (worker : AtWork) → Goes worker worker []
-  goes_none worker =
-      record {
-        items = sym (append-nil worker.shown.items);
-        owner = refl;
-        passes = refl;
-        owners = λ on. refl;
-        back = λ within. within;
-        forth = λ within is. is;
-      }
-
   pub goes_then : (first second third : AtWork) (part more : List Shown) → Goes first second part
       → Goes second third more
       → Goes first third (part ++ more)

@@ -1,7 +1,7 @@
 use Rattle.std.proofs.Common.{◌+◌, ◌≤◌, sym, subst, ap, ◌∙◌, arith}
 use Rattle.std.proofs.lemmas.List.{length-map}
 use Rattle.plex_board.specs.Rests.{home_shown}
-use Rattle.plex_station.proofs.StationLaws.{started-passes}
+use Rattle.plex_board.proofs.StationLaws.{started-passes}
 use Rattle.plex_board.proofs.HomeLaws.{count-of-homes}
 use Rattle.plex_board.proofs.UnusedLaws.{desks-few}
 use Rattle.plex_board.proofs.OpenLaws.{unused-calls, started-cell, more-started, more-desks, more-homes, more-empty, empty-home}

@@ -1,0 +1,4 @@
+pub mod Crews
+pub mod Standing
+pub mod Hearings
+pub mod Played

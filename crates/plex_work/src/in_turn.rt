@@ -1,0 +1,113 @@
+//! The run of a script on one thread.
+ghost use Rattle.std.specs.Prelude.{◌≡◌, ◌+◌, ◌≤◌, ℕ, IfOk, OnOk, IsOk, All, length, map};
+ghost use Rattle.std.specs.Vec.{vec_len};
+ghost use Rattle.std.specs.List.{range_with_len};
+ghost use Rattle.cf_types.specs.declared.limits.TheConstants.{CONNECTORS};
+ghost use Rattle.cf_types.specs.declared.numbers.CfId.{CfId};
+ghost use Rattle.cf_link.specs.Links.{Telling};
+ghost use Rattle.run_model.specs.Headline.{ShowsHistories};
+ghost use Rattle.run_model.specs.Runnable.{IsRunnable};
+ghost use Rattle.run_model.specs.Serial.{serial_run};
+ghost use Rattle.run_model.specs.RunLinks.{AreTelling, AreRunLinks};
+ghost use Rattle.desk_model.specs.Boards.{new_desk};
+ghost use Rattle.plex_work.specs.Standing.{AreDesksOf, IsPlayable};
+ghost use Rattle.plex_work.specs.Played.{IsPlayed};
+
+use crate::floor::Floor;
+use cf_link::Link;
+use cf_types::{Listing, NoMemory};
+use plex_board::{Board, Desk};
+use plex_script::{AnyHistory, Script, Transcript};
+use std::alloc::Global;
+use std::sync::Wait;
+
+/// What a run leaves: the history of each structure, and the transcript of each caller, from the
+/// operator on.
+#[derive(Drop)]
+pub struct Finished {
+    pub histories: Listing<AnyHistory>,
+    pub transcripts: Listing<Transcript>,
+}
+
+// Plays a script to its end at a board. The desks come back also where there was no memory.
+fn play<L: Link>(
+    rt: &impl Wait,
+    alloc: Global,
+    script: &Script,
+    board: &Board<L>,
+    desks: Vec<Desk>,
+) -> (Result<Vec<Transcript>, NoMemory>, Vec<Desk>)
+    requires desks { desks.items
+        ≡ map (new_desk board.now) (range_with_len 0 (board.now.callers + 1)) }
+    requires few { board.now.callers ≤ CONNECTORS }
+    requires lines { All (IsPlayable board.now) script.now.lines }
+    requires connectors { board.now.callers ≡ length script.now.connectors }
+    ensures played { IfOk result.0
+        (λ shown. IsPlayed board.now script.now result.1.items shown.items) }
+    ensures of_board { AreDesksOf board.now result.1.items }
+{
+    let mut floor = match Floor::new(alloc, board, desks) {
+        Ok(floor) => floor,
+        Err(desks) => return (Err(NoMemory), desks),
+    };
+    let played = floor.play(rt, alloc, board, script);
+    let (desks, shown) = floor.into_parts();
+    match played {
+        Ok(()) => (Ok(shown), desks),
+        Err(NoMemory) => (Err(NoMemory), desks),
+    }
+}
+
+// A run, of what the callers were shown and of the histories.
+fn finish(
+    shown: Result<Vec<Transcript>, NoMemory>,
+    histories: Vec<AnyHistory>,
+) -> Result<Finished, NoMemory>
+    ensures histories { IfOk result (λ it. it.histories ≡ histories.items) }
+    ensures transcripts { IfOk result
+        (λ it. IfOk shown (λ transcripts. it.transcripts ≡ transcripts.items)) }
+    ensures shown { OnOk result (IsOk shown) }
+{
+    Ok(Finished {
+        transcripts: Listing::from_vec(shown?),
+        histories: Listing::from_vec(histories),
+    })
+}
+
+/// Runs a script on one thread: its lines in their order, then the departures of the connectors in
+/// number order. A journal of `limit` entries or more takes no call; the caller whose call comes to
+/// one stops. There are 64 links: structure `s`, from 0, has the links `4 * s` to `4 * s + 3`, one
+/// to each facility. They come back in their order, also where there was no memory.
+pub fn serial<L: Link>(
+    rt: &impl Wait,
+    alloc: Global,
+    limit: u32,
+    script: &Script,
+    links: Vec<L>,
+) -> (Result<Finished, NoMemory>, Vec<L>)
+    requires script { IsRunnable script.now }
+    requires limit { (1 ≤ limit) × (limit ≤ 4294967000) }
+    requires links { vec_len links ≡ 64 }
+    // Where the links tell which calls they answer Down, it is the run over links that tell so.
+    ensures exact { (told : ℕ → CfId → Telling)
+        → AreTelling L.calls L.downs L.faults told (length script.now.structures) links.items
+        → IfOk result.0 (λ it. (it.histories ≡ (serial_run limit told script.now).histories)
+        × (it.transcripts ≡ (serial_run limit told script.now).transcripts)) }
+    // It is one of the schedules that the callers' law speaks of: a legal history of each
+    // structure, each caller's calls in it once and in their order, transcripts that follow the
+    // script, and tests that tell what stood.
+    ensures shows { IfOk result.0 (λ it.
+        ShowsHistories limit script.now it.histories it.transcripts) }
+    // The links of each structure were asked as its history tells.
+    ensures asked { IfOk result.0 (λ it. AreRunLinks L.calls L.downs L.faults
+        script.now.structures it.histories links.items result.1.items) }
+    ensures count { length result.1.items ≡ length links.items }
+{
+    let (board, desks) = match Board::start(rt, alloc, script, limit, links) {
+        Ok(begun) => begun,
+        Err(links) => return (Err(NoMemory), links),
+    };
+    let (shown, desks) = play(rt, alloc, script, &board, desks);
+    let (histories, links) = board.close(rt, desks);
+    (finish(shown, histories), links)
+}

@@ -1,0 +1,14 @@
+//! A script's work over structures that threads could share: its lines one after another on one
+//! thread, or each caller's on a thread of its own.
+#![tactic(auto)]
+
+mod at_once;
+mod beginnings;
+mod crew;
+mod desks;
+mod floor;
+mod in_turn;
+mod turns;
+
+pub use at_once::threads;
+pub use in_turn::{Finished, serial};

@@ -1,1 +1,0 @@
--- No definitions of its own: its law is of those below.
