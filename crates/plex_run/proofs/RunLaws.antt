@@ -11,7 +11,7 @@ use Rattle.plex_script.specs.declared.transcripts.Transcript.{Transcript}
 use Rattle.run_model.specs.Headline.{ShowsHistories}
 use Rattle.run_model.specs.RunLinks.{AreTelling, AreRunLinks}
 use Rattle.run_model.specs.Serial.{serial_run}
-use Rattle.plex_floor.specs.declared.runs.Finished.{Finished}
+use Rattle.plex_work.specs.declared.in_turn.Finished.{Finished}
 use Rattle.run_laws.specs.Readings.{Reading}
 use Rattle.run_laws.proofs.MarkLaws.{marks_facilities}
 use Rattle.plex_run.specs.declared.way.Way.{Way}

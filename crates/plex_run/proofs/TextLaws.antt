@@ -1,9 +1,9 @@
 -- How tasks, and words that read a text, end: each way once, whatever the task and the word.
-use Rattle.std.proofs.Common.{◌≡◌, ◌≢◌, ℕ, ◌<◌, ◌⊎◌, inl, inr, List, Option, None, Some, arith}
+use Rattle.std.proofs.Common.{◌≡◌, ◌≢◌, ℕ, ◌<◌, ◌⊎◌, inl, inr, List, Option, None, Some, refl, arith}
 use Rattle.std.specs.Prelude.{IfSome}
 use Rattle.plex_run.specs.Written.{Output, HasFailed, Writes, WritesFront, Gains}
 use Rattle.plex_run.specs.StatusLines.{script_line, memory_line}
-use Rattle.plex_run.specs.Statuses.{Task, EndsTask, Word, EndsText}
+use Rattle.plex_run.specs.Statuses.{Task, EndsTask, Word, EndsText, OfText}
 
 -- ---- tasks
 
@@ -70,20 +70,17 @@ memory_ends word text out status six tells = record {
   settled = λ read memory. absurd (memory six);
 }
 
--- no text came
-pub unread_ends : (word : Word) (left : Option (List ℕ)) (out : Output) (status : ℕ)
-    → (status ≡ 4) ⊎ ((status ≡ 6) ⊎ (status ≡ 7)) → (status ≡ 7 → IfSome left word.IsTooLong)
-    → (status ≡ 6 → Gains out memory_line) → IfSome left (λ text. EndsText word text out status)
-unread_ends word None out status statuses long memory = tt
-unread_ends word (Some text) out status (inl four) long memory = record {
+-- no text came, and with 7 this one is too long
+unread : (word : Word) (text : List ℕ) (out : Output) (status : ℕ) → (status ≡ 4) ⊎ ((status ≡ 6) ⊎ (status ≡ 7))
+    → (status ≡ 7 → word.IsTooLong text) → (status ≡ 6 → Gains out memory_line) → EndsText word text out status
+unread word text out status (inl four) long memory = record {
   task = task_untold (word.task text) out status (inr (inl four));
   refused = λ is. absurd (omega (arith, four, is));
   exact = λ read other. absurd (read four);
   settled = λ read other. absurd (read four);
 }
-unread_ends word (Some text) out status (inr (inl six)) long memory =
-    memory_ends word text out status six (memory six)
-unread_ends word (Some text) out status (inr (inr seven)) long memory = record {
+unread word text out status (inr (inl six)) long memory = memory_ends word text out status six (memory six)
+unread word text out status (inr (inr seven)) long memory = record {
   task = task_untold (word.task text) out status (inr (inr seven));
   refused = λ is. absurd (omega (arith, seven, is));
   exact = λ read other. (
@@ -92,6 +89,16 @@ unread_ends word (Some text) out status (inr (inr seven)) long memory = record {
   );
   settled = λ read other takes short. absurd (short (long seven));
 }
+
+-- no text came: it ends so over what is left, and where that isn't told, over some text that is too long
+pub unread_ends : (word : Word) (left : Option (List ℕ)) (out : Output) (status : ℕ)
+    → (status ≡ 4) ⊎ ((status ≡ 6) ⊎ (status ≡ 7)) → (some : (text : List ℕ) × word.IsTooLong text)
+    → (status ≡ 7 → IfSome left word.IsTooLong) → (status ≡ 6 → Gains out memory_line)
+    → OfText left (λ text. EndsText word text out status)
+unread_ends word None out status statuses some long memory =
+    (some.0, tt, unread word some.0 out status statuses (λ is. some.1) memory)
+unread_ends word (Some text) out status statuses some long memory =
+    (text, refl, unread word text out status statuses long memory)
 
 -- the text is refused
 pub refused_ends : (word : Word) (text : List ℕ) (line : ℕ) (told : List ℕ) (out : Output) (status : ℕ)

@@ -1,6 +1,7 @@
 -- What the status tells where no text came: 7 of a text that is too long.
-use Rattle.std.proofs.Common.{◌≡◌, ℕ, List, length, Option, arith}
-use Rattle.std.specs.Prelude.{◌<◌, IfSome}
+use Rattle.std.proofs.Common.{◌≡◌, ℕ, ◌+◌, List, length, Option, arith}
+use Rattle.std.specs.Prelude.{◌<◌, IfSome, replicate}
+use Rattle.std.proofs.lemmas.List.{length-replicate}
 use Rattle.cf_io.specs.ReadEnd.{HasCause}
 use Rattle.cf_io.specs.declared.read_end.ReadEnd.{ReadEnd}
 use Rattle.cf_io.specs.declared.read_end.ReadEnd.TheVariants as ends
@@ -13,3 +14,7 @@ pub unread_long : (limit : ℕ) (left : Option (List ℕ)) (before after : ℕ) 
 unread_long limit left before after ends.ReadFault status cause is seven = absurd (omega (arith, is, seven))
 unread_long limit left before after (ends.TooLong l) status cause is seven = cause.1
 unread_long limit left before after ends.NoMemory status cause is seven = absurd (omega (arith, is, seven))
+
+-- some text is longer than whatever limit
+pub longer : (limit : ℕ) → (text : List ℕ) × (limit < length text)
+longer limit = (replicate (limit + 1) 0, omega (arith, length-replicate {A = ℕ} (limit + 1) 0))

@@ -9,6 +9,7 @@ use Rattle.plex_run.specs.Words.{Say}
 use Rattle.plex_run.specs.Wires.{Wires}
 use Rattle.plex_run.specs.Written.{Output}
 use Rattle.plex_run.specs.Loading.{EndsLoad}
+use Rattle.plex_run.specs.Outcome.{EndsRight}
 
 abbrev number_in : Option Work → ℕ
 number_in None = 0
@@ -30,6 +31,48 @@ pub not_script : (work : Option Work) (said : Work) (way : Way) (n : ℕ) → wo
     → work ≡ Some (works.Load n) → ⊥
 not_script work said way n is script load =
     let same : Some (works.Script way) ≡ Some (works.Load n) = sym (is ∙ ap Some script) ∙ load in cc
+
+pub not_load : (work : Option Work) (said : Work) (n : ℕ) (way : Way) → work ≡ Some said → said ≡ works.Load n
+    → work ≡ Some (works.Script way) → ⊥
+not_load work said n way is load script =
+    let same : Some (works.Load n) ≡ Some (works.Script way) = sym (is ∙ ap Some load) ∙ script in cc
+
+pub not_locks : (work : Option Work) (said : Work) (way : Way) → work ≡ Some said → said ≡ works.Locks
+    → work ≡ Some (works.Script way) → ⊥
+not_locks work said way is locks script =
+    let same : Some works.Locks ≡ Some (works.Script way) = sym (is ∙ ap Some locks) ∙ script in cc
+
+pub script_not_locks : (work : Option Work) (said : Work) (way : Way) → work ≡ Some said → said ≡ works.Script way
+    → work ≡ Some works.Locks → ⊥
+script_not_locks work said way is script locks =
+    let same : Some (works.Script way) ≡ Some works.Locks = sym (is ∙ ap Some script) ∙ locks in cc
+
+pub load_not_locks : (work : Option Work) (said : Work) (n : ℕ) → work ≡ Some said → said ≡ works.Load n
+    → work ≡ Some works.Locks → ⊥
+load_not_locks work said n is load locks =
+    let same : Some (works.Load n) ≡ Some works.Locks = sym (is ∙ ap Some load) ∙ locks in cc
+
+-- the way that words ask for is found
+pub way_found : {A : Type 0} (words : List (String A)) (work : Option Work)
+    → (Say words (works.Script ways.InTurn) → work ≡ Some (works.Script ways.InTurn))
+    → (Say words (works.Script ways.OnThreads) → work ≡ Some (works.Script ways.OnThreads))
+    → (way : Way) → Say words (works.Script way) → work ≡ Some (works.Script way)
+way_found words work in_turn on_threads ways.InTurn said = in_turn said
+way_found words work in_turn on_threads ways.OnThreads said = on_threads said
+
+abbrev way_in : Option Work → Way
+way_in None = ways.InTurn
+way_in (Some (works.Script way)) = way
+way_in (Some (works.Load n)) = ways.InTurn
+way_in (Some works.Locks) = ways.InTurn
+
+-- a text ends as in the way that was asked for
+pub runs_as_asked : (links : Wires) (work : Option Work) (said : Work) (way asked : Way) (text : List ℕ) (out : Output)
+    (status : ℕ) → work ≡ Some said → said ≡ works.Script way → work ≡ Some (works.Script asked)
+    → EndsRight links way text out status → EndsRight links asked text out status
+runs_as_asked links work said way asked text out status is script found ends =
+    let same : Some (works.Script way) ≡ Some (works.Script asked) = sym (is ∙ ap Some script) ∙ found in
+    subst (λ (by : Way). EndsRight links by text out status) (ap way_in same) ends
 
 -- where no work is found, the words ask for none
 pub nothing_said : {A : Type 0} (words : List (String A)) (work : Option Work) → work ≡ None

@@ -16,7 +16,7 @@ use Rattle.run_model.specs.Serial.{serial_run}
 use Rattle.run_model.specs.Headline.{ShowsHistories}
 use Rattle.run_laws.specs.Valid.{ShowsFresh}
 use Rattle.run_laws.specs.Bounds.{most_entries}
-use Rattle.plex_floor.specs.declared.runs.Finished.{Finished}
+use Rattle.plex_work.specs.declared.in_turn.Finished.{Finished}
 use Rattle.run_laws.specs.Readings.{Reading, IsReading, IsTheReading, MarksFacilities, report_of}
 use Rattle.plex_run.specs.declared.program.TheConstants.{SCRIPT_LIMIT, JOURNAL_LIMIT}
 use Rattle.plex_run.specs.declared.way.Way.{Way}

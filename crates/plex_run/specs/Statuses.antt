@@ -1,6 +1,6 @@
 -- What each status says of what the program did, whichever of its words asked for it: said once, over a task, and over
 -- a word that reads a text.
-use Rattle.std.specs.Prelude.{◌≡◌, ◌≢◌, ◌⊎◌, ◌↔◌, ℕ, ◌<◌, Bool, List, IsTrue}
+use Rattle.std.specs.Prelude.{◌≡◌, ◌≢◌, ◌⊎◌, ◌↔◌, ℕ, ◌<◌, Bool, List, Option, IfSome, IsTrue}
 use Rattle.plex_run.specs.Written.{Output, HasFailed, Writes, WritesFront, Gains, BreaksOff}
 use Rattle.plex_run.specs.StatusLines.{script_line, memory_line}
 
@@ -84,3 +84,7 @@ pub record EndsText (word : Word) (text : List ℕ) (out : Output) (status : ℕ
   pub refused : status ≡ 3 → WritesRefusal word text out
   pub exact : status ≢ 4 → status ≢ 6 → IsExact word text status
   pub settled : status ≢ 4 → status ≢ 6 → IsSettled word text status
+
+-- this holds of some text: of the one that is left, where it is told
+abbrev pub OfText : Option (List ℕ) → (List ℕ → Type 0) → Type 0
+OfText left Holds = (text : List ℕ) × IfSome left (λ bytes. text ≡ bytes) × Holds text

@@ -6,6 +6,7 @@ ghost use Rattle.plex_locks.specs.Told.{locks_text};
 ghost use Rattle.plex_run.specs.StatusLines.{memory_line};
 ghost use Rattle.plex_run.specs.Written.{output, HasFailed, Writes, WritesFront, Gains};
 ghost use Rattle.plex_run.specs.Outcome.{script_limit, status_line};
+ghost use Rattle.plex_run.specs.Statuses.{OfText};
 ghost use Rattle.plex_run.specs.Locks.{IsTaken, TellsUntaken, EndsLocks};
 
 use crate::program::{SCRIPT_LIMIT, refused};
@@ -111,7 +112,7 @@ pub(crate) fn locked_in<R: Threads + Sync, S: Source, K: Sink, G: Gate>(
     sink: &mut K,
     gate: &G,
 ) -> u8
-    ensures ends { IfSome (S.left source.old)
+    ensures ends { OfText (S.left source.old)
         (λ text. EndsLocks text (output K.held K.faults sink.old sink.new) result) }
     ensures read_fault { result ≡ 4 → Rises (S.faults source.old) (S.faults source.new) }
     ensures write_fault { result ≡ 5 → HasFailed (output K.held K.faults sink.old sink.new) }

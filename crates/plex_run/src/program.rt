@@ -12,6 +12,7 @@ ghost use Rattle.plex_run.specs.StatusLines.{script_line, memory_line};
 ghost use Rattle.plex_run.specs.Written.{output, HasFailed, Gains};
 ghost use Rattle.plex_run.specs.Words.{Say};
 ghost use Rattle.plex_run.specs.Outcome.{IsStatus, status_line, script_limit, EndsWith, EndsRight};
+ghost use Rattle.plex_run.specs.Statuses.{OfText};
 ghost use Rattle.plex_run.specs.Loading.{EndsLoad};
 ghost use Rattle.plex_run.specs.Locks.{EndsLocks};
 
@@ -147,9 +148,9 @@ pub fn run<R: Threads + Wait + Sync, S: Source, K: Sink, L: Link, G: Gate>(
 ) -> u8
     requires links { vec_len links.old ≡ LINKS }
 
-    // With `serial` or `threads`, whatever bytes the source had left, the status says what they are
-    // and what was written. With 0 and 8 they are a script, and the report that is written shows a
-    // legal history of each structure, each caller's calls in them once and in their order, and
+    // With `serial` or `threads` there is a text, the bytes that the source had left where it tells
+    // them, of which the status says what it is and what was written. With 0 and 8 it is a script,
+    // and the report that is written shows a legal history of each structure, each caller's calls in them once and in their order, and
     // tests that tell what stood at a numbered point; where a cache's test tells VALID, the
     // connector's copy was fresh there. A history has at most as many marks of a facility as the
     // faults of that structure's link to it rose by; where the link tells its calls, they rose by as
@@ -167,7 +168,7 @@ pub fn run<R: Threads + Wait + Sync, S: Source, K: Sink, L: Link, G: Gate>(
     // too long, 3 where it is no script, and else 0, 5 or 8; with `serial`, and links that tell
     // which calls are down, it is 8 exactly where the run on one thread meets a full journal.
     ensures headline { (way : Way) → Say words.now (works.Script way)
-        → IfSome (S.left source.old) (λ text. EndsRight (wires L.calls L.downs L.faults
+        → OfText (S.left source.old) (λ text. EndsRight (wires L.calls L.downs L.faults
         links.old.items links.new.items) way text (output K.held K.faults sink.old sink.new)
         result) }
 
@@ -180,17 +181,17 @@ pub fn run<R: Threads + Wait + Sync, S: Source, K: Sink, L: Link, G: Gate>(
     ensures load_unread { (n : ℕ) → Say words.now (works.Load n) → source.new ≡ source.old }
 
     // With `locks` what became of the script's locks is written: with 0 whole and nothing else, and
-    // with 5 a front of it. The text says that script, which lock words can do whole. Each
+    // with 5 a front of it. The text that came says that script, which lock words can do whole. Each
     // connector did its lines in their order. It is told that it held a word, or didn't, exactly
     // where its own earlier outcomes say so. A word that is told to be contended, or raced for, was
     // granted to another connector; one that is contended, in the state that is told. Each word in
     // the end has the value of what the outcomes leave held, and these locks are compatible. Where
     // no read failed and there was memory, the text decides: 7 where it is too long, 3 where it is
     // no script that lock words can do whole, and else 0 or 5.
-    ensures locks { Say words.now works.Locks → IfSome (S.left source.old)
+    ensures locks { Say words.now works.Locks → OfText (S.left source.old)
         (λ text. EndsLocks text (output K.held K.faults sink.old sink.new) result) }
 
-    // The other causes, and what is written where the source doesn't tell its bytes.
+    // The other causes, and what is written with each.
     ensures usage { (result ≡ 2) ↔ ((work : Work) × Say words.now work → ⊥) }
     ensures read_fault { result ≡ 4 → Rises (S.faults source.old) (S.faults source.new) }
     ensures write_fault { result ≡ 5 → HasFailed (output K.held K.faults sink.old sink.new) }

@@ -11,9 +11,9 @@ use crate::pieces::Piece;
 use crate::status_lines::full_line;
 use cf_io::{ReadEnd, Sink, write_all};
 use cf_types::{Name16, NoMemory};
-use plex_floor::Finished;
 use plex_report::Report;
 use plex_script::Script;
+use plex_work::Finished;
 use std::alloc::Global;
 
 /// Why a text was not written whole.
