@@ -5,5 +5,7 @@ mod loads;
 mod locks;
 mod pools;
 mod reading;
+mod rebuilds;
+mod scripts;
 mod shells;
 mod writing;

@@ -8,6 +8,7 @@ mod rebuilds;
 mod reports;
 mod runs;
 mod statuses;
+mod words;
 
 use cf_types::ConnId;
 use gates::{Guest, Hold, LineOf, Meeting, Order};

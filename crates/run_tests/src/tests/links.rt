@@ -2,10 +2,12 @@
 ghost use Rattle.std.specs.Prelude.{◌≡◌};
 ghost use Rattle.std.specs.Vec.{vec_len};
 
+use super::gates::{Hold, LineOf, Order};
 use super::{POLICY, script_of};
 use cf_io::{MemSink, MemSource};
 use cf_link::ListLink;
-use plex_agent::OpenGate;
+use cf_types::ConnId;
+use plex_agent::{Gate, OpenGate};
 use plex_run::run;
 use std::alloc::{AllocError, Global};
 use std::sync::Wait;
@@ -74,6 +76,19 @@ fn ran_over<R: Threads + Wait + Sync>(
     one: &[u64],
     two: &[u64],
 ) -> Result<Ran, Fail> {
+    ran_at(rt, alloc, word, lines, one, two, &OpenGate)
+}
+
+// The same, where callers wait at a gate.
+fn ran_at<R: Threads + Wait + Sync, G: Gate>(
+    rt: &R,
+    alloc: Global,
+    word: &str,
+    lines: &str,
+    one: &[u64],
+    two: &[u64],
+    gate: &G,
+) -> Result<Ran, Fail> {
     let script = script_of(alloc, POLICY, lines)?;
     let mut source = MemSource {
         bytes: Vec::from_slice(alloc, script.as_bytes())?,
@@ -87,15 +102,7 @@ fn ran_over<R: Threads + Wait + Sync>(
     words.push(String::from_str(alloc, word)?)?;
     let mut links = links_of(alloc, one, two)?;
     let status = if links.len() == LINKS {
-        run(
-            rt,
-            alloc,
-            &words,
-            &mut source,
-            &mut sink,
-            &mut links,
-            &OpenGate,
-        )
+        run(rt, alloc, &words, &mut source, &mut sink, &mut links, gate)
     } else {
         u8::MAX
     };
@@ -252,6 +259,53 @@ fn both_instances_are_lost_at_one_call(rt: HostRuntime) -> Result<(), Fail> {
     Ok(())
 }
 
+// The four commands on threads, over such links. The operator waits for A's CONNECT, and A's WRITE
+// for the operator; where one waits in vain the run counts as one that ended badly.
+fn four_calls_on_threads<R: Threads + Wait + Sync>(
+    rt: &R,
+    alloc: Global,
+    one: &[u64],
+    two: &[u64],
+) -> Result<Ran, Fail> {
+    let (operator, a) = (ConnId(0), ConnId(1));
+    let holds = [
+        Hold::new(LineOf(operator, 9), LineOf(a, 8)),
+        Hold::new(LineOf(a, 10), LineOf(operator, 9)),
+    ];
+    let gate = Order::new(&holds);
+    let mut ran = ran_at(rt, alloc, "threads", FOUR_CALLS, one, two, &gate)?;
+    if gate.kept() < 2 {
+        ran.status = u8::MAX;
+    }
+    Ok(ran)
+}
+
+#[test]
+fn the_first_instance_is_lost_at_each_call_on_threads(rt: HostRuntime) -> Result<(), Fail> {
+    for (call, history) in ONE_LOST {
+        let ran = four_calls_on_threads(&rt, rt.alloc(), &[call], &[])?;
+        assert!(rt;
+            ran.shows(history) && ran.shows("\nGBP TEST 0 VALID 7\n"),
+            "{call}"
+        );
+        assert!(rt; ran.asked((call, 1), (4, 0)), "{call}");
+    }
+    Ok(())
+}
+
+#[test]
+fn both_instances_are_lost_at_one_call_on_threads(rt: HostRuntime) -> Result<(), Fail> {
+    for (call, history) in BOTH_AT_ONCE {
+        let ran = four_calls_on_threads(&rt, rt.alloc(), &[call], &[call])?;
+        assert!(rt;
+            ran.shows(history) && ran.shows("\nGBP TEST 0 INVALID 8\n"),
+            "{call}"
+        );
+        assert!(rt; ran.asked((call, 1), (call, 1)), "{call}");
+    }
+    Ok(())
+}
+
 /// A rebuild up to its first COPY. One member reads while it has not been told yet.
 const COPYING: &str = "A GBP CONNECT DELETE\n\
     B GBP CONNECT DELETE\n\
@@ -327,5 +381,150 @@ fn an_instance_is_lost_on_threads(rt: HostRuntime) -> Result<(), Fail> {
         )
     );
     assert!(rt; ran.asked((2, 1), (0, 0)));
+    Ok(())
+}
+
+/// A rebuild by its only member, who reads in each stage. In QUIESCE, till it has answered, the link
+/// to CF1 is asked, by COPY both are, and behind the end the one to CF2; where the member is
+/// quiesced none is.
+const MOVING: &str = "A GBP CONNECT DELETE\n\
+    A GBP WRITE P1 0 one CHANGED 1\n\
+    A GBP WRITE P2 1 two CHANGED 1\n\
+    A GBP REBUILD START 10 10\n\
+    A GBP READ P1 0\n\
+    A GBP EVENTS\n\
+    A GBP READ P1 0\n\
+    A GBP REBUILD CONNECT\n\
+    A GBP READ P1 0\n\
+    A GBP COPY 1\n\
+    A GBP COPY 1\n\
+    A GBP REBUILD COMPLETE\n\
+    A GBP READ P1 0\n\
+    A GBP EVENTS\n\
+    A GBP READ P1 0\n";
+
+/// The calls at which the links to CF1 and CF2 are down in the rebuild, what the history shows then,
+/// and how often each link was asked and was down.
+struct Failing {
+    one: &'static [u64],
+    two: &'static [u64],
+    shown: &'static str,
+    asked: [(u64, u64); 2],
+}
+
+const FAILING: [Failing; 8] = [
+    // none; the old instance's link is not asked behind the move
+    Failing {
+        one: &[6],
+        two: &[],
+        shown: "\n5 A READ P1 0 -> DATA one CHANGED\n6 A NEXT -> EVENT QUIESCE 1\n\
+            7 A RESPOND -> RESPONDED QUIESCE 1\n8 A NEXT -> EVENT REBUILDCONNECT 1\n\
+            9 A NEXT -> REFUSED 78 NOEVENT\n10 A READ P1 0 -> REFUSED 72 QUIESCED 1\n\
+            11 A REBUILD CONNECT -> OK CF2\n12 A READ P1 0 -> REFUSED 72 QUIESCED 1\n\
+            13 A COPY 1 -> COPIED 1 1\n14 A COPY 1 -> COPIED 1 0\n15 A REBUILD COMPLETE -> OK\n\
+            16 A READ P1 0 -> REFUSED 72 QUIESCED 1\n17 A NEXT -> EVENT CONNECTSDONE 1\n\
+            18 A NEXT -> EVENT CLEANUP 1\n19 A RESPOND -> RESPONDED CLEANUP 1\n\
+            20 A NEXT -> EVENT COMPLETE 1\n21 A NEXT -> REFUSED 78 NOEVENT\n\
+            22 A READ P1 0 -> DATA one CHANGED\n23 A DISCONNECT -> OK\n",
+        asked: [(5, 0), (3, 0)],
+    },
+    // in QUIESCE
+    Failing {
+        one: &[3],
+        two: &[],
+        shown: "\n4 A REBUILD START 10 10 -> OK 1\n5 SYS LOST CF1 -> FAILED\n\
+            6 A READ P1 0 -> REFUSED 74 LOSTFACILITY CF1\n7 A NEXT -> EVENT QUIESCE 1\n\
+            8 A RESPOND -> RESPONDED QUIESCE 1\n9 A NEXT -> EVENT STRFAIL\n\
+            10 A NEXT -> REFUSED 78 NOEVENT\n11 A READ P1 0 -> REFUSED 75 STRUCTUREFAILED\n\
+            12 A REBUILD CONNECT -> REFUSED 75 STRUCTUREFAILED\n",
+        asked: [(3, 1), (0, 0)],
+    },
+    // in COPY, at the first item
+    Failing {
+        one: &[4],
+        two: &[],
+        shown: "\n13 SYS LOST CF1 -> FAILED\n14 A COPY 1 -> REFUSED 74 LOSTFACILITY CF1\n\
+            15 A COPY 1 -> REFUSED 75 STRUCTUREFAILED\n\
+            16 A REBUILD COMPLETE -> REFUSED 75 STRUCTUREFAILED\n\
+            17 A READ P1 0 -> REFUSED 75 STRUCTUREFAILED\n",
+        asked: [(4, 1), (0, 0)],
+    },
+    // at the second
+    Failing {
+        one: &[5],
+        two: &[],
+        shown: "\n13 A COPY 1 -> COPIED 1 1\n14 SYS LOST CF1 -> FAILED\n\
+            15 A COPY 1 -> REFUSED 74 LOSTFACILITY CF1\n\
+            16 A REBUILD COMPLETE -> REFUSED 75 STRUCTUREFAILED\n",
+        asked: [(5, 1), (1, 0)],
+    },
+    // the new instance's, at the first item
+    Failing {
+        one: &[],
+        two: &[1],
+        shown: "\n13 SYS LOST CF2 -> STOPPED 1\n14 A COPY 1 -> REFUSED 69 WRONGSTAGE STOPPING\n\
+            15 A COPY 1 -> REFUSED 69 WRONGSTAGE STOPPING\n\
+            16 A REBUILD COMPLETE -> REFUSED 69 WRONGSTAGE STOPPING\n\
+            17 A READ P1 0 -> DATA one CHANGED\n18 A NEXT -> EVENT CONNECTSDONE 1\n\
+            19 A NEXT -> EVENT STOP 1\n20 A RESPOND -> RESPONDED STOP 1\n\
+            21 A NEXT -> EVENT STOPDONE 1\n22 A NEXT -> REFUSED 78 NOEVENT\n\
+            23 A READ P1 0 -> DATA one CHANGED\n24 A DISCONNECT -> OK\n",
+        asked: [(6, 0), (1, 1)],
+    },
+    // at the second
+    Failing {
+        one: &[],
+        two: &[2],
+        shown: "\n13 A COPY 1 -> COPIED 1 1\n14 SYS LOST CF2 -> STOPPED 1\n\
+            15 A COPY 1 -> REFUSED 69 WRONGSTAGE STOPPING\n\
+            16 A REBUILD COMPLETE -> REFUSED 69 WRONGSTAGE STOPPING\n\
+            17 A READ P1 0 -> DATA one CHANGED\n",
+        asked: [(7, 0), (2, 1)],
+    },
+    // in STOPPING, the old one's
+    Failing {
+        one: &[5],
+        two: &[1],
+        shown: "\n13 SYS LOST CF2 -> STOPPED 1\n14 A COPY 1 -> REFUSED 69 WRONGSTAGE STOPPING\n\
+            15 A COPY 1 -> REFUSED 69 WRONGSTAGE STOPPING\n\
+            16 A REBUILD COMPLETE -> REFUSED 69 WRONGSTAGE STOPPING\n\
+            17 SYS LOST CF1 -> FAILED\n18 A READ P1 0 -> REFUSED 74 LOSTFACILITY CF1\n",
+        asked: [(5, 1), (1, 1)],
+    },
+    // behind the end
+    Failing {
+        one: &[],
+        two: &[3],
+        shown: "\n21 A NEXT -> REFUSED 78 NOEVENT\n22 SYS LOST CF2 -> FAILED\n\
+            23 A READ P1 0 -> REFUSED 74 LOSTFACILITY CF2\n24 A DISCONNECT -> OK\n",
+        asked: [(5, 0), (3, 1)],
+    },
+];
+
+// The rebuild by this word shows what it is to show, at each of the failing links.
+fn fails_in_each_stage<R: Threads + Wait + Sync>(
+    rt: &R,
+    alloc: Global,
+    word: &str,
+) -> Result<bool, Fail> {
+    for failing in &FAILING {
+        let ran = ran_over(rt, alloc, word, MOVING, failing.one, failing.two)?;
+        let [one, two] = failing.asked;
+        if !(ran.shows(failing.shown) && ran.asked(one, two)) {
+            return Ok(false);
+        }
+    }
+    Ok(true)
+}
+
+#[test]
+fn a_link_fails_in_each_stage_of_a_rebuild(rt: HostRuntime) -> Result<(), Fail> {
+    assert!(rt; fails_in_each_stage(&rt, rt.alloc(), "serial")?);
+    Ok(())
+}
+
+#[test]
+fn a_link_fails_in_each_stage_on_threads(rt: HostRuntime) -> Result<(), Fail> {
+    assert!(rt; fails_in_each_stage(&rt, rt.alloc(), "threads")?);
     Ok(())
 }

@@ -1,0 +1,3 @@
+mod cache;
+mod list;
+mod lock;

@@ -1,6 +1,0 @@
-//! Trials of the list engine: it gets ready for commands, does them, and is copied, with memory
-//! enough.
-#![tactic(auto)]
-
-#[cfg(test)]
-mod tests;

@@ -1,0 +1,288 @@
+ghost use Rattle.std.specs.Prelude.{◌≡◌, true, IfOk, IfSome, IsTrue};
+ghost use Rattle.cf_types.specs.Forms.{IsForm, is_cache};
+ghost use Rattle.engine_api.specs.Asking.{MayCommand};
+
+use crate::counted::Counted;
+use crate::tokens::{Share, Token};
+use cf_link::{Links, Steady};
+use cf_types::{Caps, CfId, ConnId, Kind, Listing, Name16, NoMemory, Pref, ShellCmd, StrForm};
+use engine_api::Ask;
+use std::alloc::Global;
+use std::sync::Arc;
+use std::test::Fail;
+use struct_machine::{Changed, Machine};
+
+const OP: ConnId = ConnId(0);
+
+const A: ConnId = ConnId(1);
+
+const FIRST: CfId = CfId(1);
+
+const SECOND: CfId = CfId(2);
+
+// What is asked of the machine.
+#[derive(Clone, Copy)]
+enum Step {
+    Connect,
+    Disconnect,
+    Fail,
+    Store,
+    Duplex,
+    Simplex,
+    LoseFirst,
+    LoseSecond,
+    Rebuild,
+    Next,
+    Respond,
+    Join,
+    CopyOne,
+    Complete,
+    Stop,
+}
+
+// A step, and how many engines that have stored a number, or have one from another, are to live
+// behind it.
+#[derive(Clone, Copy)]
+struct Row(Step, usize);
+
+// A machine, and the share that its engines take.
+#[derive(Drop)]
+struct Trial {
+    machine: Machine<Counted, Steady>,
+    changed: Changed,
+    share: Option<Share>,
+}
+
+// A structure for which two facilities have room.
+fn form_of(alloc: Global) -> Result<StrForm, NoMemory>
+    ensures form { IfOk result (λ form. IsForm form) }
+    ensures kind { IfOk result (λ form. IsTrue (is_cache form.kind)) }
+{
+    let caps = Caps {
+        entries: 8,
+        elements: 8,
+    };
+    let first = Pref {
+        cf: FIRST,
+        units: 100,
+    };
+    let second = Pref {
+        cf: SECOND,
+        units: 100,
+    };
+    let prefs = Vec::from_slice(alloc, &[first, second])?;
+    Ok(StrForm {
+        name: Name16([32; 16]),
+        kind: Kind::Cache,
+        caps,
+        conns: 4,
+        vector: 64,
+        keep: false,
+        prefs: Listing::from_vec(prefs),
+    })
+}
+
+// A machine without calls yet.
+fn machine_of(alloc: Global) -> Result<Machine<Counted, Steady>, NoMemory> {
+    let form = form_of(alloc)?;
+    let links = Links {
+        one: Steady,
+        two: Steady,
+        three: Steady,
+        four: Steady,
+    };
+    match Machine::start(alloc, form, links) {
+        Ok(machine) => Ok(machine),
+        Err(_) => Err(NoMemory),
+    }
+}
+
+fn trial_of(alloc: Global) -> Result<Trial, NoMemory> {
+    let machine = machine_of(alloc)?;
+    let share = Arc::new(alloc, 0)?;
+    Ok(Trial {
+        machine,
+        changed: Changed::none(alloc),
+        share: Some(share),
+    })
+}
+
+// The common command of a step, and who gives it. A number is stored by another one.
+fn command_of(step: Step) -> Option<(ConnId, ShellCmd)>
+    ensures { IfSome result (λ call. MayCommand call.0 call.1) }
+{
+    let caps = Caps {
+        entries: 10,
+        elements: 10,
+    };
+    match step {
+        Step::Connect => Some((A, ShellCmd::Connect { keep: false })),
+        Step::Disconnect => Some((A, ShellCmd::Disconnect)),
+        Step::Fail => Some((A, ShellCmd::Fail)),
+        Step::Store => None,
+        Step::Duplex => Some((OP, ShellCmd::DuplexStart)),
+        Step::Simplex => Some((OP, ShellCmd::DuplexStop)),
+        Step::LoseFirst => Some((
+            OP,
+            ShellCmd::Vary {
+                cf: FIRST,
+                off: true,
+            },
+        )),
+        Step::LoseSecond => Some((
+            OP,
+            ShellCmd::Vary {
+                cf: SECOND,
+                off: true,
+            },
+        )),
+        Step::Rebuild => Some((OP, ShellCmd::RebuildStart { caps })),
+        Step::Next => Some((A, ShellCmd::Next)),
+        Step::Respond => Some((A, ShellCmd::Respond)),
+        Step::Join => Some((A, ShellCmd::RebuildConnect)),
+        Step::CopyOne => Some((A, ShellCmd::Copy { n: 1 })),
+        Step::Complete => Some((A, ShellCmd::RebuildComplete)),
+        Step::Stop => Some((OP, ShellCmd::RebuildStop)),
+    }
+}
+
+// What a step asks.
+fn call_of(step: Step, share: &Option<Share>) -> Result<(ConnId, Ask<Token>), NoMemory>
+    ensures { IfOk result (λ call. MayAsk call.0 call.1) }
+{
+    match command_of(step) {
+        Some((by, command)) => Ok((by, Ask::Shell(command))),
+        None => {
+            let token = Token::new(7, share)?;
+            Ok((A, Ask::Content(token)))
+        }
+    }
+}
+
+ghost use Rattle.engine_api.specs.Asking.{MayAsk};
+
+// Does a step.
+fn take(alloc: Global, trial: &mut Trial, step: Step) -> Result<(), NoMemory> {
+    let (by, ask) = call_of(step, &trial.share)?;
+    let reply = trial.machine.answer(alloc, by, &ask, &mut trial.changed)?;
+    drop(reply);
+    drop(ask);
+    Ok(())
+}
+
+// How many engines live: the owners of the share but for the trial.
+fn live(share: &Option<Share>) -> usize {
+    match share {
+        Some(share) => Arc::strong_count(share) - 1,
+        None => 0,
+    }
+}
+
+// Whether the machine's end leaves no engine.
+fn ends(trial: Trial) -> bool {
+    let Trial {
+        machine,
+        changed,
+        share,
+    } = trial;
+    drop(machine);
+    drop(changed);
+    live(&share) == 0
+}
+
+// Whether as many engines live behind each step as is told, and none once the machine ends.
+fn lives_as_told(alloc: Global, rows: &[Row]) -> Result<bool, NoMemory> {
+    let mut trial = trial_of(alloc)?;
+    for row in rows {
+        take(alloc, &mut trial, row.0)?;
+        if live(&trial.share) != row.1 {
+            return Ok(false);
+        }
+    }
+    Ok(ends(trial))
+}
+
+#[test]
+fn second_instance_that_is_stopped(rt: HostRuntime) -> Result<(), Fail> {
+    let rows = [
+        Row(Step::Connect, 0),
+        Row(Step::Store, 1),
+        Row(Step::Duplex, 2),
+        Row(Step::Store, 2),
+        Row(Step::Simplex, 1),
+        Row(Step::Duplex, 2),
+        Row(Step::Disconnect, 0),
+    ];
+    let told = lives_as_told(rt.alloc(), &rows)?;
+    assert!(rt; told);
+    Ok(())
+}
+
+#[test]
+fn instances_that_are_lost(rt: HostRuntime) -> Result<(), Fail> {
+    let second = [
+        Row(Step::Connect, 0),
+        Row(Step::Store, 1),
+        Row(Step::Duplex, 2),
+        Row(Step::LoseSecond, 1),
+        Row(Step::Store, 1),
+        Row(Step::LoseFirst, 0),
+    ];
+    let told = lives_as_told(rt.alloc(), &second)?;
+    assert!(rt; told);
+    let first = [
+        Row(Step::Connect, 0),
+        Row(Step::Store, 1),
+        Row(Step::Duplex, 2),
+        Row(Step::LoseFirst, 1),
+        Row(Step::Store, 1),
+        Row(Step::LoseSecond, 0),
+    ];
+    let told = lives_as_told(rt.alloc(), &first)?;
+    assert!(rt; told);
+    Ok(())
+}
+
+#[test]
+fn new_instance_that_takes_the_place(rt: HostRuntime) -> Result<(), Fail> {
+    let rows = [
+        Row(Step::Connect, 0),
+        Row(Step::Store, 1),
+        Row(Step::Rebuild, 1),
+        Row(Step::Next, 1),
+        Row(Step::Respond, 1),
+        Row(Step::Join, 1),
+        Row(Step::CopyOne, 2),
+        Row(Step::Complete, 1),
+    ];
+    let told = lives_as_told(rt.alloc(), &rows)?;
+    assert!(rt; told);
+    Ok(())
+}
+
+// The steps up to a copy in which one number is moved, and then one more.
+fn in_copy(last: Row) -> [Row; 8] {
+    [
+        Row(Step::Connect, 0),
+        Row(Step::Store, 1),
+        Row(Step::Rebuild, 1),
+        Row(Step::Next, 1),
+        Row(Step::Respond, 1),
+        Row(Step::Join, 1),
+        Row(Step::CopyOne, 2),
+        last,
+    ]
+}
+
+#[test]
+fn new_instance_that_goes(rt: HostRuntime) -> Result<(), Fail> {
+    let stopped = lives_as_told(rt.alloc(), &in_copy(Row(Step::Stop, 1)))?;
+    assert!(rt; stopped);
+    let lost = lives_as_told(rt.alloc(), &in_copy(Row(Step::LoseSecond, 1)))?;
+    assert!(rt; lost);
+    let failed = lives_as_told(rt.alloc(), &in_copy(Row(Step::LoseFirst, 0)))?;
+    assert!(rt; failed);
+    let departed = lives_as_told(rt.alloc(), &in_copy(Row(Step::Fail, 0)))?;
+    assert!(rt; departed);
+    Ok(())
+}
