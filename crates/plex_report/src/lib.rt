@@ -9,9 +9,11 @@ mod lines;
 mod list_text;
 mod lock_text;
 mod refusals;
+mod replies;
 mod report;
 mod shell_text;
 mod spelled;
 mod spots;
 
+pub use replies::{put_cache_reply, put_list_reply, put_lock_reply};
 pub use report::{Report, line, render};

@@ -138,7 +138,8 @@ fn put_outcome(
     answer.put(line, script)
 }
 
-fn put_reply<R: Spelled>(
+/// Puts the words of a reply, behind OK where a VARY brought about a loss.
+pub(crate) fn put_reply<R: Spelled>(
     line: &mut Vec<u8>,
     script: &Script,
     vary: bool,
