@@ -1,5 +1,5 @@
 -- What is known at a board of one cache structure, and of the connector's desk there.
-use Rattle.std.proofs.Common.{◌≡◌, ℕ, ◌+◌, ◌<◌, ◌≤◌, List, arith, [], ◌∷◌, ◌++◌, length, map, sym, ap, subst, ◌∙◌}
+use Rattle.std.proofs.Common.{◌≡◌, ℕ, ◌+◌, ◌<◌, ◌≤◌, List, arith, [], ◌∷◌, ◌++◌, length, map, refl, sym, ap, subst, ◌∙◌}
 use Rattle.std.specs.Prelude.{All, Option, Some, None, IfSome, Result, Ok, Err, IfOk, IfErr, slice_get}
 use Rattle.std.specs.Option.{option_to_list}
 use Rattle.std.specs.List.{range_with_len}
@@ -18,8 +18,8 @@ use Rattle.any_cell.specs.Cells.{CellShown, IsAskOf}
 use Rattle.desk_model.specs.Desks.{DeskShown, IsAnsweredOn, IsLaterOn}
 use Rattle.desk_model.specs.Boards.{BoardShown, IsPolicy, IsStarted, IsDeskOf, cell_on, new_desk}
 use Rattle.desk_model.proofs.DeskLaws.{new_desk-of_board}
-use Rattle.bench_cell.proofs.LastLaws.{last-some}
-use Rattle.bench_cell.specs.Seats.{IsCacheForm, IsCacheAlone, IsOneCache, IsPool, IsCacheBoard, IsSeated, pool}
+use Rattle.bench_cell.proofs.LastLaws.{front-of_two, last-of_one, last-some}
+use Rattle.bench_cell.specs.Seats.{IsCacheForm, IsCacheAlone, IsOneCache, IsPool, IsCacheBoard, IsOperated, IsSeated, pool}
 
 -- ---- the script
 
@@ -93,6 +93,25 @@ module _ {L : Type 0} (board : BoardShown L) where
         board_is = cache;
         of_board = new_desk-of_board board 1;
         connector = (omega arith, omega arith);
+      })
+
+  -- the first desk is left then
+  pub first-left : (desks front : List DeskShown) (found : Option DeskShown)
+      → desks ≡ map (new_desk board) (range_with_len 0 (1 + 1)) → desks ≡ front ++ option_to_list found
+      → IfSome found (λ desk. front ≡ new_desk board 0 ∷ [])
+  first-left desks front None are ends = tt
+  first-left desks front (Some desk) are ends =
+      front-of_two (new_desk board 0) (new_desk board 1) front desk (sym are ∙ ends)
+
+  -- and is the operator's
+  pub first-operated : (desks front : List DeskShown) (found : Option DeskShown) → IsCacheBoard board
+      → desks ≡ new_desk board 0 ∷ [] → desks ≡ front ++ option_to_list found → IfSome found (IsOperated board)
+  first-operated desks front None cache are ends = tt
+  first-operated desks front (Some desk) cache are ends =
+      subst (IsOperated board) (last-of_one (new_desk board 0) front desk (sym are ∙ ends)) (record {
+        board_is = cache;
+        of_board = new_desk-of_board board 0;
+        operator = refl;
       })
 
   -- the desk stays the connector's

@@ -4,6 +4,7 @@ use Rattle.cf_types.specs.declared.forms.Kind.TheVariants as kind
 use Rattle.cf_types.specs.declared.forms.StrForm.{StrForm}
 use Rattle.cf_types.specs.declared.numbers.StrNo.{StrNo}
 use Rattle.cf_types.specs.Forms.{IsForm, IsConnector}
+use Rattle.engine_api.specs.Asking.{IsOperator}
 use Rattle.plex_script.specs.declared.scripts.Script.{Script}
 use Rattle.run_model.specs.Types.{OfCache}
 use Rattle.any_cell.specs.Cells.{CellShown}
@@ -39,6 +40,12 @@ IsPool cell = (cell.str_type ≡ OfCache) × (cell.words.len ≡ 32)
 pub record IsCacheBoard {L : Type 0} (board : BoardShown L) : Type 0 where
   pub some : 0 < length board.cells
   pub pool_is : IfSome (cell_on board pool) IsPool
+
+-- the operator's desk at such a board
+pub record IsOperated {L : Type 0} (board : BoardShown L) (desk : DeskShown) : Type 0 where
+  pub board_is : IsCacheBoard board
+  pub of_board : IsDeskOf board desk
+  pub operator : IsOperator desk.owner
 
 -- a connector's desk at such a board
 pub record IsSeated {L : Type 0} (board : BoardShown L) (desk : DeskShown) : Type 0 where

@@ -1,10 +1,10 @@
 //! READs and tests through a board.
-ghost use Rattle.std.specs.Prelude.{◌≡◌, ◌<◌, ◌+◌, IfOk, IfSome, map};
+ghost use Rattle.std.specs.Prelude.{◌≡◌, ◌<◌, ◌+◌, ◌∷◌, [], IfOk, IfSome, map};
 ghost use Rattle.std.specs.Vec.{vec_len};
 ghost use Rattle.std.specs.List.{range_with_len};
 ghost use Rattle.engine_api.specs.Asking.{MayAsk};
 ghost use Rattle.desk_model.specs.Boards.{new_desk};
-ghost use Rattle.bench_cell.specs.Seats.{IsOneCache, IsCacheBoard, IsSeated};
+ghost use Rattle.bench_cell.specs.Seats.{IsOneCache, IsCacheBoard, IsOperated, IsSeated};
 
 use crate::faults::{Timed, call_error};
 use crate::pages::{PAGES, form, name, read, write};
@@ -44,13 +44,37 @@ fn policy(alloc: Global) -> Result<Script, NoMemory>
     })
 }
 
-// The desk of the last caller.
-fn last_desk(board: &Board<Steady>, mut desks: Vec<Desk>) -> Option<Desk>
+// The desk of the connector, the last of two. The operator's is left.
+fn last_desk(board: &Board<Steady>, desks: &mut Vec<Desk>) -> Option<Desk>
     requires board { IsCacheBoard board.now }
-    requires desks { desks.items ≡ map (new_desk board.now) (range_with_len 0 (1 + 1)) }
-    ensures { IfSome result (IsSeated board.now) }
+    requires desks { desks.old.items ≡ map (new_desk board.now) (range_with_len 0 (1 + 1)) }
+    ensures desk { IfSome result (IsSeated board.now) }
+    ensures rest { IfSome result (λ _. desks.new.items ≡ new_desk board.now 0 ∷ []) }
 {
     desks.pop()
+}
+
+// The desk of the operator, where it is the only one.
+fn operator_desk(board: &Board<Steady>, mut desks: Vec<Desk>) -> Option<Desk>
+    requires board { IsCacheBoard board.now }
+    requires desks { desks.items ≡ new_desk board.now 0 ∷ [] }
+    ensures { IfSome result (IsOperated board.now) }
+{
+    desks.pop()
+}
+
+// The operator has a second instance made, in the other facility.
+fn duplex(
+    rt: &impl Wait,
+    alloc: Global,
+    board: &Board<Steady>,
+    operator: &mut Desk,
+) -> Result<(), CallRefused>
+    requires { IsOperated board.now operator.old }
+{
+    let ask = Ask::Shell(ShellCmd::DuplexStart);
+    board.call(rt, alloc, operator, POOL, AnyAsk::Cache(ask))?;
+    Ok(())
 }
 
 // A call to the structure.
@@ -117,21 +141,31 @@ fn open(
     Board::start(rt, alloc, policy, JOURNAL_LIMIT, links)
 }
 
-// A board with all pages, and the desk of the connector that wrote them.
-fn start(rt: &impl Wait, alloc: Global) -> Result<(Board<Steady>, Desk), CallRefused>
+// A board with all pages, in one instance or in two, and the desk of the connector that wrote them.
+fn start(
+    rt: &impl Wait,
+    alloc: Global,
+    duplexed: bool,
+) -> Result<(Board<Steady>, Desk), CallRefused>
     ensures { IfOk result (λ r. IsSeated r.0 r.1) }
 {
     let policy = policy(alloc)?;
     let Ok(links) = vec![in alloc; Steady; LINKS] else {
         return Err(CallRefused::NoMemory);
     };
-    let Ok((board, desks)) = open(rt, alloc, &policy, links) else {
+    let Ok((board, mut desks)) = open(rt, alloc, &policy, links) else {
         return Err(CallRefused::NoMemory);
     };
-    let Some(mut desk) = last_desk(&board, desks) else {
+    let Some(mut desk) = last_desk(&board, &mut desks) else {
+        return Err(CallRefused::NoMemory);
+    };
+    let Some(mut operator) = operator_desk(&board, desks) else {
         return Err(CallRefused::NoMemory);
     };
     fill(rt, alloc, &board, &mut desk)?;
+    if duplexed {
+        duplex(rt, alloc, &board, &mut operator)?;
+    }
     Ok((board, desk))
 }
 
@@ -198,15 +232,17 @@ fn time_tests(
     Ok(Timed { count, nanos })
 }
 
-/// Reads the pages through a board in turn, up to 65,503 times, and says the number of the last
-/// call; then tests the bits in turn, and counts those that were set.
+/// Reads the pages of a structure, in one instance or in two, through a board in turn, up to 65,502
+/// times, and says the number of the last call; then tests the bits in turn, and counts those that
+/// were set.
 pub fn use_board(
     rt: &(impl Wait + Clock),
     alloc: Global,
+    duplexed: bool,
     reads: u32,
     tests: u32,
 ) -> io::Result<(Timed, Timed)> {
-    let (board, mut desk) = start(rt, alloc).map_err(call_error)?;
+    let (board, mut desk) = start(rt, alloc, duplexed).map_err(call_error)?;
     let read = time_reads(rt, alloc, &board, &mut desk, reads)?;
     let tested = time_tests(rt, &board, &mut desk, tests)?;
     Ok((read, tested))

@@ -1,8 +1,9 @@
 #![tactic(auto)]
 //! READs of a cache structure and tests of a vector's bits, through a board, and beside them the
-//! same READs of the engine alone and the same tests of the vector words alone. With the word
-//! `time` it prints how long they take, a line for each: `board read`, `engine read`, `board test`
-//! and `words test`, each followed by how many there were and by the nanoseconds.
+//! same READs of the engine alone and of a structure with two instances, and the same tests of the
+//! vector words alone. With the word `time` it prints how long they take, a line for each:
+//! `board read`, `board test`, `duplexed read`, `engine read` and `words test`, each followed by how
+//! many there were and by the nanoseconds.
 mod below;
 mod boards;
 mod faults;
@@ -33,10 +34,13 @@ fn main(rt: HostRuntime) -> io::Result<()> {
 }
 
 fn print_counts(rt: &(impl Wait + Clock + Print), alloc: Global) -> io::Result<()> {
-    let (reads, tests) = use_board(rt, alloc, SHORT, SHORT)?;
+    let (reads, tests) = use_board(rt, alloc, false, SHORT, SHORT)?;
     let (last, set) = (reads.count, tests.count);
     println!(rt; "{SHORT} READs through a board: the last is call {last}")?;
     println!(rt; "{SHORT} tests through a board: {set} bits set")?;
+    let (reads, _) = use_board(rt, alloc, true, SHORT, 0)?;
+    let last = reads.count;
+    println!(rt; "{SHORT} READs of two instances: the last is call {last}")?;
     let with_data = use_engine(rt, alloc, SHORT)?.count;
     println!(rt; "{SHORT} READs of an engine: {with_data} with data")?;
     let set = use_words(rt, alloc, SHORT)?.count;
@@ -44,10 +48,13 @@ fn print_counts(rt: &(impl Wait + Clock + Print), alloc: Global) -> io::Result<(
 }
 
 fn print_times(rt: &(impl Wait + Clock + Print), alloc: Global) -> io::Result<()> {
-    let (reads, tests) = use_board(rt, alloc, TIMED_READS, TIMED_TESTS)?;
+    let (reads, tests) = use_board(rt, alloc, false, TIMED_READS, TIMED_TESTS)?;
     let (read_nanos, test_nanos) = (reads.nanos, tests.nanos);
     println!(rt; "board read {TIMED_READS} {read_nanos}")?;
     println!(rt; "board test {TIMED_TESTS} {test_nanos}")?;
+    let (reads, _) = use_board(rt, alloc, true, TIMED_READS, 0)?;
+    let nanos = reads.nanos;
+    println!(rt; "duplexed read {TIMED_READS} {nanos}")?;
     let nanos = use_engine(rt, alloc, TIMED_READS)?.nanos;
     println!(rt; "engine read {TIMED_READS} {nanos}")?;
     let nanos = use_words(rt, alloc, TIMED_TESTS)?.nanos;

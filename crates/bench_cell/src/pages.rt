@@ -11,15 +11,11 @@ pub const PAGES: u32 = 32;
 /// The data of each page.
 const DATA: &[u8] = b"0123456789abcdef0123456789abcdef0123456789abcdef0123456789abcdef";
 
-/// A cache structure for the pages, with room in one facility.
+/// A cache structure for the pages, with room in two facilities.
 pub fn form(alloc: Global) -> Result<StrForm, NoMemory>
     ensures { IfOk result IsCacheForm }
 {
-    let pref = Pref {
-        cf: CfId(1),
-        units: 100,
-    };
-    let prefs = Vec::from_slice(alloc, &[pref])?;
+    let prefs = Vec::from_slice(alloc, &[pref(CfId(1)), pref(CfId(2))])?;
     Ok(StrForm {
         name: name(b'S', 0),
         kind: Kind::Cache,
@@ -32,6 +28,13 @@ pub fn form(alloc: Global) -> Result<StrForm, NoMemory>
         keep: false,
         prefs: Listing::from_vec(prefs),
     })
+}
+
+// Room in a facility.
+fn pref(cf: CfId) -> Pref
+    ensures { result ≡ record { cf = cf; units = 100 } }
+{
+    Pref { cf, units: 100 }
 }
 
 /// A letter with a number of two digits, the last of it.
