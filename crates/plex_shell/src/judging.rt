@@ -1,21 +1,24 @@
 ghost use Rattle.std.specs.Prelude.{◌≡◌, ◌∷◌, [], nat_lt, is_none};
+ghost use Rattle.std.specs.Result.{result_err};
 ghost use Rattle.cf_types.specs.Connections.{state_of, defined_count};
 ghost use Rattle.cf_types.specs.Forms.{IsCaller};
 ghost use Rattle.cf_types.specs.Mailboxes.{next_event, owed_event};
 ghost use Rattle.cf_types.specs.declared.refusals.Refusal.TheVariants as refusal;
 ghost use Rattle.engine_api.specs.Asking.{MayCommand};
 ghost use Rattle.engine_api.specs.Meaning.{first_refusal};
-ghost use Rattle.engine_api.specs.Shell.{refusal_when, unless_active, if_lost, if_failed, if_connected, if_rebuilding, if_too_many, if_quiesced, if_severed, unless_reached, unless_failed, shell_cause, content_cause};
+ghost use Rattle.engine_api.specs.Shell.{refusal_when, unless_active, if_lost, if_failed, if_connected, if_rebuilding, if_too_many, unless_reached, unless_failed, shell_cause, content_cause};
 
 use crate::shell::Shell;
+use crate::verdicts::Judged;
 use cf_types::{ConnId, ConnState, Refusal, ShellCmd, StateWord};
 use engine_api::Room;
 
 impl Shell {
     /// Why a common command is refused, if it is: the first cause that holds.
-    pub(crate) fn judge_command(&self, by: ConnId, cmd: &ShellCmd, room: &Room) -> Option<Refusal>
+    pub(crate) fn judge_command(&self, by: ConnId, cmd: &ShellCmd, room: &Room) -> Judged
         requires { MayCommand by cmd.now }
-        ensures { result ≡ shell_cause self.now.form room.now self.now.shell by cmd.now }
+        ensures { result_err result
+            ≡ shell_cause self.now.form room.now self.now.shell by cmd.now }
     {
         match cmd {
             ShellCmd::Connect { .. } => self.judge_connect(by),
@@ -29,169 +32,146 @@ impl Shell {
             ShellCmd::RebuildComplete => self.judge_complete(by, room),
             ShellCmd::ForceConn { conn } => self.unless_failed(*conn),
             ShellCmd::ForceStr => self.if_defined(),
-            ShellCmd::LoseConn { .. } | ShellCmd::RestoreConn { .. } => None,
-            ShellCmd::Vary { .. } | ShellCmd::DuplexStop => None,
+            ShellCmd::LoseConn { .. } | ShellCmd::RestoreConn { .. } => Ok(()),
+            ShellCmd::Vary { .. } | ShellCmd::DuplexStop => Ok(()),
             ShellCmd::DuplexStart => self.judge_duplex(by),
         }
     }
 
     /// Why a command on the content is refused before the engine is asked, if it is.
-    pub(crate) fn judge_content(&self, by: ConnId) -> Option<Refusal>
+    pub(crate) fn judge_content(&self, by: ConnId) -> Judged
         requires { IsCaller by }
-        ensures { result ≡ content_cause self.now.shell by }
+        ensures { result_err result ≡ content_cause self.now.shell by }
     {
-        self.unless_active(by)
-            .or(self.if_lost())
-            .or(self.unless_usable(by))
+        self.unless_active(by)?;
+        self.if_lost()?;
+        self.if_failed()?;
+        self.if_quiesced(by)?;
+        self.unless_in_reach(by)
     }
 
-    fn unless_usable(&self, by: ConnId) -> Option<Refusal>
+    fn judge_connect(&self, by: ConnId) -> Judged
         requires { IsCaller by }
-        ensures { result ≡ first_refusal (if_failed self.now.shell
-            ∷ if_quiesced by self.now.shell.rebuild
-            ∷ if_severed self.now.shell by self.now.shell.instances.primary
-            ∷ if_severed self.now.shell by self.now.shell.instances.secondary ∷ []) }
-    {
-        self.if_failed().or(self.unless_let_in(by))
-    }
-
-    fn unless_let_in(&self, by: ConnId) -> Option<Refusal>
-        requires { IsCaller by }
-        ensures { result ≡ first_refusal (if_quiesced by self.now.shell.rebuild
-            ∷ if_severed self.now.shell by self.now.shell.instances.primary
-            ∷ if_severed self.now.shell by self.now.shell.instances.secondary ∷ []) }
-    {
-        self.if_quiesced(by).or(self.unless_in_reach(by))
-    }
-
-    fn judge_connect(&self, by: ConnId) -> Option<Refusal>
-        requires { IsCaller by }
-        ensures { result ≡ first_refusal (if_failed self.now.shell
+        ensures { result_err result ≡ first_refusal (if_failed self.now.shell
             ∷ if_connected (state_of self.now.shell.conns by)
             ∷ if_rebuilding self.now.shell.rebuild ∷ if_too_many self.now.form self.now.shell by
             ∷ unless_reached self.now.form self.now.shell by) }
     {
-        self.if_failed()
-            .or(self.if_connected(by))
-            .or(self.unless_admitted(by))
+        self.if_failed()?;
+        self.if_connected(by)?;
+        self.if_rebuilding()?;
+        self.if_too_many(by)?;
+        self.unless_reached(by)
     }
 
-    fn unless_admitted(&self, by: ConnId) -> Option<Refusal>
+    fn judge_next(&self, by: ConnId) -> Judged
         requires { IsCaller by }
-        ensures { result ≡ first_refusal (if_rebuilding self.now.shell.rebuild
-            ∷ if_too_many self.now.form self.now.shell by
-            ∷ unless_reached self.now.form self.now.shell by) }
-    {
-        self.if_rebuilding()
-            .or(self.if_too_many(by))
-            .or(self.unless_reached(by))
-    }
-
-    fn judge_next(&self, by: ConnId) -> Option<Refusal>
-        requires { IsCaller by }
-        ensures { result ≡ first_refusal (unless_active self.now.shell by
+        ensures { result_err result ≡ first_refusal (unless_active self.now.shell by
             ∷ refusal_when (is_none (next_event self.now.shell.mail by)) refusal.NoEvent ∷ []) }
     {
-        self.unless_active(by).or(self.unless_waiting(by))
+        self.unless_active(by)?;
+        self.unless_waiting(by)
     }
 
-    fn judge_respond(&self, by: ConnId) -> Option<Refusal>
+    fn judge_respond(&self, by: ConnId) -> Judged
         requires { IsCaller by }
-        ensures { result ≡ first_refusal (unless_active self.now.shell by
-            ∷ refusal_when (is_none (owed_event self.now.shell.mail by)) refusal.NothingOwed ∷ []) }
+        ensures { result_err result ≡ first_refusal (unless_active self.now.shell by
+            ∷ refusal_when (is_none (owed_event self.now.shell.mail by)) refusal.NothingOwed
+            ∷ []) }
     {
-        self.unless_active(by).or(self.unless_owing(by))
+        self.unless_active(by)?;
+        self.unless_owing(by)
     }
 
     /// The caller isn't active.
-    pub(crate) fn unless_active(&self, by: ConnId) -> Option<Refusal>
-        ensures { result ≡ unless_active self.now.shell by }
+    pub(crate) fn unless_active(&self, by: ConnId) -> Judged
+        ensures { result_err result ≡ unless_active self.now.shell by }
     {
         if self.conns.is_active(by) {
-            None
+            Ok(())
         } else {
-            Some(Refusal::NotConnected)
+            Err(Refusal::NotConnected)
         }
     }
 
     // The caller is active or leaving already.
-    fn if_connected(&self, by: ConnId) -> Option<Refusal>
-        ensures { result ≡ if_connected (state_of self.now.shell.conns by) }
+    fn if_connected(&self, by: ConnId) -> Judged
+        ensures { result_err result ≡ if_connected (state_of self.now.shell.conns by) }
     {
         match self.conns.state(by) {
-            Some(ConnState::Active { .. }) => Some(Refusal::NameActive {
+            Some(ConnState::Active { .. }) => Err(Refusal::NameActive {
                 state: StateWord::Active,
             }),
-            Some(ConnState::Leaving { .. }) => Some(Refusal::NameActive {
+            Some(ConnState::Leaving { .. }) => Err(Refusal::NameActive {
                 state: StateWord::Leaving,
             }),
-            Some(ConnState::Failed) => None,
-            None => None,
+            Some(ConnState::Failed) => Ok(()),
+            None => Ok(()),
         }
     }
 
     // The caller has no connection, and there are as many as the structure admits.
-    fn if_too_many(&self, by: ConnId) -> Option<Refusal>
-        ensures { result ≡ if_too_many self.now.form self.now.shell by }
+    fn if_too_many(&self, by: ConnId) -> Judged
+        ensures { result_err result ≡ if_too_many self.now.form self.now.shell by }
     {
         let limit = self.form.conns;
         if self.conns.state(by).is_none() && u32::from(limit) <= self.conns.defined() {
-            Some(Refusal::TooManyConns { limit })
+            Err(Refusal::TooManyConns { limit })
         } else {
-            None
+            Ok(())
         }
     }
 
     // No event waits for the caller.
-    fn unless_waiting(&self, by: ConnId) -> Option<Refusal>
+    fn unless_waiting(&self, by: ConnId) -> Judged
         requires { IsCaller by }
-        ensures { result
+        ensures { result_err result
             ≡ refusal_when (is_none (next_event self.now.shell.mail by)) refusal.NoEvent }
     {
         if self.mail.waiting(by).is_none() {
-            Some(Refusal::NoEvent)
+            Err(Refusal::NoEvent)
         } else {
-            None
+            Ok(())
         }
     }
 
     // The caller owes no response.
-    fn unless_owing(&self, by: ConnId) -> Option<Refusal>
+    fn unless_owing(&self, by: ConnId) -> Judged
         requires { IsCaller by }
-        ensures { result
+        ensures { result_err result
             ≡ refusal_when (is_none (owed_event self.now.shell.mail by)) refusal.NothingOwed }
     {
         if self.mail.owed(by).is_none() {
-            Some(Refusal::NothingOwed)
+            Err(Refusal::NothingOwed)
         } else {
-            None
+            Ok(())
         }
     }
 
     // The connection isn't failed.
-    fn unless_failed(&self, conn: ConnId) -> Option<Refusal>
-        ensures { result
+    fn unless_failed(&self, conn: ConnId) -> Judged
+        ensures { result_err result
             ≡ unless_failed (state_of self.now.shell.conns conn) }
     {
         let state = match self.conns.state(conn) {
             Some(ConnState::Active { .. }) => StateWord::Active,
             Some(ConnState::Leaving { .. }) => StateWord::Leaving,
-            Some(ConnState::Failed) => return None,
+            Some(ConnState::Failed) => return Ok(()),
             None => StateWord::Gone,
         };
-        Some(Refusal::NotFailed { state })
+        Err(Refusal::NotFailed { state })
     }
 
     // Connections are defined.
-    fn if_defined(&self) -> Option<Refusal>
-        ensures { result ≡ refusal_when (nat_lt 0 (defined_count self.now.shell.conns))
+    fn if_defined(&self) -> Judged
+        ensures { result_err result ≡ refusal_when (nat_lt 0 (defined_count self.now.shell.conns))
             (refusal.HasConnections (defined_count self.now.shell.conns)) }
     {
         let n = self.conns.defined();
         if n > 0 {
-            Some(Refusal::HasConnections { n })
+            Err(Refusal::HasConnections { n })
         } else {
-            None
+            Ok(())
         }
     }
 }

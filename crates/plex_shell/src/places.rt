@@ -1,4 +1,5 @@
 ghost use Rattle.std.specs.Prelude.{◌≡◌, ◌∷◌, [], ◌<◌, ◌≤◌, nat_lt, length};
+ghost use Rattle.std.specs.Result.{result_err};
 ghost use Rattle.cf_types.specs.Forms.{IsCapacity};
 ghost use Rattle.cf_types.specs.Forms.{IsCaller};
 ghost use Rattle.engine_api.specs.Instances.{is_at, units_of, place_for, greatest_units};
@@ -6,6 +7,7 @@ ghost use Rattle.engine_api.specs.Meaning.{first_refusal};
 ghost use Rattle.engine_api.specs.Shell.{stands_at, is_severed, is_candidate, candidates, if_no_place, if_severed, unless_reached, made_at, fresh_made};
 
 use crate::shell::Shell;
+use crate::verdicts::Judged;
 use cf_types::{Caps, CfId, ConnId, Pref, Refusal};
 use rebuild_core::Rebuild;
 
@@ -76,41 +78,42 @@ impl Shell {
 
     /// Why no instance of this capacity can be made, if none can: no facility is there for it, or
     /// none is large enough.
-    pub(crate) fn if_no_place(&self, by: ConnId, caps: Caps) -> Option<Refusal>
+    pub(crate) fn if_no_place(&self, by: ConnId, caps: Caps) -> Judged
         requires caller { IsCaller by }
         requires caps { IsCapacity caps }
-        ensures { result
+        ensures { result_err result
             ≡ if_no_place (units_of caps) (candidates self.now.form self.now.shell by) }
     {
         let asked = units_of(caps);
         if self.place(by, asked).is_some() {
-            None
+            Ok(())
         } else if self.has_candidate(by) {
-            Some(Refusal::NoSpace {
+            Err(Refusal::NoSpace {
                 asked,
                 free: self.greatest_units(by),
             })
         } else {
-            Some(Refusal::NoFacility)
+            Err(Refusal::NoFacility)
         }
     }
 
     /// An instance stands where the connector can't reach it.
-    pub(crate) fn if_severed(&self, by: ConnId, at: Option<CfId>) -> Option<Refusal>
+    pub(crate) fn if_severed(&self, by: ConnId, at: Option<CfId>) -> Judged
         requires { IsCaller by }
-        ensures { result ≡ if_severed self.now.shell by at }
+        ensures { result_err result ≡ if_severed self.now.shell by at }
     {
         match at {
-            Some(cf) if self.is_severed(by, cf) => Some(Refusal::LostConn { cf }),
-            _ => None,
+            Some(cf) if self.is_severed(by, cf) => Err(Refusal::LostConn { cf }),
+            _ => Ok(()),
         }
     }
 
     /// Why a connector can't have a primary: none stands and none can be made, or it can't reach
     /// those that stand.
-    pub(crate) fn unless_reached(&self, by: ConnId) -> Option<Refusal>
+    pub(crate) fn unless_reached(&self, by: ConnId) -> Judged
         requires { IsCaller by }
-        ensures { result ≡ first_refusal (unless_reached self.now.form self.now.shell by) }
+        ensures { result_err result
+            ≡ first_refusal (unless_reached self.now.form self.now.shell by) }
     {
         if self.primary.is_none() {
             self.if_no_place(by, self.caps)
@@ -120,14 +123,14 @@ impl Shell {
     }
 
     /// A primary or a secondary stands where the connector can't reach it.
-    pub(crate) fn unless_in_reach(&self, by: ConnId) -> Option<Refusal>
+    pub(crate) fn unless_in_reach(&self, by: ConnId) -> Judged
         requires { IsCaller by }
-        ensures { result ≡ first_refusal (if_severed self.now.shell by
+        ensures { result_err result ≡ first_refusal (if_severed self.now.shell by
             self.now.shell.instances.primary
             ∷ if_severed self.now.shell by self.now.shell.instances.secondary ∷ []) }
     {
-        self.if_severed(by, self.primary)
-            .or(self.if_severed(by, self.secondary))
+        self.if_severed(by, self.primary)?;
+        self.if_severed(by, self.secondary)
     }
 
     /// Where a primary is to be made; none where one stands, or where none can be made.

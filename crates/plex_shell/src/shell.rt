@@ -1,4 +1,5 @@
 ghost use Rattle.std.specs.Prelude.{◌≡◌, ◌≤◌, ◌<◌, ◌+◌, ◌-◌, ◌∷◌, [], min, is_some, IfOk, OnOk};
+ghost use Rattle.std.specs.Result.{result_err};
 ghost use Rattle.cf_types.specs.declared.limits.TheConstants.{CONNECTORS};
 ghost use Rattle.cf_types.specs.Forms.{IsForm, IsCaller, IsCapacity};
 ghost use Rattle.cf_types.specs.declared.shell_commands.ShellReply.TheVariants as replies;
@@ -10,7 +11,7 @@ ghost use Rattle.plex_shell.specs.Verdicts.{refused_or, doer_of, verdict, leaver
 
 use crate::connectivity::Connectivity;
 use crate::varied::VariedOff;
-use crate::verdicts::Verdict;
+use crate::verdicts::{Judged, Verdict};
 use cf_types::limits::CALLERS;
 use cf_types::{
     Caps, CfId, ConnId, ConnState, Letter, Listing, NoMemory, Refusal, ShellCmd, ShellReply,
@@ -275,11 +276,11 @@ fn copy_told(n: u32, room: &Room) -> (ShellReply, Deeds)
 }
 
 // Refused for a cause, or else done by who does it.
-fn refused_or(cause: Option<Refusal>, verdict: Verdict) -> Verdict
-    ensures { result ≡ refused_or cause verdict }
+fn refused_or(judged: Judged, verdict: Verdict) -> Verdict
+    ensures { result ≡ refused_or (result_err judged) verdict }
 {
-    match cause {
-        Some(refusal) => Verdict::Refuse(refusal),
-        None => verdict,
+    match judged {
+        Err(refusal) => Verdict::Refuse(refusal),
+        Ok(()) => verdict,
     }
 }

@@ -12,3 +12,6 @@ pub enum Verdict {
     /// It is a common command, for `Shell::act`.
     Act,
 }
+
+/// What judging a call comes to: why it is refused, if it is.
+pub(crate) type Judged = Result<(), Refusal>;
