@@ -17,7 +17,7 @@ use Rattle.cache_model.specs.Commands.Write as write
 use Rattle.cache_model.specs.Step.{cause, victims}
 use Rattle.cache_model.proofs.RoomLaws.{request_spared}
 use Rattle.cache_core.specs.declared.plans.Plan.{Plan}
-use Rattle.cache_core.specs.Plans.{body_of, plan_unless, plan_for, IsSpared, IsIndexed}
+use Rattle.cache_core.specs.Plans.{plan_unless, plan_for, IsSpared, IsIndexed}
 
 -- the plan that is taken is the one that was wanted
 pub plan_taken : (taken kept : Option Plan) (plan wanted : Plan) → taken ≡ kept → taken ≡ Some plan
@@ -28,14 +28,13 @@ pub record IsAccepted (vector : ℕ) (caps : Caps) (content : Content) (by : Con
     Type 0 where
   pub none : cause vector caps content by cmd ≡ None
   pub gone : plan.gone ≡ victims caps content.rows cmd
-  pub body : plan.body ≡ body_of cmd
 
 accepted_step : (vector : ℕ) (caps : Caps) (content : Content) (by : ConnId) (cmd : CacheCmd) (plan : Plan)
     (told : CacheReply) (o : Option Refusal)
     → cause vector caps content by cmd ≡ o → plan ≡ plan_unless o caps content by cmd → plan.reply ≡ Ok told
     → IsAccepted vector caps content by cmd plan
 accepted_step vector caps content by cmd plan told None e is h =
-    record { none = e; gone = ap (λ (p : Plan). p.gone) is; body = ap (λ (p : Plan). p.body) is }
+    record { none = e; gone = ap (λ (p : Plan). p.gone) is }
 accepted_step vector caps content by cmd plan told (Some refusal) e is h =
     let wrong : Ok told ≡ Err refusal = sym h ∙ ap (λ (p : Plan). p.reply) is in absurd (cc)
 

@@ -1,4 +1,4 @@
--- What is got ready for a command: its reply, the names of the rows that are reclaimed, and a copy of its data.
+-- What is got ready for a command: its reply, and the names of the rows that are reclaimed.
 use Rattle.std.specs.Prelude.{◌≡◌, ℕ, ◌<◌, false, List, [], Option, Some, None, Ok, Err}
 use Rattle.cf_types.specs.declared.forms.Caps.{Caps}
 use Rattle.cf_types.specs.declared.names.Name16.{Name16}
@@ -10,25 +10,11 @@ use Rattle.cache_core.specs.declared.plans.Plan.{Plan}
 use Rattle.cache_model.specs.Contents.{Content, is_among}
 use Rattle.cache_model.specs.Step.{cause, reply, victims}
 
--- the data that a command brings
-abbrev pub body_of : CacheCmd → Option (List ℕ)
-body_of (Read name index old stg) = None
-body_of (Write name index body class adj old stg when_reg) = Some body
-body_of (CrossInval name) = None
-body_of RegList = None
-body_of (Castout name) = None
-body_of (Unlock name) = None
-body_of (CoClass class) = None
-body_of CoStats = None
-body_of (DirInfo name) = None
-body_of (Delete name) = None
-body_of (StgStats stg) = None
-
 -- a refused command asks for nothing
 abbrev pub plan_unless : Option Refusal → Caps → Content → ConnId → CacheCmd → Plan
 plan_unless None caps content by cmd =
-    record { reply = Ok (reply content by cmd); gone = victims caps content.rows cmd; body = body_of cmd }
-plan_unless (Some refusal) caps content by cmd = record { reply = Err refusal; gone = []; body = None }
+    record { reply = Ok (reply content by cmd); gone = victims caps content.rows cmd }
+plan_unless (Some refusal) caps content by cmd = record { reply = Err refusal; gone = [] }
 
 abbrev pub plan_for : ℕ → Caps → Content → ConnId → CacheCmd → Plan
 plan_for vector caps content by cmd = plan_unless (cause vector caps content by cmd) caps content by cmd

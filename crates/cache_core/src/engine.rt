@@ -105,7 +105,7 @@ impl Engine for CacheEngine {
     fn empty(alloc: Global, form: &StrForm, caps: Caps) -> Result<Self, NoMemory> {
         // One place more than there are entries, since room for a command's row is taken before
         // other rows go.
-        let rows = Rows::new(alloc, caps.entries + 1)?;
+        let rows = Rows::new(alloc, caps.entries + 1, caps.elements)?;
         let regs = Regs::new(alloc, form.conns, form.vector)?;
         Ok(CacheEngine {
             alloc,
@@ -154,18 +154,10 @@ impl Engine for CacheEngine {
     ) -> Result<CacheReply, Refusal> {
         match self.plan.take() {
             Some(plan) => {
-                let Plan { reply, gone, body } = plan;
+                let Plan { reply, gone } = plan;
                 match reply {
                     Ok(reply) => {
-                        act(
-                            &mut self.rows,
-                            &mut self.regs,
-                            gone.items(),
-                            body,
-                            by,
-                            cmd,
-                            out,
-                        );
+                        act(&mut self.rows, &mut self.regs, gone.items(), by, cmd, out);
                         Ok(reply)
                     }
                     Err(refusal) => Err(refusal),

@@ -1,44 +1,37 @@
 //! What is got ready for a command, and what is done then.
 ghost use Rattle.std.specs.Prelude.{◌≡◌, ◌+◌, ◌^◌, ◌<◌, ◌≤◌, IfOk, length};
+ghost use Rattle.std.specs.Result.{result_err};
 ghost use Rattle.cf_types.specs.Forms.{IsCaller};
 ghost use Rattle.cf_types.specs.Gains.{Gains};
 ghost use Rattle.cache_regs.specs.Registrations.{stands};
 ghost use Rattle.cache_model.specs.Rows.{elements_in};
 ghost use Rattle.cache_model.specs.Step.{cause, reply, victims, after};
 
+use crate::commands::read::Read;
+use crate::commands::write::Write;
 use crate::commands::{
     castout, co_class, co_stats, cross_inval, delete, dir_info, read, reg_list, stg_stats, unlock,
     write,
 };
+use crate::refusals::Judged;
 use crate::room::victims;
 use cache_regs::Regs;
 use cache_rows::Rows;
-use cf_types::{
-    Body, CacheCmd, CacheReply, Caps, ConnId, Effects, Listing, Name16, NoMemory, Refusal,
-    copy_body,
-};
+use cf_types::{CacheCmd, CacheReply, Caps, ConnId, Effects, Listing, Name16, NoMemory, Refusal};
 use std::alloc::Global;
 
-/// What is got ready for a command: its reply, the names of the rows that are reclaimed for it, and
-/// a copy of its data.
+/// What is got ready for a command: its reply, and the names of the rows that are reclaimed for it.
 #[derive(Drop)]
 pub(crate) struct Plan {
     pub reply: Result<CacheReply, Refusal>,
     pub gone: Listing<Name16>,
-    pub body: Option<Body>,
 }
 
 // Why a command is refused.
-fn refusal(
-    vector: u32,
-    caps: Caps,
-    rows: &Rows,
-    regs: &Regs,
-    by: ConnId,
-    cmd: &CacheCmd,
-) -> Option<Refusal>
+fn refusal(vector: u32, caps: Caps, rows: &Rows, regs: &Regs, by: ConnId, cmd: &CacheCmd) -> Judged
     requires { elements_in rows.now.rows < 2 ^ 32 }
-    ensures { result ≡ cause vector caps (record { rows = rows.now.rows; regs = regs.now.regs }) by
+    ensures { result_err result
+        ≡ cause vector caps (record { rows = rows.now.rows; regs = regs.now.regs }) by
         cmd.now }
 {
     match cmd {
@@ -47,25 +40,43 @@ fn refusal(
             index,
             old,
             stg,
-        } => read::refusal(vector, caps, rows, regs, by, name, *index, *old, *stg),
+        } => {
+            let asked = Read {
+                name,
+                index: *index,
+                old: *old,
+                stg: *stg,
+            };
+            read::refusal(vector, caps, rows, regs, by, &asked)
+        }
         CacheCmd::Write {
             name,
             index,
             body,
             class,
-            adj: _,
+            adj,
             old,
             stg,
             when_reg,
-        } => write::refusal(
-            vector, caps, rows, regs, by, name, *index, body, *class, *old, *stg, *when_reg,
-        ),
+        } => {
+            let asked = Write {
+                name,
+                index: *index,
+                body,
+                class: *class,
+                adj: *adj,
+                old: *old,
+                stg: *stg,
+                when_reg: *when_reg,
+            };
+            write::refusal(vector, caps, rows, regs, by, &asked)
+        }
         CacheCmd::CrossInval { name } => cross_inval::refusal(rows, name),
-        CacheCmd::RegList => None,
+        CacheCmd::RegList => Ok(()),
         CacheCmd::Castout { name } => castout::refusal(rows, name),
         CacheCmd::Unlock { name } => unlock::refusal(rows, by, name),
         CacheCmd::CoClass { class } => co_class::refusal(*class),
-        CacheCmd::CoStats => None,
+        CacheCmd::CoStats => Ok(()),
         CacheCmd::DirInfo { name } => dir_info::refusal(rows, name),
         CacheCmd::Delete { name } => delete::refusal(rows, by, name),
         CacheCmd::StgStats { stg } => stg_stats::refusal(*stg),
@@ -117,18 +128,6 @@ fn gone(alloc: Global, caps: Caps, rows: &Rows, cmd: &CacheCmd) -> Result<Vec<Na
     }
 }
 
-// A copy of the data that a command brings.
-fn copied(alloc: Global, cmd: &CacheCmd) -> Result<Option<Body>, NoMemory>
-    ensures { IfOk result (λ body. body ≡ body_of cmd.now) }
-{
-    match cmd {
-        CacheCmd::Write { body, .. } => Ok(Some(copy_body(alloc, body)?)),
-        _ => Ok(None),
-    }
-}
-
-ghost use Rattle.cache_core.specs.Plans.{body_of};
-
 // What is got ready for a command that isn't refused.
 fn plan_done(
     alloc: Global,
@@ -145,11 +144,9 @@ fn plan_done(
 {
     let told = reply(alloc, rows, regs, by, cmd)?;
     let names = gone(alloc, caps, rows, cmd)?;
-    let body = copied(alloc, cmd)?;
     Ok(Plan {
         reply: Ok(told),
         gone: Listing::from_vec(names),
-        body,
     })
 }
 
@@ -172,22 +169,20 @@ pub(crate) fn make_plan(
         (record { rows = rows.now.rows; regs = regs.now.regs }) by cmd.now) }
 {
     match refusal(vector, caps, rows, regs, by, cmd) {
-        Some(refusal) => Ok(Plan {
+        Err(refusal) => Ok(Plan {
             reply: Err(refusal),
             gone: Listing::from_vec(Vec::new(alloc)),
-            body: None,
         }),
-        None => plan_done(alloc, caps, rows, regs, by, cmd),
+        Ok(()) => plan_done(alloc, caps, rows, regs, by, cmd),
     }
 }
 
-/// Does a command that isn't refused, where the rows of these names are reclaimed for it, and with
-/// a copy of its data.
+/// Does a command that isn't refused, where the rows of these names are reclaimed for it. It takes
+/// no memory.
 pub(crate) fn act(
     rows: &mut Rows,
     regs: &mut Regs,
     gone: &[Name16],
-    body: Option<Body>,
     by: ConnId,
     cmd: &CacheCmd,
     out: &mut Effects,
@@ -198,36 +193,54 @@ pub(crate) fn act(
     requires reg_room { 1 ≤ regs.old.room }
     requires bit_room { length regs.old.regs + 3 ≤ out.old.bits.room }
     requires spared { IsSpared gone.now cmd.now }
-    requires copied { body ≡ body_of cmd.now }
+    requires fits { elements_in (after gone.now
+        (record { rows = rows.old.rows; regs = regs.old.regs }) by cmd.now).rows
+        ≤ rows.old.elements }
     ensures content { record { rows = rows.new.rows; regs = regs.new.regs }
         ≡ after gone.now (record { rows = rows.old.rows; regs = regs.old.regs }) by cmd.now }
     ensures bits { Gains (stands regs.old.regs) (stands regs.new.regs) out.old.bits.items
         out.new.bits.items }
     ensures mail { out.new.mail ≡ out.old.mail }
     ensures len { regs.new.len ≡ regs.old.len }
+    ensures elements { rows.new.elements ≡ rows.old.elements }
 {
     match cmd {
         CacheCmd::Read {
             name,
             index,
+            old,
             stg,
-            ..
-        } => read::act(rows, regs, gone, by, name, *index, *stg, out),
+        } => {
+            let asked = Read {
+                name,
+                index: *index,
+                old: *old,
+                stg: *stg,
+            };
+            read::act(rows, regs, gone, by, &asked, out);
+        }
         CacheCmd::Write {
             name,
             index,
-            body: _,
+            body,
             class,
             adj,
-            old: _,
+            old,
             stg,
-            when_reg: _,
-        } => match body {
-            Some(body) => write::act(
-                rows, regs, gone, by, name, *index, body, *class, *adj, *stg, out,
-            ),
-            None => unreachable!(),
-        },
+            when_reg,
+        } => {
+            let asked = Write {
+                name,
+                index: *index,
+                body,
+                class: *class,
+                adj: *adj,
+                old: *old,
+                stg: *stg,
+                when_reg: *when_reg,
+            };
+            write::act(rows, regs, gone, by, &asked, out);
+        }
         CacheCmd::CrossInval { name } => cross_inval::act(regs, by, name, out),
         CacheCmd::RegList => {}
         CacheCmd::Castout { name } => castout::act(rows, by, name),

@@ -1,9 +1,11 @@
 //! Room for a request: which unchanged rows are reclaimed for it.
 ghost use Rattle.std.specs.Prelude.{◌≡◌, ◌^◌, ◌<◌, Some, IfOk, length, option_map};
+ghost use Rattle.std.specs.Result.{result_err};
 ghost use Rattle.cache_model.specs.Rows.{elements_in};
 ghost use Rattle.cache_model.specs.Room.{victims, room_refusal};
 ghost use Rattle.cache_core.specs.Measure.{room_for, has_place, free_elements, is_enough, reclaimable_of, other_than, victim_at, reclaimable_from, front_names};
 
+use crate::refusals::Judged;
 use cache_model::Request;
 use cache_rows::{Row, Rows};
 use cf_types::{Caps, Name16, NoMemory, Refusal};
@@ -69,22 +71,22 @@ impl Room {
 }
 
 /// Why there is no room for a request, even where every other unchanged row is reclaimed for it.
-pub(crate) fn room_refusal(caps: Caps, rows: &Rows, request: &Request) -> Option<Refusal>
+pub(crate) fn room_refusal(caps: Caps, rows: &Rows, request: &Request) -> Judged
     requires { elements_in rows.now.rows < 2 ^ 32 }
-    ensures { result ≡ room_refusal caps request.now rows.now.rows }
+    ensures { result_err result ≡ room_refusal caps request.now rows.now.rows }
 {
     let room = Room::measure(caps, rows, request);
     let count = rows.reclaimable_count(&request.name);
     if !room.has_place(count) {
-        return Some(Refusal::DirectoryFull {
+        return Err(Refusal::DirectoryFull {
             entries: caps.entries,
         });
     }
     let free = room.free_elements(rows.reclaimable_elements(&request.name));
     if request.elements <= free {
-        None
+        Ok(())
     } else {
-        Some(Refusal::NoElements {
+        Err(Refusal::NoElements {
             need: request.elements,
             free,
         })

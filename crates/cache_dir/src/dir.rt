@@ -4,11 +4,10 @@ ghost use Rattle.std.specs.Option.{option_copied};
 ghost use Rattle.std.specs.Cmp.Lexicographic.{pointwise};
 ghost use Rattle.indexmap.specs.IndexMap.{spare};
 ghost use Rattle.cf_types.specs.declared.names.Name16.{Name16};
-ghost use Rattle.cache_model.specs.Contents.{without_hold};
-ghost use Rattle.cache_dir.specs.RowMap.{row_at, Writes};
+ghost use Rattle.cache_dir.specs.RowMap.{row_at, let_go, Writes};
 
-use crate::copies::copy_row;
-use cache_model::CacheItem;
+use crate::row::DirRow;
+use cf_pool::Chain;
 use cf_types::limits::NAME_BYTES;
 use cf_types::{ConnId, Name16, NoMemory};
 use indexmap::IndexMap;
@@ -16,10 +15,10 @@ use std::alloc::{AllocError, Global};
 use std::marker::Model;
 
 /// The rows by the bytes of their names.
-type Rows = IndexMap<[u8; NAME_BYTES], CacheItem>;
+type Rows = IndexMap<[u8; NAME_BYTES], DirRow>;
 
 // Puts in the row of a name that has none, for which there is room.
-fn put(rows: &mut Rows, row: CacheItem)
+fn put(rows: &mut Rows, row: DirRow)
     requires alone { row_at rows.old.entries row.name ≡ None }
     requires room { 1 ≤ spare rows.old }
     ensures writes { Writes (row_at rows.old.entries) row.name (Some row)
@@ -28,12 +27,13 @@ fn put(rows: &mut Rows, row: CacheItem)
     ensures spare { spare rows.old ≤ spare rows.new + 1 }
 {
     let name = row.name;
+    let _adj = row.adj;
     let _ = rows.insert(name.0, row);
 }
 
 // Releases the castout lock of a row, where it is this connector's.
-fn release(row: &mut CacheItem, conn: ConnId)
-    ensures { row.new ≡ without_hold conn row.old }
+fn release(row: &mut DirRow, conn: ConnId)
+    ensures { row.new ≡ let_go conn row.old }
 {
     if let Some(holder) = row.holder
         && holder.conn == conn
@@ -45,7 +45,7 @@ fn release(row: &mut CacheItem, conn: ConnId)
 // Releases all castout locks of a connector.
 fn release_all(rows: &mut Rows, conn: ConnId)
     ensures released { (q : Name16) → row_at rows.new.entries q
-        ≡ option_map (without_hold conn) (row_at rows.old.entries q) }
+        ≡ option_map (let_go conn) (row_at rows.old.entries q) }
     ensures len { length rows.new.entries ≡ length rows.old.entries }
     ensures spare { spare rows.old ≤ spare rows.new }
 {
@@ -56,42 +56,60 @@ fn release_all(rows: &mut Rows, conn: ConnId)
 }
 
 // Puts in a row under a name that has none.
-fn add(rows: &mut Rows, name: [u8; NAME_BYTES], row: CacheItem) -> Result<(), AllocError>
+fn add(rows: &mut Rows, name: [u8; NAME_BYTES], row: DirRow) -> Result<(), AllocError>
     requires { lookup (pointwise nat_eq name) rows.old.entries ≡ None }
     ensures { OnOk result (rows.new.entries ≡ rows.old.entries ++ (name, row) ∷ []) }
 {
+    let _adj = row.adj;
     rows.insert(name, row)?;
     Ok(())
 }
 
-// Puts in a copy of a row under a name that has none.
-fn add_copy(
-    alloc: Global,
-    rows: &mut Rows,
-    name: [u8; NAME_BYTES],
-    row: &CacheItem,
-) -> Result<(), NoMemory>
+// The same chain in a copy of its pool, where there is one.
+fn chain_in_copy(stored: &Option<Chain>) -> Option<Chain>
+    ensures { result ≡ stored.now }
+{
+    match stored {
+        Some(chain) => Some(chain.in_copy()),
+        None => None,
+    }
+}
+
+// The same row in a copy of the directory.
+fn row_in_copy(row: &DirRow) -> DirRow
+    ensures { result ≡ row.now }
+{
+    DirRow {
+        name: row.name,
+        stored: chain_in_copy(&row.stored),
+        adj: row.adj,
+        class: row.class,
+        holder: row.holder,
+        stg: row.stg,
+    }
+}
+
+// Puts in the row that is the same in a copy of the directory, under a name that has none.
+fn add_copy(rows: &mut Rows, name: [u8; NAME_BYTES], row: &DirRow) -> Result<(), AllocError>
     requires { lookup (pointwise nat_eq name) rows.old.entries ≡ None }
     ensures { OnOk result (rows.new.entries ≡ rows.old.entries ++ (name, row.now) ∷ []) }
 {
-    let copy = copy_row(alloc, row)?;
-    add(rows, name, copy)?;
-    Ok(())
+    add(rows, name, row_in_copy(row))
 }
 
-// Copies of all rows under the same names.
+// The same rows under the same names.
 fn copied(alloc: Global, from: &Rows) -> Result<Rows, NoMemory>
     ensures { IfOk result (λ copy. copy.entries ≡ from.now.entries) }
 {
     let mut copy = IndexMap::new(alloc);
     for (name, row) in from.iter() {
-        add_copy(alloc, &mut copy, *name, row)?;
+        add_copy(&mut copy, *name, row)?;
     }
     Ok(copy)
 }
 
 /// The rows of a cache's directory by their names. Contracts see them in whatever order, and for
-/// how many more there is room.
+/// how many more there is room. The chains of their data lie in a pool beside it.
 #[derive(Drop)]
 pub struct Dir {
     rows: Rows,
@@ -116,7 +134,7 @@ impl Dir {
         Ok(Dir { rows })
     }
 
-    /// The same rows once more, with their data. Only want of memory is refused.
+    /// The same rows once more, for a copy of the pool. Only want of memory is refused.
     pub fn copy(&self, alloc: Global) -> Result<Dir, NoMemory>
         ensures { IfOk result (λ copy. copy.entries ≡ self.now.entries) }
     {
@@ -132,7 +150,7 @@ impl Dir {
     }
 
     /// The row of a name, if there is one.
-    pub fn find(&self, name: &Name16) -> Option<&CacheItem>
+    pub fn find(&self, name: &Name16) -> Option<&DirRow>
         ensures { option_copied result ≡ row_at self.now.entries name.now }
     {
         self.rows.get(&name.0)
@@ -149,7 +167,7 @@ impl Dir {
     }
 
     /// Puts in the row of a name that has none, where there is room for it. It takes no memory.
-    pub fn put(&mut self, row: CacheItem)
+    pub fn put(&mut self, row: DirRow)
         requires alone { row_at self.old.entries row.name ≡ None }
         requires room { 1 ≤ self.old.room }
         ensures writes { Writes (row_at self.old.entries) row.name (Some row)
@@ -161,7 +179,7 @@ impl Dir {
     }
 
     /// Takes out the row of a name, if there is one. There is as much room as before at least.
-    pub fn take(&mut self, name: &Name16) -> Option<CacheItem>
+    pub fn take(&mut self, name: &Name16) -> Option<DirRow>
         ensures row { result ≡ row_at self.old.entries name.now }
         ensures writes { Writes (row_at self.old.entries) name.now None
             (row_at self.new.entries) }
@@ -175,7 +193,7 @@ impl Dir {
     /// Releases all castout locks of a connector; the rows stay otherwise the same.
     pub fn release(&mut self, conn: ConnId)
         ensures released { (q : Name16) → row_at self.new.entries q
-            ≡ option_map (without_hold conn) (row_at self.old.entries q) }
+            ≡ option_map (let_go conn) (row_at self.old.entries q) }
         ensures len { length self.new.entries ≡ length self.old.entries }
         ensures kept { self.old.room ≤ self.new.room }
     {

@@ -1,9 +1,9 @@
 //! The directory of a cache: its rows by name, in a map, so that a row is found as fast among many
-//! as among few.
+//! as among few. What data a row has lie in a pool of elements, and the row has their chain.
 #![tactic(auto)]
 
-mod copies;
 mod dir;
+mod row;
 
-pub use copies::copy_row;
 pub use dir::Dir;
+pub use row::DirRow;

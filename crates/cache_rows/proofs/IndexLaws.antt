@@ -1,15 +1,15 @@
 -- The indexes stay those of the rows.
-use Rattle.std.proofs.Common.{◌≡◌, ℕ, ◌+◌, ◌≤◌, Bool, true, false, not, ◌&&◌, ◌||◌, cond, List, [], ◌∷◌, ◌++◌, append-nil, Option, Some, None, is_some, unwrap_or, length, filter, map, drop, get_or, refl, sym, ap, ◌∙◌, arith}
+use Rattle.std.proofs.Common.{◌≡◌, ℕ, ◌≤◌, Bool, true, false, not, ◌&&◌, ◌||◌, cond, List, [], ◌∷◌, ◌++◌, append-nil, Option, Some, None, is_some, unwrap_or, filter, map, refl, sym, ap, ◌∙◌, arith}
 use Rattle.std.specs.List.{list_all}
 use Rattle.std.proofs.lemmas.Bool.{and_parts, or_left, or_right, false≢true}
-use Rattle.std.proofs.lemmas.List.{map-append, drop_more, drop_all}
-use Rattle.std.proofs.lemmas.List.Elements.{filter_agree, filter-append}
+use Rattle.std.proofs.lemmas.List.{map-append}
+use Rattle.std.proofs.lemmas.List.Elements.{filter-append}
 use Rattle.cf_types.specs.declared.names.Name16.{Name16}
 use Rattle.cf_types.specs.declared.numbers.ConnId.{ConnId}
 use Rattle.cf_types.specs.Name.{same_name, name_before}
 use Rattle.list_laws.specs.Pairwise.{pairwise}
 use Rattle.list_laws.specs.Insertions.{insertion}
-use Rattle.list_laws.proofs.FilterLaws.{filter-filter, filter_swap, filter_none, filter_all, none_from_all, list_all_weaker, list_all_always}
+use Rattle.list_laws.proofs.FilterLaws.{filter_swap, filter_none, none_from_all, list_all_weaker, list_all_always}
 use Rattle.list_laws.proofs.InsertionLaws.{filter-insertion_out}
 use Rattle.list_laws.proofs.PairwiseLaws.{FindsPlace, pairwise-insertion, pairwise_push}
 use Rattle.cache_classes.specs.declared.changed.Changed.{Changed}
@@ -18,10 +18,10 @@ use Rattle.cache_classes.specs.Castout.{names_without, names_with, names_set, ro
 use Rattle.cache_reclaim.specs.declared.used.Used.{Used}
 use Rattle.cache_reclaim.specs.LastUse as last_use
 use Rattle.cache_reclaim.specs.LastUse.{order_without, order_touched}
-use Rattle.cache_regs.proofs.NameLaws.{same_name-refl, same_name-sym}
+use Rattle.cache_regs.proofs.NameLaws.{same_name-refl}
 use Rattle.cache_model.specs.declared.items.CacheItem.{CacheItem}
 use Rattle.cache_model.specs.Rows.{is_row_of, is_changed, has_row, rows_without, stands_before, rows_with, may_precede, names_apart}
-use Rattle.cache_model.specs.Contents.{without_hold, is_among, rows_spared}
+use Rattle.cache_model.specs.Contents.{without_hold}
 use Rattle.cache_model.proofs.RowLaws.{without-absent}
 use Rattle.cache_model.proofs.EngineLaws.{alone-next}
 use Rattle.cache_rows.specs.Indexes.{is_unchanged, changed_of, classes_of, used_of, order_of, order_with, changed_first}
@@ -241,36 +241,6 @@ without-last row rows h =
     own : (b : Bool) → b ≡ true → cond (not b) (row ∷ []) [] ≡ []
     own true e = refl
     own false e = absurd (false≢true e)
-
--- ---- the rows of several names go
-
-test_step : (a b c : Bool) → a ≡ b → not a && not c ≡ not (b || c)
-test_step true b c e = rw (← e) refl
-test_step false b c e = rw (← e) refl
-
-spared-cons : (name : Name16) (names : List Name16) (rows : List CacheItem)
-    → rows_spared names (rows_without name rows) ≡ rows_spared (name ∷ names) rows
-spared-cons name names rows =
-    filter-filter (λ (row : CacheItem). not (is_among names row.name))
-    (λ (row : CacheItem). not (is_row_of name row)) rows
-    ∙ filter_agree (λ (row : CacheItem). not (is_row_of name row) && not (is_among names row.name))
-    (λ (row : CacheItem). not (is_among (name ∷ names) row.name))
-    (λ row. test_step (same_name row.name name) (same_name name row.name) (is_among names row.name)
-    (same_name-sym row.name name)) rows
-
-pub spared-more : (names : List Name16) (rows all : List CacheItem) (i : ℕ) (d : Name16) → i + 1 ≤ length names
-    → rows_spared (drop i names) rows ≡ all
-    → rows_spared (drop (i + 1) names) (rows_without (get_or names i d) rows) ≡ all
-spared-more names rows all i d lt h =
-    spared-cons (get_or names i d) (drop (i + 1) names) rows
-    ∙ ap (λ (l : List Name16). rows_spared l rows) (sym (drop_more names i d (omega arith))) ∙ h
-
-pub spared-all : (names : List Name16) (rows all : List CacheItem) (i : ℕ) → length names ≤ i
-    → rows_spared (drop i names) rows ≡ all → rows ≡ all
-spared-all names rows all i le h =
-    sym (filter_all (λ (row : CacheItem). not (is_among [] row.name)) rows
-    (list_all_always (λ (row : CacheItem). not (is_among [] row.name)) (λ row. refl) rows))
-    ∙ ap (λ (l : List Name16). rows_spared l rows) (sym (drop_all i names le)) ∙ h
 
 -- ---- how many
 

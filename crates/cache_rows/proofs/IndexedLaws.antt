@@ -26,11 +26,13 @@ use Rattle.cache_reclaim.specs.LastUse as last_use
 use Rattle.cache_reclaim.proofs.LastUseLaws.{slice_get-front, slice_get-behind}
 use Rattle.cache_regs.proofs.NameLaws.{same_name-eq, same_name-refl, same_name-sym}
 use Rattle.cache_model.specs.declared.items.CacheItem.{CacheItem}
-use Rattle.cache_model.specs.Rows.{is_row_of, is_changed, row_of, has_row, rows_without, stands_before, rows_with, new_row, names_apart, has_storage}
+use Rattle.cache_model.specs.Rows.{is_row_of, is_changed, row_of, has_row, rows_without, stands_before, rows_with, rows_replaced, new_row, names_apart, has_storage}
 use Rattle.cache_model.specs.Contents.{without_hold}
 use Rattle.cache_model.proofs.RowLaws.{name_of, apart-with, alone-without}
 use Rattle.cache_rows.specs.Indexes.{is_unchanged, changed_of, used_of, order_with, changed_first}
-use Rattle.cache_rows.specs.Listed.{row_or, changed_in, unchanged_in, rows_in, IsIndexed, counts_at}
+use Rattle.cache_rows.specs.declared.label.Label.{Label}
+use Rattle.cache_rows.specs.Stored.{item_with, body_of}
+use Rattle.cache_rows.specs.Listed.{row_or, changed_in, unchanged_in, rows_in, IsIndexed, counts_at, relabeled}
 use Rattle.cache_rows.proofs.IndexLaws.{filter-map, map_same, unchanged_behind, classes-without, order-without, classes-put, order-put, front-put, classes-released, order-released}
 use Rattle.cache_rows.proofs.LookupLaws.{AreFound}
 
@@ -106,9 +108,6 @@ module _ (rows : List CacheItem) (at : Name16 → Option CacheItem) (names : Lis
   pub missing : (name : Name16) → None ≡ at name → has_row name rows ≡ false
   missing name e = any_is_found (is_row_of name) rows ∙ ap is_some (sym (e ∙ is.found name))
 
-  pub unfound : (name : Name16) → has_row name rows ≡ false → at name ≡ None
-  unfound name e = is.found name ∙ find_none (is_row_of name) rows e
-
   -- the names stand in the order of the rows
   names_listed : map name_of rows ≡ castout.names_in names ++ last_use.names_in used
   names_listed =
@@ -156,6 +155,12 @@ module _ (rows : List CacheItem) (at : Name16 → Option CacheItem) (names : Lis
       let long : length names ≡ length (filter is_changed rows) =
       ap (λ (l : List Changed). length l) is.classed ∙ length-map (filter is_changed rows) changed_of in
       omega (arith, long, length-filter-le is_changed rows)
+
+  pub fewer_unchanged : length used ≤ length rows
+  fewer_unchanged =
+      let long : length used ≡ length (filter is_unchanged rows) =
+      ap (λ (l : List Used). length l) is.ordered ∙ length-map (filter is_unchanged rows) used_of in
+      omega (arith, long, length-filter-le is_unchanged rows)
 
   -- the name of the last row, where none is unchanged
   pub last_in_front : (n : ℕ) (name : Option Name16) → n ≡ length rows → 0 < n → n ≤ length names
@@ -317,6 +322,41 @@ come rows at next names names' used used' row is alone writes e f =
       found = λ q. writes q ∙ ap (λ o. cond (same_name row.name q) (Some row) o) (is.found q)
           ∙ sym (with_found q row rows alone);
     }
+
+-- ---- a row is put in place of the one of its name
+
+row_twice : (b : Bool) (row : CacheItem) (o : Option CacheItem)
+    → cond b (Some row) o ≡ cond b (Some row) (cond b None o)
+row_twice true row o = refl
+row_twice false row o = refl
+
+pub replaced : (rows : List CacheItem) (at next : Name16 → Option CacheItem) (names left names' : List Changed)
+    (used rest used' : List Used) (row : CacheItem)
+    → IsIndexed rows at names used → Writes at row.name (Some row) next
+    → left ≡ names_without row.name names → rest ≡ order_without row.name used
+    → names' ≡ names_set row.name row.class left → used' ≡ order_with row rest
+    → IsIndexed (rows_replaced row rows) next names' used'
+replaced rows at next names left names' used rest used' row is writes e f g h =
+    come (rows_without row.name rows) middle next left names' rest used' row
+    (taken rows at middle names left used rest row.name is (λ q. refl) e f)
+    (alone-without row.name row.name rows refl)
+    (λ q. writes q ∙ row_twice (same_name row.name q) row (at q)) g h
+  where
+    middle : Name16 → Option CacheItem
+    middle q = cond (same_name row.name q) None (at q)
+
+pub relabeled_in : (rows : List CacheItem) (at next : Name16 → Option CacheItem) (names left names' : List Changed)
+    (used rest used' : List Used) (label : Label)
+    → IsIndexed rows at names used → Writes at label.name (Some (item_with label (body_of (at label.name)))) next
+    → left ≡ names_without label.name names → rest ≡ order_without label.name used
+    → names' ≡ names_set label.name label.class left → used' ≡ order_with (item_with label None) rest
+    → IsIndexed (rows_replaced (relabeled label rows) rows) next names' used'
+relabeled_in rows at next names left names' used rest used' label is writes e f g h =
+    replaced rows at next names left names' used rest used' (relabeled label rows) is
+    (λ q. writes q
+    ∙ ap (λ (o : Option CacheItem). cond (same_name label.name q) (Some (item_with label (body_of o))) (at q))
+    (is.found label.name))
+    e f g h
 
 -- ---- castout locks are released
 

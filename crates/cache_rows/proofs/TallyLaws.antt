@@ -21,7 +21,7 @@ use Rattle.cache_model.specs.Contents.{without_hold}
 use Rattle.cache_model.proofs.RowLaws.{name_of, size, without-absent}
 use Rattle.cache_rows.specs.declared.tally.Tally.{Tally}
 use Rattle.cache_rows.specs.Indexes.{is_unchanged}
-use Rattle.cache_rows.specs.Tallies.{one_unchanged, elements_unchanged, is_small, tally_with, IsTally, CanGrow, CanShrink}
+use Rattle.cache_rows.specs.Tallies.{one_unchanged, elements_unchanged, is_small, tally_of, tally_with, IsTally, CanGrow, CanShrink}
 
 -- ---- sums of a row more, and of a row less
 
@@ -98,20 +98,10 @@ tally_less tally after name row rows is apart h e =
       small = list_all-filter is_small (λ r. not (is_row_of name r)) rows is.small;
     }
 
-pub tally_left : (tally after : Tally) (name : Name16) (row : CacheItem) (rows left : List CacheItem)
-    → IsTally tally rows → pairwise names_apart rows ≡ true → Some row ≡ row_of name rows
-    → tally_with row after ≡ tally → left ≡ rows_without name rows → IsTally after left
-tally_left tally after name row rows left is apart h e f =
-    subst (λ l. IsTally after l) (sym f) (tally_less tally after name row rows is apart (sym h) e)
-
 pub tally_come : (tally after : Tally) (row : CacheItem) (rows left : List CacheItem) → IsTally tally rows
     → after ≡ tally_with row tally → is_small row ≡ true → left ≡ rows_with row rows → IsTally after left
 tally_come tally after row rows left is e small f =
     subst (λ l. IsTally after l) (sym f) (tally_more tally after row rows is e small)
-
-pub tally_same : (tally : Tally) (name : Name16) (rows after : List CacheItem) → IsTally tally rows
-    → row_of name rows ≡ None → after ≡ rows_without name rows → IsTally tally after
-tally_same tally name rows after is h e = subst (λ l. IsTally tally l) (sym (e ∙ none_less name rows h)) is
 
 pub tally_released : (tally : Tally) (conn : ConnId) (rows : List CacheItem) → IsTally tally rows
     → IsTally tally (map (without_hold conn) rows)
@@ -167,7 +157,8 @@ can_grow tally rows is few =
     }
 
 pub can_shrink : (tally : Tally) (name : Name16) (rows : List CacheItem) (row : CacheItem) → IsTally tally rows
-    → pairwise names_apart rows ≡ true → row_of name rows ≡ Some row → CanShrink row tally
+    → pairwise names_apart rows ≡ true → row_of name rows ≡ Some row
+    → CanShrink row.class (elements_of row.body) tally
 can_shrink tally name rows row is apart h =
     record {
       rows = omega (arith, is.rows, long_less name rows row apart h);
@@ -175,6 +166,29 @@ can_shrink tally name rows row is apart h =
       unchanged = omega (arith, is.unchanged, sum_less one_unchanged name rows row apart h);
       reclaimable = omega (arith, is.reclaimable, sum_less elements_unchanged name rows row apart h);
     }
+
+-- ---- the tally without the row of a name
+
+-- a row goes that was looked at
+module _ (tally after : Tally) (name : Name16) (row : CacheItem) (rows : List CacheItem) (class : Option ℕ) (n : ℕ)
+    (is : IsTally tally rows) (apart : pairwise names_apart rows ≡ true) (found : Some row ≡ row_of name rows)
+    (classed : class ≡ row.class) (sized : n ≡ elements_of row.body) where
+  seen : (t : Tally) → tally_of class n t ≡ tally_with row t
+  seen t = λ j. tally_of (classed j) (sized j) t
+
+  pub shrinks : CanShrink class n tally
+  shrinks =
+      subst (λ (k : ℕ). CanShrink class k tally) (sym sized)
+      (subst (λ (o : Option ℕ). CanShrink o (elements_of row.body) tally) (sym classed)
+      (can_shrink tally name rows row is apart (sym found)))
+
+  pub counted_out : tally_of class n after ≡ tally → IsTally after (rows_without name rows)
+  counted_out e = tally_less tally after name row rows is apart (sym found) (sym (seen after) ∙ e)
+
+pub counted_none : (tally : Tally) (name : Name16) (rows : List CacheItem) → IsTally tally rows
+    → None ≡ row_of name rows → IsTally tally (rows_without name rows)
+counted_none tally name rows is h =
+    subst (λ l. IsTally tally l) (sym (none_less name rows (sym h))) is
 
 -- ---- what may be reclaimed
 

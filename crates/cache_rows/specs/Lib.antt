@@ -1,4 +1,6 @@
 pub mod Indexes
+pub mod Stored
+pub mod StoreView
 pub mod Listed
 pub mod Tallies
 pub mod RowBatch

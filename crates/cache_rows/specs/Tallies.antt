@@ -1,29 +1,37 @@
 -- What is counted of rows.
-use Rattle.std.specs.Prelude.{◌≡◌, ℕ, ◌+◌, ◌≤◌, ◌<◌, Bool, IsTrue, nat_le, is_none, if◌then◌else◌, List, length, sum_by}
+use Rattle.std.specs.Prelude.{◌≡◌, ℕ, ◌+◌, ◌≤◌, ◌<◌, Bool, IsTrue, nat_le, is_none, if◌then◌else◌, List, Option, length, sum_by}
 use Rattle.std.specs.List.{list_all}
 use Rattle.cache_model.specs.declared.items.CacheItem.{CacheItem}
 use Rattle.cache_model.specs.Rows.{elements_of, elements_in}
 use Rattle.cache_rows.specs.declared.tally.Tally.{Tally}
 
+-- a number where there is no castout class
+abbrev pub unless_changed : Option ℕ → ℕ → ℕ
+unless_changed class number = if is_none class then number else 0
+
 -- what an unchanged row counts: one, and the elements of its data
 abbrev pub one_unchanged : CacheItem → ℕ
-one_unchanged row = if is_none row.class then 1 else 0
+one_unchanged row = unless_changed row.class 1
 
 abbrev pub elements_unchanged : CacheItem → ℕ
-elements_unchanged row = if is_none row.class then elements_of row.body else 0
+elements_unchanged row = unless_changed row.class (elements_of row.body)
 
 -- the data of a row take 16 elements at most
 abbrev pub is_small : CacheItem → Bool
 is_small row = nat_le (elements_of row.body) 16
 
-abbrev pub tally_with : CacheItem → Tally → Tally
-tally_with row tally =
+-- a row more, of this castout class and with so many elements
+abbrev pub tally_of : Option ℕ → ℕ → Tally → Tally
+tally_of class elements tally =
     record {
       rows = tally.rows + 1;
-      elements = tally.elements + elements_of row.body;
-      unchanged = tally.unchanged + one_unchanged row;
-      reclaimable = tally.reclaimable + elements_unchanged row;
+      elements = tally.elements + elements;
+      unchanged = tally.unchanged + unless_changed class 1;
+      reclaimable = tally.reclaimable + unless_changed class elements;
     }
+
+abbrev pub tally_with : CacheItem → Tally → Tally
+tally_with row tally = tally_of row.class (elements_of row.body) tally
 
 pub record IsTally (tally : Tally) (all : List CacheItem) : Type 0 where
   pub rows : tally.rows ≡ length all
@@ -39,9 +47,9 @@ pub record CanGrow (tally : Tally) : Type 0 where
   pub unchanged : tally.unchanged ≤ tally.rows
   pub reclaimable : tally.reclaimable ≤ tally.elements
 
--- a row is counted in them
-pub record CanShrink (row : CacheItem) (tally : Tally) : Type 0 where
+-- a row of this castout class and with so many elements is counted in them
+pub record CanShrink (class : Option ℕ) (taken : ℕ) (tally : Tally) : Type 0 where
   pub rows : 1 ≤ tally.rows
-  pub elements : elements_of row.body ≤ tally.elements
-  pub unchanged : one_unchanged row ≤ tally.unchanged
-  pub reclaimable : elements_unchanged row ≤ tally.reclaimable
+  pub elements : taken ≤ tally.elements
+  pub unchanged : unless_changed class 1 ≤ tally.unchanged
+  pub reclaimable : unless_changed class taken ≤ tally.reclaimable

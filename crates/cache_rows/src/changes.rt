@@ -1,67 +1,82 @@
 //! What commands do to the row of a name.
-ghost use Rattle.std.specs.Prelude.{◌≡◌, ◌≤◌};
-ghost use Rattle.cache_model.specs.Rows.{row_or_new, rows_without, rows_replaced};
+ghost use Rattle.std.specs.Prelude.{◌≡◌, ◌≤◌, [], ◌∷◌, Some};
+ghost use Rattle.cache_model.specs.Rows.{elements_in, row_or_new, rows_replaced};
 ghost use Rattle.cache_model.specs.Contents.{rows_spared};
 ghost use Rattle.cache_model.specs.Commands.Write as write;
 ghost use Rattle.cache_model.specs.Commands.Castout as castout;
 ghost use Rattle.cache_model.specs.Commands.Unlock as unlock;
+ghost use Rattle.cache_rows.specs.Listed.{rows_but};
+ghost use Rattle.cache_rows.specs.Stored.{label_of, label_written, label_unlocked};
 
-use crate::row::is_rewritten;
+use crate::label::{Label, is_rewritten};
 use crate::rows::Rows;
-use cache_model::{CacheItem, Holder};
+use cache_model::Holder;
 use cf_types::{Adjunct, Body, ConnId, Name16};
 
-// A row with new data, adjunct and class; where it is held it is rewritten.
-fn row_with(row: CacheItem, body: Body, class: Option<u32>, adj: Option<Adjunct>) -> CacheItem
-    ensures { result ≡ write.row_with body class adj row }
+// With new class and adjunct; where the row is held it is rewritten.
+fn written(label: Label, class: Option<u32>, adj: Option<Adjunct>) -> Label
+    ensures { result ≡ label_written class adj label }
 {
-    CacheItem {
-        body: Some(body),
+    Label {
         adj,
         class,
-        holder: row.holder.map(|holder| Holder {
+        holder: label.holder.map(|holder| Holder {
             rewritten: true,
             ..holder
         }),
-        ..row
+        ..label
     }
 }
 
-// A row that is held no more: unchanged, unless it was written.
-fn row_without_hold(row: CacheItem) -> CacheItem
-    ensures { result ≡ unlock.row_without_hold row }
+// Of a row that is held no more: unchanged, unless it was written.
+fn unlocked(label: Label) -> Label
+    ensures { result ≡ label_unlocked label }
 {
-    let class = if is_rewritten(row.holder) {
-        row.class
+    let class = if is_rewritten(label.holder) {
+        label.class
     } else {
         None
     };
-    CacheItem {
+    Label {
         class,
         holder: None,
-        ..row
+        ..label
     }
 }
 
 impl Rows {
-    // Takes out the row of a name, or makes one: unchanged, without data, of this storage class.
-    fn take_or_new(&mut self, name: &Name16, stg: u32) -> CacheItem
-        ensures row { result ≡ row_or_new name.now stg self.old.rows }
+    // What the directory says of a name: that of its row, or of a new one of this storage class.
+    fn label_or_new(&self, name: &Name16, stg: u32) -> Label
+        ensures label { result ≡ label_of (row_or_new name.now stg self.now.rows) }
         ensures named { result.name ≡ name.now }
-        ensures rest { self.new.rows ≡ rows_without name.now self.old.rows }
+    {
+        match self.row(name) {
+            Some(row) => row.label(),
+            None => Label::new(name, stg),
+        }
+    }
+
+    // Ends the row of a name, unless that is the one that is spared.
+    fn end_other(&mut self, name: &Name16, spared: &Name16)
+        ensures rows { self.new.rows ≡ rows_but spared.now (name.now ∷ []) self.old.rows }
         ensures room { self.old.room ≤ self.new.room }
         ensures entries { self.new.entries ≡ self.old.entries }
+        ensures elements { self.new.elements ≡ self.old.elements }
     {
-        match self.take(name) {
-            Some(row) => row,
-            None => CacheItem {
-                name: *name,
-                body: None,
-                adj: None,
-                class: None,
-                holder: None,
-                stg,
-            },
+        if *name != *spared {
+            self.remove(name);
+        }
+    }
+
+    // Ends the rows of these names, but for that of the one that is spared.
+    fn end_others(&mut self, names: &[Name16], spared: &Name16)
+        ensures rows { self.new.rows ≡ rows_but spared.now names.now self.old.rows }
+        ensures room { self.old.room ≤ self.new.room }
+        ensures entries { self.new.entries ≡ self.old.entries }
+        ensures elements { self.new.elements ≡ self.old.elements }
+    {
+        for name in names {
+            self.end_other(name, spared);
         }
     }
 
@@ -73,33 +88,39 @@ impl Rows {
             ≡ rows_replaced (row_or_new name.now stg self.old.rows)
             (rows_spared gone.now self.old.rows) }
         ensures entries { self.new.entries ≡ self.old.entries }
+        ensures elements { self.new.elements ≡ self.old.elements }
     {
-        let row = self.take_or_new(name, stg);
-        self.end_named(gone);
-        self.put(row);
+        let label = self.label_or_new(name, stg);
+        self.end_others(gone, name);
+        self.set(&label);
     }
 
     /// Ends the rows of the names that are gone. The row of a name, or a new one of this storage
-    /// class, takes data, adjunct and class; where it is held it is rewritten.
+    /// class, takes data, adjunct and class; where it is held it is rewritten. There are elements
+    /// for the data once the rows that are gone and the name's own data have given back theirs.
     pub fn write(
         &mut self,
         gone: &[Name16],
         name: &Name16,
-        body: Body,
+        body: &Body,
         class: Option<u32>,
         adj: Option<Adjunct>,
         stg: u32,
     )
-        requires { 1 ≤ self.old.room }
+        requires room { 1 ≤ self.old.room }
+        requires fits { elements_in (rows_replaced
+            (write.row_with body.now class adj (row_or_new name.now stg self.old.rows))
+            (rows_spared gone.now self.old.rows)) ≤ self.old.elements }
         ensures rows { self.new.rows
-            ≡ rows_replaced (write.row_with body class adj (row_or_new name.now stg self.old.rows))
-            (rows_spared gone.now self.old.rows) }
+            ≡ rows_replaced (write.row_with body.now class adj
+            (row_or_new name.now stg self.old.rows)) (rows_spared gone.now self.old.rows) }
         ensures entries { self.new.entries ≡ self.old.entries }
+        ensures elements { self.new.elements ≡ self.old.elements }
     {
-        let old = self.take_or_new(name, stg);
-        let row = row_with(old, body, class, adj);
-        self.end_named(gone);
-        self.put(row);
+        let old = self.label_or_new(name, stg);
+        let label = written(old, class, adj);
+        self.end_others(gone, name);
+        self.store(&label, body);
     }
 
     /// A connector holds the castout lock of a row from now on.
@@ -109,14 +130,15 @@ impl Rows {
             ≡ rows_replaced (castout.row_with_hold by (row_or_new name.now 1 self.old.rows))
             self.old.rows }
         ensures entries { self.new.entries ≡ self.old.entries }
+        ensures elements { self.new.elements ≡ self.old.elements }
     {
-        let row = self.take_or_new(name, 1);
-        self.put(CacheItem {
+        let label = self.label_or_new(name, 1);
+        self.set(&Label {
             holder: Some(Holder {
                 conn: by,
                 rewritten: false,
             }),
-            ..row
+            ..label
         });
     }
 
@@ -128,18 +150,10 @@ impl Rows {
             ≡ rows_replaced (unlock.row_without_hold (row_or_new name.now 1 self.old.rows))
             self.old.rows }
         ensures entries { self.new.entries ≡ self.old.entries }
+        ensures elements { self.new.elements ≡ self.old.elements }
     {
-        let old = self.take_or_new(name, 1);
-        let row = row_without_hold(old);
-        self.put(row);
-    }
-
-    /// Ends the row of a name, if there is one.
-    pub fn remove(&mut self, name: &Name16)
-        ensures rows { self.new.rows ≡ rows_without name.now self.old.rows }
-        ensures room { self.old.room ≤ self.new.room }
-        ensures entries { self.new.entries ≡ self.old.entries }
-    {
-        let _ = self.take(name);
+        let old = self.label_or_new(name, 1);
+        let label = unlocked(old);
+        self.set(&label);
     }
 }

@@ -2,40 +2,43 @@
 //! others.
 ghost use Rattle.std.specs.Prelude.{◌≡◌, ◌+◌, ◌-◌, ◌^◌, ◌<◌, ◌≤◌, ◌&&◌, [], IsTrue, IfOk, OnOk, Some, None, true, false, filter, length, map, option_map, option_to_list, slice_get};
 ghost use Rattle.list_laws.specs.Pairwise.{pairwise};
-ghost use Rattle.cf_types.specs.declared.names.Name16.{Name16};
+ghost use Rattle.cf_types.specs.Stored.{elements_of};
 ghost use Rattle.cache_classes.specs.declared.changed.Changed.{Changed};
 ghost use Rattle.cache_classes.specs.Castout.{names_set, names_without};
 ghost use Rattle.cache_reclaim.specs.LastUse.{order_without};
 ghost use Rattle.cache_dir.specs.RowMap.{row_at};
 ghost use Rattle.cache_model.specs.declared.items.CacheItem.{CacheItem};
-ghost use Rattle.cache_model.specs.Rows.{is_changed, row_of, has_row, rows_without, rows_with, names_apart, has_class, has_storage};
+ghost use Rattle.cache_model.specs.Rows.{is_changed, row_of, has_row, rows_without, rows_replaced, names_apart, has_class, has_storage};
 ghost use Rattle.cache_model.specs.Contents.{without_hold};
 ghost use Rattle.cache_model.specs.Commands.CoStats.{rows_of_class};
 ghost use Rattle.cache_rows.specs.Indexes.{order_with, reclaimed_for};
-ghost use Rattle.cache_rows.specs.Listed.{row_or, counts_at};
+ghost use Rattle.cache_rows.specs.Listed.{row_or, counts_at, relabeled};
+ghost use Rattle.cache_rows.specs.Stored.{item_with, elements_of_row};
 
+use crate::label::Label;
 use crate::row::Row;
+use crate::store::Store;
 use cache_classes::Classes;
-use cache_dir::{Dir, copy_row};
 use cache_model::CacheItem;
 use cache_reclaim::Order;
-use cf_types::{ConnId, Name16, NoMemory};
+use cf_types::{Body, ConnId, Name16, NoMemory};
 use std::alloc::Global;
 use std::marker::Model;
 
 // Puts a row into the indexes: a changed one under its castout class, and an unchanged one as the
 // most recently used.
-fn index_row(classes: &mut Classes, order: &mut Order, row: &CacheItem)
+fn index_row(classes: &mut Classes, order: &mut Order, label: &Label)
     requires class_room { 1 ≤ classes.old.room }
     requires order_room { 1 ≤ order.old.room }
     requires place { length order.old.order < order.old.entries }
-    ensures classes { classes.new.names ≡ names_set row.now.name row.now.class classes.old.names }
-    ensures order { order.new.order ≡ order_with row.now order.old.order }
+    ensures classes { classes.new.names
+        ≡ names_set label.now.name label.now.class classes.old.names }
+    ensures order { order.new.order ≡ order_with (item_with label.now None) order.old.order }
     ensures entries { order.new.entries ≡ order.old.entries }
 {
-    classes.set(row.name, row.class);
-    if row.class.is_none() {
-        order.touch(row.name, row.stg);
+    classes.set(label.name, label.class);
+    if label.class.is_none() {
+        order.touch(label.name, label.stg);
     }
 }
 
@@ -46,51 +49,48 @@ fn unindex(classes: &mut Classes, order: &mut Order, name: &Name16)
     ensures order { order.new.order ≡ order_without name.now order.old.order }
     ensures order_room { order.old.room ≤ order.new.room }
     ensures entries { order.new.entries ≡ order.old.entries }
+    ensures fewer { length order.new.order ≤ length order.old.order }
 {
     classes.set(*name, None);
     order.remove(name);
 }
 
-// The row of a name where it lies.
-fn row_in<'a>(dir: &'a Dir, name: &Name16) -> Option<Row<'a>>
-    ensures { result ≡ row_at dir.now.entries name.now }
-{
-    match dir.find(name) {
-        Some(row) => Some(Row::of(row)),
-        None => None,
-    }
-}
-
 // The storage class of the row of a name.
-fn storage_of(dir: &Dir, name: &Name16) -> u32
-    ensures { result ≡ (row_or (row_at dir.now.entries) name.now).stg }
+fn storage_of(store: &Store, name: &Name16) -> u32
+    ensures { result ≡ (row_or (row_at store.now.entries) name.now).stg }
 {
-    match row_in(dir, name) {
+    match store.find(name) {
         Some(row) => row.stg(),
         None => 1,
     }
 }
 
 // Whether the changed row at a place of its index is of a storage class, as a number.
-fn counts_at(dir: &Dir, classes: &Classes, stg: u32, k: usize) -> u32
-    ensures count { result ≡ counts_at stg (row_at dir.now.entries) classes.now.entries k }
+fn counts_at(store: &Store, classes: &Classes, stg: u32, k: usize) -> u32
+    ensures count { result ≡ counts_at stg (row_at store.now.entries) classes.now.entries k }
     ensures one { result ≤ 1 }
 {
     match classes.name_at(k) {
-        Some(name) => { if storage_of(dir, &name) == stg { 1 } else { 0 } }
+        Some(name) => {
+            if storage_of(store, &name) == stg {
+                1
+            } else {
+                0
+            }
+        }
         None => 0,
     }
 }
 
 // How many changed rows are of a storage class.
-fn count_changed(dir: &Dir, classes: &Classes, stg: u32) -> u32
+fn count_changed(store: &Store, classes: &Classes, stg: u32) -> u32
     requires { length classes.now.names < 2 ^ 32 }
     ensures { result ≡ length (filter (λ (changed : Changed). has_storage stg
-        (row_or (row_at dir.now.entries) changed.name)) classes.now.names) }
+        (row_or (row_at store.now.entries) changed.name)) classes.now.names) }
 {
     let mut count = 0;
     for k in 0..classes.len() {
-        count += counts_at(dir, classes, stg, k);
+        count += counts_at(store, classes, stg, k);
     }
     count
 }
@@ -102,11 +102,12 @@ fn nth(names: &[Name16], k: usize) -> Option<Name16>
     names.get(k).copied()
 }
 
-/// The rows of a directory, found by name. Contracts see them in order, the changed ones first, for
-/// how many more there is room, and how many unchanged ones there may be.
+/// The rows of a directory with their data, found by name. Contracts see them in order, the changed
+/// ones first, for how many more there is room, how many unchanged ones there may be, and how many
+/// elements are free.
 #[derive(Drop)]
 pub(crate) struct Directory {
-    dir: Dir,
+    store: Store,
     classes: Classes,
     order: Order,
 }
@@ -122,16 +123,17 @@ impl Model for Directory {
 }
 
 impl Directory {
-    /// No rows.
-    pub(crate) fn new(alloc: Global, entries: u32) -> Result<Directory, NoMemory>
+    /// No rows, with so many free elements.
+    pub(crate) fn new(alloc: Global, entries: u32, elements: u32) -> Result<Directory, NoMemory>
         ensures rows { IfOk result (λ directory. directory.rows ≡ []) }
         ensures entries { IfOk result (λ directory. directory.entries ≡ entries) }
+        ensures free { IfOk result (λ directory. directory.free ≡ elements) }
     {
-        let dir = Dir::new(alloc, entries)?;
+        let store = Store::new(alloc, entries, elements)?;
         let classes = Classes::new(alloc)?;
         let order = Order::new(alloc, entries)?;
         Ok(Directory {
-            dir,
+            store,
             classes,
             order,
         })
@@ -141,15 +143,23 @@ impl Directory {
     pub(crate) fn copy(&self, alloc: Global) -> Result<Directory, NoMemory>
         ensures rows { IfOk result (λ copy. copy.rows ≡ self.now.rows) }
         ensures entries { IfOk result (λ copy. copy.entries ≡ self.now.entries) }
+        ensures free { IfOk result (λ copy. copy.free ≡ self.now.free) }
     {
-        let dir = self.dir.copy(alloc)?;
+        let store = self.store.copy(alloc)?;
         let classes = self.classes.copy(alloc)?;
         let order = self.order.copy(alloc)?;
         Ok(Directory {
-            dir,
+            store,
             classes,
             order,
         })
+    }
+
+    /// How many elements are free.
+    pub(crate) fn free(&self) -> u32
+        ensures { result ≡ self.now.free }
+    {
+        self.store.free()
     }
 
     /// The row of a name, if there is one.
@@ -157,7 +167,7 @@ impl Directory {
         ensures row { result ≡ row_of name.now self.now.rows }
         ensures apart { IsTrue (pairwise names_apart self.now.rows) }
     {
-        row_in(&self.dir, name)
+        self.store.find(name)
     }
 
     /// The name of the last of so many rows, of which there is one at least.
@@ -202,8 +212,8 @@ impl Directory {
         requires { has_row name.now self.now.rows ≡ true }
         ensures { IfOk result (λ item. row_of name.now self.now.rows ≡ Some item) }
     {
-        match self.dir.find(name) {
-            Some(row) => copy_row(alloc, row),
+        match self.store.find(name) {
+            Some(row) => row.item(alloc),
             None => unreachable!(),
         }
     }
@@ -229,7 +239,7 @@ impl Directory {
         ensures { result
             ≡ length (filter (λ row. has_storage stg row && is_changed row) self.now.rows) }
     {
-        count_changed(&self.dir, &self.classes, stg)
+        count_changed(&self.store, &self.classes, stg)
     }
 
     /// How many unchanged rows a storage class (1 to 8) has.
@@ -245,7 +255,7 @@ impl Directory {
         ensures { result ≡ slice_get (reclaimed_for stg self.now.rows) k }
     {
         match self.order.victim(stg, k) {
-            Some(name) => row_in(&self.dir, &name),
+            Some(name) => self.store.find(&name),
             None => None,
         }
     }
@@ -255,34 +265,55 @@ impl Directory {
         ensures room { OnOk result (1 ≤ self.new.room) }
         ensures rows { self.new.rows ≡ self.old.rows }
         ensures entries { self.new.entries ≡ self.old.entries }
+        ensures free { self.new.free ≡ self.old.free }
     {
-        self.dir.room()?;
+        self.store.room()?;
         self.classes.room()?;
         self.order.room()
     }
 
-    /// Takes out the row of a name, if there is one. There is as much room as before at least.
-    pub(crate) fn take(&mut self, name: &Name16) -> Option<CacheItem>
-        ensures row { result ≡ row_of name.now self.old.rows }
+    /// Ends the row of a name, if there is one. There is as much room as before at least.
+    pub(crate) fn end(&mut self, name: &Name16)
         ensures rest { self.new.rows ≡ rows_without name.now self.old.rows }
         ensures room { self.old.room ≤ self.new.room }
         ensures entries { self.new.entries ≡ self.old.entries }
-        ensures apart { IsTrue (pairwise names_apart self.old.rows) }
+        ensures free { self.new.free ≡ self.old.free
+            + elements_of_row (row_of name.now self.old.rows) }
     {
         unindex(&mut self.classes, &mut self.order, name);
-        self.dir.take(name)
+        self.store.end(name);
     }
 
-    /// Puts a row in its place, where there is room for it and no row has its name.
-    pub(crate) fn put(&mut self, row: CacheItem)
+    /// Puts in the row of a name, in its place, with the data that the name has.
+    pub(crate) fn set(&mut self, label: &Label)
         requires room { 1 ≤ self.old.room }
         requires few { length self.old.rows < self.old.entries }
-        requires alone { has_row row.name self.old.rows ≡ false }
-        ensures rows { self.new.rows ≡ rows_with row self.old.rows }
+        ensures rows { self.new.rows
+            ≡ rows_replaced (relabeled label.now self.old.rows) self.old.rows }
         ensures entries { self.new.entries ≡ self.old.entries }
+        ensures free { self.new.free ≡ self.old.free }
     {
-        index_row(&mut self.classes, &mut self.order, &row);
-        self.dir.put(row);
+        unindex(&mut self.classes, &mut self.order, &label.name);
+        index_row(&mut self.classes, &mut self.order, label);
+        self.store.set(label);
+    }
+
+    /// Puts in the row of a name, in its place, with these data; the elements of the name's own
+    /// data count as free.
+    pub(crate) fn write(&mut self, label: &Label, body: &Body)
+        requires room { 1 ≤ self.old.room }
+        requires few { length self.old.rows < self.old.entries }
+        requires fits { elements_of (Some body.now) ≤ self.old.free
+            + elements_of_row (row_of label.now.name self.old.rows) }
+        ensures rows { self.new.rows
+            ≡ rows_replaced (item_with label.now (Some body.now)) self.old.rows }
+        ensures entries { self.new.entries ≡ self.old.entries }
+        ensures free { self.new.free + elements_of (Some body.now) ≡ self.old.free
+            + elements_of_row (row_of label.now.name self.old.rows) }
+    {
+        unindex(&mut self.classes, &mut self.order, &label.name);
+        index_row(&mut self.classes, &mut self.order, label);
+        self.store.write(label, body);
     }
 
     /// Releases all castout locks of a connector; the rows stay otherwise the same.
@@ -290,7 +321,8 @@ impl Directory {
         ensures rows { self.new.rows ≡ map (without_hold conn) self.old.rows }
         ensures room { self.old.room ≤ self.new.room }
         ensures entries { self.new.entries ≡ self.old.entries }
+        ensures free { self.new.free ≡ self.old.free }
     {
-        self.dir.release(conn);
+        self.store.release(conn);
     }
 }

@@ -2,32 +2,42 @@
 ghost use Rattle.std.specs.Prelude.{◌≡◌, ◌≤◌, IfOk};
 ghost use Rattle.cache_model.specs.Rows.{elements_of};
 ghost use Rattle.cache_model.specs.Commands.Unlock.{is_rewritten};
+ghost use Rattle.cache_rows.specs.Stored.{label_of, item_in, HasData};
 
+use crate::data::{elements_at, read};
+use crate::label::{Label, is_rewritten};
+use cache_dir::DirRow;
 use cache_model::{CacheItem, Holder};
-use cf_types::{Adjunct, Body, Name16, NoMemory, copy_data, elements_of};
+use cf_pool::Pool;
+use cf_types::{Adjunct, Body, Name16, NoMemory};
 use std::alloc::Global;
 use std::marker::Model;
 
-/// A row of the directory, which tells of itself. Contracts see it as the row.
+/// A row of the directory, which tells of itself. Contracts see it as the row with its data.
 #[derive(Drop)]
 pub struct Row<'a> {
-    row: &'a CacheItem,
+    row: &'a DirRow,
+    pool: &'a Pool,
 }
 
 impl<'a> Model for Row<'a> {
     ghost use Rattle.cache_model.specs.declared.items.CacheItem.{CacheItem};
+    ghost use Rattle.cache_rows.specs.Stored.{item_in, HasData};
 
     ghost Value = { CacheItem };
 
-    ghost view = { λ row. row.row.now };
+    ghost view = { λ row. item_in row.pool.now.chains row.row.now };
+
+    ghost invariant = { λ row. HasData row.pool.now.chains row.row.now.stored };
 }
 
 impl<'a> Row<'a> {
-    /// A row that lies there.
-    pub(crate) fn of(row: &'a CacheItem) -> Row<'a>
-        ensures { result ≡ row.now }
+    /// A row that lies there, with its data in this pool.
+    pub(crate) fn of(row: &'a DirRow, pool: &'a Pool) -> Row<'a>
+        requires { HasData pool.now.chains row.now.stored }
+        ensures { result ≡ item_in pool.now.chains row.now }
     {
-        Row { row }
+        Row { row, pool }
     }
 
     /// Its name.
@@ -72,28 +82,46 @@ impl<'a> Row<'a> {
         self.row.stg
     }
 
+    /// All but its data.
+    pub(crate) fn label(&self) -> Label
+        ensures { result ≡ label_of self.now }
+    {
+        Label {
+            name: self.row.name,
+            adj: self.row.adj,
+            class: self.row.class,
+            holder: self.row.holder,
+            stg: self.row.stg,
+        }
+    }
+
     /// How many elements of 256 bytes its data take: none where it has no data.
     pub fn elements(&self) -> u32
         ensures elements { result ≡ elements_of self.now.body }
         ensures few { result ≤ 16 }
     {
-        elements_of(&self.row.body)
+        elements_at(self.pool, &self.row.stored)
     }
 
     /// A copy of its data, where it has some. Only want of memory is refused.
     pub fn body(&self, alloc: Global) -> Result<Option<Body>, NoMemory>
         ensures { IfOk result (λ body. body ≡ self.now.body) }
     {
-        copy_data(alloc, &self.row.body)
+        read(alloc, self.pool, &self.row.stored)
     }
-}
 
-/// Whether a held row was written.
-pub(crate) fn is_rewritten(holder: Option<Holder>) -> bool
-    ensures { result ≡ is_rewritten holder }
-{
-    match holder {
-        Some(holder) => holder.rewritten,
-        None => false,
+    /// A copy of it, with its data. Only want of memory is refused.
+    pub(crate) fn item(&self, alloc: Global) -> Result<CacheItem, NoMemory>
+        ensures { IfOk result (λ item. item ≡ self.now) }
+    {
+        let body = self.body(alloc)?;
+        Ok(CacheItem {
+            name: self.row.name,
+            body,
+            adj: self.row.adj,
+            class: self.row.class,
+            holder: self.row.holder,
+            stg: self.row.stg,
+        })
     }
 }

@@ -1,66 +1,134 @@
-ghost use Rattle.std.specs.Prelude.{◌≡◌, ◌-◌, ◌^◌, ◌<◌, ◌≤◌, ◌&&◌, ◌++◌, ◌∷◌, [], IsTrue, IfOk, IfErr, OnOk, OnErr, Some, false, true, map, filter, length, option_map, slice_get, take};
+ghost use Rattle.std.specs.Prelude.{◌≡◌, ◌+◌, ◌-◌, ◌^◌, ◌<◌, ◌≤◌, ◌&&◌, ◌++◌, ◌∷◌, [], IsTrue, IfOk, IfErr, OnOk, OnErr, Some, false, true, if◌then◌else◌, map, filter, length, option_map, slice_get, take};
 ghost use Rattle.std.specs.List.{list_all};
-ghost use Rattle.cache_model.specs.Rows.{is_changed, elements_in, row_of, has_row, rows_without, rows_with, may_precede, names_apart, has_class, has_storage};
+ghost use Rattle.cache_model.specs.Rows.{is_changed, elements_of, elements_in, row_of, has_row, rows_without, rows_with, rows_replaced, may_precede, names_apart, has_class, has_storage};
 ghost use Rattle.list_laws.specs.Pairwise.{pairwise};
 ghost use Rattle.cache_model.specs.Room.{is_reclaimable};
 ghost use Rattle.cache_model.specs.Commands.CoStats.{rows_of_class};
 ghost use Rattle.cache_model.specs.declared.items.CacheItem.{CacheItem};
 ghost use Rattle.cache_rows.specs.Indexes.{reclaimed_for};
+ghost use Rattle.cache_rows.specs.Listed.{relabeled};
+ghost use Rattle.cache_rows.specs.Stored.{item_with, elements_of_row};
 ghost use Rattle.cache_rows.specs.Tallies.{IsTally};
-ghost use Rattle.cache_model.specs.Contents.{rows_spared, without_hold};
+ghost use Rattle.cache_model.specs.Contents.{without_hold};
 
 use crate::directory::Directory;
+use crate::label::Label;
 use crate::row::Row;
 use crate::tally::{Tally, unless_changed};
 use cache_model::CacheItem;
-use cf_types::{ConnId, Name16, NoMemory};
+use cf_types::{Body, ConnId, Name16, NoMemory, elements_of};
 use std::alloc::Global;
 use std::marker::Model;
 
-// Takes out the row of a name, if there is one.
-fn take_out(directory: &mut Directory, tally: &mut Tally, name: &Name16) -> Option<CacheItem>
+// Takes the row of a name, if there is one, out of the tally; answers how many elements its data
+// take.
+fn count_out(directory: &Directory, tally: &mut Tally, name: &Name16) -> u32
+    requires { IsTally tally.old directory.now.rows }
+    ensures counted { IsTally tally.new (rows_without name.now directory.now.rows) }
+    ensures taken { result ≡ elements_of_row (row_of name.now directory.now.rows) }
+    ensures few { result ≤ 16 }
+    ensures elements { tally.new.elements + result ≡ tally.old.elements }
+    ensures fewer { tally.new.rows ≤ tally.old.rows }
+{
+    match directory.row(name) {
+        Some(row) => {
+            let elements = row.elements();
+            tally.subtract(row.class(), elements);
+            elements
+        }
+        None => 0,
+    }
+}
+
+// Ends the row of a name, if there is one.
+fn end_row(directory: &mut Directory, tally: &mut Tally, name: &Name16)
     requires { IsTally tally.old directory.old.rows }
     ensures counted { IsTally tally.new directory.new.rows }
-    ensures row { result ≡ row_of name.now directory.old.rows }
     ensures rest { directory.new.rows ≡ rows_without name.now directory.old.rows }
     ensures room { directory.old.room ≤ directory.new.room }
     ensures fewer { tally.new.rows ≤ tally.old.rows }
     ensures entries { directory.new.entries ≡ directory.old.entries }
+    ensures all { directory.new.free + tally.new.elements
+        ≡ directory.old.free + tally.old.elements }
 {
-    match directory.take(name) {
-        Some(row) => {
-            tally.subtract(&row);
-            Some(row)
-        }
-        None => None,
-    }
+    let _ = count_out(directory, tally, name);
+    directory.end(name);
 }
 
-// Puts a row in its place.
-fn put_in(directory: &mut Directory, tally: &mut Tally, row: CacheItem)
+// Puts in the row of a name, in its place, with the data that the name has.
+fn set_row(directory: &mut Directory, tally: &mut Tally, label: &Label)
     requires counted { IsTally tally.old directory.old.rows }
     requires room { 1 ≤ directory.old.room }
     requires few { tally.old.rows < directory.old.entries }
     requires less { tally.old.rows < 4294967295 }
-    requires alone { has_row row.name directory.old.rows ≡ false }
     ensures counted { IsTally tally.new directory.new.rows }
-    ensures rows { directory.new.rows ≡ rows_with row directory.old.rows }
+    ensures rows { directory.new.rows
+        ≡ rows_replaced (relabeled label.now directory.old.rows) directory.old.rows }
     ensures entries { directory.new.entries ≡ directory.old.entries }
+    ensures all { directory.new.free + tally.new.elements
+        ≡ directory.old.free + tally.old.elements }
 {
-    tally.add(&row);
-    directory.put(row);
+    let elements = count_out(directory, tally, &label.name);
+    directory.set(label);
+    tally.add(label.class, elements);
+}
+
+// Puts in the row of a name, in its place, with these data; there are elements for them once the
+// name's own are given back.
+fn write_row(directory: &mut Directory, tally: &mut Tally, label: &Label, body: &Body)
+    requires counted { IsTally tally.old directory.old.rows }
+    requires room { 1 ≤ directory.old.room }
+    requires few { tally.old.rows < directory.old.entries }
+    requires less { tally.old.rows < 4294967295 }
+    requires fits { elements_of (Some body.now)
+        + elements_in (rows_without label.now.name directory.old.rows)
+        ≤ directory.old.free + tally.old.elements }
+    ensures counted { IsTally tally.new directory.new.rows }
+    ensures rows { directory.new.rows
+        ≡ rows_replaced (item_with label.now (Some body.now)) directory.old.rows }
+    ensures entries { directory.new.entries ≡ directory.old.entries }
+    ensures all { directory.new.free + tally.new.elements
+        ≡ directory.old.free + tally.old.elements }
+{
+    let _ = count_out(directory, tally, &label.name);
+    directory.write(label, body);
+    tally.add(label.class, body.elements());
+}
+
+// Puts in a row whose name has none, where as many elements as its data take are free.
+fn put_in(directory: &mut Directory, tally: &mut Tally, row: &CacheItem)
+    requires counted { IsTally tally.old directory.old.rows }
+    requires room { 1 ≤ directory.old.room }
+    requires few { tally.old.rows < directory.old.entries }
+    requires less { tally.old.rows < 4294967295 }
+    requires alone { has_row row.now.name directory.old.rows ≡ false }
+    requires fits { elements_of row.now.body ≤ directory.old.free }
+    ensures counted { IsTally tally.new directory.new.rows }
+    ensures rows { directory.new.rows ≡ rows_with row.now directory.old.rows }
+    ensures entries { directory.new.entries ≡ directory.old.entries }
+    ensures all { directory.new.free + tally.new.elements
+        ≡ directory.old.free + tally.old.elements }
+{
+    let label = Label::of(row);
+    match &row.body {
+        Some(body) => write_row(directory, tally, &label, body),
+        None => set_row(directory, tally, &label),
+    }
 }
 
 /// The rows of a directory, one at most for a name, the changed ones first, with room for more.
-/// Contracts see the list of them, for how many more there is room, and how many there may be.
+/// Contracts see the list of them, for how many more there is room, how many there may be, and how
+/// many elements their data may take.
 ///
-/// A row is found by its name in a map. Beside it stand two indexes, the castout classes of the
-/// changed rows and the order in which the unchanged ones were last used, and a tally of all.
+/// A row is found by its name in a map, and its data lie in a pool. Beside these stand two indexes,
+/// the castout classes of the changed rows and the order in which the unchanged ones were last
+/// used, and a tally of all.
 #[derive(Drop)]
 pub struct Rows {
     directory: Directory,
     tally: Tally,
     entries: u32,
+    elements: u32,
 }
 
 impl Model for Rows {
@@ -74,17 +142,20 @@ impl Model for Rows {
 }
 
 impl Rows {
-    /// No rows; later there may be `entries` of them at most. The map of rows and the slots of the
-    /// order of last use have places for all of them from now on. Only want of memory is refused.
-    pub fn new(alloc: Global, entries: u32) -> Result<Rows, NoMemory>
+    /// No rows; later there may be `entries` of them at most, whose data may take `elements`. The
+    /// map of rows and the slots of the order of last use have places for all of them from now on,
+    /// and the elements are there. Only want of memory is refused.
+    pub fn new(alloc: Global, entries: u32, elements: u32) -> Result<Rows, NoMemory>
         ensures rows { IfOk result (λ rows. rows.rows ≡ []) }
         ensures entries { IfOk result (λ rows. rows.entries ≡ entries) }
+        ensures elements { IfOk result (λ rows. rows.elements ≡ elements) }
     {
-        let directory = Directory::new(alloc, entries)?;
+        let directory = Directory::new(alloc, entries, elements)?;
         Ok(Rows {
             directory,
             tally: Tally::new(),
             entries,
+            elements,
         })
     }
 
@@ -92,12 +163,14 @@ impl Rows {
     pub fn copy(&self, alloc: Global) -> Result<Rows, NoMemory>
         ensures rows { IfOk result (λ copy. copy.rows ≡ self.now.rows) }
         ensures entries { IfOk result (λ copy. copy.entries ≡ self.now.entries) }
+        ensures elements { IfOk result (λ copy. copy.elements ≡ self.now.elements) }
     {
         let directory = self.directory.copy(alloc)?;
         Ok(Rows {
             directory,
             tally: self.tally,
             entries: self.entries,
+            elements: self.elements,
         })
     }
 
@@ -245,6 +318,7 @@ impl Rows {
         ensures few { OnOk result (length self.old.rows < self.old.entries) }
         ensures rows { self.new.rows ≡ self.old.rows }
         ensures entries { self.new.entries ≡ self.old.entries }
+        ensures elements { self.new.elements ≡ self.old.elements }
     {
         if self.tally.rows >= self.entries {
             return Err(NoMemory);
@@ -252,50 +326,70 @@ impl Rows {
         self.directory.reserve()
     }
 
-    /// Takes out the row of a name, if there is one. There is as much room as before at least.
-    pub(crate) fn take(&mut self, name: &Name16) -> Option<CacheItem>
-        ensures row { result ≡ row_of name.now self.old.rows }
-        ensures rest { self.new.rows ≡ rows_without name.now self.old.rows }
+    /// Ends the row of a name, if there is one, and gives its elements back. There is as much room
+    /// as before at least.
+    pub fn remove(&mut self, name: &Name16)
+        ensures rows { self.new.rows ≡ rows_without name.now self.old.rows }
         ensures room { self.old.room ≤ self.new.room }
         ensures entries { self.new.entries ≡ self.old.entries }
+        ensures elements { self.new.elements ≡ self.old.elements }
     {
-        take_out(&mut self.directory, &mut self.tally, name)
+        end_row(&mut self.directory, &mut self.tally, name);
     }
 
-    /// Puts a row in its place, where there is room for it and no row has its name: a changed one
+    /// Puts in the row of a name, in its place, with the data that the name has: a changed one
     /// among the changed ones by name, an unchanged one last, as the most recently used.
-    pub(crate) fn put(&mut self, row: CacheItem)
-        requires room { 1 ≤ self.old.room }
-        requires alone { has_row row.name self.old.rows ≡ false }
-        ensures rows { self.new.rows ≡ rows_with row self.old.rows }
+    pub(crate) fn set(&mut self, label: &Label)
+        requires { 1 ≤ self.old.room }
+        ensures rows { self.new.rows
+            ≡ rows_replaced (relabeled label.now self.old.rows) self.old.rows }
         ensures entries { self.new.entries ≡ self.old.entries }
+        ensures elements { self.new.elements ≡ self.old.elements }
     {
-        put_in(&mut self.directory, &mut self.tally, row);
+        set_row(&mut self.directory, &mut self.tally, label);
     }
 
-    /// Ends the rows of these names; a name without a row changes nothing. There is as much room as
-    /// before at least.
-    pub fn end_named(&mut self, names: &[Name16])
-        ensures rows { self.new.rows ≡ rows_spared names.now self.old.rows }
-        ensures room { self.old.room ≤ self.new.room }
+    /// The same with these data in place of the name's own.
+    pub(crate) fn store(&mut self, label: &Label, body: &Body)
+        requires room { 1 ≤ self.old.room }
+        requires fits { elements_in (rows_replaced (item_with label.now (Some body.now))
+            self.old.rows) ≤ self.old.elements }
+        ensures rows { self.new.rows
+            ≡ rows_replaced (item_with label.now (Some body.now)) self.old.rows }
         ensures entries { self.new.entries ≡ self.old.entries }
+        ensures elements { self.new.elements ≡ self.old.elements }
     {
-        for name in names {
-            let _ = self.take(name);
-        }
+        write_row(&mut self.directory, &mut self.tally, label, body);
     }
 
     /// Releases all castout locks of a connector; the rows stay otherwise the same.
     pub fn release(&mut self, conn: ConnId)
         ensures rows { self.new.rows ≡ map (without_hold conn) self.old.rows }
         ensures entries { self.new.entries ≡ self.old.entries }
+        ensures elements { self.new.elements ≡ self.old.elements }
     {
         self.directory.release(conn);
     }
 
+    // Puts in a row whose name has none, if there are elements for its data.
+    fn put(&mut self, row: &CacheItem) -> bool
+        requires room { 1 ≤ self.old.room }
+        requires alone { has_row row.now.name self.old.rows ≡ false }
+        ensures rows { self.new.rows
+            ≡ (if result then rows_with row.now self.old.rows else self.old.rows) }
+        ensures entries { self.new.entries ≡ self.old.entries }
+        ensures elements { self.new.elements ≡ self.old.elements }
+    {
+        if elements_of(&row.body) > self.directory.free() {
+            return false;
+        }
+        put_in(&mut self.directory, &mut self.tally, row);
+        true
+    }
+
     /// Puts a row behind the others, where it has its place; no row has its name. Where there are
-    /// as many rows as there may be, and for want of memory, the row is handed back, and the others
-    /// stay the same.
+    /// as many rows as there may be, or too few elements for its data, and for want of memory, the
+    /// row is handed back, and the others stay the same.
     pub fn push(&mut self, row: CacheItem) -> Result<(), CacheItem>
         requires alone { has_row row.name self.old.rows ≡ false }
         requires last { IsTrue (list_all (λ other. may_precede other row) self.old.rows) }
@@ -303,13 +397,11 @@ impl Rows {
         ensures err { OnErr result (self.new.rows ≡ self.old.rows) }
         ensures few { OnOk result (length self.old.rows < self.old.entries) }
         ensures entries { self.new.entries ≡ self.old.entries }
+        ensures elements { self.new.elements ≡ self.old.elements }
         ensures handed_back { IfErr result (λ back. back ≡ row) }
     {
         match self.reserve() {
-            Ok(()) => {
-                self.put(row);
-                Ok(())
-            }
+            Ok(()) => { if self.put(&row) { Ok(()) } else { Err(row) } }
             Err(_) => Err(row),
         }
     }
@@ -329,11 +421,10 @@ impl Rows {
         requires { 0 < length self.old.rows }
         ensures rows { self.new.rows ≡ take (length self.old.rows - 1) self.old.rows }
         ensures entries { self.new.entries ≡ self.old.entries }
+        ensures elements { self.new.elements ≡ self.old.elements }
     {
         match self.last_name() {
-            Some(name) => {
-                let _ = self.take(&name);
-            }
+            Some(name) => self.remove(&name),
             None => unreachable!(),
         }
     }

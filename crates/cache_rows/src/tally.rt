@@ -1,9 +1,6 @@
 //! What is counted of rows as they come and go, so that no command passes over all of them.
-ghost use Rattle.std.specs.Prelude.{◌≡◌, IsTrue, is_none, if◌then◌else◌};
-ghost use Rattle.cache_rows.specs.Tallies.{tally_with, is_small, CanGrow, CanShrink};
-
-use cache_model::CacheItem;
-use cf_types::elements_of;
+ghost use Rattle.std.specs.Prelude.{◌≡◌, ◌≤◌, is_none, if◌then◌else◌};
+ghost use Rattle.cache_rows.specs.Tallies.{tally_of, CanGrow, CanShrink};
 
 /// How many rows there are and how many elements their data take; and the same of those that are
 /// unchanged.
@@ -38,28 +35,26 @@ impl Tally {
         }
     }
 
-    /// A row comes.
-    pub(crate) fn add(&mut self, row: &CacheItem)
-        requires { CanGrow self.old }
-        ensures with { self.new ≡ tally_with row.now self.old }
-        ensures small { IsTrue (is_small row.now) }
+    /// A row of this castout class comes, with data that take so many elements.
+    pub(crate) fn add(&mut self, class: Option<u32>, elements: u32)
+        requires room { CanGrow self.old }
+        requires few { elements ≤ 16 }
+        ensures { self.new ≡ tally_of class elements self.old }
     {
-        let elements = elements_of(&row.body);
         self.rows += 1;
         self.elements += elements as u64;
-        self.unchanged += unless_changed(row.class, 1);
-        self.reclaimable += unless_changed(row.class, elements) as u64;
+        self.unchanged += unless_changed(class, 1);
+        self.reclaimable += unless_changed(class, elements) as u64;
     }
 
-    /// A row goes.
-    pub(crate) fn subtract(&mut self, row: &CacheItem)
-        requires { CanShrink row.now self.old }
-        ensures { tally_with row.now self.new ≡ self.old }
+    /// A row of this castout class goes, with data that take so many elements.
+    pub(crate) fn subtract(&mut self, class: Option<u32>, elements: u32)
+        requires { CanShrink class elements self.old }
+        ensures { tally_of class elements self.new ≡ self.old }
     {
-        let elements = elements_of(&row.body);
         self.rows -= 1;
         self.elements -= elements as u64;
-        self.unchanged -= unless_changed(row.class, 1);
-        self.reclaimable -= unless_changed(row.class, elements) as u64;
+        self.unchanged -= unless_changed(class, 1);
+        self.reclaimable -= unless_changed(class, elements) as u64;
     }
 }

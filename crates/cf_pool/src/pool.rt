@@ -53,6 +53,22 @@ impl Pool {
         })
     }
 
+    /// The same chains once more, in a region of their own. Only want of memory is refused.
+    pub fn copy(&self, alloc: Global) -> Result<Pool, NoMemory>
+        ensures { IfOk result (λ copy. copy ≡ self.now) }
+    {
+        let cells = Vec::from_slice(alloc, self.cells.as_slice())?;
+        let next = Vec::from_slice(alloc, self.next.as_slice())?;
+        let lens = Vec::from_slice(alloc, self.lens.as_slice())?;
+        Ok(Pool {
+            cells,
+            next,
+            lens,
+            head: self.head,
+            free: self.free,
+        })
+    }
+
     /// How many elements are free.
     pub fn free(&self) -> u32
         ensures free { result ≡ self.now.free }
@@ -110,6 +126,23 @@ impl Pool {
         );
         self.head = head;
         self.free += need;
+    }
+
+    /// How many elements a chain has.
+    pub fn need(&self, chain: &Chain) -> u32
+        requires { IsChain self.now.chains chain.now.head }
+        ensures need { result ≡ need_in self.now.chains chain.now.head }
+        ensures few { result ≤ 16 }
+    {
+        let len = len_at(
+            &self.cells,
+            &self.next,
+            &self.lens,
+            self.head,
+            self.free,
+            chain.head,
+        );
+        need_of(len as usize)
     }
 
     /// The bytes of a chain.

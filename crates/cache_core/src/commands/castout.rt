@@ -1,22 +1,22 @@
 //! CASTOUT_DATA of IXLCACHE: the caller holds a changed row, and gets its data.
 ghost use Rattle.std.specs.Prelude.{◌≡◌, ◌≤◌, IfOk};
+ghost use Rattle.std.specs.Result.{result_err};
 ghost use Rattle.engine_api.specs.Meaning.{first_refusal};
 ghost use Rattle.cache_model.specs.Rows.{row_or_new, rows_replaced};
 ghost use Rattle.cache_model.specs.Commands.Castout as castout;
 
-use crate::refusals::{entry_refusal, first_refusal, held_refusal, unchanged_refusal};
+use crate::refusals::{Judged, entry_refusal, held_refusal, unchanged_refusal};
 use cache_rows::{Row, Rows};
-use cf_types::{CacheReply, ConnId, Name16, NoMemory, Refusal};
+use cf_types::{CacheReply, ConnId, Name16, NoMemory};
 use std::alloc::Global;
 
 /// Why the command is refused.
-pub(crate) fn refusal(rows: &Rows, name: &Name16) -> Option<Refusal>
-    ensures { result ≡ first_refusal (castout.causes rows.now.rows name.now) }
+pub(crate) fn refusal(rows: &Rows, name: &Name16) -> Judged
+    ensures { result_err result ≡ first_refusal (castout.causes rows.now.rows name.now) }
 {
-    let entry_cause = entry_refusal(rows, name);
-    let held_cause = held_refusal(rows, name);
-    let unchanged_cause = unchanged_refusal(rows, name);
-    first_refusal(&[entry_cause, held_cause, unchanged_cause])
+    entry_refusal(rows, name)?;
+    held_refusal(rows, name)?;
+    unchanged_refusal(rows, name)
 }
 
 // The answer to a row.
@@ -45,8 +45,9 @@ pub(crate) fn reply(alloc: Global, rows: &Rows, name: &Name16) -> Result<CacheRe
 /// Does the command.
 pub(crate) fn act(rows: &mut Rows, by: ConnId, name: &Name16)
     requires { 1 ≤ rows.old.room }
-    ensures { rows.new.rows ≡ rows_replaced (castout.row_with_hold by
+    ensures rows { rows.new.rows ≡ rows_replaced (castout.row_with_hold by
         (row_or_new name.now 1 rows.old.rows)) rows.old.rows }
+    ensures elements { rows.new.elements ≡ rows.old.elements }
 {
     rows.hold(by, name);
 }

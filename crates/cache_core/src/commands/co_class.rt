@@ -1,19 +1,19 @@
 //! READ_COCLASS of IXLCACHE: the names of a castout class.
 ghost use Rattle.std.specs.Prelude.{◌≡◌, IfOk};
+ghost use Rattle.std.specs.Result.{result_err};
 ghost use Rattle.engine_api.specs.Meaning.{first_refusal};
 ghost use Rattle.cache_model.specs.Commands.CoClass as co_class;
 
-use crate::refusals::{class_refusal, first_refusal};
+use crate::refusals::{Judged, class_refusal};
 use cache_rows::Rows;
-use cf_types::{CacheReply, Listing, NoMemory, Refusal};
+use cf_types::{CacheReply, Listing, NoMemory};
 use std::alloc::Global;
 
 /// Why the command is refused.
-pub(crate) fn refusal(class: u32) -> Option<Refusal>
-    ensures { result ≡ first_refusal (co_class.causes class) }
+pub(crate) fn refusal(class: u32) -> Judged
+    ensures { result_err result ≡ first_refusal (co_class.causes class) }
 {
-    let class_cause = class_refusal(class);
-    first_refusal(&[class_cause])
+    class_refusal(class)
 }
 
 /// The reply where the command isn't refused.

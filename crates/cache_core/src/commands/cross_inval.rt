@@ -1,21 +1,21 @@
 //! CROSS_INVAL of IXLCACHE: ends the registrations of all others for a name.
 ghost use Rattle.std.specs.Prelude.{◌≡◌, ◌≤◌, Some, length};
+ghost use Rattle.std.specs.Result.{result_err};
 ghost use Rattle.cf_types.specs.Gains.{Gains};
 ghost use Rattle.engine_api.specs.Meaning.{first_refusal};
 ghost use Rattle.cache_regs.specs.Registrations.{stands, regs_without_name};
 ghost use Rattle.cache_model.specs.Commands.CrossInval as cross_inval;
 
-use crate::refusals::{entry_refusal, first_refusal};
+use crate::refusals::{Judged, entry_refusal};
 use cache_regs::Regs;
 use cache_rows::Rows;
-use cf_types::{CacheReply, ConnId, Effects, Name16, Refusal};
+use cf_types::{CacheReply, ConnId, Effects, Name16};
 
 /// Why the command is refused.
-pub(crate) fn refusal(rows: &Rows, name: &Name16) -> Option<Refusal>
-    ensures { result ≡ first_refusal (cross_inval.causes rows.now.rows name.now) }
+pub(crate) fn refusal(rows: &Rows, name: &Name16) -> Judged
+    ensures { result_err result ≡ first_refusal (cross_inval.causes rows.now.rows name.now) }
 {
-    let entry_cause = entry_refusal(rows, name);
-    first_refusal(&[entry_cause])
+    entry_refusal(rows, name)
 }
 
 /// The reply where the command isn't refused.

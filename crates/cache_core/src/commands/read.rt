@@ -1,5 +1,6 @@
 //! READ_DATA of IXLCACHE: registers the caller for a name, and answers the data of its row.
 ghost use Rattle.std.specs.Prelude.{◌≡◌, ◌+◌, ◌^◌, ◌<◌, ◌≤◌, false, IfOk, length};
+ghost use Rattle.std.specs.Result.{result_err};
 ghost use Rattle.cf_types.specs.Forms.{IsCaller};
 ghost use Rattle.cf_types.specs.Gains.{Gains};
 ghost use Rattle.engine_api.specs.Meaning.{first_refusal};
@@ -9,13 +10,23 @@ ghost use Rattle.cache_model.specs.Contents.{is_among, regs_spared};
 ghost use Rattle.cache_model.specs.Commands.Read as read;
 
 use super::end_regs;
-use crate::refusals::{first_refusal, index_refusal, storage_refusal};
+use crate::refusals::{Judged, index_refusal, storage_refusal};
 use crate::room::room_refusal;
 use cache_model::Request;
 use cache_regs::Regs;
 use cache_rows::{Row, Rows};
-use cf_types::{CacheReply, Caps, ConnId, Effects, Name16, NoMemory, Refusal};
+use cf_types::{CacheReply, Caps, ConnId, Effects, Name16, NoMemory};
 use std::alloc::Global;
+
+/// The command: a name, the index at which the caller is registered for it, the name that it gives
+/// up, and the storage class of a new row.
+#[derive(Clone, Copy)]
+pub(crate) struct Read<'a> {
+    pub name: &'a Name16,
+    pub index: u32,
+    pub old: Option<Name16>,
+    pub stg: u32,
+}
 
 /// What the command asks room for.
 pub(crate) fn request(name: &Name16, stg: u32) -> Request
@@ -35,20 +46,16 @@ pub(crate) fn refusal(
     rows: &Rows,
     regs: &Regs,
     by: ConnId,
-    name: &Name16,
-    index: u32,
-    old: Option<Name16>,
-    stg: u32,
-) -> Option<Refusal>
+    cmd: &Read<'_>,
+) -> Judged
     requires { elements_in rows.now.rows < 2 ^ 32 }
-    ensures { result ≡ first_refusal (read.causes vector caps
+    ensures { result_err result ≡ first_refusal (read.causes vector caps
         (record { rows = rows.now.rows; regs = regs.now.regs })
-        by name.now index old stg) }
+        by cmd.now.name.now cmd.now.index cmd.now.old cmd.now.stg) }
 {
-    let index_cause = index_refusal(vector, regs, by, name, index, old);
-    let storage_cause = storage_refusal(stg);
-    let room_cause = room_refusal(caps, rows, &request(name, stg));
-    first_refusal(&[index_cause, storage_cause, room_cause])
+    index_refusal(vector, regs, by, cmd.name, cmd.index, cmd.old)?;
+    storage_refusal(cmd.stg)?;
+    room_refusal(caps, rows, &request(cmd.name, cmd.stg))
 }
 
 // The answer to a row.
@@ -112,25 +119,24 @@ pub(crate) fn act(
     regs: &mut Regs,
     gone: &[Name16],
     by: ConnId,
-    name: &Name16,
-    index: u32,
-    stg: u32,
+    cmd: &Read<'_>,
     out: &mut Effects,
 )
     requires caller { IsCaller by }
-    requires index { index < regs.old.len }
+    requires index { cmd.now.index < regs.old.len }
     requires row_room { 1 ≤ rows.old.room }
     requires reg_room { 1 ≤ regs.old.room }
     requires bit_room { length regs.old.regs + 3 ≤ out.old.bits.room }
-    requires spared { is_among gone.now name.now ≡ false }
+    requires spared { is_among gone.now cmd.now.name.now ≡ false }
     ensures content { record { rows = rows.new.rows; regs = regs.new.regs }
-        ≡ read.after gone.now (record { rows = rows.old.rows; regs = regs.old.regs }) by name.now
-        index stg }
+        ≡ read.after gone.now (record { rows = rows.old.rows; regs = regs.old.regs }) by
+        cmd.now.name.now cmd.now.index cmd.now.stg }
     ensures bits { Gains (stands regs.old.regs) (stands regs.new.regs) out.old.bits.items
         out.new.bits.items }
     ensures mail { out.new.mail ≡ out.old.mail }
     ensures len { regs.new.len ≡ regs.old.len }
+    ensures elements { rows.new.elements ≡ rows.old.elements }
 {
-    rows.read(gone, name, stg);
-    register(regs, gone, by, name, index, out);
+    rows.read(gone, cmd.name, cmd.stg);
+    register(regs, gone, by, cmd.name, cmd.index, out);
 }

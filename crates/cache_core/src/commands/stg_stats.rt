@@ -1,18 +1,18 @@
 //! READ_STGSTATS of IXLCACHE: how many rows a storage class has.
 ghost use Rattle.std.specs.Prelude.{◌≡◌, ◌^◌, ◌<◌, length};
+ghost use Rattle.std.specs.Result.{result_err};
 ghost use Rattle.engine_api.specs.Meaning.{first_refusal};
 ghost use Rattle.cache_model.specs.Commands.StgStats as stg_stats;
 
-use crate::refusals::{first_refusal, storage_refusal};
+use crate::refusals::{Judged, storage_refusal};
 use cache_rows::Rows;
-use cf_types::{CacheReply, Refusal};
+use cf_types::CacheReply;
 
 /// Why the command is refused.
-pub(crate) fn refusal(stg: u32) -> Option<Refusal>
-    ensures { result ≡ first_refusal (stg_stats.causes stg) }
+pub(crate) fn refusal(stg: u32) -> Judged
+    ensures { result_err result ≡ first_refusal (stg_stats.causes stg) }
 {
-    let storage_cause = storage_refusal(stg);
-    first_refusal(&[storage_cause])
+    storage_refusal(stg)
 }
 
 /// The reply where the command isn't refused.

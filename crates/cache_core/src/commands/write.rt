@@ -1,6 +1,7 @@
 //! WRITE_DATA of IXLCACHE: replaces data, adjunct and class of a row, registers the caller for it,
 //! and ends the registrations of all others.
 ghost use Rattle.std.specs.Prelude.{◌≡◌, ◌+◌, ◌^◌, ◌<◌, ◌≤◌, false, Some, length};
+ghost use Rattle.std.specs.Result.{result_err};
 ghost use Rattle.cf_types.specs.Forms.{IsCaller};
 ghost use Rattle.cf_types.specs.Gains.{Gains};
 ghost use Rattle.engine_api.specs.Meaning.{first_refusal};
@@ -11,14 +12,28 @@ ghost use Rattle.cache_model.specs.Commands.Write as write;
 
 use super::end_regs;
 use crate::refusals::{
-    castout_refusal, change_refusal, first_refusal, index_refusal, registration_refusal,
-    storage_refusal,
+    Judged, castout_refusal, change_refusal, index_refusal, registration_refusal, storage_refusal,
 };
 use crate::room::room_refusal;
 use cache_model::Request;
 use cache_regs::Regs;
 use cache_rows::Rows;
-use cf_types::{Adjunct, Body, Caps, ConnId, Effects, Name16, Refusal};
+use cf_types::{Adjunct, Body, Caps, ConnId, Effects, Name16};
+
+/// The command: a name with its data, castout class, adjunct and storage class, the index at which
+/// the caller is registered for it, the name that it gives up, and whether only a caller that is
+/// registered may write.
+#[derive(Clone, Copy)]
+pub(crate) struct Write<'a> {
+    pub name: &'a Name16,
+    pub index: u32,
+    pub body: &'a Body,
+    pub class: Option<u32>,
+    pub adj: Option<Adjunct>,
+    pub old: Option<Name16>,
+    pub stg: u32,
+    pub when_reg: bool,
+}
 
 /// What the command asks room for.
 pub(crate) fn request(name: &Name16, body: &Body, stg: u32) -> Request
@@ -38,33 +53,20 @@ pub(crate) fn refusal(
     rows: &Rows,
     regs: &Regs,
     by: ConnId,
-    name: &Name16,
-    index: u32,
-    body: &Body,
-    class: Option<u32>,
-    old: Option<Name16>,
-    stg: u32,
-    when_reg: bool,
-) -> Option<Refusal>
+    cmd: &Write<'_>,
+) -> Judged
     requires { elements_in rows.now.rows < 2 ^ 32 }
-    ensures { result ≡ first_refusal (write.causes vector caps
+    ensures { result_err result ≡ first_refusal (write.causes vector caps
         (record { rows = rows.now.rows; regs = regs.now.regs })
-        by name.now index body.now class old stg when_reg) }
+        by cmd.now.name.now cmd.now.index cmd.now.body.now cmd.now.class cmd.now.old cmd.now.stg
+        cmd.now.when_reg) }
 {
-    let index_cause = index_refusal(vector, regs, by, name, index, old);
-    let castout_cause = castout_refusal(class);
-    let storage_cause = storage_refusal(stg);
-    let registration_cause = registration_refusal(regs, by, name, when_reg);
-    let change_cause = change_refusal(rows, name, class);
-    let room_cause = room_refusal(caps, rows, &request(name, body, stg));
-    first_refusal(&[
-        index_cause,
-        castout_cause,
-        storage_cause,
-        registration_cause,
-        change_cause,
-        room_cause,
-    ])
+    index_refusal(vector, regs, by, cmd.name, cmd.index, cmd.old)?;
+    castout_refusal(cmd.class)?;
+    storage_refusal(cmd.stg)?;
+    registration_refusal(regs, by, cmd.name, cmd.when_reg)?;
+    change_refusal(rows, cmd.name, cmd.class)?;
+    room_refusal(caps, rows, &request(cmd.name, cmd.body, cmd.stg))
 }
 
 // The caller is registered for the name, and the registrations of all others for it and for other
@@ -101,28 +103,27 @@ pub(crate) fn act(
     regs: &mut Regs,
     gone: &[Name16],
     by: ConnId,
-    name: &Name16,
-    index: u32,
-    body: Body,
-    class: Option<u32>,
-    adj: Option<Adjunct>,
-    stg: u32,
+    cmd: &Write<'_>,
     out: &mut Effects,
 )
     requires caller { IsCaller by }
-    requires index { index < regs.old.len }
+    requires index { cmd.now.index < regs.old.len }
     requires row_room { 1 ≤ rows.old.room }
     requires reg_room { 1 ≤ regs.old.room }
     requires bit_room { length regs.old.regs + 3 ≤ out.old.bits.room }
-    requires spared { is_among gone.now name.now ≡ false }
+    requires spared { is_among gone.now cmd.now.name.now ≡ false }
+    requires fits { elements_in (write.after gone.now
+        (record { rows = rows.old.rows; regs = regs.old.regs }) by cmd.now.name.now cmd.now.index
+        cmd.now.body.now cmd.now.class cmd.now.adj cmd.now.stg).rows ≤ rows.old.elements }
     ensures content { record { rows = rows.new.rows; regs = regs.new.regs }
-        ≡ write.after gone.now (record { rows = rows.old.rows; regs = regs.old.regs }) by name.now
-        index body class adj stg }
+        ≡ write.after gone.now (record { rows = rows.old.rows; regs = regs.old.regs }) by
+        cmd.now.name.now cmd.now.index cmd.now.body.now cmd.now.class cmd.now.adj cmd.now.stg }
     ensures bits { Gains (stands regs.old.regs) (stands regs.new.regs) out.old.bits.items
         out.new.bits.items }
     ensures mail { out.new.mail ≡ out.old.mail }
     ensures len { regs.new.len ≡ regs.old.len }
+    ensures elements { rows.new.elements ≡ rows.old.elements }
 {
-    rows.write(gone, name, body, class, adj, stg);
-    register_alone(regs, gone, by, name, index, out);
+    rows.write(gone, cmd.name, cmd.body, cmd.class, cmd.adj, cmd.stg);
+    register_alone(regs, gone, by, cmd.name, cmd.index, out);
 }

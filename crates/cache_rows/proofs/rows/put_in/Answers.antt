@@ -1,10 +1,28 @@
-use Rattle.cache_rows.proofs.TallyLaws.{can_grow, tally_come}
+use Rattle.std.proofs.Common.{◌∙◌, List, ap, arith}
+use Rattle.cache_model.specs.declared.items.CacheItem.{CacheItem}
+use Rattle.cache_model.specs.Rows.{elements_of, elements_in, rows_without}
+use Rattle.cache_model.proofs.RowLaws.{without-absent}
+use Rattle.cache_rows.specs.declared.label.Label.{Label}
+use Rattle.cache_rows.proofs.ChangeLaws.{put_alone, put_bare}
 use Rattle.cache_rows.proofs.rows.put_in.Goals as goal
 
-pub add-requires : goal.add-requires
-add-requires c = can_grow c.args.tally.now c.args.directory.now.rows c.requires.counted c.requires.less
+pub write_row-requires-clause-fits : goal.write_row-requires-clause-fits
+write_row-requires-clause-fits c =
+    let row = c.args.row.now in
+    let rows = c.args.directory.now.rows in
+    let same = ap (λ (label : Label). elements_in (rows_without label.name rows)) c.of-label.ensures
+    ∙ ap (λ (l : List CacheItem). elements_in l) (without-absent row.name rows c.requires.alone) in
+    let sized = ap elements_of c.in-Some.is in
+    omega (arith, same, sized, c.requires.fits, c.requires.counted.elements)
 
-pub returns-clause-counted : goal.returns-clause-counted
-returns-clause-counted c =
-    tally_come c.args.tally.now _ c.args.row c.args.directory.now.rows _ c.requires.counted c.add.ensures.with
-    c.add.ensures.small c.put.ensures.rows
+pub returns-in-Some-clause-rows : goal.returns-in-Some-clause-rows
+returns-in-Some-clause-rows c =
+    c.write_row.ensures.rows
+    ∙ put_alone c.args.row.now c.args.directory.now.rows c.of-label.result _ c.requires.alone c.of-label.ensures
+    c.in-Some.is
+
+pub returns-in-None-clause-rows : goal.returns-in-None-clause-rows
+returns-in-None-clause-rows c =
+    c.set_row.ensures.rows
+    ∙ put_bare c.args.row.now c.args.directory.now.rows c.of-label.result c.requires.alone c.of-label.ensures
+    c.in-None.is

@@ -35,16 +35,19 @@ act-requires-clause-index c =
     subst (λ n. IsIndexed n c.args.cmd.now) (sym c.self.invariant.vector)
     (indexed e.shape.vector e.caps (content_of e) c.args.by c.args.cmd.now accepted.none)
 
-pub act-requires-clause-copied : goal.act-requires-clause-copied
-act-requires-clause-copied c =
+pub act-requires-clause-fits : goal.act-requires-clause-fits
+act-requires-clause-fits c =
     let e = c.self.inside in
     let planned = subst (λ (s : EngineView). s.plan ≡ Some (plan_for s.held.shape.vector s.held.caps s.held.state
     c.args.by
     c.args.cmd.now)) (sym c.self.view_is) c.requires.ready.planned in
     let is = plan_taken c.take.result e.plan c.in-Some.plan (plan_for e.shape.vector e.caps (content_of e) c.args.by
     c.args.cmd.now) c.take.ensures.value c.in-Some.is planned in
-    (plan_accepted e.shape.vector e.caps (content_of e) c.args.by c.args.cmd.now c.in-Some.plan c.in-Ok.reply is
-    c.in-Ok.is).body
+    let accepted = plan_accepted e.shape.vector e.caps (content_of e) c.args.by c.args.cmd.now c.in-Some.plan
+    c.in-Ok.reply is c.in-Ok.is in
+    let fits = (content-done e.shape.vector e.caps (content_of e) c.args.by c.args.cmd.now c.self.invariant.content
+    accepted.none).elements in
+    rw (c.items.ensures, accepted.gone, c.self.invariant.elements) fits
 
 pub invariant_of-self : goal.invariant_of-self
 invariant_of-self c =
@@ -67,6 +70,7 @@ invariant_of-self c =
           (content-done e.shape.vector e.caps (content_of e) c.args.by c.args.cmd.now c.self.invariant.content
           accepted.none);
       vector = c.act.ensures.len ∙ c.self.invariant.vector;
+      elements = c.act.ensures.elements ∙ c.self.invariant.elements;
     }
 
 pub returns-in-Some-clause-bits : goal.returns-in-Some-clause-bits

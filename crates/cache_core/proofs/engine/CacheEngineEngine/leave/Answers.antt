@@ -20,4 +20,5 @@ invariant_of-self c =
       content = rw (c.release.ensures.rows, c.drop_conn.ensures.regs) (content-without c.self.inside.caps
           (content_of c.self.inside) c.args.conn c.self.invariant.content);
       vector = c.drop_conn.ensures.len ∙ c.self.invariant.vector;
+      elements = c.release.ensures.elements ∙ c.self.invariant.elements;
     }

@@ -1,4 +1,4 @@
-use Rattle.std.proofs.Common.{◌≡◌, ◌++◌, ◌∷◌, [], IsTrue, List, sym, subst, true}
+use Rattle.std.proofs.Common.{◌≡◌, ◌∙◌, ◌++◌, ◌∷◌, [], IsTrue, List, sym, subst, true}
 use Rattle.cf_types.specs.Forms.{is_cache}
 use Rattle.engine_api.proofs.FrontLaws.{content-placed}
 use Rattle.list_laws.specs.Pairwise.{pairwise}
@@ -49,4 +49,5 @@ invariant_of-self c =
           c.push.ensures.err
           placed c.self.invariant.content;
       vector = c.self.invariant.vector;
+      elements = c.push.ensures.elements ∙ c.self.invariant.elements;
     }

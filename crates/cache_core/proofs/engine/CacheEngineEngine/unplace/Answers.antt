@@ -24,6 +24,7 @@ invariant_of-self c =
       content = subst (λ (content : Content). IsContent c.self.inside.caps content) (sym (left c))
           (content-without_last c.self.inside.caps (content_of c.self.inside) c.self.invariant.content);
       vector = c.self.invariant.vector;
+      elements = c.pop.ensures.elements ∙ c.self.invariant.elements;
     }
 
 pub returns : goal.returns

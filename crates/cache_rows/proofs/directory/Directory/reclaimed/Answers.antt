@@ -9,7 +9,7 @@ pub returns-in-Some : goal.returns-in-Some
 returns-in-Some c =
     let rows = (listed_of c.self.inside).rows in
     rw (← c.self.view_is)
-    (c.row_in.ensures ∙ c.self.invariant.found c.in-Some.name
+    (c.find.ensures ∙ c.self.invariant.found c.in-Some.name
     ∙ reclaimed-row c.args.stg c.args.k rows c.in-Some.name c.self.invariant.one_for_name
     (c.in-Some.ensures ∙ ap (λ (l : List Used). victim c.args.stg c.args.k l) c.self.invariant.ordered))
 

@@ -9,7 +9,7 @@ left : (c : goal.After-release)
     → IsIndexed (map (without_hold c.args.conn) (listed_of c.self.inside).rows) (row_at c.release.new.self.entries)
     c.self.inside.classes.names c.self.inside.order.order
 left c =
-    released (listed_of c.self.inside).rows (row_at c.self.inside.dir.entries) (row_at c.release.new.self.entries)
+    released (listed_of c.self.inside).rows (row_at c.self.inside.store.entries) (row_at c.release.new.self.entries)
     c.self.inside.classes.names c.self.inside.order.order c.args.conn c.self.invariant c.release.ensures.released
 
 pub invariant_of-self : goal.invariant_of-self

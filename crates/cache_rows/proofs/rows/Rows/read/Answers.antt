@@ -1,22 +1,17 @@
-use Rattle.std.proofs.Common.{ap, ◌∙◌, List}
-use Rattle.cache_model.specs.declared.items.CacheItem.{CacheItem}
-use Rattle.cache_model.specs.Rows.{rows_with, rows_replaced}
+use Rattle.std.proofs.Common.{◌∙◌, ap}
+use Rattle.cache_model.specs.Rows.{row_or_new, rows_replaced}
 use Rattle.cache_model.specs.Contents.{rows_spared}
-use Rattle.cache_model.proofs.RowLaws.{alone-spared, replaced-spared}
+use Rattle.cache_rows.specs.declared.label.Label.{Label}
+use Rattle.cache_rows.specs.Stored.{item_with}
+use Rattle.cache_rows.proofs.ChangeLaws.{relabeled_spared}
 use Rattle.cache_rows.proofs.rows.Rows.read.Goals as goal
-
-pub put-requires-clause-alone : goal.put-requires-clause-alone
-put-requires-clause-alone c =
-    rw (c.end_named.ensures.rows, c.take_or_new-row.ensures.rest)
-    (alone-spared c.take_or_new-row.result.name c.args.name.now c.args.gone.now c.args.self.now.rows
-    c.take_or_new-row.ensures.named)
 
 pub returns-clause-rows : goal.returns-clause-rows
 returns-clause-rows c =
-    let row = c.take_or_new-row.result in
-    c.put.ensures.rows
-    ∙ ap (λ (l : List CacheItem). rows_with row l) (c.end_named.ensures.rows
-    ∙ ap (λ (l : List CacheItem). rows_spared c.args.gone.now l) c.take_or_new-row.ensures.rest)
-    ∙ replaced-spared row c.args.name.now c.args.gone.now c.args.self.now.rows c.take_or_new-row.ensures.named
-    ∙ ap (λ (r : CacheItem). rows_replaced r (rows_spared c.args.gone.now c.args.self.now.rows))
-    c.take_or_new-row.ensures.row
+    let old = row_or_new c.args.name.now c.args.stg c.args.self.now.rows in
+    c.set.ensures.rows
+    ∙ relabeled_spared c.label_or_new-label.result c.args.name.now c.args.stg c.args.gone.now c.args.self.now.rows
+    c.end_others.new.self.rows c.label_or_new-label.ensures.named c.end_others.ensures.rows
+    ∙ ap (λ (label : Label). rows_replaced (item_with label old.body)
+    (rows_spared c.args.gone.now c.args.self.now.rows))
+    c.label_or_new-label.ensures.label

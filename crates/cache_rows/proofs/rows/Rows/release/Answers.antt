@@ -1,4 +1,4 @@
-use Rattle.std.proofs.Common.{◌∙◌, subst, sym}
+use Rattle.std.proofs.Common.{◌∙◌, subst, sym, arith}
 use Rattle.cache_rows.specs.Tallies.{IsTally}
 use Rattle.cache_rows.proofs.TallyLaws.{tally_released}
 use Rattle.cache_rows.proofs.rows.Rows.release.Goals as goal
@@ -8,4 +8,5 @@ invariant_of-self c = record {
   tally = subst (λ l. IsTally c.self.inside.tally l) (sym c.release.ensures.rows)
       (tally_released c.self.inside.tally c.args.conn c.self.inside.directory.rows c.self.invariant.tally);
   limit = c.release.ensures.entries ∙ c.self.invariant.limit;
+  all = omega (arith, c.release.ensures.free, c.self.invariant.all);
 }

@@ -1,0 +1,305 @@
+-- Rows whose data lie in a pool, as they come and go.
+use Rattle.std.proofs.Common.{◌≡◌, ℕ, Bool, true, false, cond, nat_eq, List, [], ◌∷◌, set, get_or, slice_get, Option, Some, None, option_map, refl, sym, ap, ◌∙◌, subst, get_or-set_other}
+use Rattle.std.specs.Cmp.Lexicographic.{pointwise}
+use Rattle.std.proofs.lemmas.Bool.{false≢true}
+use Rattle.std.proofs.lemmas.Option.{get_or_from_slice_get}
+use Rattle.cf_types.specs.declared.names.Name16.{Name16}
+use Rattle.cf_types.specs.declared.numbers.ConnId.{ConnId}
+use Rattle.cf_types.specs.Name.{same_name}
+use Rattle.cf_pool.specs.declared.chain.Chain.{Chain}
+use Rattle.list_laws.proofs.TableLaws.{get-set_other}
+use Rattle.cache_regs.proofs.NameLaws.{same_name-eq}
+use Rattle.cache_dir.specs.declared.row.DirRow.{DirRow}
+use Rattle.cache_dir.specs.RowMap.{row_at, let_go, Writes}
+use Rattle.cache_model.specs.declared.items.CacheItem.{CacheItem}
+use Rattle.cache_model.specs.Contents.{without_hold}
+use Rattle.cache_rows.specs.declared.label.Label.{Label}
+use Rattle.cache_rows.specs.Stored.{item_with, row_of_label, body_of, body_in, item_in, entries_in, item_at, chains_without, HasBytes, HasData, chain_of, head_of, AreStored}
+
+abbrev Chains : Type 0
+Chains = List (Option (List ℕ))
+
+abbrev Rows : Type 0
+Rows = Name16 → Option DirRow
+
+-- ---- a change at a place where other data begin
+
+has_set : (chains : Chains) (stored : Option Chain) (at : ℕ) (o : Option (List ℕ)) → (head_of stored ≡ Some at → ⊥)
+    → HasData chains stored → HasData (set chains at o) stored
+has_set chains None at o away h = tt
+has_set chains (Some chain) at o away h = (
+  h.0,
+  record {
+    there = get-set_other chains at chain.head o (λ e. away (ap Some e)) ∙ h.1.there;
+    some = h.1.some;
+    few = h.1.few;
+  },
+)
+
+body_set : (chains : Chains) (stored : Option Chain) (at : ℕ) (o : Option (List ℕ)) → (head_of stored ≡ Some at → ⊥)
+    → body_in (set chains at o) stored ≡ body_in chains stored
+body_set chains None at o away = refl
+body_set chains (Some chain) at o away = get_or-set_other chains at chain.head o None (λ e. away (ap Some e))
+
+item_set : (chains : Chains) (row : Option DirRow) (at : ℕ) (o : Option (List ℕ))
+    → (head_of (chain_of row) ≡ Some at → ⊥)
+    → option_map (item_in (set chains at o)) row ≡ option_map (item_in chains) row
+item_set chains None at o away = refl
+item_set chains (Some row) at o away =
+    ap (λ (b : Option (List ℕ)). Some (item b)) (body_set chains row.stored at o away)
+  where
+    item : Option (List ℕ) → CacheItem
+    item b =
+        record { name = row.name; body = b; adj = row.adj; class = row.class; holder = row.holder; stg = row.stg }
+
+abbrev pub IsUnused : Rows → ℕ → Type 0
+IsUnused rows at = (name : Name16) → head_of (chain_of (rows name)) ≡ Some at → ⊥
+
+stored_set : (chains : Chains) (rows : Rows) (at : ℕ) (o : Option (List ℕ)) → IsUnused rows at
+    → AreStored chains rows → AreStored (set chains at o) rows
+stored_set chains rows at o unused is =
+    record { held = λ q. has_set chains (chain_of (rows q)) at o (unused q) (is.held q); apart = is.apart }
+
+nothing_there : (o : Option (Option (List ℕ))) (bytes : List ℕ) → o ≡ Some (Some bytes) → o ≡ Some None → ⊥
+nothing_there o bytes e f = cc
+
+no_head : (at : ℕ) → head_of None ≡ Some at → ⊥
+no_head at e = cc
+
+-- where no chain begins, no row's data begin
+unused_fresh : (chains : Chains) (rows : Rows) (at : ℕ) → AreStored chains rows → slice_get chains at ≡ Some None
+    → IsUnused rows at
+unused_fresh chains rows at is fresh q e = go (chain_of (rows q)) (is.held q) e
+  where
+    go : (s : Option Chain) → HasData chains s → head_of s ≡ Some at → ⊥
+    go None h f = no_head at f
+    go (Some chain) h f =
+        let same : chain.head ≡ at = cc in
+        nothing_there (slice_get chains at) h.0
+        (subst (λ k. slice_get chains k ≡ Some (Some h.0)) same h.1.there) fresh
+
+-- ---- a row goes
+
+left_head : (rows next : Rows) (name q : Name16) (at : ℕ) → Writes rows name None next
+    → head_of (chain_of (next q)) ≡ Some at
+    → (same_name name q ≡ false) × (head_of (chain_of (rows q)) ≡ Some at)
+left_head rows next name q at writes e = go (same_name name q) refl (writes q)
+  where
+    go : (b : Bool) → same_name name q ≡ b → next q ≡ cond b None (rows q)
+        → (same_name name q ≡ false) × (head_of (chain_of (rows q)) ≡ Some at)
+    go true is f = absurd (no_head at (sym (ap (λ o. head_of (chain_of o)) f) ∙ e))
+    go false is f = (is, sym (ap (λ o. head_of (chain_of o)) f) ∙ e)
+
+stored_less : (chains : Chains) (rows next : Rows) (name : Name16) → AreStored chains rows
+    → Writes rows name None next → AreStored chains next
+stored_less chains rows next name is writes =
+    record {
+      held = λ q. here q (same_name name q) (writes q);
+      apart = λ q p at h k.
+          is.apart q p at (left_head rows next name q at writes h).1 (left_head rows next name p at writes k).1;
+    }
+  where
+    here : (q : Name16) (b : Bool) → next q ≡ cond b None (rows q) → HasData chains (chain_of (next q))
+    here q true e = subst (λ o. HasData chains (chain_of o)) (sym e) tt
+    here q false e = subst (λ o. HasData chains (chain_of o)) (sym e) (is.held q)
+
+unused_less : (chains : Chains) (rows next : Rows) (name : Name16) (at : ℕ) → AreStored chains rows
+    → Writes rows name None next → head_of (chain_of (rows name)) ≡ Some at → IsUnused next at
+unused_less chains rows next name at is writes e q f =
+    let left = left_head rows next name q at writes f in
+    false≢true (sym left.0 ∙ is.apart name q at e left.1)
+
+moved : (f : DirRow → CacheItem) (b : Bool) (new old : Option DirRow)
+    → option_map f (cond b new old) ≡ cond b (option_map f new) (option_map f old)
+moved f true new old = refl
+moved f false new old = refl
+
+items_same : (chains : Chains) (rows next : Rows) (name : Name16) (row : Option DirRow) → Writes rows name row next
+    → (q : Name16) → option_map (item_in chains) (next q)
+    ≡ cond (same_name name q) (option_map (item_in chains) row) (option_map (item_in chains) (rows q))
+items_same chains rows next name row writes q =
+    ap (option_map (item_in chains)) (writes q)
+    ∙ moved (item_in chains) (same_name name q) row (rows q)
+
+module _ (chains after : Chains) (rows next : Rows) (name : Name16) (stored : Option Chain)
+    (is : AreStored chains rows) (writes : Writes rows name None next) (had : stored ≡ chain_of (rows name))
+    (given : after ≡ chains_without stored chains) where
+  unused_next : (chain : Chain) → stored ≡ Some chain → IsUnused next chain.head
+  unused_next chain e = unused_less chains rows next name chain.head is writes (ap head_of (sym had ∙ e))
+
+  pub ended_stored : AreStored after next
+  ended_stored = go stored refl given
+    where
+      go : (s : Option Chain) → stored ≡ s → after ≡ chains_without s chains → AreStored after next
+      go None e f = subst (λ l. AreStored l next) (sym f) (stored_less chains rows next name is writes)
+      go (Some chain) e f =
+          subst (λ l. AreStored l next) (sym f)
+          (stored_set chains next chain.head None (unused_next chain e)
+          (stored_less chains rows next name is writes))
+
+  pub ended_items : (q : Name16) → option_map (item_in after) (next q)
+      ≡ cond (same_name name q) None (option_map (item_in chains) (rows q))
+  ended_items q = go stored refl given ∙ items_same chains rows next name None writes q
+    where
+      go : (s : Option Chain) → stored ≡ s → after ≡ chains_without s chains
+          → option_map (item_in after) (next q) ≡ option_map (item_in chains) (next q)
+      go None e f = ap (λ l. option_map (item_in l) (next q)) f
+      go (Some chain) e f =
+          ap (λ l. option_map (item_in l) (next q)) f
+          ∙ item_set chains (next q) chain.head None (unused_next chain e q)
+
+-- the data of a row
+pub body_at : (chains : Chains) (row : Option DirRow)
+    → body_of (option_map (item_in chains) row) ≡ body_in chains (chain_of row)
+body_at chains None = refl
+body_at chains (Some row) = refl
+
+-- ---- a row comes
+
+stored_more : (chains : Chains) (rows next : Rows) (name : Name16) (row : DirRow) → AreStored chains rows
+    → HasData chains row.stored → ((at : ℕ) → head_of row.stored ≡ Some at → IsUnused rows at)
+    → Writes rows name (Some row) next → AreStored chains next
+stored_more chains rows next name row is has unused writes =
+    record {
+      held = λ q. here q (same_name name q) (writes q);
+      apart = λ q p at h k.
+          both q p at (same_name name q) (same_name name p) refl refl (writes q) (writes p) h k;
+    }
+  where
+    here : (q : Name16) (b : Bool) → next q ≡ cond b (Some row) (rows q) → HasData chains (chain_of (next q))
+    here q true e = subst (λ o. HasData chains (chain_of o)) (sym e) has
+    here q false e = subst (λ o. HasData chains (chain_of o)) (sym e) (is.held q)
+
+    first : (q : Name16) (o : Option DirRow) (at : ℕ) → next q ≡ o → head_of (chain_of (next q)) ≡ Some at
+        → head_of (chain_of o) ≡ Some at
+    first q o at e h = sym (ap (λ o. head_of (chain_of o)) e) ∙ h
+
+    both : (q p : Name16) (at : ℕ) (b c : Bool) → same_name name q ≡ b → same_name name p ≡ c
+        → next q ≡ cond b (Some row) (rows q) → next p ≡ cond c (Some row) (rows p)
+        → head_of (chain_of (next q)) ≡ Some at → head_of (chain_of (next p)) ≡ Some at → same_name q p ≡ true
+    both q p at true true sq sp e f h k =
+        subst (λ (n : Name16). same_name n p ≡ true) (same_name-eq name q sq) sp
+    both q p at true false sq sp e f h k = absurd (unused at (first q (Some row) at e h) p (first p (rows p) at f k))
+    both q p at false true sq sp e f h k = absurd (unused at (first p (Some row) at f k) q (first q (rows q) at e h))
+    both q p at false false sq sp e f h k = is.apart q p at (first q (rows q) at e h) (first p (rows p) at f k)
+
+module _ (chains after : Chains) (rows next : Rows) (label : Label) (chain : Chain) (bytes : List ℕ)
+    (is : AreStored chains rows) (fresh : slice_get chains chain.head ≡ Some None)
+    (put : after ≡ set chains chain.head (Some bytes)) (has : HasBytes after chain bytes)
+    (writes : Writes rows label.name (Some (row_of_label label (Some chain))) next) where
+  unused : IsUnused rows chain.head
+  unused = unused_fresh chains rows chain.head is fresh
+
+  pub written_stored : AreStored after next
+  written_stored =
+      stored_more after rows next label.name (row_of_label label (Some chain))
+      (subst (λ l. AreStored l rows) (sym put) (stored_set chains rows chain.head (Some bytes) unused is))
+      (bytes, has) away writes
+    where
+      away : (at : ℕ) → head_of (Some chain) ≡ Some at → IsUnused rows at
+      away at e = let same : chain.head ≡ at = cc in subst (λ k. IsUnused rows k) same unused
+
+  pub written_items : (q : Name16) → option_map (item_in after) (next q)
+      ≡ cond (same_name label.name q) (Some (item_with label (Some bytes))) (option_map (item_in chains) (rows q))
+  written_items q =
+      items_same after rows next label.name (Some (row_of_label label (Some chain))) writes q
+      ∙ (λ j. cond (same_name label.name q) (Some (item_with label (body j))) (others j))
+    where
+      body : get_or after chain.head None ≡ Some bytes
+      body = get_or_from_slice_get after chain.head (Some bytes) None has.there
+
+      others : option_map (item_in after) (rows q) ≡ option_map (item_in chains) (rows q)
+      others =
+          ap (λ l. option_map (item_in l) (rows q)) put
+          ∙ item_set chains (rows q) chain.head (Some bytes) (unused q)
+
+-- ---- a row with the data that it had
+
+cond_twice : {X : Type 0} (b : Bool) (x y z : X) → cond b x z ≡ cond b x (cond b y z)
+cond_twice true x y z = refl
+cond_twice false x y z = refl
+
+pub writes_twice : {X : Type 0} (before middle after : Name16 → Option X) (name : Name16) (row : X)
+    → Writes before name None middle → Writes middle name (Some row) after → Writes before name (Some row) after
+writes_twice before middle after name row e f q =
+    f q ∙ ap (λ (o : Option _). cond (same_name name q) (Some row) o) (e q)
+    ∙ sym (cond_twice (same_name name q) (Some row) None (before q))
+
+same_data : (chains : Chains) (label : Label) (row : Option DirRow)
+    → item_in chains (row_of_label label (chain_of row)) ≡ item_with label (body_of (option_map (item_in chains) row))
+same_data chains label None = refl
+same_data chains label (Some row) = refl
+
+module _ (chains : Chains) (rows next : Rows) (label : Label) (is : AreStored chains rows)
+    (writes : Writes rows label.name (Some (row_of_label label (chain_of (rows label.name)))) next) where
+  middle : Rows
+  middle q = cond (same_name label.name q) None (rows q)
+
+  pub set_stored : AreStored chains next
+  unfolding middle
+  set_stored =
+      stored_more chains middle next label.name (row_of_label label (chain_of (rows label.name)))
+      (stored_less chains rows middle label.name is (λ q. refl)) (is.held label.name)
+      (λ at e. unused_less chains rows middle label.name at is (λ q. refl) e)
+      (λ q. writes q ∙ cond_twice (same_name label.name q) (Some (row_of_label label (chain_of (rows label.name)))) None
+      (rows q))
+
+  pub set_items : (q : Name16) → option_map (item_in chains) (next q)
+      ≡ cond (same_name label.name q)
+      (Some (item_with label (body_of (option_map (item_in chains) (rows label.name)))))
+      (option_map (item_in chains) (rows q))
+  set_items q =
+      items_same chains rows next label.name (Some (row_of_label label (chain_of (rows label.name)))) writes q
+      ∙ ap (λ (i : CacheItem). cond (same_name label.name q) (Some i) (option_map (item_in chains) (rows q)))
+      (same_data chains label (rows label.name))
+
+-- ---- castout locks are released
+
+let_go_data : (conn : ConnId) (row : Option DirRow) → chain_of (option_map (let_go conn) row) ≡ chain_of row
+let_go_data conn None = refl
+let_go_data conn (Some row) = refl
+
+let_go_item : (chains : Chains) (conn : ConnId) (row : Option DirRow)
+    → option_map (item_in chains) (option_map (let_go conn) row)
+    ≡ option_map (without_hold conn) (option_map (item_in chains) row)
+let_go_item chains conn None = refl
+let_go_item chains conn (Some row) = refl
+
+module _ (chains : Chains) (rows next : Rows) (conn : ConnId) (is : AreStored chains rows)
+    (released : (q : Name16) → next q ≡ option_map (let_go conn) (rows q)) where
+  same_chain : (q : Name16) → chain_of (next q) ≡ chain_of (rows q)
+  same_chain q = ap chain_of (released q) ∙ let_go_data conn (rows q)
+
+  pub released_stored : AreStored chains next
+  released_stored =
+      record {
+        held = λ q. subst (λ s. HasData chains s) (sym (same_chain q)) (is.held q);
+        apart = λ q p at h k.
+            is.apart q p at (ap head_of (sym (same_chain q)) ∙ h) (ap head_of (sym (same_chain p)) ∙ k);
+      }
+
+  pub released_items : (q : Name16) → option_map (item_in chains) (next q)
+      ≡ option_map (without_hold conn) (option_map (item_in chains) (rows q))
+  released_items q = ap (option_map (item_in chains)) (released q) ∙ let_go_item chains conn (rows q)
+
+-- ---- what is seen of the entries
+
+shown_step : (f : DirRow → CacheItem) (b : Bool) (row : DirRow) (o : Option DirRow) (r : Option CacheItem)
+    → r ≡ option_map f o → cond b (Some (f row)) r ≡ option_map f (cond b (Some row) o)
+shown_step f true row o r e = refl
+shown_step f false row o r e = e
+
+pub shown_at : (chains : Chains) (entries : List (List ℕ × DirRow)) (q : Name16)
+    → row_at (entries_in chains entries) q ≡ item_at chains entries q
+shown_at chains [] q = refl
+shown_at chains (e ∷ es) q =
+    shown_step (item_in chains) (pointwise nat_eq q.0 e.0) e.1 (row_at es q) (row_at (entries_in chains es) q)
+    (shown_at chains es q)
+
+pub shown_writes : (chains after : Chains) (entries next : List (List ℕ × DirRow)) (name : Name16)
+    (row : Option CacheItem)
+    → Writes (item_at chains entries) name row (item_at after next)
+    → Writes (row_at (entries_in chains entries)) name row (row_at (entries_in after next))
+shown_writes chains after entries next name row writes q =
+    shown_at after next q ∙ writes q
+    ∙ ap (λ (o : Option CacheItem). cond (same_name name q) row o) (sym (shown_at chains entries q))

@@ -1,0 +1,9 @@
+use Rattle.std.proofs.Common.{sym, ap, ◌∙◌}
+use Rattle.cache_model.proofs.RowLaws.{found_named}
+use Rattle.cache_rows.specs.declared.label.Label.{Label}
+use Rattle.cache_rows.proofs.rows.Rows.label_or_new.Goals as goal
+
+pub returns-in-Some-clause-named : goal.returns-in-Some-clause-named
+returns-in-Some-clause-named c =
+    ap (λ (label : Label). label.name) c.label.ensures
+    ∙ found_named c.args.name.now c.args.self.now.rows c.in-Some.row (sym c.in-Some.ensures)

@@ -1,0 +1,13 @@
+use Rattle.std.proofs.Common.{◌≤◌, Some, sym, subst, arith}
+use Rattle.cache_model.specs.Rows.{elements_in, rows_replaced}
+use Rattle.cache_model.proofs.RowLaws.{elements-replaced}
+use Rattle.cache_rows.specs.RowBatch.{RowBatch}
+use Rattle.cache_rows.specs.Stored.{item_with}
+use Rattle.cache_rows.proofs.rows.Rows.store.Goals as goal
+
+pub write_row-requires-clause-fits : goal.write_row-requires-clause-fits
+write_row-requires-clause-fits c =
+    let row = item_with c.args.label.now (Some c.args.body.now) in
+    let fits = subst (λ (b : RowBatch). elements_in (rows_replaced row b.rows) ≤ b.elements) (sym c.self.view_is)
+    c.requires.fits in
+    omega (arith, fits, elements-replaced row c.self.inside.directory.rows, c.self.invariant.all)

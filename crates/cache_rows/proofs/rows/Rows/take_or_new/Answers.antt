@@ -1,7 +1,0 @@
-use Rattle.std.proofs.Common.{sym}
-use Rattle.cache_model.proofs.RowLaws.{found_named}
-use Rattle.cache_rows.proofs.rows.Rows.take_or_new.Goals as goal
-
-pub returns-in-Some-clause-named : goal.returns-in-Some-clause-named
-returns-in-Some-clause-named c = found_named c.args.name.now c.args.self.now.rows c.in-Some.row
-    (sym c.in-Some.ensures.row)

@@ -1,0 +1,24 @@
+use Rattle.std.proofs.Common.{ℕ, Some, ◌∙◌, ap, arith}
+use Rattle.std.proofs.lemmas.Bool.{le-leb}
+use Rattle.cache_model.specs.Rows.{elements_of, rows_without}
+use Rattle.cache_rows.specs.Stored.{item_with}
+use Rattle.cache_rows.specs.Tallies.{tally_of}
+use Rattle.cache_rows.proofs.TallyLaws.{can_grow, tally_come}
+use Rattle.cache_rows.proofs.rows.write_row.Goals as goal
+
+pub add-requires-clause-room : goal.add-requires-clause-room
+add-requires-clause-room c =
+    can_grow c.count_out.new.tally (rows_without c.args.label.now.name c.args.directory.now.rows)
+    c.count_out.ensures.counted (omega (arith, c.count_out.ensures.fewer, c.requires.less))
+
+pub returns-clause-counted : goal.returns-clause-counted
+returns-clause-counted c =
+    let label = c.args.label.now in
+    let rows = c.args.directory.now.rows in
+    let row = item_with label (Some c.args.body.now) in
+    let sized = c.elements.ensures.elements in
+    tally_come c.count_out.new.tally _ row (rows_without label.name rows) _
+    c.count_out.ensures.counted
+    (c.add.ensures ∙ ap (λ (n : ℕ). tally_of label.class n c.count_out.new.tally) sized)
+    (le-leb (elements_of row.body) 16 (omega (arith, sized, c.elements.ensures.few)))
+    c.write.ensures.rows

@@ -1,0 +1,14 @@
+use Rattle.std.proofs.Common.{option_map, ◌∙◌, ap, sym}
+use Rattle.cache_dir.specs.RowMap.{row_at}
+use Rattle.cache_model.specs.Contents.{without_hold}
+use Rattle.cache_rows.proofs.StoreLaws.{released_items, shown_at}
+use Rattle.cache_rows.proofs.store.Store.release.Goals as goal
+
+pub returns-clause-released : goal.returns-clause-released
+returns-clause-released c =
+    rw (← c.self.view_is)
+    (λ q. shown_at c.self.inside.pool.chains c.release.new.self.entries q
+    ∙ released_items c.self.inside.pool.chains (row_at c.self.inside.dir.entries)
+    (row_at c.release.new.self.entries) c.args.conn c.self.invariant c.release.ensures.released q
+    ∙ ap (option_map (without_hold c.args.conn))
+    (sym (shown_at c.self.inside.pool.chains c.self.inside.dir.entries q)))
