@@ -11,7 +11,7 @@ use Rattle.cf_types.specs.declared.list_commands.ListCmd.TheVariants.{Write, Upd
 use Rattle.cf_types.specs.declared.list_commands.ListReply.{ListReply}
 use Rattle.engine_api.specs.declared.shapes.Shape.{Shape}
 use Rattle.list_laws.specs.Pairwise.{pairwise}
-use Rattle.list_store.specs.declared.records.Rec.{Rec}
+use Rattle.list_store.specs.Record.{Record}
 use Rattle.list_store.specs.Lists.{Lists, all_records, ids_apart, record_of}
 use Rattle.list_model.specs.Lists.{record_at, no_record}
 use Rattle.list_model.specs.Contents.{Content, IsContent, headers_of, locks_of}
@@ -21,7 +21,7 @@ use Rattle.list_model.proofs.ContentLaws.{none_hold, header_there}
 use Rattle.list_model.proofs.StoreLaws.{record_of-at, new-alone}
 use Rattle.list_core.specs.declared.plans.Plan.{Plan}
 use Rattle.list_core.specs.Found.{IsFound}
-use Rattle.list_core.specs.Plans.{body_of, plan_unless, plan_for, IsPossible}
+use Rattle.list_core.specs.Plans.{plan_unless, plan_for, IsPossible}
 
 -- the plan that is taken is the one that was wanted
 pub plan_taken : (taken kept : Option Plan) (plan wanted : Plan) → taken ≡ kept → taken ≡ Some plan
@@ -31,14 +31,13 @@ plan_taken taken kept plan wanted e f g = let same : Some plan ≡ Some wanted =
 pub record IsAccepted (shape : Shape) (caps : Caps) (content : Content) (by : ConnId) (cmd : ListCmd) (plan : Plan) :
     Type 0 where
   pub none : cause shape caps content by cmd ≡ None
-  pub body : plan.body ≡ body_of content cmd
 
 accepted_step : (shape : Shape) (caps : Caps) (content : Content) (by : ConnId) (cmd : ListCmd) (plan : Plan)
     (told : ListReply) (o : Option Refusal)
     → cause shape caps content by cmd ≡ o → plan ≡ plan_unless o content by cmd → plan.reply ≡ Ok told
     → IsAccepted shape caps content by cmd plan
 accepted_step shape caps content by cmd plan told None e is h =
-    record { none = e; body = ap (λ (p : Plan). p.body) is }
+    record { none = e }
 accepted_step shape caps content by cmd plan told (Some refusal) e is h =
     let wrong : Ok told ≡ Err refusal = sym h ∙ ap (λ (p : Plan). p.reply) is in absurd (cc)
 
@@ -54,12 +53,12 @@ found : (lists : Lists) (at : At) → pairwise ids_apart (all_records lists) ≡
     → record_refusal (record_at lists at) ≡ None → IsFound lists at
 found lists at apart h = go (record_at lists at) refl h
   where
-    go : (o : Option Rec) → record_at lists at ≡ o → record_refusal o ≡ None → IsFound lists at
+    go : (o : Option Record) → record_at lists at ≡ o → record_refusal o ≡ None → IsFound lists at
     go None e f = absurd (cc)
     go (Some rec) e f =
         record {
-          there = ap (λ (o : Option Rec). is_some o) e;
-          by_id = ap (λ (o : Option Rec). record_of (unwrap_or o no_record).id lists) e
+          there = ap (λ (o : Option Record). is_some o) e;
+          by_id = ap (λ (o : Option Record). record_of (unwrap_or o no_record).id lists) e
               ∙ record_of-at lists at rec apart e ∙ sym e;
         }
 

@@ -1,7 +1,6 @@
--- What is got ready for a command: its reply, and a copy of the data that a record will have.
-use Rattle.std.specs.Prelude.{◌≡◌, ℕ, ◌<◌, false, List, Option, Some, None, Ok, Err, length}
+-- What is got ready for a command: its reply.
+use Rattle.std.specs.Prelude.{◌≡◌, ℕ, ◌<◌, false, Option, Some, None, Ok, Err, length}
 use Rattle.std.specs.List.{list_any}
-use Rattle.std.specs.Option.{option_or}
 use Rattle.cf_types.specs.declared.forms.Caps.{Caps}
 use Rattle.cf_types.specs.declared.numbers.ConnId.{ConnId}
 use Rattle.cf_types.specs.declared.refusals.Refusal.{Refusal}
@@ -9,33 +8,16 @@ use Rattle.cf_types.specs.declared.list_commands.ListCmd.{ListCmd}
 use Rattle.cf_types.specs.declared.list_commands.ListCmd.TheVariants.{Write, Update, Read, Move, Delete, ReadList, LockSet, LockReset, LockTest, LControls, SetLimit, Monitor, Unmonitor}
 use Rattle.engine_api.specs.declared.shapes.Shape.{Shape}
 use Rattle.list_store.specs.Lists.{all_records, is_id}
-use Rattle.list_model.specs.Lists.{the_record}
 use Rattle.list_model.specs.Contents.{Content}
 use Rattle.list_model.specs.Commands.Write as write
 use Rattle.list_model.specs.Step.{cause, reply}
 use Rattle.list_core.specs.declared.plans.Plan.{Plan}
 use Rattle.list_core.specs.Found.{IsFound}
 
--- the data that a command's record will have
-abbrev pub body_of : Content → ListCmd → Option (List ℕ)
-body_of content (Write header head name key body adj cond) = body
-body_of content (Update at body adj version cond) = option_or body (the_record content.lists at).body
-body_of content (Read at cond) = None
-body_of content (Move at header head key version cond) = None
-body_of content (Delete at version cond) = None
-body_of content (ReadList header) = None
-body_of content (LockSet lock) = None
-body_of content (LockReset lock) = None
-body_of content (LockTest lock) = None
-body_of content (LControls header) = None
-body_of content (SetLimit header n) = None
-body_of content (Monitor header index) = None
-body_of content (Unmonitor header) = None
-
--- a refused command asks for nothing
+-- a refused command has its refusal as the reply
 abbrev pub plan_unless : Option Refusal → Content → ConnId → ListCmd → Plan
-plan_unless None content by cmd = record { reply = Ok (reply content by cmd); body = body_of content cmd }
-plan_unless (Some refusal) content by cmd = record { reply = Err refusal; body = None }
+plan_unless None content by cmd = record { reply = Ok (reply content by cmd) }
+plan_unless (Some refusal) content by cmd = record { reply = Err refusal }
 
 abbrev pub plan_for : Shape → Caps → Content → ConnId → ListCmd → Plan
 plan_for shape caps content by cmd = plan_unless (cause shape caps content by cmd) content by cmd

@@ -1,5 +1,5 @@
 -- Items that are put in, one after another.
-use Rattle.std.specs.Prelude.{◌≡◌, ◌<◌, false, length, map}
+use Rattle.std.specs.Prelude.{◌≡◌, ℕ, ◌<◌, false, length, map}
 use Rattle.std.specs.List.{list_any}
 use Rattle.list_store.specs.Lists.{Lists, all_records, is_id}
 use Rattle.list_watch.specs.declared.monitors.Watched.{Watched}
@@ -15,11 +15,12 @@ abbrev pub told_row : Lists → Triple → Watched
 told_row lists watch =
     record { monitor = monitor_of watch; full = has_records lists (monitor_of watch).header }
 
--- a record has a header and an id of its own, and leaves the records in order; monitors are apart
-abbrev pub IsPlaceable : Content → ListItem → Type 0
-IsPlaceable content (Controls next limits locks watches) =
+-- a record has a header and an id of its own, and leaves the records in order and in so many
+-- elements; monitors are apart
+abbrev pub IsPlaceable : ℕ → Content → ListItem → Type 0
+IsPlaceable elements content (Controls next limits locks watches) =
     AreMonitors (map monitor_of watches)
-IsPlaceable content (Row header id version name key body adj) =
+IsPlaceable elements content (Row header id version name key body adj) =
     (header < length content.lists)
     × (list_any (is_id id) (all_records content.lists) ≡ false)
-    × IsOrderly (content_with content (Row header id version name key body adj)).lists
+    × IsOrderly elements (content_with content (Row header id version name key body adj)).lists

@@ -85,7 +85,7 @@ impl Engine for ListEngine {
 
     fn empty(alloc: Global, form: &StrForm, caps: Caps) -> Result<Self, NoMemory> {
         let shape = Shape::of(form);
-        let kept = Kept::new(alloc, shape)?;
+        let kept = Kept::new(alloc, shape, caps.elements)?;
         Ok(ListEngine {
             alloc,
             shape,
@@ -121,10 +121,10 @@ impl Engine for ListEngine {
     ) -> Result<ListReply, Refusal> {
         match self.plan.take() {
             Some(plan) => {
-                let Plan { reply, body } = plan;
+                let Plan { reply } = plan;
                 match reply {
                     Ok(reply) => {
-                        act(&mut self.kept, body, by, cmd, out);
+                        act(&mut self.kept, by, cmd, out);
                         Ok(reply)
                     }
                     Err(refusal) => Err(refusal),

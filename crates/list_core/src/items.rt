@@ -6,9 +6,9 @@ ghost use Rattle.list_watch.specs.declared.monitors.Watched.{Watched};
 ghost use Rattle.list_model.specs.Items.{has_controls, controls_of, row_of, rows_from, items_of, triple_of, content_with};
 ghost use Rattle.list_core.specs.Rows.{told_row, IsPlaceable};
 
-use cf_types::{ConnId, Listing, NoMemory, copy_data};
+use cf_types::{Body, ConnId, Listing, NoMemory};
 use engine_api::Shape;
-use list_kept::{Kept, count};
+use list_kept::{Bare, Kept, count};
 use list_model::ListItem;
 use list_store::Rec;
 use list_watch::{Monitor, Watched};
@@ -91,10 +91,11 @@ fn controls(alloc: Global, kept: &Kept) -> Result<ListItem, NoMemory>
 }
 
 // A copy of a record of a header.
-fn row(alloc: Global, header: u32, rec: &Rec) -> Result<ListItem, NoMemory>
-    ensures { IfOk result (λ item. item ≡ row_of header rec.now) }
+fn row(alloc: Global, kept: &Kept, header: u32, rec: &Rec) -> Result<ListItem, NoMemory>
+    requires { HasChain kept.now.chains rec.now.body }
+    ensures { IfOk result (λ item. item ≡ row_of header (record_in kept.now.chains rec.now)) }
 {
-    let body = copy_data(alloc, &rec.body)?;
+    let body = kept.read(alloc, &rec.body)?;
     Ok(ListItem::Row {
         header,
         id: rec.id,
@@ -113,7 +114,7 @@ fn row_at(alloc: Global, kept: &Kept, header: u32, place: u32) -> Result<ListIte
         (slice_get (records_of kept.now.content.lists header) place) ≡ Some item) }
 {
     match kept.at(header, place) {
-        Some(rec) => row(alloc, header, rec),
+        Some(rec) => row(alloc, kept, header, rec),
         None => unreachable!(),
     }
 }
@@ -190,49 +191,51 @@ fn rows_of(
 }
 
 // Puts a record behind the others of a header; want of memory hands it back.
-fn place_row(kept: &mut Kept, header: u32, rec: Rec) -> Result<(), ListItem>
+fn place_row(kept: &mut Kept, header: u32, bare: Bare, body: Option<Body>) -> Result<(), ListItem>
     requires header { header < length kept.old.content.lists }
-    requires alone { list_any (is_id rec.id) (all_records kept.old.content.lists) ≡ false }
-    requires orderly { IsOrderly (content_with kept.old.content (row_of header rec)).lists }
+    requires alone { list_any (is_id bare.id) (all_records kept.old.content.lists) ≡ false }
+    requires orderly { IsOrderly kept.old.elements
+        (content_with kept.old.content (row_of header (with_data bare body))).lists }
     ensures ok { OnOk result (kept.new.content
-        ≡ content_with kept.old.content (row_of header rec)) }
+        ≡ content_with kept.old.content (row_of header (with_data bare body))) }
     ensures err { OnErr result (kept.new.content ≡ kept.old.content) }
-    ensures handed_back { IfErr result (λ back. back ≡ row_of header rec) }
+    ensures handed_back { IfErr result (λ back. back ≡ row_of header (with_data bare body)) }
+    ensures elements { kept.new.elements ≡ kept.old.elements }
 {
-    match kept.push(header, rec) {
+    let Bare {
+        id,
+        version,
+        name,
+        key,
+        adj,
+    } = bare;
+    match kept.push(header, bare, &body) {
         Ok(()) => Ok(()),
-        Err(rec) => {
-            let Rec {
-                id,
-                version,
-                name,
-                key,
-                body,
-                adj,
-            } = rec;
-            Err(ListItem::Row {
-                header,
-                id,
-                version,
-                name,
-                key,
-                body,
-                adj,
-            })
-        }
+        Err(_) => Err(ListItem::Row {
+            header,
+            id,
+            version,
+            name,
+            key,
+            body,
+            adj,
+        }),
     }
 }
 
 ghost use Rattle.std.specs.Prelude.{false};
 ghost use Rattle.list_store.specs.Lists.{all_records, is_id, records_of};
+ghost use Rattle.list_store.specs.Records.{record_in, HasChain};
+ghost use Rattle.list_kept.specs.Data.{with_data};
 ghost use Rattle.list_kept.specs.Orderly.{IsOrderly};
 
 /// Puts an item behind the others; want of memory hands it back.
 pub(crate) fn place_item(alloc: Global, kept: &mut Kept, item: ListItem) -> Result<(), ListItem>
-    requires { IsPlaceable kept.old.content item }
+    requires { IsPlaceable kept.old.elements kept.old.content item }
     ensures ok { OnOk result (kept.new.content ≡ content_with kept.old.content item) }
     ensures err { OnErr result (kept.new.content ≡ kept.old.content) }
     ensures handed_back { IfErr result (λ back. back ≡ item) }
+    ensures elements { kept.new.elements ≡ kept.old.elements }
 {
     match item {
         ListItem::Controls {
@@ -261,15 +264,14 @@ pub(crate) fn place_item(alloc: Global, kept: &mut Kept, item: ListItem) -> Resu
             body,
             adj,
         } => {
-            let rec = Rec {
+            let bare = Bare {
                 id,
                 version,
                 name,
                 key,
-                body,
                 adj,
             };
-            place_row(kept, header, rec)
+            place_row(kept, header, bare, body)
         }
     }
 }

@@ -10,5 +10,4 @@ mod refusals;
 
 pub use engine::{ListContent, ListEngine};
 pub use list_model::ListItem;
-pub use list_store::Rec;
 pub use list_watch::Monitor;

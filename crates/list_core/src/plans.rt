@@ -1,5 +1,6 @@
 //! What is got ready for a command, and what is done then.
 ghost use Rattle.std.specs.Prelude.{◌≡◌, ◌+◌, ◌^◌, ◌<◌, ◌≤◌, IfOk, None, false, length};
+ghost use Rattle.std.specs.Result.{result_err};
 ghost use Rattle.std.specs.List.{list_any};
 ghost use Rattle.cf_types.specs.Gains.{Gains};
 ghost use Rattle.list_store.specs.Lists.{all_records, count_of, is_id};
@@ -9,42 +10,52 @@ ghost use Rattle.list_model.specs.Commands.Write as write;
 ghost use Rattle.list_model.specs.Step.{cause, reply, after};
 ghost use Rattle.list_kept.specs.ContentView.{IsRoomy};
 ghost use Rattle.list_kept.specs.Orderly.{IsOrderly};
-ghost use Rattle.list_core.specs.Plans.{body_of, plan_unless, plan_for, IsPossible};
+ghost use Rattle.list_core.specs.Plans.{plan_unless, plan_for, IsPossible};
 
+use crate::commands::write::Wanted;
 use crate::commands::{
     delete, l_controls, lock_reset, lock_set, lock_test, monitor, move_record, read, read_list,
     set_limit, unmonitor, update, write,
 };
-use cf_types::{Body, Caps, ConnId, Effects, ListCmd, ListReply, NoMemory, Refusal, copy_data};
+use crate::refusals::Judged;
+use cf_types::{Caps, ConnId, Effects, ListCmd, ListReply, NoMemory, Refusal};
 use engine_api::Shape;
 use list_kept::Kept;
 use std::alloc::Global;
 
-/// What is got ready for a command: its reply, and a copy of the data that a record will have.
+/// What is got ready for a command: its reply.
 #[derive(Drop)]
 pub(crate) struct Plan {
     pub reply: Result<ListReply, Refusal>,
-    pub body: Option<Body>,
 }
 
 // Why a command is refused.
-fn refusal(shape: Shape, caps: Caps, kept: &Kept, by: ConnId, cmd: &ListCmd) -> Option<Refusal>
+fn refusal(shape: Shape, caps: Caps, kept: &Kept, by: ConnId, cmd: &ListCmd) -> Judged
     requires few { count_of kept.now.content.lists < 2 ^ 32 }
     requires elements { elements_in (all_records kept.now.content.lists) < 2 ^ 32 }
     requires alone { list_any (is_id (write.new_id kept.now.content))
         (all_records kept.now.content.lists) ≡ false }
-    ensures { result ≡ cause shape caps kept.now.content by cmd.now }
+    ensures { result_err result ≡ cause shape caps kept.now.content by cmd.now }
 {
     match cmd {
         ListCmd::Write {
             header,
-            head: _,
+            head,
             name,
             key,
             body,
-            adj: _,
+            adj,
             cond,
-        } => write::refusal(shape, caps, kept, by, *header, *name, *key, body, *cond),
+        } => {
+            let wanted = Wanted {
+                header: *header,
+                head: *head,
+                name: *name,
+                key: *key,
+                adj: *adj,
+            };
+            write::refusal(shape, caps, kept, by, wanted, body, *cond)
+        }
         ListCmd::Update {
             at,
             body,
@@ -96,27 +107,12 @@ fn reply(alloc: Global, kept: &Kept, by: ConnId, cmd: &ListCmd) -> Result<ListRe
     }
 }
 
-// A copy of the data that a command's record will have.
-fn copied(alloc: Global, kept: &Kept, cmd: &ListCmd) -> Result<Option<Body>, NoMemory>
-    ensures { IfOk result (λ body. body ≡ body_of kept.now.content cmd.now) }
-{
-    match cmd {
-        ListCmd::Write { body, .. } => copy_data(alloc, body),
-        ListCmd::Update { at, body, .. } => update::data(alloc, kept, *at, body),
-        _ => Ok(None),
-    }
-}
-
 // What is got ready for a command that isn't refused.
 fn plan_done(alloc: Global, kept: &Kept, by: ConnId, cmd: &ListCmd) -> Result<Plan, NoMemory>
     ensures { IfOk result (λ plan. plan ≡ plan_unless None kept.now.content by cmd.now) }
 {
     let told = reply(alloc, kept, by, cmd)?;
-    let body = copied(alloc, kept, cmd)?;
-    Ok(Plan {
-        reply: Ok(told),
-        body,
-    })
+    Ok(Plan { reply: Ok(told) })
 }
 
 /// What is got ready for a command.
@@ -135,21 +131,20 @@ pub(crate) fn make_plan(
     ensures { IfOk result (λ plan. plan ≡ plan_for shape caps kept.now.content by cmd.now) }
 {
     match refusal(shape, caps, kept, by, cmd) {
-        Some(refusal) => Ok(Plan {
+        Err(refusal) => Ok(Plan {
             reply: Err(refusal),
-            body: None,
         }),
-        None => plan_done(alloc, kept, by, cmd),
+        Ok(()) => plan_done(alloc, kept, by, cmd),
     }
 }
 
-/// Does a command that isn't refused, with a copy of the data that its record will have.
-pub(crate) fn act(kept: &mut Kept, body: Option<Body>, by: ConnId, cmd: &ListCmd, out: &mut Effects)
+/// Does a command that isn't refused.
+pub(crate) fn act(kept: &mut Kept, by: ConnId, cmd: &ListCmd, out: &mut Effects)
     requires room { IsRoomy kept.old out.old.bits.room }
     requires possible { IsPossible kept.old.content cmd.now }
-    requires copied { body ≡ body_of kept.old.content cmd.now }
-    requires orderly { IsOrderly (after kept.old.content by cmd.now).lists }
+    requires orderly { IsOrderly kept.old.elements (after kept.old.content by cmd.now).lists }
     ensures content { kept.new.content ≡ after kept.old.content by cmd.now }
+    ensures elements { kept.new.elements ≡ kept.old.elements }
     ensures bits { Gains (stands kept.old.content) (stands kept.new.content) out.old.bits.items
         out.new.bits.items }
     ensures mail { out.new.mail ≡ out.old.mail }
@@ -160,11 +155,20 @@ pub(crate) fn act(kept: &mut Kept, body: Option<Body>, by: ConnId, cmd: &ListCmd
             head,
             name,
             key,
-            body: _,
+            body,
             adj,
             cond: _,
-        } => write::act(kept, *header, *head, *name, *key, body, *adj, out),
-        ListCmd::Update { at, adj, .. } => update::act(kept, *at, body, *adj),
+        } => {
+            let wanted = Wanted {
+                header: *header,
+                head: *head,
+                name: *name,
+                key: *key,
+                adj: *adj,
+            };
+            write::act(kept, wanted, body, out)
+        }
+        ListCmd::Update { at, body, adj, .. } => update::act(kept, *at, body, *adj),
         ListCmd::Read { .. } => {}
         ListCmd::Move {
             at,

@@ -1,27 +1,17 @@
 //! Causes of refusals that commands share.
-ghost use Rattle.std.specs.Prelude.{◌≡◌, ◌<◌, ◌^◌, option_map, get_or};
-ghost use Rattle.engine_api.specs.Meaning.{first_refusal};
+ghost use Rattle.std.specs.Prelude.{◌≡◌, ◌<◌, ◌^◌, find, get_or};
+ghost use Rattle.std.specs.Result.{result_err};
 ghost use Rattle.list_store.specs.Lists.{all_records, records_without};
-ghost use Rattle.list_model.specs.Records.{elements_in, is_reference};
+ghost use Rattle.list_model.specs.Records.{elements_in, has_name, is_reference};
 ghost use Rattle.list_model.specs.Lists.{record_at};
 ghost use Rattle.list_model.specs.Contents.{refs_of, locks_of, is_held_by};
 ghost use Rattle.list_model.specs.Refusals.{lock_refusal, held_refusal, not_held_refusal, cond_lock_refusal, cond_refusal, header_refusal, reference_refusal, has_names, has_keys, new_key_refusal, ref_header_refusal, ref_form_refusal, record_refusal, version_refusal, taken_refusal, name_refusal, full_refusal, entries_refusal, elements_refusal, index_refusal, other_refusal, in_use_refusal};
 
 use cf_types::{At, Caps, Cond, ConnId, EntryId, Key16, Kind, Name16, Refs, Refusal};
 use list_kept::{Kept, count, elements_of_others, record_at};
-use list_store::Rec;
 
-/// The first cause that holds.
-pub(crate) fn first_refusal(causes: &[Option<Refusal>]) -> Option<Refusal>
-    ensures { result ≡ first_refusal causes.now }
-{
-    for cause in causes {
-        if let Some(refusal) = cause {
-            return Some(*refusal);
-        }
-    }
-    None
-}
+/// What judging a command comes to: why it is refused, if it is.
+pub(crate) type Judged = Result<(), Refusal>;
 
 /// What the records of a structure are known by.
 pub(crate) fn refs_of(kind: Kind) -> Refs
@@ -35,23 +25,23 @@ pub(crate) fn refs_of(kind: Kind) -> Refs
 }
 
 /// The lock isn't below the number of list locks.
-pub(crate) fn lock_refusal(locks: u32, lock: u32) -> Option<Refusal>
-    ensures { result ≡ lock_refusal locks lock }
+pub(crate) fn lock_refusal(locks: u32, lock: u32) -> Judged
+    ensures { result_err result ≡ lock_refusal locks lock }
 {
     if locks <= lock {
-        Some(Refusal::BadLock { lock, locks })
+        Err(Refusal::BadLock { lock, locks })
     } else {
-        None
+        Ok(())
     }
 }
 
 /// The lock is held by anyone.
-pub(crate) fn held_refusal(holder: Option<ConnId>) -> Option<Refusal>
-    ensures { result ≡ held_refusal holder }
+pub(crate) fn held_refusal(holder: Option<ConnId>) -> Judged
+    ensures { result_err result ≡ held_refusal holder }
 {
     match holder {
-        Some(by) => Some(Refusal::LockHeld { by }),
-        None => None,
+        Some(by) => Err(Refusal::LockHeld { by }),
+        None => Ok(()),
     }
 }
 
@@ -66,46 +56,46 @@ fn is_held_by(conn: ConnId, holder: Option<ConnId>) -> bool
 }
 
 /// The lock isn't held by the caller.
-pub(crate) fn not_held_refusal(by: ConnId, holder: Option<ConnId>) -> Option<Refusal>
-    ensures { result ≡ not_held_refusal by holder }
+pub(crate) fn not_held_refusal(by: ConnId, holder: Option<ConnId>) -> Judged
+    ensures { result_err result ≡ not_held_refusal by holder }
 {
     if is_held_by(by, holder) {
-        None
+        Ok(())
     } else {
-        Some(Refusal::LockNotHeldBy { holder })
+        Err(Refusal::LockNotHeldBy { holder })
     }
 }
 
 /// The condition's lock isn't there.
-pub(crate) fn cond_lock_refusal(locks: u32, cond: Option<Cond>) -> Option<Refusal>
-    ensures { result ≡ cond_lock_refusal locks cond }
+pub(crate) fn cond_lock_refusal(locks: u32, cond: Option<Cond>) -> Judged
+    ensures { result_err result ≡ cond_lock_refusal locks cond }
 {
     match cond {
-        None => None,
+        None => Ok(()),
         Some(Cond::NotHeld(lock)) => lock_refusal(locks, lock),
         Some(Cond::HeldBy(lock)) => lock_refusal(locks, lock),
     }
 }
 
 /// The condition doesn't hold.
-pub(crate) fn cond_refusal(kept: &Kept, by: ConnId, cond: Option<Cond>) -> Option<Refusal>
-    ensures { result ≡ cond_refusal kept.now.content.locks by cond }
+pub(crate) fn cond_refusal(kept: &Kept, by: ConnId, cond: Option<Cond>) -> Judged
+    ensures { result_err result ≡ cond_refusal kept.now.content.locks by cond }
 {
     match cond {
-        None => None,
+        None => Ok(()),
         Some(Cond::NotHeld(lock)) => held_refusal(kept.holder(lock)),
         Some(Cond::HeldBy(lock)) => not_held_refusal(by, kept.holder(lock)),
     }
 }
 
 /// The header isn't below the number of headers.
-pub(crate) fn header_refusal(headers: u32, header: u32) -> Option<Refusal>
-    ensures { result ≡ header_refusal headers header }
+pub(crate) fn header_refusal(headers: u32, header: u32) -> Judged
+    ensures { result_err result ≡ header_refusal headers header }
 {
     if headers <= header {
-        Some(Refusal::BadHeader { header, headers })
+        Err(Refusal::BadHeader { header, headers })
     } else {
-        None
+        Ok(())
     }
 }
 
@@ -121,17 +111,13 @@ fn is_reference(refs: Refs, name: Option<Name16>, key: Option<Key16>) -> bool
 }
 
 /// A new record has another name or key than the structure's records.
-pub(crate) fn reference_refusal(
-    refs: Refs,
-    name: Option<Name16>,
-    key: Option<Key16>,
-) -> Option<Refusal>
-    ensures { result ≡ reference_refusal refs name key }
+pub(crate) fn reference_refusal(refs: Refs, name: Option<Name16>, key: Option<Key16>) -> Judged
+    ensures { result_err result ≡ reference_refusal refs name key }
 {
     if is_reference(refs, name, key) {
-        None
+        Ok(())
     } else {
-        Some(Refusal::WrongReference { refs })
+        Err(Refusal::WrongReference { refs })
     }
 }
 
@@ -158,23 +144,23 @@ fn has_keys(refs: Refs) -> bool
 }
 
 /// A new key is given where records have none.
-pub(crate) fn new_key_refusal(refs: Refs, key: Option<Key16>) -> Option<Refusal>
-    ensures { result ≡ new_key_refusal refs key }
+pub(crate) fn new_key_refusal(refs: Refs, key: Option<Key16>) -> Judged
+    ensures { result_err result ≡ new_key_refusal refs key }
 {
     if key.is_none() || has_keys(refs) {
-        None
+        Ok(())
     } else {
-        Some(Refusal::WrongReference { refs })
+        Err(Refusal::WrongReference { refs })
     }
 }
 
 /// The header of a reference isn't there.
-pub(crate) fn ref_header_refusal(headers: u32, at: At) -> Option<Refusal>
-    ensures { result ≡ ref_header_refusal headers at }
+pub(crate) fn ref_header_refusal(headers: u32, at: At) -> Judged
+    ensures { result_err result ≡ ref_header_refusal headers at }
 {
     match at {
-        At::Id(_) => None,
-        At::Name(_) => None,
+        At::Id(_) => Ok(()),
+        At::Name(_) => Ok(()),
         At::Head(header) => header_refusal(headers, header),
         At::Tail(header) => header_refusal(headers, header),
         At::Key(header, _) => header_refusal(headers, header),
@@ -182,13 +168,13 @@ pub(crate) fn ref_header_refusal(headers: u32, at: At) -> Option<Refusal>
 }
 
 // Records aren't known in a way.
-fn form_refusal(known: bool, refs: Refs) -> Option<Refusal>
-    ensures { result ≡ (if known then None else Some (WrongReference refs)) }
+fn form_refusal(known: bool, refs: Refs) -> Judged
+    ensures { result_err result ≡ (if known then None else Some (WrongReference refs)) }
 {
     if known {
-        None
+        Ok(())
     } else {
-        Some(Refusal::WrongReference { refs })
+        Err(Refusal::WrongReference { refs })
     }
 }
 
@@ -196,25 +182,25 @@ ghost use Rattle.std.specs.Prelude.{if◌then◌else◌, Some, None};
 ghost use Rattle.cf_types.specs.declared.refusals.Refusal.TheVariants.{WrongReference};
 
 /// Records aren't known in the way of a reference.
-pub(crate) fn ref_form_refusal(refs: Refs, at: At) -> Option<Refusal>
-    ensures { result ≡ ref_form_refusal refs at }
+pub(crate) fn ref_form_refusal(refs: Refs, at: At) -> Judged
+    ensures { result_err result ≡ ref_form_refusal refs at }
 {
     match at {
-        At::Id(_) => None,
+        At::Id(_) => Ok(()),
         At::Name(_) => form_refusal(has_names(refs), refs),
-        At::Head(_) => None,
-        At::Tail(_) => None,
+        At::Head(_) => Ok(()),
+        At::Tail(_) => Ok(()),
         At::Key(_, _) => form_refusal(has_keys(refs), refs),
     }
 }
 
 /// No record is named so.
-pub(crate) fn record_refusal(kept: &Kept, at: At) -> Option<Refusal>
-    ensures { result ≡ record_refusal (record_at kept.now.content.lists at) }
+pub(crate) fn record_refusal(kept: &Kept, at: At) -> Judged
+    ensures { result_err result ≡ record_refusal (record_at kept.now.content.lists at) }
 {
     match record_at(kept, at) {
-        Some(_) => None,
-        None => Some(Refusal::NoRecordThere),
+        Some(_) => Ok(()),
+        None => Err(Refusal::NoRecordThere),
     }
 }
 
@@ -229,122 +215,124 @@ fn version_at(kept: &Kept, at: At) -> u32
 }
 
 // A version is given, and another is found.
-fn other_version(version: Option<u32>, found: u32) -> Option<Refusal>
-    ensures { result ≡ version_refusal version found }
+fn other_version(version: Option<u32>, found: u32) -> Judged
+    ensures { result_err result ≡ version_refusal version found }
 {
     match version {
         Some(version) => {
             if version == found {
-                None
+                Ok(())
             } else {
-                Some(Refusal::VersionDiffers { found })
+                Err(Refusal::VersionDiffers { found })
             }
         }
-        None => None,
+        None => Ok(()),
     }
 }
 
 /// The record that is named has another version than the one given.
-pub(crate) fn version_refusal(kept: &Kept, at: At, version: Option<u32>) -> Option<Refusal>
-    ensures { result ≡ version_refusal version (the_record kept.now.content.lists at).version }
+pub(crate) fn version_refusal(kept: &Kept, at: At, version: Option<u32>) -> Judged
+    ensures { result_err result
+        ≡ version_refusal version (the_record kept.now.content.lists at).version }
 {
     other_version(version, version_at(kept, at))
 }
 
 ghost use Rattle.list_model.specs.Lists.{the_record};
 
-// A record is there.
-fn taken_refusal(rec: Option<&Rec>) -> Option<Refusal>
-    ensures { result ≡ taken_refusal (option_map (λ r. r.now) rec.entry) }
+// A record has a name.
+fn taken_refusal(kept: &Kept, name: &Name16) -> Judged
+    ensures { result_err result ≡ taken_refusal (find (has_name name.now)
+        (all_records kept.now.content.lists)) }
 {
-    match rec {
-        Some(rec) => Some(Refusal::NameTaken { id: rec.id }),
-        None => None,
+    match kept.named(name) {
+        Some(rec) => Err(Refusal::NameTaken { id: rec.id }),
+        None => Ok(()),
     }
 }
 
 /// A record has the name.
-pub(crate) fn name_refusal(kept: &Kept, name: Option<Name16>) -> Option<Refusal>
-    ensures { result ≡ name_refusal (all_records kept.now.content.lists) name }
+pub(crate) fn name_refusal(kept: &Kept, name: Option<Name16>) -> Judged
+    ensures { result_err result ≡ name_refusal (all_records kept.now.content.lists) name }
 {
     match name {
-        Some(name) => taken_refusal(kept.named(&name)),
-        None => None,
+        Some(name) => taken_refusal(kept, &name),
+        None => Ok(()),
     }
 }
 
 /// The header has as many records as its limit, or more.
-pub(crate) fn full_refusal(kept: &Kept, header: u32) -> Option<Refusal>
-    ensures { result ≡ full_refusal kept.now.content header }
+pub(crate) fn full_refusal(kept: &Kept, header: u32) -> Judged
+    ensures { result_err result ≡ full_refusal kept.now.content header }
 {
     let limit = kept.limit(header);
     if limit <= kept.len(header) {
-        Some(Refusal::ListFull { limit })
+        Err(Refusal::ListFull { limit })
     } else {
-        None
+        Ok(())
     }
 }
 
 /// The structure has as many records as entries.
-pub(crate) fn entries_refusal(caps: Caps, kept: &Kept) -> Option<Refusal>
+pub(crate) fn entries_refusal(caps: Caps, kept: &Kept) -> Judged
     requires { count_of kept.now.content.lists < 2 ^ 32 }
-    ensures { result ≡ entries_refusal caps (all_records kept.now.content.lists) }
+    ensures { result_err result ≡ entries_refusal caps (all_records kept.now.content.lists) }
 {
     if caps.entries <= count(kept) {
-        Some(Refusal::EntriesFull {
+        Err(Refusal::EntriesFull {
             entries: caps.entries,
         })
     } else {
-        None
+        Ok(())
     }
 }
 
 ghost use Rattle.list_store.specs.Lists.{count_of};
 
 /// The data need more elements than records leave free, but for the record with an id.
-pub(crate) fn elements_refusal(caps: Caps, need: u32, kept: &Kept, id: EntryId) -> Option<Refusal>
+pub(crate) fn elements_refusal(caps: Caps, need: u32, kept: &Kept, id: EntryId) -> Judged
     requires { elements_in (all_records kept.now.content.lists) < 2 ^ 32 }
-    ensures { result ≡ elements_refusal caps need
+    ensures { result_err result ≡ elements_refusal caps need
         (records_without id (all_records kept.now.content.lists)) }
 {
     let free = caps.elements.saturating_sub(elements_of_others(kept, id));
     if need <= free {
-        None
+        Ok(())
     } else {
-        Some(Refusal::NoListElements { need, free })
+        Err(Refusal::NoListElements { need, free })
     }
 }
 
 /// The index isn't below the length of the vector.
-pub(crate) fn index_refusal(vector: u32, index: u32) -> Option<Refusal>
-    ensures { result ≡ index_refusal vector index }
+pub(crate) fn index_refusal(vector: u32, index: u32) -> Judged
+    ensures { result_err result ≡ index_refusal vector index }
 {
     if vector <= index {
-        Some(Refusal::BadIndex { index, len: vector })
+        Err(Refusal::BadIndex { index, len: vector })
     } else {
-        None
+        Ok(())
     }
 }
 
 // Another header is monitored.
-fn other_refusal(monitored: Option<u32>, header: u32) -> Option<Refusal>
-    ensures { result ≡ other_refusal monitored header }
+fn other_refusal(monitored: Option<u32>, header: u32) -> Judged
+    ensures { result_err result ≡ other_refusal monitored header }
 {
     match monitored {
         Some(other) => {
             if other == header {
-                None
+                Ok(())
             } else {
-                Some(Refusal::HeaderInUse { header: other })
+                Err(Refusal::HeaderInUse { header: other })
             }
         }
-        None => None,
+        None => Ok(()),
     }
 }
 
 /// The index monitors another header.
-pub(crate) fn in_use_refusal(kept: &Kept, by: ConnId, index: u32, header: u32) -> Option<Refusal>
-    ensures { result ≡ in_use_refusal kept.now.content.monitors by index header }
+pub(crate) fn in_use_refusal(kept: &Kept, by: ConnId, index: u32, header: u32) -> Judged
+    ensures { result_err result ≡ in_use_refusal kept.now.content.monitors by index header }
 {
     other_refusal(kept.monitored(by, index), header)
 }

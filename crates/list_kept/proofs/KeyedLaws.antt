@@ -7,7 +7,7 @@ use Rattle.std.proofs.lemmas.Bool.{and_parts, not-true, false≢true}
 use Rattle.cf_types.specs.declared.names.Key16.{Key16}
 use Rattle.list_laws.specs.Pairwise.{pairwise}
 use Rattle.list_laws.proofs.FilterLaws.{find_none, none_from_all, list_all_weaker}
-use Rattle.list_store.specs.declared.records.Rec.{Rec}
+use Rattle.list_store.specs.Record.{Record}
 use Rattle.list_model.specs.Keys.{key_up_to, key_before, same_key}
 use Rattle.list_model.specs.Records.{has_key, may_precede}
 use Rattle.list_model.proofs.RecordLaws.{key_back, key_up_to-either, not_false}
@@ -66,18 +66,18 @@ behind_apart key (Some k) (Some other) h up none = go (same_key other key) refl
         absurd (false≢true (sym none ∙ same_up k key here (not_false (key_up_to (Some key) (Some k)) h)))
     go false e = e
 
-abbrev pub keyed : Key16 → Option Rec → Option Rec
+abbrev pub keyed : Key16 → Option Record → Option Record
 keyed key None = None
 keyed key (Some rec) = cond (has_key key rec) (Some rec) None
 
-pub find_keyed : (key : Key16) (recs : List Rec) → pairwise may_precede recs ≡ true
+pub find_keyed : (key : Key16) (recs : List Record) → pairwise may_precede recs ≡ true
     → find (has_key key) recs ≡ keyed key (slice_get recs (prefix_len (comes_behind true (Some key)) recs))
 find_keyed key [] h = refl
 find_keyed key (x ∷ xs) h =
     let parts = and_parts (list_all (may_precede x) xs) (pairwise may_precede xs) h in
     go (comes_behind true (Some key) x) refl (find_keyed key xs parts.1) parts.0
   where
-    has_is : (y : Rec) → has_key key y ≡ is_key key y.key
+    has_is : (y : Record) → has_key key y ≡ is_key key y.key
     has_is y = same y.key refl
       where
         same : (o : Option Key16) → y.key ≡ o → has_key key y ≡ is_key key o

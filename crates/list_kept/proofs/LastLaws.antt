@@ -1,9 +1,9 @@
 -- The last record, and where there is none.
 use Rattle.std.proofs.Common.{◌≡◌, ℕ, ◌-◌, ◌<◌, ◌==◌, ◌++◌, ◌∷◌, [], not, true, false, List, length, length-append, take, drop, suc, refl, ap, ◌∙◌, arith}
 use Rattle.std.proofs.lemmas.Bool.Decides.{nat_tests}
-use Rattle.list_store.specs.declared.records.Rec.{Rec}
+use Rattle.list_store.specs.Record.{Record}
 use Rattle.list_store.specs.Lists.{Lists, all_records, records_of, with_records, count_of}
-use Rattle.list_store.specs.StoreView.{IsLastFull}
+use Rattle.record_lists.specs.Lists.{IsLastFull}
 use Rattle.record_lists.proofs.AllLaws.{all-split}
 use Rattle.record_lists.proofs.AllLaws as store
 use Rattle.record_lists.proofs.AllLaws.{popped}
@@ -25,7 +25,7 @@ last-count lists header is =
     omega (
       arith,
       is.full,
-      ap (λ (l : List Rec). length l) (all-split lists header is.within),
+      ap (λ (l : List Record). length l) (all-split lists header is.within),
       length-append front (records_of lists header ++ back),
       length-append (records_of lists header) back,
     )

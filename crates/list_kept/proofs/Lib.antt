@@ -4,3 +4,4 @@ pub mod LastLaws
 pub mod PlaceLaws
 pub mod KeyedLaws
 pub mod NamedLaws
+pub mod DataLaws

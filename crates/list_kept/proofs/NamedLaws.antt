@@ -15,8 +15,8 @@ use Rattle.cf_types.specs.declared.names.Key16.{Key16}
 use Rattle.list_laws.specs.Insertions.{insertion}
 use Rattle.record_lists.proofs.AllLaws.{all-map}
 use Rattle.record_lists.proofs.SplitLaws.{split_found}
-use Rattle.list_store.specs.declared.records.Rec.{Rec}
-use Rattle.list_store.specs.Lists.{Lists, rec_id, is_id, ids_apart, all_records, records_of, with_records, record_of, records_without, lists_without, lists_replaced, replaced_by}
+use Rattle.list_store.specs.Record.{Record}
+use Rattle.list_store.specs.Lists.{Lists, record_id, is_id, ids_apart, all_records, records_of, with_records, record_of, records_without, lists_without, lists_replaced, replaced_by}
 use Rattle.list_model.specs.Records.{has_name, names_apart, elements_in, elements_of}
 use Rattle.list_model.specs.Lists.{with_record, stands_before}
 use Rattle.list_model.specs.Commands.Move.{with_new_key}
@@ -28,7 +28,7 @@ use Rattle.list_kept.specs.ContentView.{put_back}
 use Rattle.list_kept.specs.Named.{is_its, AreNamed, WritesIts}
 
 -- what is found among records with one more
-find_front : (p : Rec → Bool) (rec : Rec) (front back : List Rec)
+find_front : (p : Record → Bool) (rec : Record) (front back : List Record)
     → (p rec ≡ true → list_any p (front ++ back) ≡ false)
     → find p (front ++ rec ∷ back) ≡ cond (p rec) (Some rec) (find p (front ++ back))
 find_front p rec [] back alone = refl
@@ -50,15 +50,15 @@ find_front p rec (x ∷ xs) back alone = go (p x) (p rec) refl refl
     go true false e f ih = rw f refl
     go false b e f ih = ih
 
-find_with : (p : Rec → Bool) (rec : Rec) (xs ys : List Rec) → IsWith rec xs ys
+find_with : (p : Record → Bool) (rec : Record) (xs ys : List Record) → IsWith rec xs ys
     → (p rec ≡ true → list_any p xs ≡ false) → find p ys ≡ cond (p rec) (Some rec) (find p xs)
 find_with p rec xs ys w alone =
     ap (find p) w.is
-    ∙ find_front p rec w.front w.back (λ e. sym (ap (λ (l : List Rec). list_any p l) w.was) ∙ alone e)
-    ∙ ap (λ (l : List Rec). cond (p rec) (Some rec) (find p l)) (sym w.was)
+    ∙ find_front p rec w.front w.back (λ e. sym (ap (λ (l : List Record). list_any p l) w.was) ∙ alone e)
+    ∙ ap (λ (l : List Record). cond (p rec) (Some rec) (find p l)) (sym w.was)
 
 -- of two records whose names are apart not both have a name
-apart_names : (name : Name16) (rec other : Rec) → names_apart rec other ≡ true → has_name name rec ≡ true
+apart_names : (name : Name16) (rec other : Record) → names_apart rec other ≡ true → has_name name rec ≡ true
     → not (has_name name other) ≡ true
 apart_names name rec other h e = go rec.name refl h e
   where
@@ -71,7 +71,7 @@ apart_names name rec other h e = go rec.name refl h e
         subst (λ (n : Name16). not (has_name n other) ≡ true) same away
 
 -- where a record has a name, no other record has it
-alone_by : (name : Name16) (rec : Rec) (xs ys : List Rec) → IsWith rec xs ys → pairwise names_apart ys ≡ true
+alone_by : (name : Name16) (rec : Record) (xs ys : List Record) → IsWith rec xs ys → pairwise names_apart ys ≡ true
     → has_name name rec ≡ true → list_any (has_name name) xs ≡ false
 alone_by name rec xs ys w h e =
     none_from_all (has_name name) xs
@@ -79,37 +79,37 @@ alone_by name rec xs ys w h e =
     (λ other k. apart_names name rec other (and_parts (names_apart rec other) (names_apart other rec) k).0 e) xs
     (with-pairwise names_apart names_apart-sym rec xs ys w h))
 
-has_is : (name : Name16) (rec : Rec) → has_name name rec ≡ is_its rec.name name
+has_is : (name : Name16) (rec : Record) → has_name name rec ≡ is_its rec.name name
 has_is name rec = go rec.name refl
   where
     go : (o : Option Name16) → rec.name ≡ o → has_name name rec ≡ is_its o name
     go None e = rw e refl
     go (Some own) e = rw e refl
 
-id_with : (name : Name16) (rec : Rec) (xs ys : List Rec) → IsWith rec xs ys → pairwise names_apart ys ≡ true
+id_with : (name : Name16) (rec : Record) (xs ys : List Record) → IsWith rec xs ys → pairwise names_apart ys ≡ true
     → option_map (λ r. r.id) (find (has_name name) ys)
     ≡ cond (is_its rec.name name) (Some rec.id) (option_map (λ r. r.id) (find (has_name name) xs))
 id_with name rec xs ys w h =
-    ap (option_map {T = Rec} {U = EntryId} (λ r. r.id))
+    ap (option_map {T = Record} {U = EntryId} (λ r. r.id))
     (find_with (has_name name) rec xs ys w (alone_by name rec xs ys w h))
     ∙ inner (has_name name rec) ∙ ap (λ b. cond b (Some rec.id)
-    (option_map (λ (r : Rec). r.id) (find (has_name name) xs)))
+    (option_map (λ (r : Record). r.id) (find (has_name name) xs)))
     (has_is name rec)
   where
-    inner : (b : Bool) → option_map {T = Rec} {U = EntryId} (λ r. r.id) (cond b (Some rec) (find (has_name name) xs))
-        ≡ cond b (Some rec.id) (option_map {T = Rec} {U = EntryId} (λ r. r.id) (find (has_name name) xs))
+    inner : (b : Bool) → option_map {T = Record} {U = EntryId} (λ r. r.id) (cond b (Some rec) (find (has_name name) xs))
+        ≡ cond b (Some rec.id) (option_map {T = Record} {U = EntryId} (λ r. r.id) (find (has_name name) xs))
     inner true = refl
     inner false = refl
 
 -- a record more
-pub named_more : (names after : Named) (rec : Rec) (xs ys : List Rec) → IsWith rec xs ys
+pub named_more : (names after : Named) (rec : Record) (xs ys : List Record) → IsWith rec xs ys
     → pairwise names_apart ys ≡ true → AreNamed names xs → WritesIts names rec.name (Some rec.id) after
     → AreNamed after ys
 named_more names after rec xs ys w h are writes name =
     writes name ∙ ap (λ o. cond (is_its rec.name name) (Some rec.id) o) (are name) ∙ sym (id_with name rec xs ys w h)
 
 -- a record less
-pub named_less : (names after : Named) (rec : Rec) (xs ys : List Rec) → IsWith rec xs ys
+pub named_less : (names after : Named) (rec : Record) (xs ys : List Record) → IsWith rec xs ys
     → pairwise names_apart ys ≡ true → AreNamed names ys → WritesIts names rec.name None after → AreNamed after xs
 named_less names after rec xs ys w h are writes name = go (is_its rec.name name) refl
   where
@@ -121,26 +121,26 @@ named_less names after rec xs ys w h are writes name = go (is_its rec.name name)
         → id_of name after ≡ option_map (λ r. r.id) (find (has_name name) xs)
     go true e =
         writes name ∙ ap (λ b. cond b None (id_of name names)) e
-        ∙ sym (ap (option_map {T = Rec} {U = EntryId} (λ r. r.id)) (find_none (has_name name) xs
+        ∙ sym (ap (option_map {T = Record} {U = EntryId} (λ r. r.id)) (find_none (has_name name) xs
         (alone_by name rec xs ys w h (has_is name rec ∙ e))))
     go false e =
         writes name ∙ ap (λ b. cond b None (id_of name names)) e ∙ before
-        ∙ ap (λ b. cond b (Some rec.id) (option_map (λ (r : Rec). r.id) (find (has_name name) xs))) e
+        ∙ ap (λ b. cond b (Some rec.id) (option_map (λ (r : Record). r.id) (find (has_name name) xs))) e
 
 -- a record of the same name and id in place of another
-pub named_other : (names : Named) (rec other : Rec) (xs ys zs : List Rec) → IsWith rec xs ys → IsWith other xs zs
+pub named_other : (names : Named) (rec other : Record) (xs ys zs : List Record) → IsWith rec xs ys → IsWith other xs zs
     → pairwise names_apart ys ≡ true → pairwise names_apart zs ≡ true → rec.name ≡ other.name → rec.id ≡ other.id
     → AreNamed names ys → AreNamed names zs
 named_other names rec other xs ys zs w v h k same id are name =
     are name ∙ id_with name rec xs ys w h
     ∙ ap (λ (o : Option Name16). cond (is_its o name) (Some rec.id)
-    (option_map (λ (r : Rec). r.id) (find (has_name name) xs))) same
+    (option_map (λ (r : Record). r.id) (find (has_name name) xs))) same
     ∙ ap (λ (i : EntryId). cond (is_its other.name name) (Some i)
-    (option_map (λ (r : Rec). r.id) (find (has_name name) xs))) id
+    (option_map (λ (r : Record). r.id) (find (has_name name) xs))) id
     ∙ sym (id_with name other xs zs v k)
 
 -- a record that comes has a name that nobody has
-pub named_new : (names : Named) (rec : Rec) (xs ys : List Rec) → IsWith rec xs ys → pairwise names_apart ys ≡ true
+pub named_new : (names : Named) (rec : Record) (xs ys : List Record) → IsWith rec xs ys → pairwise names_apart ys ≡ true
     → AreNamed names xs → IfSome rec.name (λ name. id_of name names ≡ None)
 named_new names rec xs ys w h are = go rec.name refl
   where
@@ -150,58 +150,58 @@ named_new names rec xs ys w h are = go rec.name refl
         let its : has_name name rec ≡ true = has_is name rec ∙ ap (λ (o : Option Name16). is_its o name) e
         ∙ same_name-refl name in
         are name
-        ∙ ap (option_map {T = Rec} {U = EntryId} (λ r. r.id))
+        ∙ ap (option_map {T = Record} {U = EntryId} (λ r. r.id))
         (find_none (has_name name) xs (alone_by name rec xs ys w h its))
 
 -- ---- all records, with one more or less
 
-pub same_id : (id : EntryId) (rec : Rec) → is_id id rec ≡ true → id ≡ rec.id
+pub same_id : (id : EntryId) (rec : Record) → is_id id rec ≡ true → id ≡ rec.id
 same_id id rec e =
     let made : ℕ → EntryId = λ (n : ℕ). record { 0 = n } in ap made (sym (eqb-true rec.id.0 id.0 e))
 
 -- the record with an id is taken out
-pub taken : (id : EntryId) (lists : Lists) (rec : Rec) → pairwise ids_apart (all_records lists) ≡ true
+pub taken : (id : EntryId) (lists : Lists) (rec : Record) → pairwise ids_apart (all_records lists) ≡ true
     → record_of id lists ≡ Some rec → IsWith rec (all_records (lists_without id lists)) (all_records lists)
 taken id lists rec apart e =
     let all = all_records lists in
     let same = same_id id rec (found_passes (is_id id) all rec e) in
-    subst (λ (l : List Rec). IsWith rec l all)
+    subst (λ (l : List Record). IsWith rec l all)
     (sym (all-without id lists ∙ ap (λ (i : EntryId). records_without i all) same))
     (with-without rec all (in-found (is_id id) all rec e) apart)
 
 -- a record comes to its place
-pub came : (head : Bool) (header : ℕ) (rec : Rec) (lists : Lists) → header < length lists
+pub came : (head : Bool) (header : ℕ) (rec : Record) (lists : Lists) → header < length lists
     → IsWith rec (all_records lists) (all_records (with_record head header rec lists))
 came head header rec lists lt =
     with-records rec lists header (insertion (stands_before head rec) rec (records_of lists header)) lt
     (with-insertion (stands_before head rec) rec (records_of lists header))
 
-pub came_last : (header : ℕ) (rec : Rec) (lists : Lists) → header < length lists
+pub came_last : (header : ℕ) (rec : Record) (lists : Lists) → header < length lists
     → IsWith rec (all_records lists) (all_records (with_records lists header (records_of lists header ++ rec ∷ [])))
 came_last header rec lists lt =
     with-records rec lists header (records_of lists header ++ rec ∷ []) lt (with-push rec (records_of lists header))
 
 -- one that was taken out comes to its place
-pub came_back : (head : Bool) (header : ℕ) (key : Option Key16) (id : EntryId) (rec : Rec) (lists : Lists)
+pub came_back : (head : Bool) (header : ℕ) (key : Option Key16) (id : EntryId) (rec : Record) (lists : Lists)
     → header < length lists → record_of id lists ≡ Some rec
     → IsWith (with_new_key key rec) (all_records (lists_without id lists))
     (all_records (put_back head header key (record_of id lists) (lists_without id lists)))
 came_back head header key id rec lists lt e =
     let rest = lists_without id lists in
-    subst (λ (o : Option Rec). IsWith (with_new_key key rec) (all_records rest)
+    subst (λ (o : Option Record). IsWith (with_new_key key rec) (all_records rest)
     (all_records (put_back head header key o rest))) (sym e)
     (came head header (with_new_key key rec) rest (omega (arith, lt, length-map lists (records_without id))))
 
 -- a record stands in place of another
-pub record IsReplaced (lists : Lists) (old rec : Rec) : Type 0 where
-  pub others : List Rec
+pub record IsReplaced (lists : Lists) (old rec : Record) : Type 0 where
+  pub others : List Record
   pub before : IsWith old others (all_records lists)
   pub after : IsWith rec others (all_records (lists_replaced rec lists))
 
-pub replaced : (lists : Lists) (old rec : Rec) → pairwise ids_apart (all_records lists) ≡ true
+pub replaced : (lists : Lists) (old rec : Record) → pairwise ids_apart (all_records lists) ≡ true
     → record_of rec.id lists ≡ Some old → IsReplaced lists old rec
 replaced lists old rec apart e =
-    let s = split_found rec_id rec.id.0 (all_records lists) old apart e in
+    let s = split_found record_id rec.id.0 (all_records lists) old apart e in
     record {
       others = s.front ++ s.back;
       before = record { front = s.front; back = s.back; was = refl; is = s.whole };
@@ -215,15 +215,15 @@ replaced lists old rec apart e =
 
 -- a record that is there is found
 pub some_found : (id : EntryId) (lists : Lists) → list_any (is_id id) (all_records lists) ≡ true
-    → (rec : Rec) × (record_of id lists ≡ Some rec)
+    → (rec : Record) × (record_of id lists ≡ Some rec)
 some_found id lists h = go (record_of id lists) refl (sym (any_is_found (is_id id) (all_records lists)) ∙ h)
   where
-    go : (o : Option Rec) → record_of id lists ≡ o → is_some (record_of id lists) ≡ true
-        → (rec : Rec) × (record_of id lists ≡ Some rec)
+    go : (o : Option Record) → record_of id lists ≡ o → is_some (record_of id lists) ≡ true
+        → (rec : Record) × (record_of id lists ≡ Some rec)
     go None e f = absurd (false≢true (sym (ap is_some e) ∙ f))
     go (Some rec) e f = (rec, e)
 
-pub elements_with : (rec : Rec) (xs ys : List Rec) → IsWith rec xs ys
+pub elements_with : (rec : Record) (xs ys : List Record) → IsWith rec xs ys
     → elements_in ys ≡ elements_in xs + elements_of rec.body
 elements_with rec xs ys w = sum-with size rec xs ys w
 
@@ -234,22 +234,22 @@ pub named_found : (names : Named) (lists : Lists) (name : Name16) (id : EntryId)
     → id_of name names ≡ Some id → record_of id lists ≡ find (has_name name) (all_records lists)
 named_found names lists name id apart are e = go (find (has_name name) (all_records lists)) refl
   where
-    go : (o : Option Rec) → find (has_name name) (all_records lists) ≡ o
+    go : (o : Option Record) → find (has_name name) (all_records lists) ≡ o
         → record_of id lists ≡ find (has_name name) (all_records lists)
     go None f =
-        let none : id_of name names ≡ None = are name ∙ ap (option_map {T = Rec} {U = EntryId} (λ r. r.id)) f in
+        let none : id_of name names ≡ None = are name ∙ ap (option_map {T = Record} {U = EntryId} (λ r. r.id)) f in
         absurd (cc)
     go (Some rec) f =
-        let its : id_of name names ≡ Some rec.id = are name ∙ ap (option_map {T = Rec} {U = EntryId} (λ r. r.id)) f in
+        let its : id_of name names ≡ Some rec.id = are name ∙ ap (option_map {T = Record} {U = EntryId} (λ r. r.id)) f in
         let same : id ≡ rec.id = ap (λ (o : Option EntryId). unwrap_or o id) (sym e ∙ its) in
         ap (λ (i : EntryId). record_of i lists) same ∙ record_of-at lists (Name name) rec apart f ∙ sym f
 
-pub elements_found : (id : EntryId) (lists : Lists) (rec : Rec) → pairwise ids_apart (all_records lists) ≡ true
+pub elements_found : (id : EntryId) (lists : Lists) (rec : Record) → pairwise ids_apart (all_records lists) ≡ true
     → record_of id lists ≡ Some rec
     → elements_in (all_records lists) ≡ elements_in (records_without id (all_records lists)) + elements_of rec.body
 elements_found id lists rec apart e =
     elements_with rec (all_records (lists_without id lists)) (all_records lists) (taken id lists rec apart e)
-    ∙ ap (λ (l : List Rec). elements_in l + elements_of rec.body) (all-without id lists)
+    ∙ ap (λ (l : List Record). elements_in l + elements_of rec.body) (all-without id lists)
 
 pub elements_absent : (id : EntryId) (lists : Lists) → record_of id lists ≡ None
     → elements_in (records_without id (all_records lists)) ≡ elements_in (all_records lists)

@@ -9,7 +9,7 @@ use Rattle.list_laws.specs.Pairwise.{pairwise}
 use Rattle.list_laws.proofs.PairwiseLaws.{pairwise_weaker, pairwise-filter}
 use Rattle.record_lists.specs.Prefixes.{goes_first}
 use Rattle.record_lists.proofs.AllLaws.{list_of-get_or}
-use Rattle.list_store.specs.declared.records.Rec.{Rec}
+use Rattle.list_store.specs.Record.{Record}
 use Rattle.list_store.specs.Lists.{Lists, records_of, all_records, is_id, lists_without}
 use Rattle.list_store.proofs.VecLaws.{all-replicate}
 use Rattle.list_model.specs.Keys.{key_up_to}
@@ -23,7 +23,7 @@ use Rattle.list_kept.specs.Named.{AreNamed}
 use Rattle.list_kept.specs.Orderly.{IsOrderly}
 use Rattle.list_kept.proofs.ReadLaws.{elements_fewer}
 
-behind_too : (head : Bool) (key : Option Key16) (x y : Rec) → may_precede x y ≡ true
+behind_too : (head : Bool) (key : Option Key16) (x y : Record) → may_precede x y ≡ true
     → comes_behind head key y ≡ true → comes_behind head key x ≡ true
 behind_too true key x y h e = go (key_up_to key x.key) refl
   where
@@ -32,7 +32,7 @@ behind_too true key x y h e = go (key_up_to key x.key) refl
     go false k = ap not k
 behind_too false key x y h e = key_up_to-trans x.key y.key key h e
 
-first_behind : (head : Bool) (key : Option Key16) (x y : Rec) → may_precede x y ≡ true
+first_behind : (head : Bool) (key : Option Key16) (x y : Record) → may_precede x y ≡ true
     → goes_first (comes_behind head key) x y ≡ true
 first_behind head key x y h = go (comes_behind head key y) refl
   where
@@ -41,45 +41,46 @@ first_behind head key x y h = go (comes_behind head key y) refl
     go false e = refl
 
 -- those that stand before one that comes are the first ones
-pub ordered_first : (head : Bool) (key : Option Key16) (recs : List Rec) → pairwise may_precede recs ≡ true
+pub ordered_first : (head : Bool) (key : Option Key16) (recs : List Record) → pairwise may_precede recs ≡ true
     → pairwise (goes_first (comes_behind head key)) recs ≡ true
 ordered_first head key recs h =
     pairwise_weaker may_precede (goes_first (comes_behind head key)) (first_behind head key) recs h
 
 -- records stay in order without one of them
-pub orderly-without : (id : EntryId) (lists : Lists) → IsOrderly lists → IsOrderly (lists_without id lists)
-orderly-without id lists is =
+pub orderly-without : (n : ℕ) (id : EntryId) (lists : Lists) → IsOrderly n lists
+    → IsOrderly n (lists_without id lists)
+orderly-without n id lists is =
     record {
       ordered = ordered_without id lists is.ordered;
       one_for_name =
           ap (pairwise names_apart) (all-without id lists)
           ∙ pairwise-filter names_apart (λ rec. not (is_id id rec)) (all_records lists) is.one_for_name;
-      elements = omega (
+      enough = omega (
         arith,
-        is.elements,
+        is.enough,
         ap elements_in (all-without id lists),
         elements_fewer id (all_records lists),
       );
     }
 
 pub no_elements : (n : ℕ) → elements_in (all_records (replicate n [])) ≡ 0
-no_elements n = ap elements_in (all-replicate {X = Rec} n)
+no_elements n = ap elements_in (all-replicate {X = Record} n)
 
 pub named_none : (names : Named) (n : ℕ) → names ≡ [] → AreNamed names (all_records (replicate n []))
 named_none names n e name =
-    ap (id_of name) e ∙ sym (ap (λ (l : List Rec). option_map (λ (r : Rec). r.id) (find (has_name name) l))
-    (all-replicate {X = Rec} n))
+    ap (id_of name) e ∙ sym (ap (λ (l : List Record). option_map (λ (r : Record). r.id) (find (has_name name) l))
+    (all-replicate {X = Record} n))
 
 no_order : (n : ℕ) → list_all (pairwise may_precede) (replicate n []) ≡ true
 no_order zero = refl
 no_order (suc n) = no_order n
 
-pub orderly-none : (n : ℕ) → IsOrderly (replicate n [])
-orderly-none n =
+pub orderly-none : (elements n : ℕ) → IsOrderly elements (replicate n [])
+orderly-none elements n =
     record {
       ordered = no_order n;
-      one_for_name = ap (pairwise names_apart) (all-replicate {X = Rec} n);
-      elements = omega (arith, no_elements n);
+      one_for_name = ap (pairwise names_apart) (all-replicate {X = Record} n);
+      enough = omega (arith, no_elements n);
     }
 
 -- no header, no records

@@ -3,7 +3,7 @@ use Rattle.std.proofs.Common.{◌≡◌, ℕ, ◌+◌, ◌≤◌, ◌<◌, not, 
 use Rattle.std.proofs.lemmas.List.{drop_more}
 use Rattle.list_laws.proofs.FilterLaws.{sum_by-filter-le}
 use Rattle.cf_types.specs.declared.numbers.EntryId.{EntryId}
-use Rattle.list_store.specs.declared.records.Rec.{Rec}
+use Rattle.list_store.specs.Record.{Record}
 use Rattle.list_store.specs.Lists.{Lists, all_records, records_of, records_without, is_id, count_of}
 use Rattle.record_lists.proofs.AllLaws.{list_of-get_or}
 use Rattle.list_model.specs.Records.{elements_in}
@@ -11,7 +11,7 @@ use Rattle.list_model.proofs.ContentLaws.{size}
 
 pub drop_lists : (lists : Lists) (h : ℕ) → h < length lists → drop h lists ≡ records_of lists h ∷ drop (h + 1) lists
 drop_lists lists h lt =
-    drop_more lists h [] lt ∙ ap (λ (l : List Rec). l ∷ drop (h + 1) lists) (sym (list_of-get_or lists h))
+    drop_more lists h [] lt ∙ ap (λ (l : List Record). l ∷ drop (h + 1) lists) (sym (list_of-get_or lists h))
 
 pub all_more : (lists : Lists) (h : ℕ) → h < length lists
     → all_records (drop h lists) ≡ records_of lists h ++ all_records (drop (h + 1) lists)
@@ -20,8 +20,8 @@ all_more lists h lt = ap (λ (l : Lists). all_records l) (drop_lists lists h lt)
 pub count_more : (lists : Lists) (h : ℕ) → h < length lists
     → count_of (drop h lists) ≡ length (records_of lists h) + count_of (drop (h + 1) lists)
 count_more lists h lt =
-    ap (λ (l : List Rec). length l) (all_more lists h lt) ∙ length-append (records_of lists h)
+    ap (λ (l : List Record). length l) (all_more lists h lt) ∙ length-append (records_of lists h)
     (all_records (drop (h + 1) lists))
 
-pub elements_fewer : (id : EntryId) (recs : List Rec) → elements_in (records_without id recs) ≤ elements_in recs
+pub elements_fewer : (id : EntryId) (recs : List Record) → elements_in (records_without id recs) ≤ elements_in recs
 elements_fewer id recs = sum_by-filter-le size (λ rec. not (is_id id rec)) recs

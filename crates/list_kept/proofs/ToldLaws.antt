@@ -19,7 +19,7 @@ use Rattle.list_model.specs.Contents.{Content, has_records}
 use Rattle.cf_types.specs.declared.names.Key16.{Key16}
 use Rattle.cf_types.specs.declared.numbers.EntryId.{EntryId}
 use Rattle.list_laws.specs.Pairwise.{pairwise}
-use Rattle.list_store.specs.declared.records.Rec.{Rec}
+use Rattle.list_store.specs.Record.{Record}
 use Rattle.list_store.specs.declared.records.Spot.{Spot}
 use Rattle.list_store.specs.Lists.{all_records, ids_apart, record_of, spot_of, lists_without}
 use Rattle.list_model.specs.Commands.Move.{with_new_key}
@@ -205,7 +205,7 @@ full-put_back head id header key lists spot other apart there e f = go (record_o
     out : has_records (lists_without id lists) other ≡ has_records lists other
     out = full-others id lists spot other apart there (sym_test other spot.header e)
 
-    go : (o : Option Rec) → has_records (put_back head header key o (lists_without id lists)) other ≡ has_records
+    go : (o : Option Record) → has_records (put_back head header key o (lists_without id lists)) other ≡ has_records
         lists other
     go None = out
     go (Some rec) = full-elsewhere head header other (with_new_key key rec) (lists_without id lists)

@@ -1,4 +1,5 @@
 pub mod Told
 pub mod Orderly
 pub mod Named
+pub mod Data
 pub mod ContentView

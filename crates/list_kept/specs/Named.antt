@@ -4,7 +4,7 @@ use Rattle.cf_types.specs.declared.names.Name16.{Name16}
 use Rattle.cf_types.specs.declared.numbers.EntryId.{EntryId}
 use Rattle.cf_types.specs.Name.{same_name}
 use Rattle.list_keys.specs.Names.{Named, id_of}
-use Rattle.list_store.specs.declared.records.Rec.{Rec}
+use Rattle.list_store.specs.Record.{Record}
 use Rattle.list_model.specs.Records.{has_name}
 
 -- a name is that which a record has, if it has one
@@ -13,7 +13,7 @@ is_its None other = false
 is_its (Some name) other = same_name name other
 
 -- for each name the id of the record that has it
-abbrev pub AreNamed : Named → List Rec → Type 0
+abbrev pub AreNamed : Named → List Record → Type 0
 AreNamed names records =
     (name : Name16) → id_of name names ≡ option_map (λ rec. rec.id) (find (has_name name) records)
 

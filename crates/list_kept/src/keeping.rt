@@ -5,25 +5,31 @@ ghost use Rattle.std.specs.List.{list_any, prefix_len};
 ghost use Rattle.cf_types.specs.Gains.{Gains};
 ghost use Rattle.list_laws.specs.Pairwise.{pairwise};
 ghost use Rattle.list_store.specs.Lists.{all_records, records_of, is_id, record_of, ids_apart, lists_without, lists_replaced, with_records};
-ghost use Rattle.list_model.specs.Records.{may_precede, has_name, elements_in};
+ghost use Rattle.list_store.specs.Records.{record_in, body_in, HasChain};
+ghost use Rattle.list_model.specs.Records.{may_precede, has_name, elements_in, elements_of};
 ghost use Rattle.list_watch.specs.Monitors.{is_for, monitored_at, monitors_with, monitors_without};
 ghost use Rattle.list_model.specs.Contents.{no_content, headers_of, locks_of, holder_of, holder_without, stands, has_records, content_without};
 ghost use Rattle.list_model.specs.Lists.{header_of, stands_before, with_record};
 
-use crate::placing::{add_name, drop_name, has_records, place_of, put, put_again, take};
-use cf_types::{ConnId, Effects, EntryId, Key16, Kind, Name16, NoMemory, elements_of};
+use crate::bare::Bare;
+use crate::copies::copy_records;
+use crate::data::{give, need, read_data};
+use crate::placing::{
+    add_name, drop_name, has_records, place_of, push, put, put_again, renew, take,
+};
+use cf_types::{Body, ConnId, Effects, EntryId, Key16, Kind, Name16, NoMemory};
 use engine_api::Shape;
 use list_keys::Keys;
-use list_store::{Rec, Store};
+use list_store::{Chain, Rec, Store};
 use list_watch::{Watch, Watched};
 use std::alloc::Global;
 use std::marker::Model;
 
 /// The content of a list structure: the records of each header, with their names and the elements
-/// that their data take, the headers' limits, the list locks, the monitors, and the id that the
-/// next record gets. Contracts see the content, and for how many more records, names and monitors
-/// there is room. Each connector was told whether the headers that the connector monitors have
-/// records.
+/// for their data, the headers' limits, the list locks, the monitors, and the id that the next
+/// record gets. Contracts see the content, the chains in which data lie, how many elements there
+/// are, and for how many more records, names and monitors there is room. Each connector was told
+/// whether the headers that the connector monitors have records.
 #[derive(Drop)]
 pub struct Kept {
     store: Store,
@@ -127,29 +133,32 @@ fn release_unless(locks: &mut Vec<Option<ConnId>>, keep: bool, conn: ConnId)
 
 impl Kept {
     /// The content of a new structure of a shape: no records, no monitors, no list lock held, each
-    /// limit the entries of the shape, and 1 as the next id. The error is want of memory.
-    pub fn new(alloc: Global, shape: Shape) -> Result<Kept, NoMemory>
-        ensures { IfOk result (λ kept. kept.content ≡ no_content shape) }
+    /// limit the entries of the shape, and 1 as the next id; and so many elements for data, which
+    /// take memory here and never again. The error is want of memory.
+    pub fn new(alloc: Global, shape: Shape, elements: u32) -> Result<Kept, NoMemory>
+        ensures content { IfOk result (λ kept. kept.content ≡ no_content shape) }
+        ensures elements { IfOk result (λ kept. kept.elements ≡ elements) }
     {
         let names = Keys::new(alloc)?;
-        Kept::with_names(alloc, shape, names)
+        Kept::with_names(alloc, shape, elements, names)
     }
 
     // The content of a new structure of a shape, where there are no names.
-    fn with_names(alloc: Global, shape: Shape, names: Keys) -> Result<Kept, NoMemory>
+    fn with_names(alloc: Global, shape: Shape, elements: u32, names: Keys) -> Result<Kept, NoMemory>
         requires { names.names ≡ [] }
-        ensures { IfOk result (λ kept. kept.content ≡ no_content shape) }
+        ensures content { IfOk result (λ kept. kept.content ≡ no_content shape) }
+        ensures elements { IfOk result (λ kept. kept.elements ≡ elements) }
     {
         let headers = headers_of(shape.kind);
         let locks = locks_of(shape.kind);
-        let store = Store::new(alloc, shape.caps.entries, shape.caps.elements, headers)?;
+        let store = Store::new(alloc, shape.caps.entries, elements, headers)?;
         let limits = vec![in alloc; shape.caps.entries; headers as usize]?;
         let holders = vec![in alloc; None; locks as usize]?;
         let watch = Watch::new(alloc, shape.conns, shape.vector)?;
         Ok(Kept {
             store,
             names,
-            elements: 0,
+            elements,
             limits,
             locks: holders,
             watch,
@@ -159,9 +168,10 @@ impl Kept {
 
     /// The same content once more. The error is want of memory.
     pub fn copy(&self, alloc: Global) -> Result<Kept, NoMemory>
-        ensures { IfOk result (λ copy. copy.content ≡ self.now.content) }
+        ensures content { IfOk result (λ copy. copy.content ≡ self.now.content) }
+        ensures elements { IfOk result (λ copy. copy.elements ≡ self.now.elements) }
     {
-        let store = self.store.copy(alloc)?;
+        let store = copy_records(alloc, &self.store, self.elements)?;
         let names = self.names.copy(alloc)?;
         let limits = Vec::from_slice(alloc, self.limits.as_slice())?;
         let locks = Vec::from_slice(alloc, self.locks.as_slice())?;
@@ -182,6 +192,7 @@ impl Kept {
     /// last of 64 bits. The content stays as it was either way.
     pub fn reserve(&mut self, out: &mut Effects) -> Result<(), NoMemory>
         ensures content { self.new.content ≡ self.old.content }
+        ensures elements { self.new.elements ≡ self.old.elements }
         ensures room { OnOk result (IsRoomy self.new out.new.bits.room) }
         ensures bits { out.new.bits.items ≡ out.old.bits.items }
         ensures mail { out.new.mail ≡ out.old.mail }
@@ -203,8 +214,9 @@ impl Kept {
 
     /// The record at a place of a header, both from 0; none where there is no such record.
     pub fn at(&self, header: u32, place: u32) -> Option<&Rec>
-        ensures { option_map (λ rec. rec.now) result
+        ensures record { option_map (λ rec. record_in self.now.chains rec.now) result
             ≡ slice_get (records_of self.now.content.lists header) place }
+        ensures chain { IfSome result (λ rec. HasChain self.now.chains rec.now.body) }
     {
         if header < self.store.headers() {
             self.store.at(header, place)
@@ -241,7 +253,9 @@ impl Kept {
 
     /// The record with an id, in whichever header; none where there is no such record.
     pub fn get(&self, id: EntryId) -> Option<&Rec>
-        ensures record { option_map (λ rec. rec.now) result ≡ record_of id self.now.content.lists }
+        ensures record { option_map (λ rec. record_in self.now.chains rec.now) result
+            ≡ record_of id self.now.content.lists }
+        ensures chain { IfSome result (λ rec. HasChain self.now.chains rec.now.body) }
         ensures apart { IsTrue (pairwise ids_apart (all_records self.now.content.lists)) }
     {
         self.store.get(id)
@@ -249,8 +263,9 @@ impl Kept {
 
     /// The record with a name, in whichever header; none where there is no such record.
     pub fn named(&self, name: &Name16) -> Option<&Rec>
-        ensures { option_map (λ rec. rec.now) result ≡ find (has_name name.now)
-            (all_records self.now.content.lists) }
+        ensures record { option_map (λ rec. record_in self.now.chains rec.now) result
+            ≡ find (has_name name.now) (all_records self.now.content.lists) }
+        ensures chain { IfSome result (λ rec. HasChain self.now.chains rec.now.body) }
     {
         match self.names.by_name(name) {
             Some(id) => self.store.get(id),
@@ -262,7 +277,23 @@ impl Kept {
     pub fn elements(&self) -> u32
         ensures { result ≡ elements_in (all_records self.now.content.lists) }
     {
-        self.elements
+        self.elements - self.store.free()
+    }
+
+    /// How many elements of 256 bytes a record's data take; none where it has no data.
+    pub fn need(&self, chain: &Option<Chain>) -> u32
+        requires { HasChain self.now.chains chain.now }
+        ensures { result ≡ elements_of (body_in self.now.chains chain.now) }
+    {
+        need(&self.store, chain)
+    }
+
+    /// A copy of a record's data, where it has any.
+    pub fn read(&self, alloc: Global, chain: &Option<Chain>) -> Result<Option<Body>, NoMemory>
+        requires { HasChain self.now.chains chain.now }
+        ensures { IfOk result (λ body. body ≡ body_in self.now.chains chain.now) }
+    {
+        read_data(alloc, &self.store, chain)
     }
 
     /// The header that the record with an id is in, from 0; 0 also where there is no such record.
@@ -354,48 +385,57 @@ impl Kept {
         self.next
     }
 
-    /// Puts a record at its place in a header: at the head or the tail of the records that its key
-    /// leaves it among. The header is there, no record has its id, the records stay in order, and
-    /// there is room. The next id goes up by 1, and `out` is told the bits that change.
-    pub fn write(&mut self, header: u32, head: bool, rec: Rec, out: &mut Effects)
+    /// Puts a record with its data at its place in a header: at the head or the tail of the records
+    /// that its key leaves it among. The header is there, no record has its id, the records stay in
+    /// order, there is room, and there are elements for the data, so that they take no memory. The
+    /// next id goes up by 1, and `out` is told the bits that change.
+    pub fn write(
+        &mut self,
+        header: u32,
+        head: bool,
+        bare: Bare,
+        body: &Option<Body>,
+        out: &mut Effects,
+    )
         requires room { IsRoomy self.old out.old.bits.room }
         requires header { header < length self.old.content.lists }
-        requires alone { list_any (is_id rec.id) (all_records self.old.content.lists) ≡ false }
-        requires orderly { IsOrderly (with_record head header rec self.old.content.lists) }
+        requires alone { list_any (is_id bare.id) (all_records self.old.content.lists) ≡ false }
+        requires orderly { IsOrderly self.old.elements
+            (with_record head header (with_data bare body.now) self.old.content.lists) }
         ensures content { self.new.content ≡ record self.old.content {
-          lists = with_record head header rec self.old.content.lists;
+          lists = with_record head header (with_data bare body.now) self.old.content.lists;
           next = self.old.content.next + 1;
         } }
+        ensures elements { self.new.elements ≡ self.old.elements }
         ensures bits { Gains (stands self.old.content) (stands self.new.content) out.old.bits.items
             out.new.bits.items }
         ensures mail { out.new.mail ≡ out.old.mail }
     {
-        let id = rec.id;
-        let name = rec.name;
-        let need = elements_of(&rec.body);
-        put(&mut self.store, header, head, rec);
+        let Bare { id, name, .. } = bare;
+        put(&mut self.store, header, head, bare, body);
         add_name(&mut self.names, name, id);
-        self.elements += need;
         self.next += 1;
         let full = has_records(&self.store, header);
         self.watch.turned(header, full, out);
     }
 
-    /// Puts a record in place of the one with the same id, which is there and has the same name.
-    /// The records stay in order.
-    pub fn replace(&mut self, rec: Rec)
-        requires there { list_any (is_id rec.id) (all_records self.old.content.lists) ≡ true }
-        requires named { IfSome (record_of rec.id self.old.content.lists)
-            (λ old. old.name ≡ rec.name) }
-        requires orderly { IsOrderly (lists_replaced rec self.old.content.lists) }
-        ensures { self.new.content
-            ≡ record self.old.content { lists = lists_replaced rec self.old.content.lists } }
+    /// Puts a record in place of the one with the same id, which is there and has the same name:
+    /// with the data that are given, or else with those that it has. The records stay in order, and
+    /// there are elements for the data once the old ones are gone.
+    pub fn replace(&mut self, bare: Bare, body: &Option<Body>)
+        requires there { list_any (is_id bare.id) (all_records self.old.content.lists) ≡ true }
+        requires named { IfSome (record_of bare.id self.old.content.lists)
+            (λ old. old.name ≡ bare.name) }
+        requires orderly { IsOrderly self.old.elements (lists_replaced
+            (renewed bare body.now (record_of bare.id self.old.content.lists))
+            self.old.content.lists) }
+        ensures content { self.new.content ≡ record self.old.content {
+          lists = lists_replaced (renewed bare body.now (record_of bare.id self.old.content.lists))
+              self.old.content.lists;
+        } }
+        ensures elements { self.new.elements ≡ self.old.elements }
     {
-        let need = elements_of(&rec.body);
-        let old = self.store.set(rec.id, rec);
-        self.elements -= elements_of(&old.body);
-        drop(old);
-        self.elements += need;
+        renew(&mut self.store, bare, body);
     }
 
     /// Takes away the record with an id, which is there. `out` is told the bits that change.
@@ -404,6 +444,7 @@ impl Kept {
         requires there { list_any (is_id id) (all_records self.old.content.lists) ≡ true }
         ensures content { self.new.content
             ≡ record self.old.content { lists = lists_without id self.old.content.lists } }
+        ensures elements { self.new.elements ≡ self.old.elements }
         ensures bits { Gains (stands self.old.content) (stands self.new.content) out.old.bits.items
             out.new.bits.items }
         ensures mail { out.new.mail ≡ out.old.mail }
@@ -411,9 +452,9 @@ impl Kept {
         match self.store.header_of(id) {
             Some(from) => {
                 let rec = take(&mut self.store, id);
-                drop_name(&mut self.names, rec.name);
-                self.elements -= elements_of(&rec.body);
-                drop(rec);
+                let Rec { name, body, .. } = rec;
+                give(&mut self.store, body);
+                drop_name(&mut self.names, name);
                 let full = has_records(&self.store, from);
                 self.watch.turned(from, full, out);
             }
@@ -435,12 +476,13 @@ impl Kept {
         requires room { IsRoomy self.old out.old.bits.room }
         requires header { header < length self.old.content.lists }
         requires there { list_any (is_id id) (all_records self.old.content.lists) ≡ true }
-        requires orderly { IsOrderly (put_back head header key
+        requires orderly { IsOrderly self.old.elements (put_back head header key
             (record_of id self.old.content.lists) (lists_without id self.old.content.lists)) }
         ensures content { self.new.content ≡ record self.old.content {
           lists = put_back head header key (record_of id self.old.content.lists)
               (lists_without id self.old.content.lists);
         } }
+        ensures elements { self.new.elements ≡ self.old.elements }
         ensures bits { Gains (stands self.old.content) (stands self.new.content) out.old.bits.items
             out.new.bits.items }
         ensures mail { out.new.mail ≡ out.old.mail }
@@ -460,8 +502,9 @@ impl Kept {
     /// Sets the limit of a header, in records. The header is there.
     pub fn set_limit(&mut self, header: u32, n: u32)
         requires { header < length self.old.content.limits }
-        ensures { self.new.content
+        ensures content { self.new.content
             ≡ record self.old.content { limits = slice_set self.old.content.limits header n } }
+        ensures elements { self.new.elements ≡ self.old.elements }
     {
         self.limits[header as usize] = n;
     }
@@ -469,8 +512,9 @@ impl Kept {
     /// Sets which connector holds a list lock, or that nobody does. The lock is there.
     pub fn set_lock(&mut self, lock: u32, holder: Option<ConnId>)
         requires { lock < length self.old.content.locks }
-        ensures { self.new.content
+        ensures content { self.new.content
             ≡ record self.old.content { locks = slice_set self.old.content.locks lock holder } }
+        ensures elements { self.new.elements ≡ self.old.elements }
     {
         self.locks[lock as usize] = holder;
     }
@@ -483,6 +527,7 @@ impl Kept {
         ensures content { self.new.content ≡ record self.old.content {
           monitors = monitors_with conn index header self.old.content.monitors;
         } }
+        ensures elements { self.new.elements ≡ self.old.elements }
         ensures bits { Gains (stands self.old.content) (stands self.new.content) out.old.bits.items
             out.new.bits.items }
         ensures mail { out.new.mail ≡ out.old.mail }
@@ -498,6 +543,7 @@ impl Kept {
         ensures content { self.new.content ≡ record self.old.content {
           monitors = monitors_without conn header self.old.content.monitors;
         } }
+        ensures elements { self.new.elements ≡ self.old.elements }
         ensures bits { Gains (stands self.old.content) (stands self.new.content) out.old.bits.items
             out.new.bits.items }
         ensures mail { out.new.mail ≡ out.old.mail }
@@ -505,54 +551,48 @@ impl Kept {
         let _ = self.watch.clear(conn, header, out);
     }
 
-    /// Puts a record behind the others of a header, where there is memory; else hands the record
-    /// back, and changes nothing. The header is there, no record has its id, and the records stay
-    /// in order.
-    pub fn push(&mut self, header: u32, rec: Rec) -> Result<(), Rec>
+    /// Puts a record with its data behind the others of a header, where there is memory; else
+    /// changes nothing. The header is there, no record has its id, and the records stay in order.
+    pub fn push(&mut self, header: u32, bare: Bare, body: &Option<Body>) -> Result<(), NoMemory>
         requires header { header < length self.old.content.lists }
-        requires alone { list_any (is_id rec.id) (all_records self.old.content.lists) ≡ false }
-        requires orderly { IsOrderly (with_records self.old.content.lists header
-            (records_of self.old.content.lists header ++ rec ∷ [])) }
+        requires alone { list_any (is_id bare.id) (all_records self.old.content.lists) ≡ false }
+        requires orderly { IsOrderly self.old.elements (with_records self.old.content.lists header
+            (records_of self.old.content.lists header ++ with_data bare body.now ∷ [])) }
         ensures ok { OnOk result (self.new.content ≡ record self.old.content {
           lists = with_records self.old.content.lists header
-              (records_of self.old.content.lists header ++ rec ∷ []);
+              (records_of self.old.content.lists header ++ with_data bare body.now ∷ []);
         }) }
         ensures err { OnErr result (self.new.content ≡ self.old.content) }
-        ensures handed_back { IfErr result (λ back. back ≡ rec) }
+        ensures elements { self.new.elements ≡ self.old.elements }
     {
-        match self.names.room() {
-            Ok(()) => self.push_named(header, rec),
-            Err(_) => Err(rec),
-        }
+        self.names.room()?;
+        self.push_named(header, bare, body)
     }
 
-    // Puts a record behind the others of a header, where there is memory for it and room for its
-    // name; else hands it back, and changes nothing.
-    fn push_named(&mut self, header: u32, rec: Rec) -> Result<(), Rec>
+    // Puts a record with its data behind the others of a header, where there is memory for it and
+    // room for its name; else changes nothing.
+    fn push_named(&mut self, header: u32, bare: Bare, body: &Option<Body>) -> Result<(), NoMemory>
         requires room { 1 ≤ self.old.name_room }
         requires header { header < length self.old.content.lists }
-        requires alone { list_any (is_id rec.id) (all_records self.old.content.lists) ≡ false }
-        requires orderly { IsOrderly (with_records self.old.content.lists header
-            (records_of self.old.content.lists header ++ rec ∷ [])) }
+        requires alone { list_any (is_id bare.id) (all_records self.old.content.lists) ≡ false }
+        requires orderly { IsOrderly self.old.elements (with_records self.old.content.lists header
+            (records_of self.old.content.lists header ++ with_data bare body.now ∷ [])) }
         ensures ok { OnOk result (self.new.content ≡ record self.old.content {
           lists = with_records self.old.content.lists header
-              (records_of self.old.content.lists header ++ rec ∷ []);
+              (records_of self.old.content.lists header ++ with_data bare body.now ∷ []);
         }) }
         ensures err { OnErr result (self.new.content ≡ self.old.content) }
-        ensures handed_back { IfErr result (λ back. back ≡ rec) }
+        ensures elements { self.new.elements ≡ self.old.elements }
     {
-        let id = rec.id;
-        let name = rec.name;
-        let need = elements_of(&rec.body);
-        match self.store.push(header, rec) {
+        let Bare { id, name, .. } = bare;
+        match push(&mut self.store, header, bare, body) {
             Ok(()) => {
                 add_name(&mut self.names, name, id);
-                self.elements += need;
                 let full = has_records(&self.store, header);
                 self.watch.settle(header, full);
                 Ok(())
             }
-            Err(rec) => Err(rec),
+            Err(_) => Err(NoMemory),
         }
     }
 
@@ -569,7 +609,8 @@ impl Kept {
         requires monitors { AreMonitors (monitors_of rows.items) }
         requires few { vec_len rows < 4294967296 }
         requires told { AreTold self.old.content.lists rows.items }
-        ensures { self.new.content ≡ record {
+        ensures elements { self.new.elements ≡ self.old.elements }
+        ensures content { self.new.content ≡ record {
           lists = self.old.content.lists;
           limits = limits.items;
           locks = locks.items;
@@ -585,7 +626,8 @@ impl Kept {
 
     // No limits but the entries, no list lock held, no monitors, and the first id.
     fn reset(&mut self, entries: u32)
-        ensures { self.new.content ≡ record {
+        ensures elements { self.new.elements ≡ self.old.elements }
+        ensures content { self.new.content ≡ record {
           lists = self.old.content.lists;
           limits = replicate (length self.old.content.limits) entries;
           locks = replicate (length self.old.content.locks) None;
@@ -605,12 +647,13 @@ impl Kept {
         ensures content { self.new.content ≡ record self.old.content {
           lists = first_records (count_of self.old.content.lists - 1) self.old.content.lists;
         } }
+        ensures elements { self.new.elements ≡ self.old.elements }
     {
         match self.store.pop() {
             Some((header, rec)) => {
-                drop_name(&mut self.names, rec.name);
-                self.elements -= elements_of(&rec.body);
-                drop(rec);
+                let Rec { name, body, .. } = rec;
+                give(&mut self.store, body);
+                drop_name(&mut self.names, name);
                 let full = has_records(&self.store, header);
                 self.watch.settle(header, full);
                 true
@@ -624,7 +667,8 @@ impl Kept {
     pub fn pop(&mut self, shape: Shape)
         requires limits { length self.old.content.limits ≡ headers_of shape.kind }
         requires locks { length self.old.content.locks ≡ locks_of shape.kind }
-        ensures { self.new.content ≡ content_without_last shape self.old.content }
+        ensures content { self.new.content ≡ content_without_last shape self.old.content }
+        ensures elements { self.new.elements ≡ self.old.elements }
     {
         if !self.pop_record() {
             self.reset(shape.caps.entries);
@@ -637,6 +681,7 @@ impl Kept {
     pub fn leave(&mut self, conn: ConnId, keep: bool, out: &mut Effects)
         requires { length self.old.content.monitors ≤ out.old.bits.room }
         ensures content { self.new.content ≡ content_without self.old.content conn keep }
+        ensures elements { self.new.elements ≡ self.old.elements }
         ensures bits { Gains (stands self.old.content) (stands self.new.content) out.old.bits.items
             out.new.bits.items }
         ensures mail { out.new.mail ≡ out.old.mail }
@@ -655,4 +700,5 @@ ghost use Rattle.list_model.specs.Lists.{first_records};
 ghost use Rattle.list_model.specs.Items.{content_without_last};
 ghost use Rattle.list_kept.specs.Told.{AreTold};
 ghost use Rattle.list_kept.specs.Orderly.{IsOrderly};
+ghost use Rattle.list_kept.specs.Data.{with_data, renewed};
 ghost use Rattle.list_kept.specs.ContentView.{IsRoomy, comes_behind, put_back};

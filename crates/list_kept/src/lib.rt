@@ -2,9 +2,13 @@
 //! next id; which record a command names, and how many records and elements there are.
 #![tactic(auto)]
 
+mod bare;
+mod copies;
+mod data;
 mod keeping;
 mod placing;
 mod reading;
 
+pub use bare::Bare;
 pub use keeping::{Kept, headers_of, locks_of};
 pub use reading::{count, elements_of_others, id_at, record_at};

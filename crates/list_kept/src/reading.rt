@@ -1,11 +1,12 @@
 //! Records that are named, and how much there is.
-ghost use Rattle.std.specs.Prelude.{◌≡◌, ◌<◌, ◌^◌, option_map, find, slice_get};
+ghost use Rattle.std.specs.Prelude.{◌≡◌, ◌<◌, ◌^◌, option_map, find, slice_get, IfSome};
 ghost use Rattle.list_store.specs.Lists.{all_records, records_of, records_without, count_of};
+ghost use Rattle.list_store.specs.Records.{record_in, HasChain};
 ghost use Rattle.list_model.specs.Records.{has_key, elements_in};
 ghost use Rattle.list_model.specs.Lists.{last_record, record_at, the_record};
 
 use crate::keeping::Kept;
-use cf_types::{At, EntryId, Key16, elements_of};
+use cf_types::{At, EntryId, Key16};
 use list_store::Rec;
 
 /// How many elements of 256 bytes the data of all records take, but for the record with an id.
@@ -13,7 +14,7 @@ pub fn elements_of_others(kept: &Kept, id: EntryId) -> u32
     ensures { result ≡ elements_in (records_without id (all_records kept.now.content.lists)) }
 {
     match kept.get(id) {
-        Some(rec) => kept.elements() - elements_of(&rec.body),
+        Some(rec) => kept.elements() - kept.need(&rec.body),
         None => kept.elements(),
     }
 }
@@ -31,8 +32,8 @@ pub fn count(kept: &Kept) -> u32
 }
 
 // Whether a record has a key.
-fn has_key(rec: &Rec, key: &Key16) -> bool
-    ensures { result ≡ has_key key.now rec.now }
+fn has_key(kept: &Kept, rec: &Rec, key: &Key16) -> bool
+    ensures { result ≡ has_key key.now (record_in kept.now.chains rec.now) }
 {
     match rec.key {
         Some(other) => other == *key,
@@ -42,19 +43,27 @@ fn has_key(rec: &Rec, key: &Key16) -> bool
 
 // The first record of a header with a key: by the order of the keys.
 fn keyed_in<'a>(kept: &'a Kept, header: u32, key: &Key16) -> Option<&'a Rec>
-    ensures { option_map (λ rec. rec.now) result
+    ensures record { option_map (λ rec. record_in kept.now.chains rec.now) result
         ≡ find (has_key key.now) (records_of kept.now.content.lists header) }
+    ensures chain { IfSome result (λ rec. HasChain kept.now.chains rec.now.body) }
 {
     match kept.at(header, kept.place_of(header, true, *key)) {
-        Some(rec) => { if has_key(rec, key) { Some(rec) } else { None } }
+        Some(rec) => {
+            if has_key(kept, rec, key) {
+                Some(rec)
+            } else {
+                None
+            }
+        }
         None => None,
     }
 }
 
 // The last record of a header.
 fn last(kept: &Kept, header: u32) -> Option<&Rec>
-    ensures { option_map (λ rec. rec.now) result ≡ last_record
-        (records_of kept.now.content.lists header) }
+    ensures record { option_map (λ rec. record_in kept.now.chains rec.now) result
+        ≡ last_record (records_of kept.now.content.lists header) }
+    ensures chain { IfSome result (λ rec. HasChain kept.now.chains rec.now.body) }
 {
     let len = kept.len(header);
     if len == 0 {
@@ -67,7 +76,9 @@ fn last(kept: &Kept, header: u32) -> Option<&Rec>
 /// The record that a command names: by its id or name, as the first or the last one of a header, or
 /// as the first one of a header with a key. None where there is no such record.
 pub fn record_at(kept: &Kept, at: At) -> Option<&Rec>
-    ensures { option_map (λ rec. rec.now) result ≡ record_at kept.now.content.lists at }
+    ensures record { option_map (λ rec. record_in kept.now.chains rec.now) result
+        ≡ record_at kept.now.content.lists at }
+    ensures chain { IfSome result (λ rec. HasChain kept.now.chains rec.now.body) }
 {
     match at {
         At::Id(id) => kept.get(id),

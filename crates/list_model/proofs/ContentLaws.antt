@@ -27,7 +27,7 @@ use Rattle.list_laws.specs.Insertions.{insertion}
 use Rattle.list_laws.specs.Pairwise.{pairwise}
 use Rattle.list_laws.proofs.FilterLaws.{list_all-filter, list_all_weaker, list_all_always, list_all-filter_same, filter_all, length-filter-le, sum_by-filter-le, any_is_found, all_from_none}
 use Rattle.list_laws.proofs.PairwiseLaws.{pairwise-filter, pairwise-map}
-use Rattle.list_store.specs.declared.records.Rec.{Rec}
+use Rattle.list_store.specs.Record.{Record}
 use Rattle.list_store.specs.Lists.{Lists, records_of, all_records, is_id, records_without, lists_without, replaced_by, lists_replaced, ids_apart}
 use Rattle.list_watch.specs.declared.monitors.Monitor as watched
 use Rattle.list_watch.specs.Monitors.{is_of, is_for, monitors_with, AreMonitors}
@@ -46,7 +46,7 @@ use Rattle.list_model.proofs.RecordLaws.{ordered-with, ids_apart-sym, is_id-refl
 use Rattle.list_model.proofs.ListLaws.{IsWith, with-insertion, with-map, all-with, length-with, sum-with, pairwise-with, with-all, with-pairwise, IsIn, in-found, in-place, in-header, with-records, each-records, one-records, all-without, all-map}
 use Rattle.list_model.proofs.MonitorLaws.{monitors-filter, monitors-with, all-monitors_with}
 
-abbrev pub size : Rec → ℕ
+abbrev pub size : Record → ℕ
 size rec = elements_of rec.body
 
 -- ---- causes
@@ -84,24 +84,24 @@ header_there headers header h = below headers header (unless_true (nat_le header
 pub index_there : (vector index : ℕ) → index_refusal vector index ≡ None → index < vector
 index_there vector index h = below vector index (unless_true (nat_le vector index) _ h)
 
-pub elements_fit : (caps : Caps) (need : ℕ) (records : List Rec) → elements_refusal caps need records ≡ None
+pub elements_fit : (caps : Caps) (need : ℕ) (records : List Record) → elements_refusal caps need records ≡ None
     → need ≤ caps.elements - sum_by size records
 elements_fit caps need records h =
     at_most need (caps.elements - sum_by size records)
     (unless_false (nat_le need (caps.elements - sum_by size records)) _ h)
 
-pub entry_fits : (caps : Caps) (records : List Rec) → entries_refusal caps records ≡ None
+pub entry_fits : (caps : Caps) (records : List Record) → entries_refusal caps records ≡ None
     → length records < caps.entries
 entry_fits caps records h =
     below caps.entries (length records) (unless_true (nat_le caps.entries (length records)) _ h)
 
 -- ---- the record that is named is there
 
-is_there : (o : Option Rec) → record_refusal o ≡ None → o ≡ Some (unwrap_or o no_record)
+is_there : (o : Option Record) → record_refusal o ≡ None → o ≡ Some (unwrap_or o no_record)
 is_there None h = absurd (cc)
 is_there (Some rec) h = refl
 
-pub record_at-in : (lists : Lists) (at : At) (rec : Rec) → record_at lists at ≡ Some rec
+pub record_at-in : (lists : Lists) (at : At) (rec : Record) → record_at lists at ≡ Some rec
     → IsIn rec (all_records lists)
 record_at-in lists (ref.Id id) rec h = in-found (is_id id) (all_records lists) rec h
 record_at-in lists (ref.Name name) rec h = in-found (has_name name) (all_records lists) rec h
@@ -116,23 +116,23 @@ pub the_record-in : (lists : Lists) (at : At) → record_refusal (record_at list
 the_record-in lists at h = record_at-in lists at (the_record lists at) (is_there (record_at lists at) h)
 
 -- what is left without it
-without_it : (rec : Rec) (others all : List Rec) → IsWith rec others all → pairwise ids_apart all ≡ true
+without_it : (rec : Record) (others all : List Record) → IsWith rec others all → pairwise ids_apart all ≡ true
     → records_without rec.id all ≡ others
 without_it rec others all w h =
-    let kept = λ (other : Rec). not (is_id rec.id other) in
+    let kept = λ (other : Record). not (is_id rec.id other) in
     let apart : list_all kept others ≡ true =
     list_all_weaker (λ other. ids_apart rec other && ids_apart other rec) kept
     (λ other k. (and_parts (ids_apart rec other) (ids_apart other rec) k).0) others
     (with-pairwise ids_apart ids_apart-sym rec others all w h) in
     let out : filter kept (rec ∷ w.back) ≡ filter kept w.back = rw (is_id-refl rec) refl in
-    ap (λ (l : List Rec). filter kept l) w.is ∙ filter-append kept w.front (rec ∷ w.back)
-    ∙ ap (λ (l : List Rec). filter kept w.front ++ l) out ∙ sym (filter-append kept w.front w.back)
-    ∙ ap (λ (l : List Rec). filter kept l) (sym w.was) ∙ filter_all kept others apart
+    ap (λ (l : List Record). filter kept l) w.is ∙ filter-append kept w.front (rec ∷ w.back)
+    ∙ ap (λ (l : List Record). filter kept w.front ++ l) out ∙ sym (filter-append kept w.front w.back)
+    ∙ ap (λ (l : List Record). filter kept l) (sym w.was) ∙ filter_all kept others apart
 
-pub with-without : (rec : Rec) (all : List Rec) → IsIn rec all → pairwise ids_apart all ≡ true
+pub with-without : (rec : Record) (all : List Record) → IsIn rec all → pairwise ids_apart all ≡ true
     → IsWith rec (records_without rec.id all) all
 with-without rec all i h =
-    subst (λ (l : List Rec). IsWith rec l all) (sym (without_it rec i.others all i.with_it h)) i.with_it
+    subst (λ (l : List Record). IsWith rec l all) (sym (without_it rec i.others all i.with_it h)) i.with_it
 
 -- ---- WRITE
 
@@ -151,18 +151,18 @@ lt_next a n h = grind (arith, nat_tests)
 is_next : (n : ℕ) → nat_lt n (n + 1) ≡ true
 is_next n = grind (arith, nat_tests)
 
-not_taken : (o : Option Rec) → taken_refusal o ≡ None → is_some o ≡ false
+not_taken : (o : Option Record) → taken_refusal o ≡ None → is_some o ≡ false
 not_taken None h = refl
 not_taken (Some rec) h = absurd (cc)
 
-both_ways : (rec : Rec) (records : List Rec) → list_all (names_apart rec) records ≡ true
+both_ways : (rec : Record) (records : List Record) → list_all (names_apart rec) records ≡ true
     → list_all (λ other. names_apart rec other && names_apart other rec) records ≡ true
 both_ways rec records h =
     list_all_weaker (names_apart rec) (λ other. names_apart rec other && names_apart other rec)
     (λ other k. and_from (names_apart rec other) (names_apart other rec) k (names_apart-sym other rec ∙ k)) records h
 
 new_name : (content : Content) (name : Option Name16) (key : Option Key16) (body adj : Option (List ℕ))
-    (records : List Rec)
+    (records : List Record)
     → name_refusal records name ≡ None
     → list_all (names_apart (write.new_record content name key body adj)) records ≡ true
 new_name content None key body adj records h =
@@ -219,7 +219,7 @@ content-write shape caps content by header head name key body adj cond is h =
 -- ---- UPDATE
 
 -- a record with what is given where it has the id
-abbrev pub patched : EntryId → Option (List ℕ) → Option (List ℕ) → Rec → Rec
+abbrev pub patched : EntryId → Option (List ℕ) → Option (List ℕ) → Record → Record
 patched id body adj rec =
     record rec {
       version = cond (is_id id rec) (next_version rec.version) rec.version;
@@ -227,63 +227,63 @@ patched id body adj rec =
       adj = cond (is_id id rec) (option_or adj rec.adj) rec.adj;
     }
 
-abbrev pub Each : (Rec → Type 0) → List Rec → Type 0
+abbrev pub Each : (Record → Type 0) → List Record → Type 0
 Each P [] = Unit {0}
 Each P (rec ∷ records) = P rec × Each P records
 
-each_append : (P : Rec → Type 0) (front back : List Rec) → Each P front → Each P back → Each P (front ++ back)
+each_append : (P : Record → Type 0) (front back : List Record) → Each P front → Each P back → Each P (front ++ back)
 each_append P [] back f b = b
 each_append P (rec ∷ front) back f b = (f.0, each_append P front back f.1 b)
 
-each_parts : (P : Rec → Type 0) (front back : List Rec) → Each P (front ++ back) → Each P front × Each P back
+each_parts : (P : Record → Type 0) (front back : List Record) → Each P (front ++ back) → Each P front × Each P back
 each_parts P [] back e = (tt, e)
 each_parts P (rec ∷ front) back e = let rest = each_parts P front back e.1 in ((e.0, rest.0), rest.1)
 
 -- a record with this id is this one
-abbrev pub IsOnly : Rec → Rec → Type 0
+abbrev pub IsOnly : Record → Record → Type 0
 IsOnly rec other = is_id rec.id other ≡ true → other ≡ rec
 
-only_others : (rec : Rec) (records : List Rec)
+only_others : (rec : Record) (records : List Record)
     → list_all (λ other. ids_apart rec other && ids_apart other rec) records ≡ true
     → Each (IsOnly rec) records
 only_others rec [] h = tt
 only_others rec (other ∷ records) h =
     let parts = and_parts (ids_apart rec other && ids_apart other rec)
-    (list_all (λ (o : Rec). ids_apart rec o && ids_apart o rec) records) h in
+    (list_all (λ (o : Record). ids_apart rec o && ids_apart o rec) records) h in
     let apart = not-true (is_id rec.id other) (and_parts (ids_apart rec other) (ids_apart other rec) parts.0).0 in
     (λ e. absurd (false≢true (sym apart ∙ e)), only_others rec records parts.1)
 
-only_one : (rec : Rec) (others all : List Rec) → IsWith rec others all → pairwise ids_apart all ≡ true
+only_one : (rec : Record) (others all : List Record) → IsWith rec others all → pairwise ids_apart all ≡ true
     → Each (IsOnly rec) all
 only_one rec others all w h =
     let apart : list_all (λ other. ids_apart rec other && ids_apart other rec) (w.front ++ w.back) ≡ true =
-    subst (λ (l : List Rec). list_all (λ other. ids_apart rec other && ids_apart other rec) l ≡ true) w.was
+    subst (λ (l : List Record). list_all (λ other. ids_apart rec other && ids_apart other rec) l ≡ true) w.was
     (with-pairwise ids_apart ids_apart-sym rec others all w h) in
     let sides = each_parts (IsOnly rec) w.front w.back (only_others rec (w.front ++ w.back) apart) in
-    subst (λ (l : List Rec). Each (IsOnly rec) l) (sym w.is)
+    subst (λ (l : List Record). Each (IsOnly rec) l) (sym w.is)
     (each_append (IsOnly rec) w.front (rec ∷ w.back) sides.0 (λ e. refl, sides.1))
 
-agree_one : (body adj : Option (List ℕ)) (rec other : Rec) (b : Bool) → is_id rec.id other ≡ b → IsOnly rec other
+agree_one : (body adj : Option (List ℕ)) (rec other : Record) (b : Bool) → is_id rec.id other ≡ b → IsOnly rec other
     → replaced_by (update.with_new_data body adj rec) other ≡ patched rec.id body adj other
 agree_one body adj rec other true e only =
-    rw e (ap (λ (r : Rec). update.with_new_data body adj r) (sym (only e)))
+    rw e (ap (λ (r : Record). update.with_new_data body adj r) (sym (only e)))
 agree_one body adj rec other false e only = rw e refl
 
-agree_list : (body adj : Option (List ℕ)) (rec : Rec) (records : List Rec) → Each (IsOnly rec) records
+agree_list : (body adj : Option (List ℕ)) (rec : Record) (records : List Record) → Each (IsOnly rec) records
     → map (replaced_by (update.with_new_data body adj rec)) records ≡ map (patched rec.id body adj) records
 agree_list body adj rec [] each = refl
 agree_list body adj rec (other ∷ records) each =
-    ap (λ (r : Rec). r ∷ map (replaced_by (update.with_new_data body adj rec)) records)
+    ap (λ (r : Record). r ∷ map (replaced_by (update.with_new_data body adj rec)) records)
     (agree_one body adj rec other (is_id rec.id other) refl each.0)
-    ∙ ap (λ (l : List Rec). patched rec.id body adj other ∷ l) (agree_list body adj rec records each.1)
+    ∙ ap (λ (l : List Record). patched rec.id body adj other ∷ l) (agree_list body adj rec records each.1)
 
-agree_lists : (body adj : Option (List ℕ)) (rec : Rec) (lists : Lists) → Each (IsOnly rec) (all_records lists)
+agree_lists : (body adj : Option (List ℕ)) (rec : Record) (lists : Lists) → Each (IsOnly rec) (all_records lists)
     → lists_replaced (update.with_new_data body adj rec) lists ≡ map
     (λ records. map (patched rec.id body adj) records) lists
 agree_lists body adj rec [] each = refl
 agree_lists body adj rec (records ∷ lists) each =
     let parts = each_parts (IsOnly rec) records (all_records lists) each in
-    ap (λ (l : List Rec). l ∷ lists_replaced (update.with_new_data body adj rec) lists)
+    ap (λ (l : List Record). l ∷ lists_replaced (update.with_new_data body adj rec) lists)
     (agree_list body adj rec records parts.0)
     ∙ ap (λ (l : Lists). map (patched rec.id body adj) records ∷ l) (agree_lists body adj rec lists parts.1)
 
@@ -292,7 +292,7 @@ same_size : (b : Bool) (body : Option (List ℕ)) → elements_of (cond b (optio
 same_size true body = refl
 same_size false body = refl
 
-unsized : (id : EntryId) (adj : Option (List ℕ)) (records : List Rec)
+unsized : (id : EntryId) (adj : Option (List ℕ)) (records : List Record)
     → sum_by size (map (patched id None adj) records) ≡ sum_by size records
 unsized id adj [] = refl
 unsized id adj (rec ∷ records) =
@@ -304,16 +304,16 @@ unsized id adj (rec ∷ records) =
       unsized id adj records,
     )
 
-other_size : (id : EntryId) (body adj : Option (List ℕ)) (rec : Rec) → not (is_id id rec) ≡ true
+other_size : (id : EntryId) (body adj : Option (List ℕ)) (rec : Record) → not (is_id id rec) ≡ true
     → size (patched id body adj rec) ≡ size rec
 other_size id body adj rec h = rw (not-true (is_id id rec) h) refl
 
-others_size : (id : EntryId) (body adj : Option (List ℕ)) (records : List Rec)
+others_size : (id : EntryId) (body adj : Option (List ℕ)) (records : List Record)
     → list_all (λ rec. not (is_id id rec)) records ≡ true
     → sum_by size (map (patched id body adj) records) ≡ sum_by size records
 others_size id body adj [] h = refl
 others_size id body adj (rec ∷ records) h =
-    let parts = and_parts (not (is_id id rec)) (list_all (λ (r : Rec). not (is_id id r)) records) h in
+    let parts = and_parts (not (is_id id rec)) (list_all (λ (r : Record). not (is_id id r)) records) h in
     omega (
       arith,
       sum_by-cons size (patched id body adj rec) (map (patched id body adj) records),
@@ -322,11 +322,11 @@ others_size id body adj (rec ∷ records) h =
       others_size id body adj records parts.1,
     )
 
-own_size : (body : List ℕ) (adj : Option (List ℕ)) (rec : Rec)
+own_size : (body : List ℕ) (adj : Option (List ℕ)) (rec : Record)
     → size (patched rec.id (Some body) adj rec) ≡ elements_of (Some body)
 own_size body adj rec = rw (is_id-refl rec) refl
 
-patched_fits : (caps : Caps) (body adj : Option (List ℕ)) (rec : Rec) (all : List Rec) → IsIn rec all
+patched_fits : (caps : Caps) (body adj : Option (List ℕ)) (rec : Record) (all : List Record) → IsIn rec all
     → pairwise ids_apart all ≡ true
     → sum_by size all ≤ caps.elements → elements_of body ≤ caps.elements - sum_by size (records_without rec.id all)
     → sum_by size (map (patched rec.id body adj) all) ≤ caps.elements
@@ -344,7 +344,7 @@ patched_fits caps (Some body) adj rec all i h le fits =
       more,
       less,
       own_size body adj rec,
-      others_size rec.id (Some body) adj others (list_all-filter_same (λ (r : Rec). not (is_id rec.id r)) all),
+      others_size rec.id (Some body) adj others (list_all-filter_same (λ (r : Record). not (is_id rec.id r)) all),
     )
 
 content_patched : (shape : Shape) (caps : Caps) (content : Content) (id : EntryId) (body adj : Option (List ℕ))
@@ -357,14 +357,14 @@ content_patched shape caps content id body adj is fits =
     let all = all_records content.lists in
     let e = all-map f content.lists in
     record {
-      headers = length-map content.lists (λ (records : List Rec). map f records) ∙ is.headers;
+      headers = length-map content.lists (λ (records : List Record). map f records) ∙ is.headers;
       limits = is.limits;
       locks = is.locks;
       one_for_id = rw e (pairwise-map ids_apart f (λ rec other. refl) all ∙ is.one_for_id);
       given_ids = rw e (list_all-map (is_given content.next) f all ∙ is.given_ids);
       one_for_name = rw e (pairwise-map names_apart f (λ rec other. refl) all ∙ is.one_for_name);
       known = rw e (list_all-map (is_known (refs_of shape.kind)) f all ∙ is.known);
-      ordered = list_all-map (pairwise may_precede) (λ (records : List Rec). map f records) content.lists
+      ordered = list_all-map (pairwise may_precede) (λ (records : List Record). map f records) content.lists
           ∙ list_all_weaker (pairwise may_precede) (λ records. pairwise may_precede (map f records))
           (λ records h. pairwise-map may_precede f (λ rec other. refl) records ∙ h) content.lists is.ordered;
       entries = rw e (omega (arith, length-map all f, is.entries));
@@ -403,7 +403,7 @@ pub content-without : (shape : Shape) (caps : Caps) (content : Content) (id : En
     → IsContent shape caps content
     → IsContent shape caps (record content { lists = lists_without id content.lists })
 content-without shape caps content id is =
-    let kept = λ (rec : Rec). not (is_id id rec) in
+    let kept = λ (rec : Record). not (is_id id rec) in
     let all = all_records content.lists in
     let e = all-without id content.lists in
     record {
@@ -423,7 +423,7 @@ content-without shape caps content id is =
 
 -- ---- MOVE
 
-moved_known : (refs : Refs) (key : Option Key16) (rec : Rec) → new_key_refusal refs key ≡ None
+moved_known : (refs : Refs) (key : Option Key16) (rec : Record) → new_key_refusal refs key ≡ None
     → is_known refs rec ≡ true
     → is_known refs (move.with_new_key key rec) ≡ true
 moved_known refs None rec h known = known
@@ -441,7 +441,7 @@ content-move shape caps content by at header head key version cond is h =
     let none = none_hold (move.causes shape content by at header key version cond) h in
     let old = the_record content.lists at in
     let rec = move.with_new_key key old in
-    let kept = λ (other : Rec). not (is_id old.id other) in
+    let kept = λ (other : Record). not (is_id old.id other) in
     let all = all_records content.lists in
     let rest = records_without old.id all in
     let left = lists_without old.id content.lists in
@@ -452,7 +452,7 @@ content-move shape caps content by at header head key version cond is h =
     omega (arith, header_there (headers_of shape.kind) header none.1.1.1.1.1.1.0, is.headers, few) in
     let w = with-without old all (the_record-in content.lists at none.1.1.1.1.0) is.one_for_id in
     let v : IsWith rec rest (all_records lists) =
-    subst (λ (l : List Rec). IsWith rec l (all_records lists)) (all-without old.id content.lists)
+    subst (λ (l : List Record). IsWith rec l (all_records lists)) (all-without old.id content.lists)
     (with-records rec left header records within (with-insertion (stands_before head rec) rec
     (records_of left header))) in
     let ordered = ordered_without old.id content.lists is.ordered in

@@ -22,7 +22,7 @@ use Rattle.list_laws.specs.Pairwise.{pairwise}
 use Rattle.list_laws.proofs.PairwiseLaws.{pairwise_front}
 use Rattle.list_laws.proofs.TakeLaws.{take_next}
 use Rattle.list_laws.proofs.FilterLaws.{none_from_all, list_all_weaker}
-use Rattle.list_store.specs.declared.records.Rec.{Rec}
+use Rattle.list_store.specs.Record.{Record}
 use Rattle.list_store.specs.Lists.{Lists, all_records, count_of, ids_apart, records_of, with_records, is_id}
 use Rattle.list_model.specs.declared.items.ListItem.{ListItem}
 use Rattle.list_model.specs.declared.items.ListItem.TheVariants.{Row}
@@ -39,7 +39,7 @@ use Rattle.list_model.proofs.ContentLaws.{size}
 
 -- ---- an empty content
 
-no_lists : (n : ℕ) → all_records {X = Rec} (replicate n []) ≡ []
+no_lists : (n : ℕ) → all_records {X = Record} (replicate n []) ≡ []
 no_lists zero = refl
 no_lists (suc n) = no_lists n
 
@@ -58,13 +58,13 @@ content-nothing shape caps =
       headers = length-replicate (headers_of shape.kind) [];
       limits = length-replicate (headers_of shape.kind) shape.caps.entries;
       locks = length-replicate (locks_of shape.kind) None;
-      one_for_id = ap (λ (l : List Rec). pairwise ids_apart l) none;
-      given_ids = ap (λ (l : List Rec). list_all (is_given 1) l) none;
-      one_for_name = ap (λ (l : List Rec). pairwise names_apart l) none;
-      known = ap (λ (l : List Rec). list_all (is_known (refs_of shape.kind)) l) none;
+      one_for_id = ap (λ (l : List Record). pairwise ids_apart l) none;
+      given_ids = ap (λ (l : List Record). list_all (is_given 1) l) none;
+      one_for_name = ap (λ (l : List Record). pairwise names_apart l) none;
+      known = ap (λ (l : List Record). list_all (is_known (refs_of shape.kind)) l) none;
       ordered = all_ordered (headers_of shape.kind);
-      entries = omega (arith, ap (λ (l : List Rec). length l) none);
-      elements = omega (arith, ap (λ (l : List Rec). elements_in l) none);
+      entries = omega (arith, ap (λ (l : List Record). length l) none);
+      elements = omega (arith, ap (λ (l : List Record). elements_in l) none);
       watch = record { one_at_index = refl; one_for_header = refl };
       within = refl;
     }
@@ -200,14 +200,14 @@ pub need-front : (items others : List ListItem) → IsNoMore (need_of items) (ne
 need-front items others =
     (omega (arith, sum_by-append entries_for items others), omega (arith, sum_by-append elements_for items others))
 
-entries_of_map : (header : ℕ) (records : List Rec)
+entries_of_map : (header : ℕ) (records : List Record)
     → sum_by entries_for (map (row_of header) records) ≡ length records
 entries_of_map header [] = refl
 entries_of_map header (rec ∷ records) =
     omega
     (arith, sum_by-cons entries_for (row_of header rec) (map (row_of header) records), entries_of_map header records)
 
-elements_of_map : (header : ℕ) (records : List Rec)
+elements_of_map : (header : ℕ) (records : List Record)
     → sum_by elements_for (map (row_of header) records) ≡ elements_in records
 elements_of_map header [] = refl
 elements_of_map header (rec ∷ records) =
@@ -312,11 +312,11 @@ content-moved shape caps other content kind is fits =
 pub records-first : (n : ℕ) (lists : Lists) → all_records (first_records n lists) ≡ take n (all_records lists)
 records-first n [] = sym (none_taken n)
   where
-    none_taken : (k : ℕ) → take {A = Rec} k [] ≡ []
+    none_taken : (k : ℕ) → take {A = Record} k [] ≡ []
     none_taken zero = refl
     none_taken (suc k) = refl
 records-first n (records ∷ lists) =
-    ap (λ (l : List Rec). take n records ++ l) (records-first (n - length records) lists)
+    ap (λ (l : List Record). take n records ++ l) (records-first (n - length records) lists)
     ∙ sym (take_append n records (all_records lists))
 
 length_first : (n : ℕ) (lists : Lists) → length (first_records n lists) ≡ length lists
@@ -344,12 +344,12 @@ first_ordered n (records ∷ lists) h =
     (list_all (pairwise may_precede) (first_records (n - length records) lists))
     (pair_taken may_precede n records parts.0) (first_ordered (n - length records) lists parts.1)
 
-sum_taken : (n : ℕ) (records : List Rec) → elements_in (take n records) ≤ elements_in records
+sum_taken : (n : ℕ) (records : List Record) → elements_in (take n records) ≤ elements_in records
 sum_taken n records =
     omega (
       arith,
       sum_by-append size (take n records) (drop n records),
-      ap (λ (l : List Rec). sum_by size l)
+      ap (λ (l : List Record). sum_by size l)
           (take-append-drop n records),
     )
 

@@ -10,7 +10,7 @@ use Rattle.cf_types.specs.declared.forms.Caps.{Caps}
 use Rattle.cf_types.specs.declared.numbers.ConnId.{ConnId}
 use Rattle.engine_api.specs.declared.shapes.Shape.{Shape}
 use Rattle.list_laws.proofs.TakeLaws.{take_next}
-use Rattle.list_store.specs.declared.records.Rec.{Rec}
+use Rattle.list_store.specs.Record.{Record}
 use Rattle.list_store.specs.Lists.{Lists, records_of, with_records, all_records, count_of}
 use Rattle.list_watch.specs.declared.monitors.Monitor.{Monitor}
 use Rattle.list_model.specs.declared.items.ListItem.{ListItem}
@@ -101,7 +101,7 @@ pub first-all : (n : ℕ) (lists : Lists) → count_of lists ≤ n → first_rec
 first-all n [] h = refl
 first-all n (records ∷ lists) h =
     let long = length-append records (all_records lists) in
-    ap (λ (l : List Rec). l ∷ first_records (n - length records) lists)
+    ap (λ (l : List Record). l ∷ first_records (n - length records) lists)
     (take_all n records (omega (arith, h, long)))
     ∙ ap (λ (l : Lists). records ∷ l) (first-all (n - length records) lists (omega (arith, h, long)))
 
@@ -116,7 +116,7 @@ pub first-first : (n m : ℕ) (lists : Lists) → n ≤ m
 first-first n m [] h = refl
 first-first n m (records ∷ lists) h =
     let e : n - length (take m records) ≡ n - length records = omega (arith, length-take m records, h) in
-    ap (λ (l : List Rec). l ∷ first_records (n - length (take m records)) (first_records (m - length records) lists))
+    ap (λ (l : List Record). l ∷ first_records (n - length (take m records)) (first_records (m - length records) lists))
     (take-take n m records h)
     ∙ ap (λ (k : ℕ). take n records ∷ first_records k (first_records (m - length records) lists)) e
     ∙ ap (λ (l : Lists). take n records ∷ l)
@@ -124,7 +124,7 @@ first-first n m (records ∷ lists) h =
 
 -- ---- one row more
 
-abbrev pub record_in : ListItem → Rec
+abbrev pub record_in : ListItem → Record
 record_in (Controls next limits locks watches) = no_record
 record_in (Row header id version name key body adj) =
     record { id = id; version = version; name = name; key = key; body = body; adj = adj }
@@ -142,14 +142,14 @@ pub record IsNext (header n : ℕ) (lists : Lists) (item : ListItem) : Type 0 wh
       ++ record_in item ∷ [])
       ≡ first_records (n + 1) lists
 
-row_there : (header : ℕ) (o : Option Rec) (item : ListItem) → option_map (row_of header) o ≡ Some item
+row_there : (header : ℕ) (o : Option Record) (item : ListItem) → option_map (row_of header) o ≡ Some item
     → (o ≡ Some (record_in item)) × (item ≡ row_of header (record_in item))
 row_there header None item h = absurd (cc)
 row_there header (Some rec) item h =
     let same : row_of header rec ≡ item = cc in
     subst (λ (i : ListItem). (Some rec ≡ Some (record_in i)) × (i ≡ row_of header (record_in i))) same (refl, refl)
 
-next_here : (header n : ℕ) (records : List Rec) (lists : Lists) (item : ListItem) → n < length records
+next_here : (header n : ℕ) (records : List Record) (lists : Lists) (item : ListItem) → n < length records
     → slice_get (rows_from header (records ∷ lists)) n ≡ Some item → IsNext header n (records ∷ lists) item
 next_here header n records lists item within h =
     let long : n < length (map (row_of header) records) =
@@ -164,11 +164,11 @@ next_here header n records lists item within h =
       within = omega arith;
       is_row = rw at there.1;
       placed = ap (λ (k : ℕ). (take n records ++ record_in item ∷ []) ∷ first_records k lists) none
-          ∙ ap (λ (l : List Rec). l ∷ first_records ((n + 1) - length records) lists)
+          ∙ ap (λ (l : List Record). l ∷ first_records ((n + 1) - length records) lists)
           (sym (take_next records n (record_in item) there.0));
     }
 
-next_later : (header n : ℕ) (records : List Rec) (lists : Lists) (item : ListItem) → length records ≤ n
+next_later : (header n : ℕ) (records : List Record) (lists : Lists) (item : ListItem) → length records ≤ n
     → IsNext (header + 1) (n - length records) lists item → IsNext header n (records ∷ lists) item
 next_later header n records lists item past next =
     let at : (header + 1) + next.place ≡ header + suc next.place = omega arith in
@@ -179,7 +179,7 @@ next_later header n records lists item past next =
       is_row = rw (← at) next.is_row;
       placed = ap (λ (l : Lists). take n records ∷ l) next.placed
           ∙ ap (λ (k : ℕ). take n records ∷ first_records k lists) less
-          ∙ ap (λ (l : List Rec). l ∷ first_records ((n + 1) - length records) lists)
+          ∙ ap (λ (l : List Record). l ∷ first_records ((n + 1) - length records) lists)
           (take_all n records past ∙ sym (take_all (n + 1) records (omega (arith, past))));
     }
 
@@ -189,7 +189,7 @@ is_below n m h = grind (arith, nat_tests)
 is_past : (n m : ℕ) → nat_lt n m ≡ false → m ≤ n
 is_past n m h = grind (arith, nat_tests)
 
-behind : (header n : ℕ) (records : List Rec) (lists : Lists) (item : ListItem) → length records ≤ n
+behind : (header n : ℕ) (records : List Record) (lists : Lists) (item : ListItem) → length records ≤ n
     → slice_get (rows_from header (records ∷ lists)) n ≡ Some item
     → slice_get (rows_from (header + 1) lists) (n - length records) ≡ Some item
 behind header n records lists item past h =
@@ -198,20 +198,20 @@ behind header n records lists item past h =
     ∙ sym (slice_right (map (row_of header) records) (rows_from (header + 1) lists) n (omega (arith, past, e))) ∙ h
 
 -- the n-th row of headers from this one on is one of this header's records, or a row of the later headers
-pub row-here : (header n : ℕ) (records : List Rec) (lists : Lists) → n < length records
+pub row-here : (header n : ℕ) (records : List Record) (lists : Lists) → n < length records
     → slice_get (rows_from header (records ∷ lists)) n ≡ option_map (row_of header) (slice_get records n)
 row-here header n records lists within =
     slice_left (map (row_of header) records) (rows_from (header + 1) lists) n
     (omega (arith, within, length-map records (row_of header))) ∙ slice_get-map (row_of header) records n
 
-pub row-later : (header n : ℕ) (records : List Rec) (lists : Lists) → length records ≤ n
+pub row-later : (header n : ℕ) (records : List Record) (lists : Lists) → length records ≤ n
     → slice_get (rows_from header (records ∷ lists)) n ≡ slice_get (rows_from (header + 1) lists) (n - length records)
 row-later header n records lists past =
     let e = length-map records (row_of header) in
     slice_right (map (row_of header) records) (rows_from (header + 1) lists) n (omega (arith, past, e))
     ∙ ap (λ (k : ℕ). slice_get (rows_from (header + 1) lists) (n - k)) e
 
-next_step : (header n : ℕ) (records : List Rec) (lists : Lists) (item : ListItem)
+next_step : (header n : ℕ) (records : List Record) (lists : Lists) (item : ListItem)
     → slice_get (rows_from header (records ∷ lists)) n ≡ Some item
     → (slice_get (rows_from (header + 1) lists) (n - length records) ≡ Some item → IsNext (header + 1)
     (n - length records) lists item)

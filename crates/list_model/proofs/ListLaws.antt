@@ -9,7 +9,7 @@ use Rattle.cf_types.specs.declared.numbers.EntryId.{EntryId}
 use Rattle.list_laws.specs.Insertions.{insertion}
 use Rattle.list_laws.specs.Pairwise.{pairwise}
 use Rattle.list_laws.proofs.FilterLaws.{list_all_weaker}
-use Rattle.list_store.specs.declared.records.Rec.{Rec}
+use Rattle.list_store.specs.Record.{Record}
 use Rattle.list_store.specs.Lists.{Lists, records_of, with_records, all_records, is_id, records_without, lists_without}
 
 -- ---- a list with one more element somewhere
@@ -183,7 +183,7 @@ nothing_in {X} x i =
     omega (arith, long, length-append w.front (x ∷ w.back))
 
 -- a record of a header is one of all records
-pub in-header : (rec : Rec) (lists : Lists) (header : ℕ) → IsIn rec (records_of lists header)
+pub in-header : (rec : Record) (lists : Lists) (header : ℕ) → IsIn rec (records_of lists header)
     → IsIn rec (all_records lists)
 in-header rec [] header i = absurd (nothing_in rec i)
 in-header rec (records ∷ lists) zero i = in_before rec records (all_records lists) i
@@ -192,7 +192,7 @@ in-header rec (records ∷ lists) (suc header) i =
 
 -- ---- a header's records replaced by these with one more
 
-pub with-records : (rec : Rec) (lists : Lists) (header : ℕ) (records : List Rec) → header < length lists
+pub with-records : (rec : Record) (lists : Lists) (header : ℕ) (records : List Record) → header < length lists
     → IsWith rec (records_of lists header) records
     → IsWith rec (all_records lists) (all_records (with_records lists header records))
 with-records rec [] header records within w = absurd (omega arith)
@@ -202,7 +202,7 @@ with-records rec (first ∷ lists) (suc header) records within w =
     (with-records rec lists header records (omega arith) w)
 
 -- what all lists have, and the new one has
-pub each-records : (p : List Rec → Bool) (lists : Lists) (header : ℕ) (records : List Rec) → p records ≡ true
+pub each-records : (p : List Record → Bool) (lists : Lists) (header : ℕ) (records : List Record) → p records ≡ true
     → list_all p lists ≡ true
     → list_all p (with_records lists header records) ≡ true
 each-records p [] header records e h = refl
@@ -214,7 +214,7 @@ each-records p (first ∷ lists) (suc header) records e h =
     (each-records p lists header records e parts.1)
 
 -- what all lists have one header's has, if no records have it
-pub one-records : (p : List Rec → Bool) (lists : Lists) (header : ℕ) → p [] ≡ true → list_all p lists ≡ true
+pub one-records : (p : List Record → Bool) (lists : Lists) (header : ℕ) → p [] ≡ true → list_all p lists ≡ true
     → p (records_of lists header) ≡ true
 one-records p [] header e h = e
 one-records p (first ∷ lists) zero e h = (and_parts (p first) (list_all p lists) h).0
@@ -230,7 +230,7 @@ all-without id (records ∷ lists) =
     ap (λ l. records_without id records ++ l) (all-without id lists)
     ∙ sym (filter-append (λ rec. not (is_id id rec)) records (all_records lists))
 
-pub all-map : (f : Rec → Rec) (lists : Lists)
+pub all-map : (f : Record → Record) (lists : Lists)
     → all_records (map (λ records. map f records) lists) ≡ map f (all_records lists)
 all-map f [] = refl
 all-map f (records ∷ lists) =

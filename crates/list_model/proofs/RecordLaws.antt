@@ -13,7 +13,7 @@ use Rattle.list_laws.specs.Insertions.{insertion}
 use Rattle.list_laws.specs.Pairwise.{pairwise}
 use Rattle.list_laws.proofs.FilterLaws.{list_all_always}
 use Rattle.list_laws.proofs.PairwiseLaws.{FindsPlace, pairwise-insertion}
-use Rattle.list_store.specs.declared.records.Rec.{Rec}
+use Rattle.list_store.specs.Record.{Record}
 use Rattle.list_store.specs.Lists.{is_id, ids_apart}
 use Rattle.list_model.specs.Keys.{key_before, key_up_to}
 use Rattle.list_model.specs.Records.{names_apart, may_precede}
@@ -64,7 +64,7 @@ pub not_false : (b : Bool) → not b ≡ false → b ≡ true
 not_false true h = refl
 not_false false h = absurd (false≢true (sym h))
 
-finds_place : (head : Bool) (rec : Rec) → FindsPlace may_precede (stands_before head rec) (λ other. true) rec
+finds_place : (head : Bool) (rec : Record) → FindsPlace may_precede (stands_before head rec) (λ other. true) rec
 finds_place true rec =
     record {
       front = λ other h. key_up_to-either rec.key other.key (not-true (key_up_to rec.key other.key) h);
@@ -79,7 +79,7 @@ finds_place false rec =
     }
 
 -- a record that comes to its place leaves the header ascending by key
-pub ordered-with : (head : Bool) (rec : Rec) (records : List Rec) → pairwise may_precede records ≡ true
+pub ordered-with : (head : Bool) (rec : Record) (records : List Record) → pairwise may_precede records ≡ true
     → pairwise may_precede (insertion (stands_before head rec) rec records) ≡ true
 ordered-with head rec records h =
     pairwise-insertion may_precede (stands_before head rec) (λ other. true) rec records (finds_place head rec)
@@ -90,10 +90,10 @@ ordered-with head rec records h =
 turn : (a b : ℕ) → (a == b) ≡ (b == a)
 turn a b = grind (arith, nat_tests)
 
-pub ids_apart-sym : (rec other : Rec) → ids_apart rec other ≡ ids_apart other rec
+pub ids_apart-sym : (rec other : Record) → ids_apart rec other ≡ ids_apart other rec
 ids_apart-sym rec other = ap not (turn other.id.0 rec.id.0)
 
-pub is_id-refl : (rec : Rec) → is_id rec.id rec ≡ true
+pub is_id-refl : (rec : Record) → is_id rec.id rec ≡ true
 is_id-refl rec = same rec.id.0
   where
     same : (n : ℕ) → (n == n) ≡ true
@@ -110,12 +110,12 @@ name_turned a b h = subst (λ (n : Name16). same_name n a ≡ true) (same_name-e
 pub same_name-sym : (a b : Name16) → same_name a b ≡ same_name b a
 same_name-sym a b = implied (same_name a b) (same_name b a) (name_turned a b) (name_turned b a)
 
-names_sym : (rec other : Rec) (a b : Option Name16) → rec.name ≡ a → other.name ≡ b
+names_sym : (rec other : Record) (a b : Option Name16) → rec.name ≡ a → other.name ≡ b
     → names_apart rec other ≡ names_apart other rec
 names_sym rec other None None e f = rw (e, f) refl
 names_sym rec other None (Some b) e f = rw (e, f) refl
 names_sym rec other (Some a) None e f = rw (e, f) refl
 names_sym rec other (Some a) (Some b) e f = rw (e, f) (ap not (same_name-sym b a))
 
-pub names_apart-sym : (rec other : Rec) → names_apart rec other ≡ names_apart other rec
+pub names_apart-sym : (rec other : Record) → names_apart rec other ≡ names_apart other rec
 names_apart-sym rec other = names_sym rec other rec.name other.name refl refl

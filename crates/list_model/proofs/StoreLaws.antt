@@ -14,9 +14,9 @@ use Rattle.list_laws.specs.Pairwise.{pairwise}
 use Rattle.list_laws.proofs.FilterLaws.{none_from_all, list_all_weaker, filter_all, all_from_none}
 use Rattle.list_laws.proofs.KeyLaws.{any_is_placed}
 use Rattle.list_laws.proofs.InsertionLaws.{insert-prefix_len}
-use Rattle.list_store.specs.declared.records.Rec.{Rec}
+use Rattle.list_store.specs.Record.{Record}
 use Rattle.list_store.specs.declared.records.Spot.{Spot}
-use Rattle.list_store.specs.Lists.{rec_id, Lists, records_of, with_records, all_records, is_id, has_id, record_of, spot_in, spot_of, records_without, lists_without, lists_with, replaced_by, lists_replaced, ids_apart}
+use Rattle.list_store.specs.Lists.{record_id, Lists, records_of, with_records, all_records, is_id, has_id, record_of, spot_in, spot_of, records_without, lists_without, lists_with, replaced_by, lists_replaced, ids_apart}
 use Rattle.record_lists.proofs.AllLaws.{none_behind, pairwise_back}
 use Rattle.record_lists.proofs.IdLaws.{once}
 use Rattle.list_model.specs.Lists.{record_at, stands_before, with_record}
@@ -28,15 +28,15 @@ use Rattle.list_model.proofs.ContentLaws.{record_at-in}
 
 -- ---- the record that is named, by its id
 
-find_front : (p : Rec → Bool) (rec : Rec) (front back : List Rec)
+find_front : (p : Record → Bool) (rec : Record) (front back : List Record)
     → list_all (λ other. not (p other)) (front ++ back) ≡ true
     → p rec ≡ true → find p (front ++ rec ∷ back) ≡ Some rec
 find_front p rec [] back h e = rw e refl
 find_front p rec (other ∷ front) back h e =
-    let parts = and_parts (not (p other)) (list_all (λ (o : Rec). not (p o)) (front ++ back)) h in
+    let parts = and_parts (not (p other)) (list_all (λ (o : Record). not (p o)) (front ++ back)) h in
     rw (not-true (p other) parts.0) (find_front p rec front back parts.1 e)
 
-pub found-in : (rec : Rec) (all : List Rec) → IsIn rec all → pairwise ids_apart all ≡ true
+pub found-in : (rec : Record) (all : List Record) → IsIn rec all → pairwise ids_apart all ≡ true
     → find (is_id rec.id) all ≡ Some rec
 found-in rec all i h =
     let w = i.with_it in
@@ -44,19 +44,19 @@ found-in rec all i h =
     list_all_weaker (λ other. ids_apart rec other && ids_apart other rec) (λ other. not (is_id rec.id other))
     (λ other k. (and_parts (ids_apart rec other) (ids_apart other rec) k).0) i.others
     (with-pairwise ids_apart ids_apart-sym rec i.others all w h) in
-    ap (λ (l : List Rec). find (is_id rec.id) l) w.is
+    ap (λ (l : List Record). find (is_id rec.id) l) w.is
     ∙ find_front (is_id rec.id) rec w.front w.back
-    (subst (λ (l : List Rec). list_all (λ other. not (is_id rec.id other)) l ≡ true) w.was apart) (is_id-refl rec)
+    (subst (λ (l : List Record). list_all (λ other. not (is_id rec.id other)) l ≡ true) w.was apart) (is_id-refl rec)
 
 -- the record that is named is the one of its id
-pub record_of-at : (lists : Lists) (at : At) (rec : Rec) → pairwise ids_apart (all_records lists) ≡ true
+pub record_of-at : (lists : Lists) (at : At) (rec : Record) → pairwise ids_apart (all_records lists) ≡ true
     → record_at lists at ≡ Some rec
     → record_of rec.id lists ≡ Some rec
 record_of-at lists at rec apart h = found-in rec (all_records lists) (record_at-in lists at rec h) apart
 
 -- ---- headers
 
-pub records-elsewhere : (lists : Lists) (header other : ℕ) (records : List Rec) → (header == other) ≡ false
+pub records-elsewhere : (lists : Lists) (header other : ℕ) (records : List Record) → (header == other) ≡ false
     → records_of (with_records lists header records) other ≡ records_of lists other
 records-elsewhere [] header other records h = refl
 records-elsewhere (first ∷ lists) zero zero records h = absurd (false≢true (sym h))
@@ -74,7 +74,7 @@ records-without id [] header = refl
 records-without id (first ∷ lists) zero = refl
 records-without id (first ∷ lists) (suc header) = records-without id lists header
 
-pub records-replaced : (rec : Rec) (lists : Lists) (header : ℕ)
+pub records-replaced : (rec : Record) (lists : Lists) (header : ℕ)
     → records_of (lists_replaced rec lists) header ≡ map (replaced_by rec) (records_of lists header)
 records-replaced rec [] header = refl
 records-replaced rec (first ∷ lists) zero = refl
@@ -82,33 +82,33 @@ records-replaced rec (first ∷ lists) (suc header) = records-replaced rec lists
 
 -- ---- which headers have records
 
-pub full-elsewhere : (head : Bool) (header other : ℕ) (rec : Rec) (lists : Lists) → (header == other) ≡ false
+pub full-elsewhere : (head : Bool) (header other : ℕ) (rec : Record) (lists : Lists) → (header == other) ≡ false
     → has_records (with_record head header rec lists) other ≡ has_records lists other
 full-elsewhere head header other rec lists h =
-    ap (λ (l : List Rec). not (length l == 0))
+    ap (λ (l : List Record). not (length l == 0))
     (records-elsewhere lists header other (insertion (stands_before head rec) rec (records_of lists header)) h)
 
-pub full-replaced : (rec : Rec) (lists : Lists) (header : ℕ)
+pub full-replaced : (rec : Record) (lists : Lists) (header : ℕ)
     → has_records (lists_replaced rec lists) header ≡ has_records lists header
 full-replaced rec lists header =
-    ap (λ (l : List Rec). not (length l == 0)) (records-replaced rec lists header)
+    ap (λ (l : List Record). not (length l == 0)) (records-replaced rec lists header)
     ∙ ap (λ (n : ℕ). not (n == 0)) (length-map (records_of lists header) (replaced_by rec))
 
 pub full-absent : (id : EntryId) (lists : Lists) (header : ℕ) → has_id id (records_of lists header) ≡ false
     → has_records (lists_without id lists) header ≡ has_records lists header
 full-absent id lists header h =
     let records = records_of lists header in
-    ap (λ (l : List Rec). not (length l == 0))
+    ap (λ (l : List Record). not (length l == 0))
     (records-without id lists header ∙ filter_all (λ rec. not (is_id id rec)) records
     (all_from_none (is_id id) records h))
 
 -- ---- a record is in one header alone
 
-any_later : (p : Rec → Bool) (front back : List Rec) → list_any p back ≡ true → list_any p (front ++ back) ≡ true
+any_later : (p : Record → Bool) (front back : List Record) → list_any p back ≡ true → list_any p (front ++ back) ≡ true
 any_later p [] back h = h
 any_later p (rec ∷ front) back h = or_right (p rec) (list_any p (front ++ back)) (any_later p front back h)
 
-any_first : (p : Rec → Bool) (front back : List Rec) → list_any p front ≡ true → list_any p (front ++ back) ≡ true
+any_first : (p : Record → Bool) (front back : List Record) → list_any p front ≡ true → list_any p (front ++ back) ≡ true
 any_first p [] back h = absurd (false≢true h)
 any_first p (rec ∷ front) back h =
     step (p rec) (list_any p front) (list_any p (front ++ back)) h (any_first p front back)
@@ -118,7 +118,7 @@ any_first p (rec ∷ front) back h =
     step false b c e f = f e
 
 -- what a header has all have
-pub any-header : (p : Rec → Bool) (lists : Lists) (header : ℕ) → list_any p (records_of lists header) ≡ true
+pub any-header : (p : Record → Bool) (lists : Lists) (header : ℕ) → list_any p (records_of lists header) ≡ true
     → list_any p (all_records lists) ≡ true
 any-header p [] header h = absurd (false≢true h)
 any-header p (first ∷ lists) zero h = any_first p first (all_records lists) h
@@ -135,11 +135,11 @@ one-header id [] a b apart e h = refl
 one-header id (first ∷ lists) zero zero apart e h = absurd (false≢true (sym e))
 one-header id (first ∷ lists) zero (suc b) apart e h =
     is_false (has_id id (records_of lists b))
-    (λ k. false≢true (sym (none_behind ids_apart (is_id id) (once rec_id id.0) first (all_records lists) apart h)
+    (λ k. false≢true (sym (none_behind ids_apart (is_id id) (once record_id id.0) first (all_records lists) apart h)
     ∙ any-header (is_id id) lists b k))
 one-header id (first ∷ lists) (suc a) zero apart e h =
     is_false (has_id id first)
-    (λ k. false≢true (sym (none_behind ids_apart (is_id id) (once rec_id id.0) first (all_records lists) apart k)
+    (λ k. false≢true (sym (none_behind ids_apart (is_id id) (once record_id id.0) first (all_records lists) apart k)
     ∙ any-header (is_id id) lists a h))
 one-header id (first ∷ lists) (suc a) (suc b) apart e h =
     one-header id lists a b (pairwise_back ids_apart first (all_records lists) apart) (less a b ∙ e) h
@@ -184,11 +184,11 @@ full-others id lists spot other apart h e =
 -- ---- the place of a record that comes
 
 -- behind the longest front that stands before it
-pub placed-with : (head : Bool) (header : ℕ) (rec : Rec) (lists : Lists)
+pub placed-with : (head : Bool) (header : ℕ) (rec : Record) (lists : Lists)
     → lists_with header
     (prefix_len (stands_before head rec) (records_of lists header)) rec lists ≡ with_record head header rec lists
 placed-with head header rec lists =
-    ap (λ (l : List Rec). with_records lists header l)
+    ap (λ (l : List Record). with_records lists header l)
     (insert-prefix_len (stands_before head rec) rec (records_of lists header))
 
 -- ---- ids

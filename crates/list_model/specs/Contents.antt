@@ -9,7 +9,7 @@ use Rattle.cf_types.specs.declared.forms.Refs.TheVariants.{Nothing}
 use Rattle.cf_types.specs.declared.numbers.ConnId.{ConnId}
 use Rattle.engine_api.specs.declared.shapes.Shape.{Shape}
 use Rattle.list_laws.specs.Pairwise.{pairwise}
-use Rattle.list_store.specs.declared.records.Rec.{Rec}
+use Rattle.list_store.specs.Record.{Record}
 use Rattle.list_store.specs.Lists.{Lists, AreApart, records_of, all_records, count_of}
 use Rattle.list_watch.specs.declared.monitors.Monitor.{Monitor}
 use Rattle.list_watch.specs.Monitors as watch
@@ -59,7 +59,7 @@ is_within shape monitor =
     nat_lt monitor.header (headers_of shape.kind) && nat_lt monitor.index shape.vector
 
 -- an id that was given: it is before the next one
-abbrev pub is_given : ℕ → Rec → Bool
+abbrev pub is_given : ℕ → Record → Bool
 is_given next rec = nat_lt rec.id.0 next
 
 -- records with ids and names of their own, by key in each header, within the capacity

@@ -5,7 +5,7 @@ use Rattle.std.specs.List.{list_any}
 use Rattle.cf_types.specs.declared.forms.Caps.{Caps}
 use Rattle.cf_types.specs.declared.numbers.ConnId.{ConnId}
 use Rattle.engine_api.specs.declared.shapes.Shape.{Shape}
-use Rattle.list_store.specs.declared.records.Rec.{Rec}
+use Rattle.list_store.specs.Record.{Record}
 use Rattle.list_store.specs.Lists.{Lists, records_of, with_records, count_of}
 use Rattle.list_watch.specs.declared.monitors.Monitor.{Monitor}
 use Rattle.list_model.specs.declared.items.ListItem.{ListItem}
@@ -35,7 +35,7 @@ controls_of content =
     Controls content.next content.limits content.locks (map triple_of content.monitors)
 
 -- the records of headers from this one on
-abbrev pub row_of : ℕ → Rec → ListItem
+abbrev pub row_of : ℕ → Record → ListItem
 row_of header rec = Row header rec.id rec.version rec.name rec.key rec.body rec.adj
 
 abbrev pub rows_from : ℕ → Lists → List ListItem
@@ -60,7 +60,7 @@ content_with content (Controls next limits locks watches) =
       next = next;
     }
 content_with content (Row header id version name key body adj) =
-    let rec : Rec =
+    let rec : Record =
     record { id = id; version = version; name = name; key = key; body = body; adj = adj }
     in
     let records = records_of content.lists header in

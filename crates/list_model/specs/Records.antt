@@ -5,18 +5,18 @@ use Rattle.cf_types.specs.declared.forms.Refs.TheVariants as refs
 use Rattle.cf_types.specs.declared.names.Key16.{Key16}
 use Rattle.cf_types.specs.declared.names.Name16.{Name16}
 use Rattle.cf_types.specs.Name.{same_name}
-use Rattle.list_store.specs.declared.records.Rec.{Rec}
+use Rattle.list_store.specs.Record.{Record}
 use Rattle.list_model.specs.Keys.{same_key, key_up_to}
 pub use Rattle.cf_types.specs.Stored.{elements_of}
 
-abbrev pub has_name : Name16 → Rec → Bool
+abbrev pub has_name : Name16 → Record → Bool
 has_name name rec = is_it rec.name
   where
     is_it : Option Name16 → Bool
     is_it None = false
     is_it (Some other) = same_name other name
 
-abbrev pub has_key : Key16 → Rec → Bool
+abbrev pub has_key : Key16 → Record → Bool
 has_key key rec = is_it rec.key
   where
     is_it : Option Key16 → Bool
@@ -27,7 +27,7 @@ has_key key rec = is_it rec.key
 abbrev pub next_version : ℕ → ℕ
 next_version version = if nat_lt version 4294967295 then version + 1 else 1
 
-abbrev pub elements_in : List Rec → ℕ
+abbrev pub elements_in : List Record → ℕ
 elements_in recs = sum_by (λ rec. elements_of rec.body) recs
 
 -- the name and the key that the records of a structure have, by what they are known by
@@ -36,11 +36,11 @@ is_reference refs.Names name key = is_some name && is_none key
 is_reference refs.Keys name key = is_none name && is_some key
 is_reference refs.Nothing name key = is_none name && is_none key
 
-abbrev pub is_known : Refs → Rec → Bool
+abbrev pub is_known : Refs → Record → Bool
 is_known refs rec = is_reference refs rec.name rec.key
 
 -- they don't have the same name
-abbrev pub names_apart : Rec → Rec → Bool
+abbrev pub names_apart : Record → Record → Bool
 names_apart rec other = are_apart rec.name
   where
     are_apart : Option Name16 → Bool
@@ -48,5 +48,5 @@ names_apart rec other = are_apart rec.name
     are_apart (Some name) = not (has_name name other)
 
 -- the first has no later key
-abbrev pub may_precede : Rec → Rec → Bool
+abbrev pub may_precede : Record → Record → Bool
 may_precede rec other = key_up_to rec.key other.key

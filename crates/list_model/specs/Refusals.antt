@@ -12,7 +12,7 @@ use Rattle.cf_types.specs.declared.names.Name16.{Name16}
 use Rattle.cf_types.specs.declared.numbers.ConnId.{ConnId}
 use Rattle.cf_types.specs.declared.refusals.Refusal.{Refusal}
 use Rattle.cf_types.specs.declared.refusals.Refusal.TheVariants.{BadIndex, NoRecordThere, NameTaken, BadHeader, ListFull, EntriesFull, NoListElements, LockHeld, LockNotHeldBy, WrongReference, HeaderInUse, BadLock, VersionDiffers}
-use Rattle.list_store.specs.declared.records.Rec.{Rec}
+use Rattle.list_store.specs.Record.{Record}
 use Rattle.list_store.specs.Lists.{records_of}
 use Rattle.list_watch.specs.declared.monitors.Monitor.{Monitor}
 use Rattle.list_watch.specs.Monitors.{monitored_at}
@@ -86,7 +86,7 @@ ref_form_refusal refs (ref.Tail header) = None
 ref_form_refusal refs (ref.Key header key) =
     if has_keys refs then None else Some (WrongReference refs)
 
-abbrev pub record_refusal : Option Rec → Option Refusal
+abbrev pub record_refusal : Option Record → Option Refusal
 record_refusal None = Some NoRecordThere
 record_refusal (Some rec) = None
 
@@ -99,11 +99,11 @@ version_refusal (Some version) found =
 -- ---- names and room
 
 -- 21: a record has the name
-abbrev pub taken_refusal : Option Rec → Option Refusal
+abbrev pub taken_refusal : Option Record → Option Refusal
 taken_refusal None = None
 taken_refusal (Some rec) = Some (NameTaken rec.id)
 
-abbrev pub name_refusal : List Rec → Option Name16 → Option Refusal
+abbrev pub name_refusal : List Record → Option Name16 → Option Refusal
 name_refusal recs None = None
 name_refusal recs (Some name) = taken_refusal (find (has_name name) recs)
 
@@ -114,12 +114,12 @@ full_refusal content header =
     if nat_le limit (length (records_of content.lists header)) then Some (ListFull limit) else None
 
 -- 24: the structure has as many records as entries
-abbrev pub entries_refusal : Caps → List Rec → Option Refusal
+abbrev pub entries_refusal : Caps → List Record → Option Refusal
 entries_refusal caps recs =
     if nat_le caps.entries (length recs) then Some (EntriesFull caps.entries) else None
 
 -- 25: the data need more elements than these records leave free
-abbrev pub elements_refusal : Caps → ℕ → List Rec → Option Refusal
+abbrev pub elements_refusal : Caps → ℕ → List Record → Option Refusal
 elements_refusal caps need recs =
     let free = caps.elements - elements_in recs in
     if nat_le need free then None else Some (NoListElements need free)

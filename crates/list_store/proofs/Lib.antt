@@ -1,3 +1,5 @@
 pub mod VecLaws
 pub mod TiedLaws
 pub mod SpotLaws
+pub mod HeldLaws
+pub mod StoreLaws

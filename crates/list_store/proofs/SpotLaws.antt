@@ -8,7 +8,7 @@ use Rattle.record_lists.proofs.AllLaws.{list_of-get_or}
 use Rattle.cf_types.specs.declared.numbers.EntryId.{EntryId}
 use Rattle.record_lists.specs.Lists as generic
 use Rattle.list_store.specs.declared.records.Spot.{Spot}
-use Rattle.list_store.specs.Lists.{Lists, rec_id, is_id, has_id, records_of, spot_of, spot_in}
+use Rattle.list_store.specs.Lists.{Lists, record_id, is_id, has_id, records_of, spot_of, spot_in}
 use Rattle.list_store.specs.Spots.{as_spot}
 
 at_header : (header : ℕ) (o : Option ℕ)
@@ -18,11 +18,11 @@ at_header header None = refl
 at_header header (Some place) = refl
 
 in_header : (id : EntryId) (lists : Lists) (o : Option ℕ)
-    → option_map as_spot (generic.spot_in rec_id id.0 lists o) ≡ spot_in id lists o
+    → option_map as_spot (generic.spot_in record_id id.0 lists o) ≡ spot_in id lists o
 in_header id lists None = refl
 in_header id lists (Some header) = at_header header (position (is_id id) (records_of lists header))
 
-pub spot_is : (id : EntryId) (lists : Lists) → option_map as_spot (generic.spot_of rec_id id.0 lists) ≡ spot_of id lists
+pub spot_is : (id : EntryId) (lists : Lists) → option_map as_spot (generic.spot_of record_id id.0 lists) ≡ spot_of id lists
 spot_is id lists = in_header id lists (position (has_id id) lists)
 
 header_in : (o : Option (ℕ × ℕ))
@@ -32,10 +32,10 @@ header_in None = refl
 header_in (Some s) = refl
 
 pub header_is : (id : EntryId) (lists : Lists)
-    → option_map {T = ℕ × ℕ} {U = ℕ} (λ (s : ℕ × ℕ). s.0) (generic.spot_of rec_id id.0 lists)
+    → option_map {T = ℕ × ℕ} {U = ℕ} (λ (s : ℕ × ℕ). s.0) (generic.spot_of record_id id.0 lists)
     ≡ option_map {T = Spot} {U = ℕ} (λ spot. spot.header) (spot_of id lists)
 header_is id lists =
-    sym (header_in (generic.spot_of rec_id id.0 lists))
+    sym (header_in (generic.spot_of record_id id.0 lists))
     ∙ ap (option_map {T = Spot} {U = ℕ} (λ spot. spot.header)) (spot_is id lists)
 
 -- where no spot is found, no header has the id

@@ -1,5 +1,5 @@
 -- A record more or less in the slab, the orders and the map at once.
-use Rattle.std.proofs.Common.{◌≡◌, ◌≢◌, inl, inr, ℕ, ◌<◌, ◌≤◌, Bool, true, false, cond, ◌==◌, List, [], ◌∷◌, ◌++◌, ◌-◌, length, map, set, take, replicate, slice_get, zero, suc, Option, Some, None, is_some, option_map, unwrap_or, Bor, refl, sym, ap, ◌∙◌, subst, arith}
+use Rattle.std.proofs.Common.{◌≡◌, ◌≢◌, inl, inr, ℕ, ◌<◌, ◌≤◌, Bool, true, false, cond, ◌==◌, List, [], ◌∷◌, ◌++◌, ◌-◌, length, map, set, take, replicate, slice_get, zero, suc, Option, Some, None, is_some, option_map, unwrap_or, refl, sym, ap, ◌∙◌, subst, arith}
 use Rattle.std.specs.Prelude.{IsSome, IfSome, IfNone, slice_index_or}
 use Rattle.std.specs.List.{list_all, list_any, remove}
 use Rattle.std.proofs.lemmas.Bool.{false≢true, eq-eqb, eqb-true, ltb-true}
@@ -16,7 +16,7 @@ use Rattle.record_lists.proofs.SpotLaws.{placed_at, spot_there, no_spot, header_
 use Rattle.record_lists.proofs.MapLaws.{records_of-map, get-map, with-map, removed-map}
 use Rattle.record_lists.proofs.OrderLaws.{stands_new, stands_more, stands_either, stands_at, stands_still, stands_before, place_stands, agree, any_stands, any_key, twice}
 use Rattle.list_store.specs.declared.records.Rec.{Rec}
-use Rattle.list_store.specs.Lists.{rec_id}
+use Rattle.list_store.specs.Tied.{rec_id}
 use Rattle.list_store.specs.Orders.{is_few}
 use Rattle.list_store.proofs.VecLaws.{list_all-get_or}
 use Rattle.list_store.specs.Tied.{no_rec, rec_at, lists_at, spot_for, Writes, IsHeld, IsFound, IsTied}
@@ -479,11 +479,8 @@ remove_last {X} xs n some e =
     let past : length xs ≤ suc n = omega (arith, some, e) in
     ap (λ (l : List X). take n xs ++ l) (drop_all (suc n) xs past) ∙ append-nil (take n xs) ∙ ap (λ k. take k xs) e
 
--- nothing shows no record where there is one
-pub some_now : (o : Option (Bor Rec)) (p : Option Rec) → option_map (λ rec. rec.now) o ≡ p → o ≡ None → p ≡ None
-some_now o p e f = sym e ∙ ap (option_map (λ rec. rec.now)) f
-
-pub none_within : (xs : List Rec) (k : ℕ) → k < length xs → slice_get xs k ≡ None → ⊥
+-- within a list there is something
+pub none_within : {X : Type 0} (xs : List X) (k : ℕ) → k < length xs → slice_get xs k ≡ None → ⊥
 none_within [] k lt e = absurd (omega (arith, lt))
 none_within (x ∷ xs) zero lt e = cc
 none_within (x ∷ xs) (suc k) lt e = none_within xs k (omega (arith, lt)) e

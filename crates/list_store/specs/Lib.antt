@@ -1,5 +1,8 @@
+pub mod Record
 pub mod Lists
 pub mod Orders
 pub mod Spots
 pub mod Tied
+pub mod TableView
+pub mod Records
 pub mod StoreView

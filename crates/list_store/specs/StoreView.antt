@@ -1,34 +1,30 @@
--- Records with room for more.
-use Rattle.std.specs.Prelude.{ℕ, ◌<◌, ◌&&◌, nat_lt, Bool, IsTrue, List, if◌then◌else◌}
+-- Records and their data.
+use Rattle.std.specs.Prelude.{ℕ, IsTrue, List, Option, map}
 use Rattle.std.specs.List.{list_all}
-use Rattle.std.specs.Vec.{vec_len}
-use Rattle.slab.specs.Slab.{slab_len}
-use Rattle.indexmap.specs.IndexMap.{spare}
-pub use Rattle.record_lists.specs.Lists.{IsLastFull}
-use Rattle.list_store.specs.declared.records.Rec.{Rec}
+use Rattle.record_lists.specs.Lists.{all_records}
 use Rattle.list_store.specs.declared.store.Store.TheInside.{Inside}
-use Rattle.list_store.specs.Orders.{orders_in, is_few, has_place}
-use Rattle.list_store.specs.Tied.{lists_at, IsTied}
+use Rattle.list_store.specs.Record.{Record}
+use Rattle.list_store.specs.Records.{record_in, loose_in, is_data, AreHeld}
 
--- a list for each header, and for how many records more there is room: 0 or 1
+-- for each header its records; the chains of the pool, those of them that no record has, and how many
+-- elements are free; for how many records more there is room: 0 or 1
 pub record StoreView : Type 0 where
-  pub lists : List (List Rec)
+  pub lists : List (List Record)
+  pub chains : List (Option (List ℕ))
+  pub loose : List (Option (List ℕ))
+  pub free : ℕ
   pub room : ℕ
-
--- room in the slab, whose keys are below 2^32, in the map and in each order
-abbrev pub is_roomy : Inside → Bool
-is_roomy s =
-    nat_lt (slab_len s.slab) s.slab.capacity && nat_lt s.slab.capacity 4294967296
-    && nat_lt 0 (spare s.spots) && list_all has_place s.orders.items
 
 abbrev pub store_view : Inside → StoreView
 store_view s =
     record {
-      lists = lists_at s.slab (orders_in s.orders.items);
-      room = if is_roomy s then 1 else 0;
+      lists = map (map (record_in s.pool.chains)) s.table.lists;
+      chains = s.pool.chains;
+      loose = loose_in s.pool.chains (all_records s.table.lists);
+      free = s.pool.free;
+      room = s.table.room;
     }
 
-pub record IsKept (s : Inside) : Type 0 where
-  pub tied : IsTied s.slab (orders_in s.orders.items) s.spots.entries
-  pub few : IsTrue (list_all is_few (orders_in s.orders.items))
-  pub headers : vec_len s.orders < 4294967296
+pub record IsStore (s : Inside) : Type 0 where
+  pub held : AreHeld s.pool.chains (all_records s.table.lists)
+  pub whole : IsTrue (list_all is_data s.pool.chains)

@@ -3,13 +3,15 @@ use Rattle.std.specs.Prelude.{◌≡◌, ℕ, true, List, map, Option, Some, Non
 use Rattle.std.specs.Map.{lookup}
 use Rattle.slab.specs.Slab.{Slab, get}
 use Rattle.record_lists.specs.Lists.{AreApart}
-use Rattle.list_store.specs.Lists.{rec_id}
 use Rattle.record_lists.specs.Orders.{stands}
 use Rattle.list_store.specs.declared.records.Rec.{Rec}
 
 -- no record has the id 0
 abbrev pub no_rec : Rec
 no_rec = record { id = record { 0 = 0 }; version = 0; name = None; key = None; body = None; adj = None }
+
+abbrev pub rec_id : Rec → ℕ
+rec_id rec = rec.id.0
 
 -- the record under a key
 abbrev pub rec_at : Slab Rec → ℕ → Rec

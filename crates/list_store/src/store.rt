@@ -1,75 +1,66 @@
-ghost use Rattle.std.specs.Prelude.{◌≡◌, ◌-◌, ◌+◌, ◌<◌, ◌≤◌, ◌++◌, ◌∷◌, [], true, false, IsTrue, IfOk, IfErr, OnOk, OnErr, IfSome, IfNone, Some, length, take, option_map, slice_get, slice_set, replicate};
+//! The records of a list structure with their data.
+ghost use Rattle.std.specs.Prelude.{◌≡◌, ◌-◌, ◌+◌, ◌<◌, ◌≤◌, ◌++◌, ◌∷◌, [], true, false, IsTrue, IfOk, IfErr, OnOk, OnErr, IfSome, IfNone, IsErr, ◌↔◌, Some, None, length, take, option_map, slice_get, slice_set, replicate, sum_by};
 ghost use Rattle.std.specs.List.{list_any};
 ghost use Rattle.list_laws.specs.Pairwise.{pairwise};
-ghost use Rattle.record_lists.specs.Fronts.{front};
+ghost use Rattle.cf_pool.specs.Chains.{need_of};
+ghost use Rattle.cf_pool.specs.Pools.{IsChain, need_at, need_in};
+ghost use Rattle.record_lists.specs.Lists.{IsLastFull, lists_popped};
 ghost use Rattle.list_store.specs.Lists.{all_records, records_of, with_records, is_id, record_of, spot_of, lists_without, lists_with, lists_replaced, ids_apart};
-ghost use Rattle.list_store.specs.StoreView.{IsLastFull};
+ghost use Rattle.list_store.specs.Records.{record_in, HasChain, chains_less, elements_in};
 
-use crate::copies::copy_record;
-use crate::orders::{no_keys, reserve};
 use crate::records::{Rec, Spot};
-use crate::table::{
-    at, get, header_of, last_of, len_of, pop_out, put, put_in_place, reserve_slab, reserve_spots,
-    spot, take_out,
-};
+use crate::table::Table;
+use cf_pool::{Chain, NoElements, Pool};
 use cf_types::{EntryId, NoMemory};
-use indexmap::IndexMap;
-use slab::Slab;
 use std::alloc::Global;
 use std::marker::Model;
 
-/// The records of a list structure. Contracts see a list of records for each header, and for how
-/// many more there is room.
+/// The records of a list structure, and the pool in which their data lie. Contracts see the records
+/// with their data, the chains of the pool, and those of them that no record has.
 #[derive(Drop)]
 pub struct Store {
-    slab: Slab<Rec>,
-    orders: Vec<Vec<u32>>,
-    spots: IndexMap<u64, (u32, u32)>,
+    table: Table,
+    pool: Pool,
 }
 
 impl Model for Store {
-    ghost use Rattle.list_store.specs.StoreView.{StoreView, store_view, IsKept};
+    ghost use Rattle.list_store.specs.StoreView.{StoreView, store_view, IsStore};
 
     ghost Value = { StoreView };
 
     ghost view = { store_view };
 
-    ghost invariant = { IsKept };
+    ghost invariant = { IsStore };
 }
 
 impl Store {
-    /// No records, for structures of so many entries and elements and with so many headers.
-    pub fn new(
-        alloc: Global,
-        _entries: u32,
-        _elements: u32,
-        headers: u32,
-    ) -> Result<Store, NoMemory>
-        ensures { IfOk result (λ store. store.lists ≡ replicate headers []) }
+    /// No records, in so many headers, and so many elements, all free.
+    pub fn new(alloc: Global, _entries: u32, elements: u32, headers: u32) -> Result<Store, NoMemory>
+        ensures lists { IfOk result (λ store. store.lists ≡ replicate headers []) }
+        ensures chains { IfOk result (λ store. store.chains ≡ replicate elements None) }
+        ensures loose { IfOk result (λ store. store.loose ≡ replicate elements None) }
+        ensures free { IfOk result (λ store. store.free ≡ elements) }
     {
-        let orders = no_keys(alloc, headers)?;
-        Ok(Store {
-            slab: Slab::new(alloc),
-            orders,
-            spots: IndexMap::new(alloc),
-        })
+        let table = Table::new(alloc, headers)?;
+        match Pool::new(alloc, elements) {
+            Ok(pool) => Ok(Store { table, pool }),
+            Err(_) => Err(NoMemory),
+        }
     }
 
     /// Takes room for one record more, in whichever header. Want of memory changes nothing.
     pub fn room(&mut self) -> Result<(), NoMemory>
-        ensures lists { self.new.lists ≡ self.old.lists }
+        ensures same { self.new ≡ record self.old { room = self.new.room } }
         ensures room { OnOk result (1 ≤ self.new.room) }
     {
-        reserve_slab(&mut self.slab)?;
-        reserve_spots(&mut self.spots)?;
-        reserve(&mut self.orders)
+        self.table.room()
     }
 
     /// How many headers there are.
     pub fn headers(&self) -> u32
         ensures { result ≡ length self.now.lists }
     {
-        self.orders.len() as u32
+        self.table.headers()
     }
 
     /// How many records a header has.
@@ -77,31 +68,28 @@ impl Store {
         requires { header < length self.now.lists }
         ensures { result ≡ length (records_of self.now.lists header) }
     {
-        len_of(&self.slab, self.orders.as_slice(), header as usize)
+        self.table.len(header)
     }
 
     /// The record at a place of a header, from 0.
     pub fn at(&self, header: u32, place: u32) -> Option<&Rec>
         requires { header < length self.now.lists }
-        ensures record { option_map (λ rec. rec.now) result
+        ensures record { option_map (λ rec. record_in self.now.chains rec.now) result
             ≡ slice_get (records_of self.now.lists header) place }
+        ensures chain { IfSome result (λ rec. HasChain self.now.chains rec.now.body) }
         ensures apart { IsTrue (pairwise ids_apart (all_records self.now.lists)) }
     {
-        at(
-            &self.slab,
-            self.orders.as_slice(),
-            &self.spots,
-            header as usize,
-            place as usize,
-        )
+        self.table.at(header, place)
     }
 
     /// The record with an id.
     pub fn get(&self, id: EntryId) -> Option<&Rec>
-        ensures record { option_map (λ rec. rec.now) result ≡ record_of id self.now.lists }
+        ensures record { option_map (λ rec. record_in self.now.chains rec.now) result
+            ≡ record_of id self.now.lists }
+        ensures chain { IfSome result (λ rec. HasChain self.now.chains rec.now.body) }
         ensures apart { IsTrue (pairwise ids_apart (all_records self.now.lists)) }
     {
-        get(&self.slab, self.orders.as_slice(), &self.spots, id)
+        self.table.get(id)
     }
 
     /// The header that the record with an id is in.
@@ -109,7 +97,7 @@ impl Store {
         ensures header { result ≡ option_map (λ spot. spot.header) (spot_of id self.now.lists) }
         ensures apart { IsTrue (pairwise ids_apart (all_records self.now.lists)) }
     {
-        header_of(&self.slab, self.orders.as_slice(), &self.spots, id)
+        self.table.header_of(id)
     }
 
     /// Where the record with an id is.
@@ -117,48 +105,59 @@ impl Store {
         ensures spot { result ≡ spot_of id self.now.lists }
         ensures apart { IsTrue (pairwise ids_apart (all_records self.now.lists)) }
     {
-        spot(&self.slab, self.orders.as_slice(), &self.spots, id)
+        self.table.whereabouts(id)
     }
 
-    /// Puts a record at a place of a header. No record has its id.
+    /// Puts a record at a place of a header. No record has its id, and none has its chain.
     pub fn add(&mut self, header: u32, place: u32, rec: Rec)
         requires room { 1 ≤ self.old.room }
         requires header { header < length self.old.lists }
         requires place { place ≤ length (records_of self.old.lists header) }
         requires alone { list_any (is_id rec.id) (all_records self.old.lists) ≡ false }
-        ensures { self.new.lists ≡ lists_with header place rec self.old.lists }
+        requires chain { HasChain self.old.loose rec.body }
+        ensures lists { self.new.lists
+            ≡ lists_with header place (record_in self.old.chains rec) self.old.lists }
+        ensures chains { self.new.chains ≡ self.old.chains }
+        ensures loose { self.new.loose ≡ chains_less rec.body self.old.loose }
+        ensures free { self.new.free ≡ self.old.free }
     {
-        put(
-            &mut self.slab,
-            &mut self.orders,
-            &mut self.spots,
-            header,
-            place,
-            rec,
-        );
+        self.table.add(header, place, rec);
     }
 
     /// Puts a record in place of the one with this id, which is there and is the record's own;
-    /// gives that one.
+    /// gives that one, whose chain no record has then.
     pub fn set(&mut self, id: EntryId, rec: Rec) -> Rec
         requires there { list_any (is_id id) (all_records self.old.lists) ≡ true }
         requires same { id ≡ rec.id }
-        ensures record { record_of id self.old.lists ≡ Some result }
-        ensures lists { self.new.lists ≡ lists_replaced rec self.old.lists }
+        requires chain { HasChain self.old.loose rec.body }
+        ensures record { record_of id self.old.lists ≡ Some (record_in self.old.chains result) }
+        ensures chain { HasChain self.new.loose result.body }
+        ensures lists { self.new.lists
+            ≡ lists_replaced (record_in self.old.chains rec) self.old.lists }
+        ensures chains { self.new.chains ≡ self.old.chains }
+        ensures was { chains_less rec.body self.old.loose
+            ≡ chains_less result.body self.new.loose }
+        ensures free { self.new.free ≡ self.old.free }
         ensures apart { IsTrue (pairwise ids_apart (all_records self.old.lists)) }
         ensures room { self.old.room ≤ self.new.room }
     {
-        put_in_place(&mut self.slab, self.orders.as_slice(), &self.spots, rec)
+        self.table.set(id, rec)
     }
 
-    /// Takes out the record with an id.
+    /// Takes out the record with an id; no record has its chain then.
     pub fn take(&mut self, id: EntryId) -> Option<Rec>
-        ensures record { result ≡ record_of id self.old.lists }
+        ensures record { option_map (record_in self.old.chains) result
+            ≡ record_of id self.old.lists }
+        ensures chain { IfSome result (λ rec. HasChain self.new.loose rec.body) }
         ensures lists { self.new.lists ≡ lists_without id self.old.lists }
+        ensures chains { self.new.chains ≡ self.old.chains }
+        ensures was { IfSome result (λ rec. self.old.loose ≡ chains_less rec.body self.new.loose) }
+        ensures none { IfNone result (self.new.loose ≡ self.old.loose) }
+        ensures free { self.new.free ≡ self.old.free }
         ensures apart { IsTrue (pairwise ids_apart (all_records self.old.lists)) }
         ensures room { self.old.room ≤ self.new.room }
     {
-        take_out(&mut self.slab, &mut self.orders, &mut self.spots, id)
+        self.table.take(id)
     }
 
     /// Takes the record with an id, which is there, to a place of a header.
@@ -167,32 +166,15 @@ impl Store {
         requires there { list_any (is_id id) (all_records self.old.lists) ≡ true }
         requires header { header < length self.old.lists }
         requires place { place ≤ length (records_of (lists_without id self.old.lists) header) }
-        ensures { IfSome (record_of id self.old.lists) (λ rec. self.new.lists
+        ensures lists { IfSome (record_of id self.old.lists) (λ rec. self.new.lists
             ≡ lists_with header place rec (lists_without id self.old.lists)) }
+        ensures chains { self.new.chains ≡ self.old.chains }
+        ensures loose { self.new.loose ≡ self.old.loose }
+        ensures free { self.new.free ≡ self.old.free }
     {
         match self.take(id) {
             Some(rec) => self.add(header, place, rec),
             None => unreachable!(),
-        }
-    }
-
-    /// Puts a record behind the others of a header, where there is memory; else hands it back. No
-    /// record has its id.
-    pub fn push(&mut self, header: u32, rec: Rec) -> Result<(), Rec>
-        requires header { header < length self.old.lists }
-        requires alone { list_any (is_id rec.id) (all_records self.old.lists) ≡ false }
-        ensures ok { OnOk result (self.new.lists
-            ≡ with_records self.old.lists header (records_of self.old.lists header ++ rec ∷ [])) }
-        ensures err { OnErr result (self.new.lists ≡ self.old.lists) }
-        ensures handed_back { IfErr result (λ back. back ≡ rec) }
-    {
-        match self.room() {
-            Ok(()) => {
-                let place = self.len(header);
-                self.add(header, place, rec);
-                Ok(())
-            }
-            Err(_) => Err(rec),
         }
     }
 
@@ -201,71 +183,118 @@ impl Store {
         ensures found { IfSome result (λ header. IsLastFull header self.now.lists) }
         ensures none { IfNone result (all_records self.now.lists ≡ []) }
     {
-        match last_of(&self.slab, self.orders.as_slice()) {
-            Some(header) => Some(header as u32),
-            None => None,
-        }
+        self.table.last_header()
     }
 
-    /// Takes the last record out, of the last header that has records; gives the header, too.
+    /// Takes the last record out, of the last header that has records; gives the header, too. No
+    /// record has its chain then.
     pub fn pop(&mut self) -> Option<(u32, Rec)>
         ensures header { IfSome result (λ out. IsLastFull out.0 self.old.lists) }
-        ensures found { IfSome result (λ out. record_of out.1.id self.old.lists ≡ Some out.1) }
+        ensures found { IfSome result (λ out. record_of out.1.id self.old.lists
+            ≡ Some (record_in self.old.chains out.1)) }
         ensures without { IfSome result (λ out. self.new.lists
             ≡ lists_without out.1.id self.old.lists) }
-        ensures lists { IfSome result (λ out. self.new.lists ≡ with_records self.old.lists out.0
-            (take (length (records_of self.old.lists out.0) - 1)
-            (records_of self.old.lists out.0))) }
+        ensures lists { IfSome result (λ out. self.new.lists
+            ≡ lists_popped out.0 self.old.lists) }
+        ensures chain { IfSome result (λ out. HasChain self.new.loose out.1.body) }
+        ensures chains { self.new.chains ≡ self.old.chains }
+        ensures was { IfSome result (λ out. self.old.loose
+            ≡ chains_less out.1.body self.new.loose) }
+        ensures free { self.new.free ≡ self.old.free }
         ensures none { IfNone result (all_records self.old.lists ≡ []) }
-        ensures same { IfNone result (self.new.lists ≡ self.old.lists) }
+        ensures same { IfNone result (self.new ≡ self.old) }
         ensures apart { IsTrue (pairwise ids_apart (all_records self.old.lists)) }
     {
-        match last_of(&self.slab, self.orders.as_slice()) {
-            Some(header) => {
-                let rec = pop_out(&mut self.slab, &mut self.orders, &mut self.spots, header);
-                Some((header as u32, rec))
-            }
-            None => None,
-        }
+        self.table.pop()
     }
 
-    // A copy of one record more, behind the others of a header.
-    fn push_copy(&mut self, alloc: Global, header: u32, rec: &Rec) -> Result<(), NoMemory>
-        requires header { header < length self.old.lists }
-        requires alone { list_any (is_id rec.now.id) (all_records self.old.lists) ≡ false }
-        ensures { OnOk result (self.new.lists ≡ with_records self.old.lists header
-            (records_of self.old.lists header ++ rec.now ∷ [])) }
+    /// Puts bytes into a new chain, which no record has. It takes no memory.
+    pub fn put_body(&mut self, bytes: &[u8]) -> Result<Chain, NoElements>
+        requires some { 1 ≤ length bytes.now }
+        requires few { length bytes.now ≤ 4096 }
+        ensures refused { IsErr result ↔ self.old.free < need_of (length bytes.now) }
+        ensures err { IfErr result (λ e. e
+            ≡ record { need = need_of (length bytes.now); free = self.old.free }) }
+        ensures same { OnErr result (self.new ≡ self.old) }
+        ensures fresh { IfOk result (λ chain. slice_get self.old.chains chain.head ≡ Some None) }
+        ensures fresh_loose { IfOk result (λ chain. slice_get self.old.loose chain.head
+            ≡ Some None) }
+        ensures put { IfOk result (λ chain. self.new ≡ record self.old {
+          chains = slice_set self.old.chains chain.head (Some bytes.now);
+          loose = slice_set self.old.loose chain.head (Some bytes.now);
+          free = self.old.free - need_of (length bytes.now);
+        }) }
     {
-        let copy = copy_record(alloc, rec)?;
-        match self.push(header, copy) {
-            Ok(()) => Ok(()),
+        self.pool.put(bytes)
+    }
+
+    /// How many elements a chain has.
+    pub fn need(&self, chain: &Chain) -> u32
+        requires { IsChain self.now.chains chain.now.head }
+        ensures { result ≡ need_in self.now.chains chain.now.head }
+    {
+        self.pool.need(chain)
+    }
+
+    /// The bytes of a chain, 1 to 4,096 of them.
+    pub fn read_body(&self, alloc: Global, chain: &Chain) -> Result<Vec<u8>, NoMemory>
+        requires { IsChain self.now.chains chain.now.head }
+        ensures bytes { IfOk result (λ bytes. slice_get self.now.chains chain.now.head
+            ≡ Some (Some bytes.items)) }
+        ensures some { IfOk result (λ bytes. 1 ≤ length bytes.items) }
+        ensures few { IfOk result (λ bytes. length bytes.items ≤ 4096) }
+    {
+        match self.pool.read(alloc, chain) {
+            Ok(bytes) => Ok(bytes),
             Err(_) => Err(NoMemory),
         }
     }
 
-    // Copies of a header's records, where those of the headers before are there.
-    fn copy_header(&self, alloc: Global, header: u32, copy: &mut Store) -> Result<(), NoMemory>
-        requires header { header < length self.now.lists }
-        requires before { copy.old.lists ≡ front header 0 self.now.lists }
-        ensures { OnOk result (copy.new.lists ≡ front (header + 1) 0 self.now.lists) }
+    /// Gives the elements of a chain back, which no record has. It takes no memory.
+    pub fn give_body(&mut self, chain: Chain)
+        requires { IsChain self.old.loose chain.head }
+        ensures { self.new ≡ record self.old {
+          chains = slice_set self.old.chains chain.head None;
+          loose = slice_set self.old.loose chain.head None;
+          free = self.old.free + need_in self.old.chains chain.head;
+        } }
     {
-        for place in 0..self.len(header) {
-            match self.at(header, place) {
-                Some(rec) => copy.push_copy(alloc, header, rec)?,
-                None => unreachable!(),
-            }
-        }
-        Ok(())
+        self.pool.give_back(chain);
     }
 
-    /// The same records once more.
-    pub fn copy(&self, alloc: Global) -> Result<Store, NoMemory>
-        ensures { IfOk result (λ copy. copy.lists ≡ self.now.lists) }
+    /// Puts bytes into a chain, which no record has, in place of its own. It takes no memory.
+    pub fn replace_body(&mut self, chain: Chain, bytes: &[u8]) -> Result<Chain, (Chain, NoElements)>
+        requires chain { IsChain self.old.loose chain.head }
+        requires some { 1 ≤ length bytes.now }
+        requires few { length bytes.now ≤ 4096 }
+        ensures refused { IsErr result
+            ↔ self.old.free + need_in self.old.chains chain.head < need_of (length bytes.now) }
+        ensures err { IfErr result (λ e. e ≡ (
+          chain,
+          record {
+            need = need_of (length bytes.now);
+            free = self.old.free + need_in self.old.chains chain.head;
+          },
+        )) }
+        ensures same { OnErr result (self.new ≡ self.old) }
+        ensures put { IfOk result (λ new. self.new ≡ record self.old {
+          chains = slice_set (slice_set self.old.chains chain.head None) new.head (Some bytes.now);
+          loose = slice_set (slice_set self.old.loose chain.head None) new.head (Some bytes.now);
+          free = self.old.free + need_in self.old.chains chain.head - need_of (length bytes.now);
+        }) }
+        ensures fresh { IfOk result (λ new. slice_get (slice_set self.old.chains chain.head None)
+            new.head ≡ Some None) }
     {
-        let mut copy = Store::new(alloc, 0, 0, self.headers())?;
-        for header in 0..self.headers() {
-            self.copy_header(alloc, header, &mut copy)?;
-        }
-        Ok(copy)
+        self.pool.replace(chain, bytes)
+    }
+
+    /// How many elements are free: those that are in no record's data, nor in a chain that no
+    /// record has.
+    pub fn free(&self) -> u32
+        ensures free { result ≡ self.now.free }
+        ensures all { elements_in (all_records self.now.lists) + sum_by need_at self.now.loose
+            + self.now.free ≡ length self.now.chains }
+    {
+        self.pool.free()
     }
 }

@@ -1,325 +1,193 @@
-//! Records in a slab, with an order of slab keys for each header, and a map from ids to the header
-//! and the slab key.
-ghost use Rattle.std.specs.Prelude.{◌≡◌, ◌-◌, ◌+◌, ◌<◌, ◌≤◌, ◌++◌, ◌∷◌, [], true, false, IsTrue, IfOk, IfErr, OnOk, OnErr, IfSome, IfNone, Some, None, length, take, option_map, nat_eq, slice_get, slice_set, replicate};
-ghost use Rattle.std.specs.List.{list_all, list_any, remove};
-ghost use Rattle.std.specs.Vec.{vec_len};
-ghost use Rattle.std.specs.Map.{lookup};
-ghost use Rattle.slab.specs.Slab.{get as slab_get, slab_len, ContainsKey, HasRoomFor, Updates};
-ghost use Rattle.indexmap.specs.IndexMap.{spare};
+//! Records by header and place, and by id. Their data lie elsewhere: a record has a chain.
+ghost use Rattle.std.specs.Prelude.{◌≡◌, ◌-◌, ◌+◌, ◌<◌, ◌≤◌, [], true, false, IsTrue, IfOk, OnOk, IfSome, IfNone, Some, length, take, option_map, slice_get, replicate};
+ghost use Rattle.std.specs.List.{list_any};
 ghost use Rattle.list_laws.specs.Pairwise.{pairwise};
-ghost use Rattle.record_lists.specs.Lists.{all_records, records_of, with_records, is_id, record_of, spot_of, lists_without, lists_with, lists_replaced, ids_apart, IsLastFull};
-ghost use Rattle.list_store.specs.Lists.{rec_id};
-ghost use Rattle.list_store.specs.Orders.{orders_in, has_place, is_few};
-ghost use Rattle.list_store.specs.Tied.{lists_at, IsTied, Writes, spot_for};
+ghost use Rattle.record_lists.specs.Lists.{all_records, records_of, with_records, is_id, record_of, spot_of, lists_without, lists_with, lists_replaced, lists_popped, ids_apart, IsLastFull};
+ghost use Rattle.list_store.specs.Tied.{rec_id};
 ghost use Rattle.list_store.specs.Spots.{as_spot};
 
-use crate::orders::{count, key_at, last_header, place_in, put as put_key, take_at};
+use crate::orders::{no_keys, reserve};
 use crate::records::{Rec, Spot};
+use crate::ties::{
+    at, get, header_of, last_of, len_of, pop_out, put, put_in_place, reserve_slab, reserve_spots,
+    spot, take_out,
+};
 use cf_types::{EntryId, NoMemory};
 use indexmap::IndexMap;
 use slab::Slab;
+use std::alloc::Global;
+use std::marker::Model;
 
-// Puts an entry into a map that has room for it.
-fn write(spots: &mut IndexMap<u64, (u32, u32)>, id: u64, header: u32, key: u32)
-    requires { 1 ≤ spare spots.old }
-    ensures { Writes spots.old.entries id (Some (header, key)) spots.new.entries }
-{
-    let _ = spots.insert(id, (header, key));
+/// Records in a slab, an order of their slab keys for each header, and a map from ids. Contracts see
+/// a list of records for each header, and for how many more there is room.
+#[derive(Drop)]
+pub(crate) struct Table {
+    slab: Slab<Rec>,
+    orders: Vec<Vec<u32>>,
+    spots: IndexMap<u64, (u32, u32)>,
 }
 
-/// A record more, at a place of a header; no record has its id.
-pub(crate) fn put(
-    slab: &mut Slab<Rec>,
-    orders: &mut Vec<Vec<u32>>,
-    spots: &mut IndexMap<u64, (u32, u32)>,
-    header: u32,
-    place: u32,
-    rec: Rec,
-)
-    requires tied { IsTied slab.old (orders_in orders.old.items) spots.old.entries }
-    requires few { IsTrue (list_all is_few (orders_in orders.old.items)) }
-    requires header { header < vec_len orders.old }
-    requires place { place ≤ length (records_of (orders_in orders.old.items) header) }
-    requires alone { list_any (is_id rec_id (rec_id rec))
-        (all_records (lists_at slab.old (orders_in orders.old.items))) ≡ false }
-    requires slab_room { HasRoomFor slab.old 1 }
-    requires small { slab.old.capacity ≤ 4294967296 }
-    requires order_room { IsTrue (list_all has_place orders.old.items) }
-    requires spot_room { 1 ≤ spare spots.old }
-    ensures tied { IsTied slab.new (orders_in orders.new.items) spots.new.entries }
-    ensures lists { lists_at slab.new (orders_in orders.new.items)
-        ≡ lists_with header place rec (lists_at slab.old (orders_in orders.old.items)) }
-    ensures few { IsTrue (list_all is_few (orders_in orders.new.items)) }
-    ensures len { vec_len orders.new ≡ vec_len orders.old }
-{
-    let id = rec.id.0;
-    let _adjunct = rec.adj;
-    let key = store(slab, rec) as u32;
-    put_key(orders, header as usize, place as usize, key);
-    write(spots, id, header, key);
+impl Model for Table {
+    ghost use Rattle.list_store.specs.TableView.{TableView, table_view, IsKept};
+
+    ghost Value = { TableView };
+
+    ghost view = { table_view };
+
+    ghost invariant = { IsKept };
 }
 
-// Takes out a record that lies under a key, at a place of a header.
-fn pull(
-    slab: &mut Slab<Rec>,
-    orders: &mut Vec<Vec<u32>>,
-    spots: &mut IndexMap<u64, (u32, u32)>,
-    header: usize,
-    place: usize,
-) -> Rec
-    requires tied { IsTied slab.old (orders_in orders.old.items) spots.old.entries }
-    requires few { IsTrue (list_all is_few (orders_in orders.old.items)) }
-    requires header { header < vec_len orders.old }
-    requires place { place < length (records_of (orders_in orders.old.items) header) }
-    ensures record { slice_get (records_of (lists_at slab.old (orders_in orders.old.items)) header)
-        place ≡ Some result }
-    ensures tied { IsTied slab.new (orders_in orders.new.items) spots.new.entries }
-    ensures lists { lists_at slab.new (orders_in orders.new.items)
-        ≡ lists_without rec_id (rec_id result) (lists_at slab.old (orders_in orders.old.items)) }
-    ensures removed { lists_at slab.new (orders_in orders.new.items)
-        ≡ slice_set (lists_at slab.old (orders_in orders.old.items)) header
-        (remove (records_of (lists_at slab.old (orders_in orders.old.items)) header) place) }
-    ensures found { record_of rec_id (rec_id result)
-        (lists_at slab.old (orders_in orders.old.items)) ≡ Some result }
-    ensures few { IsTrue (list_all is_few (orders_in orders.new.items)) }
-    ensures len { vec_len orders.new ≡ vec_len orders.old }
-    ensures slab_room { HasRoomFor slab.new 1 }
-    ensures capacity { slab.new.capacity ≡ slab.old.capacity }
-    ensures order_room { IsTrue (list_all has_place orders.old.items)
-        → IsTrue (list_all has_place orders.new.items) }
-    ensures spot_room { spare spots.old ≤ spare spots.new }
-{
-    let key = take_at(orders, header, place);
-    let rec = slab.remove(key as usize);
-    spots.swap_remove(&rec.id.0);
-    rec
-}
+impl Table {
+    /// No records, with so many headers.
+    pub(crate) fn new(alloc: Global, headers: u32) -> Result<Table, NoMemory>
+        ensures { IfOk result (λ table. table.lists ≡ replicate headers []) }
+    {
+        let orders = no_keys(alloc, headers)?;
+        Ok(Table {
+            slab: Slab::new(alloc),
+            orders,
+            spots: IndexMap::new(alloc),
+        })
+    }
 
-// Puts a value in place of that under a key.
-fn swap<T>(slab: &mut Slab<T>, key: usize, value: T) -> T
-    requires { ContainsKey slab.old key }
-    ensures value { slab_get slab.old key ≡ Some result }
-    ensures updates { Updates slab.old slab.new key (Some value) }
-    ensures len { slab_len slab.new ≡ slab_len slab.old }
-    ensures capacity { slab.new.capacity ≡ slab.old.capacity }
-{
-    let old = slab.remove(key);
-    slab.insert_reserved(value);
-    old
-}
+    /// Takes room for one record more, in whichever header. Want of memory changes nothing.
+    pub(crate) fn room(&mut self) -> Result<(), NoMemory>
+        ensures lists { self.new.lists ≡ self.old.lists }
+        ensures room { OnOk result (1 ≤ self.new.room) }
+    {
+        reserve_slab(&mut self.slab)?;
+        reserve_spots(&mut self.spots)?;
+        reserve(&mut self.orders)
+    }
 
-// Stores a value, where there is room for it.
-fn store<T>(slab: &mut Slab<T>, value: T) -> usize
-    requires { HasRoomFor slab.old 1 }
-    ensures vacant { slab_get slab.old result ≡ None }
-    ensures updates { Updates slab.old slab.new result (Some value) }
-    ensures len { slab_len slab.new ≡ slab_len slab.old + 1 }
-    ensures within { result < slab.new.capacity }
-    ensures capacity { slab.new.capacity ≡ slab.old.capacity }
-{
-    slab.insert_reserved(value)
-}
+    /// How many headers there are.
+    pub(crate) fn headers(&self) -> u32
+        ensures { result ≡ length self.now.lists }
+    {
+        self.orders.len() as u32
+    }
 
-// The header and the key that the map has for an id.
-fn spot_for(spots: &IndexMap<u64, (u32, u32)>, id: EntryId) -> Option<(u32, u32)>
-    ensures { result ≡ spot_for spots.now.entries id.0 }
-{
-    spots.get(&id.0).copied()
-}
+    /// How many records a header has.
+    pub(crate) fn len(&self, header: u32) -> u32
+        requires { header < length self.now.lists }
+        ensures { result ≡ length (records_of self.now.lists header) }
+    {
+        len_of(&self.slab, self.orders.as_slice(), header as usize)
+    }
 
-/// Where the record with an id is.
-pub(crate) fn spot(
-    slab: &Slab<Rec>,
-    orders: &[Vec<u32>],
-    spots: &IndexMap<u64, (u32, u32)>,
-    id: EntryId,
-) -> Option<Spot>
-    requires tied { IsTied slab.now (orders_in orders.now) spots.now.entries }
-    requires few { IsTrue (list_all is_few (orders_in orders.now)) }
-    ensures { result ≡ option_map as_spot (spot_of rec_id id.0
-        (lists_at slab.now (orders_in orders.now))) }
-{
-    match spot_for(spots, id) {
-        Some((header, key)) => Some(Spot {
+    /// The record at a place of a header, from 0.
+    pub(crate) fn at(&self, header: u32, place: u32) -> Option<&Rec>
+        requires { header < length self.now.lists }
+        ensures record { option_map (λ rec. rec.now) result
+            ≡ slice_get (records_of self.now.lists header) place }
+        ensures apart { IsTrue (pairwise (ids_apart rec_id) (all_records self.now.lists)) }
+    {
+        at(
+            &self.slab,
+            self.orders.as_slice(),
+            &self.spots,
+            header as usize,
+            place as usize,
+        )
+    }
+
+    /// The record with an id.
+    pub(crate) fn get(&self, id: EntryId) -> Option<&Rec>
+        ensures record { option_map (λ rec. rec.now) result
+            ≡ record_of rec_id id.0 self.now.lists }
+        ensures apart { IsTrue (pairwise (ids_apart rec_id) (all_records self.now.lists)) }
+    {
+        get(&self.slab, self.orders.as_slice(), &self.spots, id)
+    }
+
+    /// The header that the record with an id is in.
+    pub(crate) fn header_of(&self, id: EntryId) -> Option<u32>
+        ensures header { result ≡ option_map (λ spot. spot.0)
+            (spot_of rec_id id.0 self.now.lists) }
+        ensures apart { IsTrue (pairwise (ids_apart rec_id) (all_records self.now.lists)) }
+    {
+        header_of(&self.slab, self.orders.as_slice(), &self.spots, id)
+    }
+
+    /// Where the record with an id is.
+    pub(crate) fn whereabouts(&self, id: EntryId) -> Option<Spot>
+        ensures spot { result ≡ option_map as_spot (spot_of rec_id id.0 self.now.lists) }
+        ensures apart { IsTrue (pairwise (ids_apart rec_id) (all_records self.now.lists)) }
+    {
+        spot(&self.slab, self.orders.as_slice(), &self.spots, id)
+    }
+
+    /// Puts a record at a place of a header. No record has its id.
+    pub(crate) fn add(&mut self, header: u32, place: u32, rec: Rec)
+        requires room { 1 ≤ self.old.room }
+        requires header { header < length self.old.lists }
+        requires place { place ≤ length (records_of self.old.lists header) }
+        requires alone { list_any (is_id rec_id (rec_id rec)) (all_records self.old.lists) ≡ false }
+        ensures { self.new.lists ≡ lists_with header place rec self.old.lists }
+    {
+        put(
+            &mut self.slab,
+            &mut self.orders,
+            &mut self.spots,
             header,
-            place: place_in(orders, header as usize, key) as u32,
-        }),
-        None => None,
+            place,
+            rec,
+        );
     }
-}
 
-/// The record with an id.
-pub(crate) fn get<'a>(
-    slab: &'a Slab<Rec>,
-    orders: &[Vec<u32>],
-    spots: &IndexMap<u64, (u32, u32)>,
-    id: EntryId,
-) -> Option<&'a Rec>
-    requires { IsTied slab.now (orders_in orders.now) spots.now.entries }
-    ensures { option_map (λ rec. rec.now) result ≡ record_of rec_id id.0
-        (lists_at slab.now (orders_in orders.now)) }
-{
-    match spot_for(spots, id) {
-        Some((_, key)) => slab.get(key as usize),
-        None => None,
+    /// Puts a record in place of the one with this id, which is there and is the record's own;
+    /// gives that one.
+    pub(crate) fn set(&mut self, id: EntryId, rec: Rec) -> Rec
+        requires there { list_any (is_id rec_id id.0) (all_records self.old.lists) ≡ true }
+        requires same { id ≡ rec.id }
+        ensures record { record_of rec_id id.0 self.old.lists ≡ Some result }
+        ensures lists { self.new.lists ≡ lists_replaced rec_id rec self.old.lists }
+        ensures apart { IsTrue (pairwise (ids_apart rec_id) (all_records self.old.lists)) }
+        ensures room { self.old.room ≤ self.new.room }
+    {
+        put_in_place(&mut self.slab, self.orders.as_slice(), &self.spots, rec)
     }
-}
 
-/// The record at a place of a header, from 0.
-pub(crate) fn at<'a>(
-    slab: &'a Slab<Rec>,
-    orders: &[Vec<u32>],
-    spots: &IndexMap<u64, (u32, u32)>,
-    header: usize,
-    place: usize,
-) -> Option<&'a Rec>
-    requires tied { IsTied slab.now (orders_in orders.now) spots.now.entries }
-    requires header { header < length orders.now }
-    ensures { option_map (λ rec. rec.now) result ≡ slice_get
-        (records_of (lists_at slab.now (orders_in orders.now)) header) place }
-{
-    match key_at(orders, header, place) {
-        Some(key) => slab.get(key as usize),
-        None => None,
+    /// Takes out the record with an id.
+    pub(crate) fn take(&mut self, id: EntryId) -> Option<Rec>
+        ensures record { result ≡ record_of rec_id id.0 self.old.lists }
+        ensures lists { self.new.lists ≡ lists_without rec_id id.0 self.old.lists }
+        ensures apart { IsTrue (pairwise (ids_apart rec_id) (all_records self.old.lists)) }
+        ensures room { self.old.room ≤ self.new.room }
+    {
+        take_out(&mut self.slab, &mut self.orders, &mut self.spots, id)
     }
-}
 
-/// How many records a header has.
-pub(crate) fn len_of(slab: &Slab<Rec>, orders: &[Vec<u32>], header: usize) -> u32
-    requires header { header < length orders.now }
-    requires few { IsTrue (list_all is_few (orders_in orders.now)) }
-    ensures { result ≡ length (records_of (lists_at slab.now (orders_in orders.now)) header) }
-{
-    count(orders, header) as u32
-}
-
-/// The last header that has records.
-pub(crate) fn last_of(slab: &Slab<Rec>, orders: &[Vec<u32>]) -> Option<usize>
-    ensures found { IfSome result (λ header. IsLastFull header
-        (lists_at slab.now (orders_in orders.now))) }
-    ensures within { IfSome result (λ header. header < length orders.now) }
-    ensures none { IfNone result (all_records (lists_at slab.now (orders_in orders.now)) ≡ []) }
-{
-    last_header(orders)
-}
-
-/// The header of the record with an id.
-pub(crate) fn header_of(
-    slab: &Slab<Rec>,
-    orders: &[Vec<u32>],
-    spots: &IndexMap<u64, (u32, u32)>,
-    id: EntryId,
-) -> Option<u32>
-    requires { IsTied slab.now (orders_in orders.now) spots.now.entries }
-    ensures { result ≡ option_map (λ spot. spot.0) (spot_of rec_id id.0
-        (lists_at slab.now (orders_in orders.now))) }
-{
-    match spot_for(spots, id) {
-        Some((header, _)) => Some(header),
-        None => None,
-    }
-}
-
-/// Puts a record in place of the one with its id.
-pub(crate) fn put_in_place(
-    slab: &mut Slab<Rec>,
-    orders: &[Vec<u32>],
-    spots: &IndexMap<u64, (u32, u32)>,
-    rec: Rec,
-) -> Rec
-    requires tied { IsTied slab.old (orders_in orders.now) spots.now.entries }
-    requires there { list_any (is_id rec_id (rec_id rec))
-        (all_records (lists_at slab.old (orders_in orders.now))) ≡ true }
-    ensures record { record_of rec_id (rec_id rec) (lists_at slab.old (orders_in orders.now))
-        ≡ Some result }
-    ensures tied { IsTied slab.new (orders_in orders.now) spots.now.entries }
-    ensures lists { lists_at slab.new (orders_in orders.now)
-        ≡ lists_replaced rec_id rec (lists_at slab.old (orders_in orders.now)) }
-    ensures len { slab_len slab.new ≡ slab_len slab.old }
-    ensures capacity { slab.new.capacity ≡ slab.old.capacity }
-{
-    let _adjunct = rec.adj;
-    match spot_for(spots, rec.id) {
-        Some((_, key)) => swap(slab, key as usize, rec),
-        None => unreachable!(),
-    }
-}
-
-/// Takes out the record with an id.
-pub(crate) fn take_out(
-    slab: &mut Slab<Rec>,
-    orders: &mut Vec<Vec<u32>>,
-    spots: &mut IndexMap<u64, (u32, u32)>,
-    id: EntryId,
-) -> Option<Rec>
-    requires tied { IsTied slab.old (orders_in orders.old.items) spots.old.entries }
-    requires few { IsTrue (list_all is_few (orders_in orders.old.items)) }
-    ensures record { result ≡ record_of rec_id id.0
-        (lists_at slab.old (orders_in orders.old.items)) }
-    ensures tied { IsTied slab.new (orders_in orders.new.items) spots.new.entries }
-    ensures lists { lists_at slab.new (orders_in orders.new.items)
-        ≡ lists_without rec_id id.0 (lists_at slab.old (orders_in orders.old.items)) }
-    ensures few { IsTrue (list_all is_few (orders_in orders.new.items)) }
-    ensures len { vec_len orders.new ≡ vec_len orders.old }
-    ensures slab_room { slab_len slab.old < slab.old.capacity
-        → slab_len slab.new < slab.new.capacity }
-    ensures capacity { slab.new.capacity ≡ slab.old.capacity }
-    ensures order_room { IsTrue (list_all has_place orders.old.items)
-        → IsTrue (list_all has_place orders.new.items) }
-    ensures spot_room { spare spots.old ≤ spare spots.new }
-{
-    match spot_for(spots, id) {
-        Some((header, key)) => {
-            let place = place_in(orders.as_slice(), header as usize, key);
-            Some(pull(slab, orders, spots, header as usize, place))
+    /// The last header that has records.
+    pub(crate) fn last_header(&self) -> Option<u32>
+        ensures found { IfSome result (λ header. IsLastFull header self.now.lists) }
+        ensures none { IfNone result (all_records self.now.lists ≡ []) }
+    {
+        match last_of(&self.slab, self.orders.as_slice()) {
+            Some(header) => Some(header as u32),
+            None => None,
         }
-        None => None,
     }
-}
 
-/// Takes out the last record of a header, which has some.
-pub(crate) fn pop_out(
-    slab: &mut Slab<Rec>,
-    orders: &mut Vec<Vec<u32>>,
-    spots: &mut IndexMap<u64, (u32, u32)>,
-    header: usize,
-) -> Rec
-    requires tied { IsTied slab.old (orders_in orders.old.items) spots.old.entries }
-    requires few { IsTrue (list_all is_few (orders_in orders.old.items)) }
-    requires full { IsLastFull header (lists_at slab.old (orders_in orders.old.items)) }
-    ensures found { record_of rec_id (rec_id result)
-        (lists_at slab.old (orders_in orders.old.items)) ≡ Some result }
-    ensures tied { IsTied slab.new (orders_in orders.new.items) spots.new.entries }
-    ensures lists { lists_at slab.new (orders_in orders.new.items)
-        ≡ lists_without rec_id (rec_id result) (lists_at slab.old (orders_in orders.old.items)) }
-    ensures popped { lists_at slab.new (orders_in orders.new.items)
-        ≡ with_records (lists_at slab.old (orders_in orders.old.items)) header
-        (take (length (records_of (lists_at slab.old (orders_in orders.old.items)) header) - 1)
-        (records_of (lists_at slab.old (orders_in orders.old.items)) header)) }
-    ensures few { IsTrue (list_all is_few (orders_in orders.new.items)) }
-    ensures len { vec_len orders.new ≡ vec_len orders.old }
-{
-    let last = count(orders.as_slice(), header) - 1;
-    pull(slab, orders, spots, header, last)
-}
-
-/// Takes room in the slab and in the map for one record more.
-pub(crate) fn reserve_slab(slab: &mut Slab<Rec>) -> Result<(), NoMemory>
-    ensures slots { slab.new.slots ≡ slab.old.slots }
-    ensures room { OnOk result (slab_len slab.new < slab.new.capacity) }
-    ensures small { OnOk result (slab.new.capacity < 4294967296) }
-{
-    slab.reserve(1)?;
-    if slab.capacity() > u32::MAX as usize {
-        return Err(NoMemory);
+    /// Takes the last record out, of the last header that has records; gives the header, too.
+    pub(crate) fn pop(&mut self) -> Option<(u32, Rec)>
+        ensures header { IfSome result (λ out. IsLastFull out.0 self.old.lists) }
+        ensures found { IfSome result (λ out. record_of rec_id (rec_id out.1) self.old.lists
+            ≡ Some out.1) }
+        ensures lists { IfSome result (λ out. self.new.lists
+            ≡ lists_without rec_id (rec_id out.1) self.old.lists) }
+        ensures popped { IfSome result (λ out. self.new.lists
+            ≡ lists_popped out.0 self.old.lists) }
+        ensures none { IfNone result (all_records self.old.lists ≡ []) }
+        ensures same { IfNone result (self.new ≡ self.old) }
+        ensures apart { IsTrue (pairwise (ids_apart rec_id) (all_records self.old.lists)) }
+    {
+        match last_of(&self.slab, self.orders.as_slice()) {
+            Some(header) => {
+                let rec = pop_out(&mut self.slab, &mut self.orders, &mut self.spots, header);
+                Some((header as u32, rec))
+            }
+            None => None,
+        }
     }
-    Ok(())
-}
-
-pub(crate) fn reserve_spots(spots: &mut IndexMap<u64, (u32, u32)>) -> Result<(), NoMemory>
-    ensures entries { spots.new.entries ≡ spots.old.entries }
-    ensures room { OnOk result (0 < spare spots.new) }
-{
-    spots.reserve(1)?;
-    Ok(())
 }

@@ -23,7 +23,7 @@ use Rattle.engine_api.proofs.HistoryLaws.{continues_legal}
 use Rattle.list_laws.proofs.FilterLaws.{list_all-filter, list_all_weaker, all_found, found_passes}
 use Rattle.list_laws.proofs.InsertionLaws.{list_all-insertion}
 use Rattle.list_laws.specs.Insertions.{insertion}
-use Rattle.list_store.specs.declared.records.Rec.{Rec}
+use Rattle.list_store.specs.Record.{Record}
 use Rattle.list_store.specs.Lists.{Lists, records_of, all_records, is_id, record_of, lists_without, replaced_by}
 use Rattle.list_model.specs.Contents.{Content, headers_of, no_content, content_without}
 use Rattle.list_model.specs.Lists.{the_record, stands_before, with_record}
@@ -75,11 +75,11 @@ made-push id history entry = list_any-append (makes id) history (entry ∷ [])
 -- ---- what is known of a record
 
 -- its id was given, a WRITE made it, and its version is 1 plus its updates
-abbrev is_good : List Told → ℕ → Rec → Bool
+abbrev is_good : List Told → ℕ → Record → Bool
 is_good history next rec =
     nat_lt rec.id.0 next && (list_any (makes rec.id) history && rec.version == 1 + updates_of rec.id history)
 
-record IsGood (history : List Told) (next : ℕ) (rec : Rec) : Type 0 where
+record IsGood (history : List Told) (next : ℕ) (rec : Record) : Type 0 where
   given : nat_lt rec.id.0 next ≡ true
   made : list_any (makes rec.id) history ≡ true
   version : rec.version ≡ 1 + updates_of rec.id history
@@ -87,7 +87,7 @@ record IsGood (history : List Told) (next : ℕ) (rec : Rec) : Type 0 where
 same_number : (a b : ℕ) → a ≡ b → (a == b) ≡ true
 same_number a b e = grind (arith, nat_tests)
 
-good_parts : (history : List Told) (next : ℕ) (rec : Rec) → is_good history next rec ≡ true
+good_parts : (history : List Told) (next : ℕ) (rec : Record) → is_good history next rec ≡ true
     → IsGood history next rec
 good_parts history next rec h =
     let version : Bool = rec.version == 1 + updates_of rec.id history in
@@ -99,7 +99,7 @@ good_parts history next rec h =
       version = eqb-true rec.version (1 + updates_of rec.id history) behind_.1;
     }
 
-good_from : (history : List Told) (next : ℕ) (rec : Rec) → IsGood history next rec
+good_from : (history : List Told) (next : ℕ) (rec : Record) → IsGood history next rec
     → is_good history next rec ≡ true
 good_from history next rec is =
     let version : Bool = rec.version == 1 + updates_of rec.id history in
@@ -136,7 +136,7 @@ made_longer : (id : EntryId) (history : List Told) (entry : Told) → list_any (
     → list_any (makes id) (history ++ entry ∷ []) ≡ true
 made_longer id history entry h = made-push id history entry ∙ or_first (list_any (makes id) history) _ h
 
-good-spared : (history : List Told) (entry : Told) (next later : ℕ) (rec : Rec) → Spares rec.id entry
+good-spared : (history : List Told) (entry : Told) (next later : ℕ) (rec : Record) → Spares rec.id entry
     → (nat_lt rec.id.0 next ≡ true → nat_lt rec.id.0 later ≡ true)
     → is_good history next rec ≡ true → is_good (history ++ entry ∷ []) later rec ≡ true
 good-spared history entry next later rec spares given h =
@@ -159,7 +159,7 @@ risen false n e = absurd (false≢true e)
 one_later : (n m : ℕ) → n ≡ 1 + m → n + 1 ≡ 1 + (m + 1)
 one_later n m e = omega (arith, e)
 
-good-updated : (history : List Told) (entry : Told) (next : ℕ) (rec : Rec) (body adj : Option (List ℕ))
+good-updated : (history : List Told) (entry : Told) (next : ℕ) (rec : Record) (body adj : Option (List ℕ))
     → makes rec.id entry ≡ false → updates rec.id entry ≡ true → length history + 1 < 4294967295
     → is_good history next rec ≡ true
     → is_good (history ++ entry ∷ []) next (update.with_new_data body adj rec) ≡ true
@@ -175,7 +175,7 @@ good-updated history entry next rec body adj unmade updated few h =
           (updates rec.id entry) count unmade updated));
     })
 
-good-made : (history : List Told) (entry : Told) (next : ℕ) (rec : Rec) → makes rec.id entry ≡ true
+good-made : (history : List Told) (entry : Told) (next : ℕ) (rec : Record) → makes rec.id entry ≡ true
     → rec.version ≡ 1 → nat_lt rec.id.0 next ≡ true
     → is_good (history ++ entry ∷ []) next rec ≡ true
 good-made history entry next rec made first given =
@@ -193,12 +193,12 @@ good-made history entry next rec made first given =
 
 -- ---- all records of a content
 
-all_flat : (p : Rec → Bool) (lists : Lists) → list_all p (all_records lists) ≡ list_all (list_all p) lists
+all_flat : (p : Record → Bool) (lists : Lists) → list_all p (all_records lists) ≡ list_all (list_all p) lists
 all_flat p [] = refl
 all_flat p (records ∷ lists) =
     list_all-append p records (all_records lists) ∙ ap (λ b. list_all p records && b) (all_flat p lists)
 
-all-with_record : (p : Rec → Bool) (head : Bool) (header : ℕ) (rec : Rec) (lists : Lists) → p rec ≡ true
+all-with_record : (p : Record → Bool) (head : Bool) (header : ℕ) (rec : Record) (lists : Lists) → p rec ≡ true
     → list_all p (all_records lists) ≡ true
     → list_all p (all_records (with_record head header rec lists)) ≡ true
 all-with_record p head header rec lists e h =
@@ -210,12 +210,12 @@ all-with_record p head header rec lists e h =
     (list_all-insertion p before rec records ∙ and_from (p rec) (list_all p records) e
     (one-records (list_all p) lists header refl each)) each
 
-all-left : (p : Rec → Bool) (id : EntryId) (lists : Lists) → list_all p (all_records lists) ≡ true
+all-left : (p : Record → Bool) (id : EntryId) (lists : Lists) → list_all p (all_records lists) ≡ true
     → list_all p (all_records (lists_without id lists)) ≡ true
 all-left p id lists h =
     ap (list_all p) (all-without id lists) ∙ list_all-filter p (λ rec. not (is_id id rec)) (all_records lists) h
 
-all-nothing : (p : Rec → Bool) (n : ℕ) → list_all p (all_records (replicate n [])) ≡ true
+all-nothing : (p : Record → Bool) (n : ℕ) → list_all p (all_records (replicate n [])) ≡ true
 all-nothing p zero = refl
 all-nothing p (suc n) = all-nothing p n
 
@@ -246,7 +246,7 @@ dull entry id cmd answer e w u =
     }
 
 -- the same records, none of them written or updated
-good-same : (history : List Told) (entry : Told) (next : ℕ) (recs : List Rec) → ((id : EntryId) → Spares id entry)
+good-same : (history : List Told) (entry : Told) (next : ℕ) (recs : List Record) → ((id : EntryId) → Spares id entry)
     → list_all (is_good history next) recs ≡ true → list_all (is_good (history ++ entry ∷ []) next) recs ≡ true
 good-same history entry next recs spares =
     list_all_weaker (is_good history next) (is_good (history ++ entry ∷ []) next)
@@ -267,7 +267,7 @@ same n = grind (arith, nat_tests)
 turn : (a b : ℕ) → (a == b) ≡ (b == a)
 turn a b = grind (arith, nat_tests)
 
-good-written : (history : List Told) (entry : Told) (next : ℕ) (rec : Rec) (cmd : ListCmd) (answer : ListReply)
+good-written : (history : List Told) (entry : Told) (next : ℕ) (rec : Record) (cmd : ListCmd) (answer : ListReply)
     → entry ≡ done_as cmd answer → is_update cmd ≡ false
     → ((id : EntryId) → is_write cmd && answers id answer ≡ (next == id.0))
     → is_good history next rec ≡ true → is_good (history ++ entry ∷ []) (next + 1) rec ≡ true
@@ -279,7 +279,7 @@ good-written history entry next rec cmd answer e u own h =
     }) (later rec.id.0 next) h
 
 -- where a record is replaced by itself of the next version
-good-replaced : (history : List Told) (entry : Told) (next : ℕ) (rec other : Rec) (body adj : Option (List ℕ))
+good-replaced : (history : List Told) (entry : Told) (next : ℕ) (rec other : Record) (body adj : Option (List ℕ))
     → length history + 1 < 4294967295 → ((id : EntryId) → makes id entry ≡ false)
     → ((id : EntryId) → updates id entry ≡ (rec.id.0 == id.0))
     → is_good history next rec ≡ true → is_good history next other ≡ true
@@ -477,7 +477,7 @@ made_at id n (entry ∷ history) h =
 -- ---- the version of a record
 
 versioned : (told : List Told) (content : Content) → AreGood told content → length told < 4294967295
-    → (id : EntryId) (rec : Rec) → record_of id content.lists ≡ Some rec → IsVersioned told id rec.version
+    → (id : EntryId) (rec : Record) → record_of id content.lists ≡ Some rec → IsVersioned told id rec.version
 versioned told content are few id rec found =
     let all = all_records content.lists in
     let is = good_parts told content.next rec (all_found (is_id id) (is_good told content.next) all rec (are few) found) in
@@ -498,7 +498,7 @@ versioned told content are few id rec found =
 
 pub versions-replay : (form : StrForm) (history : ListHistory) → IsLegalList form history
     → length history < 4294967295
-    → (id : EntryId) (rec : Rec) → record_of id (content_after form history).lists ≡ Some rec
+    → (id : EntryId) (rec : Record) → record_of id (content_after form history).lists ≡ Some rec
     → IsVersioned (told_in history) id rec.version
 versions-replay form history legal few =
     versioned (told_in history) (content_after form history)
@@ -534,7 +534,7 @@ deeds-good held (deed ∷ deeds) told are =
 
 pub versions-applied : (held : Held Content) (deeds : List Deed) (by : ConnId) (cmd : ListCmd)
     → IsHeldAfter deeds held → length (told_then held deeds by cmd) < 4294967295
-    → (id : EntryId) (rec : Rec) → record_of id (content_applied held by cmd).lists ≡ Some rec
+    → (id : EntryId) (rec : Record) → record_of id (content_applied held by cmd).lists ≡ Some rec
     → IsVersioned (told_then held deeds by cmd) id rec.version
 versions-applied held deeds by cmd led =
     let told = told_from (opened held) deeds in

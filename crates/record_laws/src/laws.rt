@@ -3,7 +3,7 @@ ghost use Rattle.cf_types.specs.declared.list_commands.ListCmd.{ListCmd};
 ghost use Rattle.cf_types.specs.declared.numbers.ConnId.{ConnId};
 ghost use Rattle.cf_types.specs.declared.numbers.EntryId.{EntryId};
 ghost use Rattle.engine_api.specs.Meaning.{Held};
-ghost use Rattle.list_store.specs.declared.records.Rec.{Rec};
+ghost use Rattle.list_store.specs.Record.{Record};
 ghost use Rattle.list_store.specs.Lists.{record_of};
 ghost use Rattle.list_model.specs.Contents.{Content};
 ghost use Rattle.record_laws.specs.Applied.{Deed, IsHeldAfter, content_applied, told_then};
@@ -19,7 +19,7 @@ use engine_api::History;
 pub fn versions(form: &StrForm, history: &History<ListCmd, ListReply>)
     requires legal { IsLegalList form.now history.now }
     requires few { length history.now < 4294967295 }
-    ensures { (id : EntryId) (rec : Rec)
+    ensures { (id : EntryId) (rec : Record)
         → record_of id (content_after form.now history.now).lists ≡ Some rec
         → IsVersioned (told_in history.now) id rec.version }
 {}
@@ -29,6 +29,6 @@ pub fn versions(form: &StrForm, history: &History<ListCmd, ListReply>)
 pub fn after_apply()
     ensures { (held : Held Content) (deeds : List Deed) (by : ConnId) (cmd : ListCmd)
         → IsHeldAfter deeds held → length (told_then held deeds by cmd) < 4294967295
-        → (id : EntryId) (rec : Rec) → record_of id (content_applied held by cmd).lists ≡ Some rec
+        → (id : EntryId) (rec : Record) → record_of id (content_applied held by cmd).lists ≡ Some rec
         → IsVersioned (told_then held deeds by cmd) id rec.version }
 {}

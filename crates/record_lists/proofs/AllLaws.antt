@@ -1,9 +1,9 @@
 -- Lists of lists: all records, one list replaced, the last record gone.
-use Rattle.std.proofs.Common.{◌≡◌, ℕ, ◌-◌, ◌<◌, Bool, true, false, not, ◌&&◌, ◌||◌, List, [], ◌∷◌, ◌++◌, length, map, filter, get_or, take, drop, set, Option, Some, None, is_some, refl, sym, ap, ◌∙◌, arith, suc, zero}
-use Rattle.std.specs.List.{list_any, list_all}
+use Rattle.std.proofs.Common.{◌≡◌, ℕ, ◌+◌, ◌-◌, ◌<◌, Bool, true, false, not, ◌&&◌, ◌||◌, nat_lt, cond, List, [], ◌∷◌, ◌++◌, length, map, filter, get_or, take, drop, set, position, Option, Some, None, is_some, refl, sym, ap, ◌∙◌, arith, suc, zero}
+use Rattle.std.specs.List.{list_any, list_all, position_or_len}
 use Rattle.std.specs.Option.{option_or}
 use Rattle.std.proofs.lemmas.Bool.{and_parts, and_from, false≢true}
-use Rattle.std.proofs.lemmas.List.{append_assoc, map-append, length-append, nil_from_length, take_all}
+use Rattle.std.proofs.lemmas.List.{append_assoc, map-append, length-map, length-append, nil_from_length, take_all}
 use Rattle.std.proofs.lemmas.List.Folds.{list_any-append, list_all-append}
 use Rattle.std.proofs.lemmas.List.Elements.{filter-append}
 use Rattle.list_laws.specs.Pairwise.{pairwise}
@@ -19,6 +19,20 @@ module _ {X : Type 0} where
   list_of-get_or [] h = refl
   list_of-get_or (recs ∷ lists) zero = refl
   list_of-get_or (recs ∷ lists) (suc h) = list_of-get_or lists h
+
+  position_or_len-map : {Y : Type 0} (p : Y → Bool) (f : X → Y) (xs : List X)
+      → position_or_len p (map f xs) ≡ position_or_len (λ x. p (f x)) xs
+  position_or_len-map p f [] = refl
+  position_or_len-map p f (x ∷ xs) = ap (λ (n : ℕ). cond (not (p (f x))) (1 + n) 0) (position_or_len-map p f xs)
+
+  pub position-map : {Y : Type 0} (p : Y → Bool) (f : X → Y) (xs : List X)
+      → position p (map f xs) ≡ position (λ x. p (f x)) xs
+  position-map p f xs =
+      go (position_or_len p (map f xs)) (position_or_len (λ x. p (f x)) xs) (length (map f xs)) (length xs)
+      (position_or_len-map p f xs) (length-map xs f)
+    where
+      go : (i j m n : ℕ) → i ≡ j → m ≡ n → cond (nat_lt i m) (Some i) None ≡ cond (nat_lt j n) (Some j) None
+      go i j m n e f = rw (e, f) refl
 
   -- where one passes, no later one does
   pub none_behind : (relation : X → X → Bool) (p : X → Bool)

@@ -1,5 +1,6 @@
 //! DELETE of IXLLIST: a record is removed.
 ghost use Rattle.std.specs.Prelude.{◌≡◌};
+ghost use Rattle.std.specs.Result.{result_err};
 ghost use Rattle.cf_types.specs.Gains.{Gains};
 ghost use Rattle.engine_api.specs.Meaning.{first_refusal};
 ghost use Rattle.list_model.specs.Contents.{stands};
@@ -8,10 +9,10 @@ ghost use Rattle.list_kept.specs.ContentView.{IsRoomy};
 ghost use Rattle.list_core.specs.Found.{IsFound};
 
 use crate::refusals::{
-    cond_lock_refusal, cond_refusal, first_refusal, record_refusal, ref_form_refusal,
-    ref_header_refusal, refs_of, version_refusal,
+    Judged, cond_lock_refusal, cond_refusal, record_refusal, ref_form_refusal, ref_header_refusal,
+    refs_of, version_refusal,
 };
-use cf_types::{At, Cond, ConnId, Effects, ListReply, Refusal};
+use cf_types::{At, Cond, ConnId, Effects, ListReply};
 use engine_api::Shape;
 use list_kept::{Kept, headers_of, id_at, locks_of};
 
@@ -23,23 +24,16 @@ pub(crate) fn refusal(
     at: At,
     version: Option<u32>,
     cond: Option<Cond>,
-) -> Option<Refusal>
-    ensures { result ≡ first_refusal (delete.causes shape kept.now.content by at version cond) }
+) -> Judged
+    ensures { result_err result
+        ≡ first_refusal (delete.causes shape kept.now.content by at version cond) }
 {
-    let lock_cause = cond_lock_refusal(locks_of(shape.kind), cond);
-    let cond_cause = cond_refusal(kept, by, cond);
-    let header_cause = ref_header_refusal(headers_of(shape.kind), at);
-    let form_cause = ref_form_refusal(refs_of(shape.kind), at);
-    let record_cause = record_refusal(kept, at);
-    let version_cause = version_refusal(kept, at, version);
-    first_refusal(&[
-        lock_cause,
-        cond_cause,
-        header_cause,
-        form_cause,
-        record_cause,
-        version_cause,
-    ])
+    cond_lock_refusal(locks_of(shape.kind), cond)?;
+    cond_refusal(kept, by, cond)?;
+    ref_header_refusal(headers_of(shape.kind), at)?;
+    ref_form_refusal(refs_of(shape.kind), at)?;
+    record_refusal(kept, at)?;
+    version_refusal(kept, at, version)
 }
 
 /// The reply where the command isn't refused.
@@ -56,6 +50,7 @@ pub(crate) fn act(kept: &mut Kept, at: At, out: &mut Effects)
     requires room { IsRoomy kept.old out.old.bits.room }
     requires found { IsFound kept.old.content.lists at }
     ensures content { kept.new.content ≡ delete.after kept.old.content at }
+    ensures elements { kept.new.elements ≡ kept.old.elements }
     ensures bits { Gains (stands kept.old.content) (stands kept.new.content) out.old.bits.items
         out.new.bits.items }
     ensures mail { out.new.mail ≡ out.old.mail }

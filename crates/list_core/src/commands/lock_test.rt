@@ -1,19 +1,19 @@
 //! LOCK of IXLLIST, test: who holds a list lock.
 ghost use Rattle.std.specs.Prelude.{◌≡◌};
+ghost use Rattle.std.specs.Result.{result_err};
 ghost use Rattle.engine_api.specs.Meaning.{first_refusal};
 ghost use Rattle.list_model.specs.Commands.LockTest as lock_test;
 
-use crate::refusals::{first_refusal, lock_refusal};
-use cf_types::{ListReply, Refusal};
+use crate::refusals::{Judged, lock_refusal};
+use cf_types::ListReply;
 use engine_api::Shape;
 use list_kept::{Kept, locks_of};
 
 /// Why the command is refused.
-pub(crate) fn refusal(shape: Shape, lock: u32) -> Option<Refusal>
-    ensures { result ≡ first_refusal (lock_test.causes shape lock) }
+pub(crate) fn refusal(shape: Shape, lock: u32) -> Judged
+    ensures { result_err result ≡ first_refusal (lock_test.causes shape lock) }
 {
-    let lock_cause = lock_refusal(locks_of(shape.kind), lock);
-    first_refusal(&[lock_cause])
+    lock_refusal(locks_of(shape.kind), lock)
 }
 
 /// The reply where the command isn't refused.

@@ -1,6 +1,7 @@
 //! MOVE of IXLLIST: a record is taken out and comes to its place in a header, with a new key if one
 //! is given and with the version that it has.
 ghost use Rattle.std.specs.Prelude.{◌≡◌, ◌<◌, length};
+ghost use Rattle.std.specs.Result.{result_err};
 ghost use Rattle.cf_types.specs.Gains.{Gains};
 ghost use Rattle.engine_api.specs.Meaning.{first_refusal};
 ghost use Rattle.list_model.specs.Contents.{stands};
@@ -10,19 +11,19 @@ ghost use Rattle.list_kept.specs.Orderly.{IsOrderly};
 ghost use Rattle.list_core.specs.Found.{IsFound};
 
 use crate::refusals::{
-    cond_lock_refusal, cond_refusal, first_refusal, full_refusal, header_refusal, new_key_refusal,
+    Judged, cond_lock_refusal, cond_refusal, full_refusal, header_refusal, new_key_refusal,
     record_refusal, ref_form_refusal, ref_header_refusal, refs_of, version_refusal,
 };
-use cf_types::{At, Cond, ConnId, Effects, Key16, Refusal};
+use cf_types::{At, Cond, ConnId, Effects, Key16};
 use engine_api::Shape;
 use list_kept::{Kept, headers_of, id_at, locks_of};
 
 // The header has no place for a record of another header.
-fn place_refusal(kept: &Kept, at: At, header: u32) -> Option<Refusal>
-    ensures { result ≡ moving.place_refusal kept.now.content at header }
+fn place_refusal(kept: &Kept, at: At, header: u32) -> Judged
+    ensures { result_err result ≡ moving.place_refusal kept.now.content at header }
 {
     if kept.header_of(id_at(kept, at)) == header {
-        None
+        Ok(())
     } else {
         full_refusal(kept, header)
     }
@@ -38,30 +39,19 @@ pub(crate) fn refusal(
     key: Option<Key16>,
     version: Option<u32>,
     cond: Option<Cond>,
-) -> Option<Refusal>
-    ensures { result
+) -> Judged
+    ensures { result_err result
         ≡ first_refusal (moving.causes shape kept.now.content by at header key version cond) }
 {
-    let lock_cause = cond_lock_refusal(locks_of(shape.kind), cond);
-    let cond_cause = cond_refusal(kept, by, cond);
-    let ref_cause = ref_header_refusal(headers_of(shape.kind), at);
-    let form_cause = ref_form_refusal(refs_of(shape.kind), at);
-    let record_cause = record_refusal(kept, at);
-    let version_cause = version_refusal(kept, at, version);
-    let header_cause = header_refusal(headers_of(shape.kind), header);
-    let key_cause = new_key_refusal(refs_of(shape.kind), key);
-    let place_cause = place_refusal(kept, at, header);
-    first_refusal(&[
-        lock_cause,
-        cond_cause,
-        ref_cause,
-        form_cause,
-        record_cause,
-        version_cause,
-        header_cause,
-        key_cause,
-        place_cause,
-    ])
+    cond_lock_refusal(locks_of(shape.kind), cond)?;
+    cond_refusal(kept, by, cond)?;
+    ref_header_refusal(headers_of(shape.kind), at)?;
+    ref_form_refusal(refs_of(shape.kind), at)?;
+    record_refusal(kept, at)?;
+    version_refusal(kept, at, version)?;
+    header_refusal(headers_of(shape.kind), header)?;
+    new_key_refusal(refs_of(shape.kind), key)?;
+    place_refusal(kept, at, header)
 }
 
 /// Does the command.
@@ -76,8 +66,10 @@ pub(crate) fn act(
     requires room { IsRoomy kept.old out.old.bits.room }
     requires header { header < length kept.old.content.lists }
     requires found { IsFound kept.old.content.lists at }
-    requires orderly { IsOrderly (moving.after kept.old.content at header head key).lists }
+    requires orderly { IsOrderly kept.old.elements
+        (moving.after kept.old.content at header head key).lists }
     ensures content { kept.new.content ≡ moving.after kept.old.content at header head key }
+    ensures elements { kept.new.elements ≡ kept.old.elements }
     ensures bits { Gains (stands kept.old.content) (stands kept.new.content) out.old.bits.items
         out.new.bits.items }
     ensures mail { out.new.mail ≡ out.old.mail }

@@ -1,22 +1,22 @@
 //! READ_LIST of IXLLIST: the ids of a header's records, in order.
 ghost use Rattle.std.specs.Prelude.{◌≡◌, ◌++◌, ◌∷◌, [], OnOk, IfOk, map};
+ghost use Rattle.std.specs.Result.{result_err};
 ghost use Rattle.engine_api.specs.Meaning.{first_refusal};
-ghost use Rattle.list_store.specs.declared.records.Rec.{Rec};
+ghost use Rattle.list_store.specs.Record.{Record};
 ghost use Rattle.list_store.specs.Lists.{records_of};
 ghost use Rattle.list_model.specs.Commands.ReadList as read_list;
 
-use crate::refusals::{first_refusal, header_refusal};
-use cf_types::{EntryId, ListReply, Listing, NoMemory, Refusal};
+use crate::refusals::{Judged, header_refusal};
+use cf_types::{EntryId, ListReply, Listing, NoMemory};
 use engine_api::Shape;
 use list_kept::{Kept, headers_of};
 use std::alloc::Global;
 
 /// Why the command is refused.
-pub(crate) fn refusal(shape: Shape, header: u32) -> Option<Refusal>
-    ensures { result ≡ first_refusal (read_list.causes shape header) }
+pub(crate) fn refusal(shape: Shape, header: u32) -> Judged
+    ensures { result_err result ≡ first_refusal (read_list.causes shape header) }
 {
-    let header_cause = header_refusal(headers_of(shape.kind), header);
-    first_refusal(&[header_cause])
+    header_refusal(headers_of(shape.kind), header)
 }
 
 // One id more.
@@ -30,7 +30,7 @@ fn push(ids: &mut Vec<EntryId>, id: EntryId) -> Result<(), NoMemory>
 // The ids of a header's records.
 fn ids_of(alloc: Global, kept: &Kept, header: u32) -> Result<Vec<EntryId>, NoMemory>
     ensures { IfOk result (λ ids. ids.items
-        ≡ map (λ (rec : Rec). rec.id) (records_of kept.now.content.lists header)) }
+        ≡ map (λ (rec : Record). rec.id) (records_of kept.now.content.lists header)) }
 {
     let mut ids = Vec::new(alloc);
     for place in 0..kept.len(header) {

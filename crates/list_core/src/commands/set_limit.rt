@@ -7,7 +7,8 @@ use list_kept::Kept;
 /// Does the command.
 pub(crate) fn act(kept: &mut Kept, header: u32, n: u32)
     requires { header < length kept.old.content.limits }
-    ensures { kept.new.content ≡ set_limit.after kept.old.content header n }
+    ensures content { kept.new.content ≡ set_limit.after kept.old.content header n }
+    ensures elements { kept.new.elements ≡ kept.old.elements }
 {
     kept.set_limit(header, n);
 }

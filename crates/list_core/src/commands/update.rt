@@ -1,7 +1,7 @@
 //! WRITE of IXLLIST, updating: what is given of a record's data and adjunct is replaced, and its
 //! version rises.
-ghost use Rattle.std.specs.Prelude.{◌≡◌, ◌<◌, ◌^◌, IfOk};
-ghost use Rattle.std.specs.Option.{option_or};
+ghost use Rattle.std.specs.Prelude.{◌≡◌, ◌<◌, ◌^◌};
+ghost use Rattle.std.specs.Result.{result_err};
 ghost use Rattle.engine_api.specs.Meaning.{first_refusal};
 ghost use Rattle.list_store.specs.Lists.{all_records};
 ghost use Rattle.list_model.specs.Records.{elements_in};
@@ -10,16 +10,12 @@ ghost use Rattle.list_model.specs.Commands.Update as update;
 ghost use Rattle.list_core.specs.Found.{IsFound};
 
 use crate::refusals::{
-    cond_lock_refusal, cond_refusal, elements_refusal, first_refusal, record_refusal,
-    ref_form_refusal, ref_header_refusal, refs_of, version_refusal,
+    Judged, cond_lock_refusal, cond_refusal, elements_refusal, record_refusal, ref_form_refusal,
+    ref_header_refusal, refs_of, version_refusal,
 };
-use cf_types::{
-    Adjunct, At, Body, Caps, Cond, ConnId, ListReply, NoMemory, Refusal, copy_data, elements_of,
-};
+use cf_types::{Adjunct, At, Body, Caps, Cond, ConnId, ListReply, elements_of};
 use engine_api::Shape;
-use list_kept::{Kept, headers_of, id_at, locks_of, record_at};
-use list_store::Rec;
-use std::alloc::Global;
+use list_kept::{Bare, Kept, headers_of, id_at, locks_of, record_at};
 
 /// Why the command is refused.
 pub(crate) fn refusal(
@@ -31,28 +27,19 @@ pub(crate) fn refusal(
     body: &Option<Body>,
     version: Option<u32>,
     cond: Option<Cond>,
-) -> Option<Refusal>
+) -> Judged
     requires { elements_in (all_records kept.now.content.lists) < 2 ^ 32 }
-    ensures { result
+    ensures { result_err result
         ≡ first_refusal (update.causes shape caps kept.now.content by at body.now version cond) }
 {
-    let lock_cause = cond_lock_refusal(locks_of(shape.kind), cond);
-    let cond_cause = cond_refusal(kept, by, cond);
-    let header_cause = ref_header_refusal(headers_of(shape.kind), at);
-    let form_cause = ref_form_refusal(refs_of(shape.kind), at);
-    let record_cause = record_refusal(kept, at);
-    let version_cause = version_refusal(kept, at, version);
+    cond_lock_refusal(locks_of(shape.kind), cond)?;
+    cond_refusal(kept, by, cond)?;
+    ref_header_refusal(headers_of(shape.kind), at)?;
+    ref_form_refusal(refs_of(shape.kind), at)?;
+    record_refusal(kept, at)?;
+    version_refusal(kept, at, version)?;
     let need = elements_of(body);
-    let elements_cause = elements_refusal(caps, need, kept, id_at(kept, at));
-    first_refusal(&[
-        lock_cause,
-        cond_cause,
-        header_cause,
-        form_cause,
-        record_cause,
-        version_cause,
-        elements_cause,
-    ])
+    elements_refusal(caps, need, kept, id_at(kept, at))
 }
 
 /// The reply where the command isn't refused.
@@ -61,32 +48,6 @@ pub(crate) fn reply(kept: &Kept, at: At) -> ListReply
 {
     ListReply::Id {
         id: id_at(kept, at),
-    }
-}
-
-// A copy of the data that the record has.
-fn old_data(alloc: Global, kept: &Kept, at: At) -> Result<Option<Body>, NoMemory>
-    ensures { IfOk result (λ copy. copy ≡ (the_record kept.now.content.lists at).body) }
-{
-    match record_at(kept, at) {
-        Some(rec) => copy_data(alloc, &rec.body),
-        None => Ok(None),
-    }
-}
-
-/// A copy of the data that the record will have.
-pub(crate) fn data(
-    alloc: Global,
-    kept: &Kept,
-    at: At,
-    body: &Option<Body>,
-) -> Result<Option<Body>, NoMemory>
-    ensures { IfOk result (λ copy. copy ≡ option_or body.now
-        (the_record kept.now.content.lists at).body) }
-{
-    match body {
-        Some(_) => copy_data(alloc, body),
-        None => old_data(alloc, kept, at),
     }
 }
 
@@ -99,18 +60,17 @@ fn next_version(version: u32) -> u32
 
 ghost use Rattle.list_model.specs.Records.{next_version};
 
-// The record as it will be.
-fn updated(kept: &Kept, at: At, body: Option<Body>, adj: Option<Adjunct>) -> Rec
+// The record as it will be, but for its data.
+fn updated(kept: &Kept, at: At, adj: Option<Adjunct>) -> Bare
     requires { IsFound kept.now.content.lists at }
-    ensures { result ≡ updated_with body adj (the_record kept.now.content.lists at) }
+    ensures { result ≡ updated_with adj (the_record kept.now.content.lists at) }
 {
     match record_at(kept, at) {
-        Some(rec) => Rec {
+        Some(rec) => Bare {
             id: rec.id,
             version: next_version(rec.version),
             name: rec.name,
             key: rec.key,
-            body,
             adj: adj.or(rec.adj),
         },
         None => unreachable!(),
@@ -119,19 +79,16 @@ fn updated(kept: &Kept, at: At, body: Option<Body>, adj: Option<Adjunct>) -> Rec
 
 ghost use Rattle.list_core.specs.Found.{updated_with};
 
-/// Does the command, with the data that the record will have.
-pub(crate) fn act(kept: &mut Kept, at: At, body: Option<Body>, adj: Option<Adjunct>)
+/// Does the command.
+pub(crate) fn act(kept: &mut Kept, at: At, body: &Option<Body>, adj: Option<Adjunct>)
     requires found { IsFound kept.old.content.lists at }
-    requires orderly { IsOrderly (lists_replaced (updated_with body adj
-        (the_record kept.old.content.lists at)) kept.old.content.lists) }
-    ensures { kept.new.content ≡ record kept.old.content {
-      lists = lists_replaced (updated_with body adj (the_record kept.old.content.lists at))
-          kept.old.content.lists;
-    } }
+    requires orderly { IsOrderly kept.old.elements
+        (update.after kept.old.content at body.now adj).lists }
+    ensures content { kept.new.content ≡ update.after kept.old.content at body.now adj }
+    ensures elements { kept.new.elements ≡ kept.old.elements }
 {
-    let rec = updated(kept, at, body, adj);
-    kept.replace(rec);
+    let bare = updated(kept, at, adj);
+    kept.replace(bare, body);
 }
 
-ghost use Rattle.list_store.specs.Lists.{lists_replaced};
 ghost use Rattle.list_kept.specs.Orderly.{IsOrderly};

@@ -8,7 +8,7 @@ use Rattle.cf_types.specs.declared.names.Key16.{Key16}
 use Rattle.cf_types.specs.declared.numbers.ConnId.{ConnId}
 use Rattle.cf_types.specs.declared.refusals.Refusal.{Refusal}
 use Rattle.engine_api.specs.declared.shapes.Shape.{Shape}
-use Rattle.list_store.specs.declared.records.Rec.{Rec}
+use Rattle.list_store.specs.Record.{Record}
 use Rattle.list_store.specs.Lists.{lists_without}
 use Rattle.list_model.specs.Lists.{header_of, record_at, the_record, with_record}
 use Rattle.list_model.specs.Contents.{Content, headers_of, locks_of, refs_of}
@@ -31,7 +31,7 @@ causes shape content by at header key version cond =
     ∷ header_refusal (headers_of shape.kind) header
     ∷ new_key_refusal (refs_of shape.kind) key ∷ place_refusal content at header ∷ []
 
-abbrev pub with_new_key : Option Key16 → Rec → Rec
+abbrev pub with_new_key : Option Key16 → Record → Record
 with_new_key key rec = record rec { key = option_or key rec.key }
 
 abbrev pub after : Content → At → ℕ → Bool → Option Key16 → Content

@@ -9,7 +9,7 @@ use Rattle.cf_types.specs.declared.list_commands.ListReply.TheVariants as replie
 use Rattle.cf_types.specs.declared.numbers.ConnId.{ConnId}
 use Rattle.cf_types.specs.declared.refusals.Refusal.{Refusal}
 use Rattle.engine_api.specs.declared.shapes.Shape.{Shape}
-use Rattle.list_store.specs.declared.records.Rec.{Rec}
+use Rattle.list_store.specs.Record.{Record}
 use Rattle.list_store.specs.Lists.{all_records, records_without, lists_replaced}
 use Rattle.list_model.specs.Records.{elements_of, next_version}
 use Rattle.list_model.specs.Lists.{record_at, the_record}
@@ -31,7 +31,7 @@ causes shape caps content by at body version cond =
 abbrev pub reply : Content → At → ListReply
 reply content at = replies.Id (the_record content.lists at).id
 
-abbrev pub with_new_data : Option (List ℕ) → Option (List ℕ) → Rec → Rec
+abbrev pub with_new_data : Option (List ℕ) → Option (List ℕ) → Record → Record
 with_new_data body adj rec =
     record rec {
       version = next_version rec.version;

@@ -10,7 +10,7 @@ use Rattle.cf_types.specs.declared.numbers.ConnId.{ConnId}
 use Rattle.cf_types.specs.declared.numbers.EntryId.{EntryId}
 use Rattle.cf_types.specs.declared.refusals.Refusal.{Refusal}
 use Rattle.engine_api.specs.declared.shapes.Shape.{Shape}
-use Rattle.list_store.specs.declared.records.Rec.{Rec}
+use Rattle.list_store.specs.Record.{Record}
 use Rattle.list_store.specs.Lists.{all_records}
 use Rattle.list_model.specs.Records.{elements_of}
 use Rattle.list_model.specs.Lists.{with_record}
@@ -35,7 +35,7 @@ abbrev pub reply : Content → ListReply
 reply content = replies.Id (new_id content)
 
 abbrev pub new_record : Content → Option Name16 → Option Key16 → Option (List ℕ) → Option (List ℕ)
-    → Rec
+    → Record
 new_record content name key body adj =
     record { id = new_id content; version = 1; name = name; key = key; body = body; adj = adj }
 

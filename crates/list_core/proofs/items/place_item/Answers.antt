@@ -43,5 +43,5 @@ returns-in-Ok-clause-ok c =
       monitors = ms;
       next = c.in-Controls.next;
     } in
-    rw c.in-Controls.is (c.take_over.ensures ∙ (λ i. made (c.into_vec.ensures i) (c.into_vec-in-Ok.ensures i)
+    rw c.in-Controls.is (c.take_over.ensures.content ∙ (λ i. made (c.into_vec.ensures i) (c.into_vec-in-Ok.ensures i)
     (monitors i)))

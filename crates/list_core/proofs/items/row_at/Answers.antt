@@ -2,7 +2,9 @@ use Rattle.std.proofs.Common.{◌≡◌, Some, Bor, option_map, slice_get, sym, 
 use Rattle.std.proofs.lemmas.Result.{IfOk-weaker}
 use Rattle.list_store.specs.declared.records.Rec.{Rec}
 use Rattle.list_store.specs.Lists.{records_of}
-use Rattle.list_store.proofs.TiedLaws.{none_within, some_now}
+use Rattle.list_store.specs.Records.{record_in}
+use Rattle.list_store.proofs.TiedLaws.{none_within}
+use Rattle.list_store.proofs.StoreLaws.{none_shown}
 use Rattle.list_model.specs.declared.items.ListItem.{ListItem}
 use Rattle.list_model.specs.Items.{row_of}
 use Rattle.list_core.proofs.items.row_at.Goals as goal
@@ -10,9 +12,10 @@ use Rattle.list_core.proofs.items.row_at.Goals as goal
 pub returns : goal.returns
 returns c =
     let recs = records_of c.args.kept.now.content.lists c.args.header in
-    let rec = c.in-Some.rec.now in
+    let rec = record_in c.args.kept.now.chains c.in-Some.rec.now in
     let there : slice_get recs c.args.place ≡ Some rec =
-    sym c.at.ensures ∙ ap (option_map (λ (r : Bor Rec). r.now)) c.in-Some.is in
+    sym c.at.ensures.«record»
+    ∙ ap (option_map (λ (r : Bor Rec). record_in c.args.kept.now.chains r.now)) c.in-Some.is in
     IfOk-weaker c.row.result (λ item. item ≡ row_of c.args.header rec)
     (λ item. option_map (row_of c.args.header) (slice_get recs c.args.place) ≡ Some item)
     (λ item h. ap (option_map (row_of c.args.header)) there ∙ ap (λ (i : ListItem). Some i) (sym h)) c.row.ensures
@@ -21,4 +24,4 @@ pub unreachable-requires : goal.unreachable-requires
 unreachable-requires c =
     let recs = records_of c.args.kept.now.content.lists c.args.header in
     none_within recs c.args.place c.requires
-    (some_now c.at.result (slice_get recs c.args.place) c.at.ensures c.in-None.is)
+    (none_shown c.args.kept.now.chains c.at.result (slice_get recs c.args.place) c.at.ensures.«record» c.in-None.is)

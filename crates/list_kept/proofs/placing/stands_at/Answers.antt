@@ -1,7 +1,10 @@
 use Rattle.std.proofs.Common.{◌∙◌, ap, sym, option_map, Bor}
 use Rattle.list_store.specs.declared.records.Rec.{Rec}
 use Rattle.list_store.specs.Lists.{records_of}
-use Rattle.list_store.proofs.TiedLaws.{none_within, some_now}
+use Rattle.std.proofs.Common.{ℕ, Option, List}
+use Rattle.list_store.specs.Records.{record_in}
+use Rattle.list_store.proofs.TiedLaws.{none_within}
+use Rattle.list_store.proofs.StoreLaws.{none_shown}
 use Rattle.record_lists.proofs.PrefixLaws.{passes_first}
 use Rattle.list_kept.specs.ContentView.{comes_behind}
 use Rattle.list_kept.proofs.PlaceLaws.{ordered_first}
@@ -10,7 +13,7 @@ use Rattle.list_kept.proofs.placing.stands_at.Goals as goal
 pub unreachable-requires : goal.unreachable-requires
 unreachable-requires c =
     none_within (records_of c.args.store.now.lists c.args.header) c.args.place c.requires.place
-    (some_now c.at.result _ c.at.ensures.«record» c.in-None.is)
+    (none_shown c.args.store.now.chains c.at.result _ c.at.ensures.«record» c.in-None.is)
 
 pub returns : goal.returns
 returns c =
@@ -18,5 +21,6 @@ returns c =
     c.stands_before.ensures
     ∙ passes_first (comes_behind c.args.head c.args.key) recs
     (ordered_first c.args.head c.args.key recs c.requires.ordered)
-    c.args.place c.in-Some.other.now
-    (sym c.at.ensures.«record» ∙ ap (option_map (λ (r : Bor Rec). r.now)) c.in-Some.is)
+    c.args.place (record_in c.args.store.now.chains c.in-Some.other.now)
+    (sym c.at.ensures.«record»
+    ∙ ap (option_map (λ (r : Bor Rec). record_in c.args.store.now.chains r.now)) c.in-Some.is)

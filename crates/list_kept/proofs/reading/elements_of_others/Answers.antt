@@ -1,5 +1,6 @@
 use Rattle.std.proofs.Common.{◌≡◌, Some, None, Bor, option_map, sym, ap, ◌∙◌, arith}
 use Rattle.list_store.specs.declared.records.Rec.{Rec}
+use Rattle.list_store.specs.Records.{record_in}
 use Rattle.list_store.specs.Lists.{record_of}
 use Rattle.list_kept.proofs.NamedLaws.{elements_found, elements_absent}
 use Rattle.list_kept.proofs.reading.elements_of_others.Goals as goal
@@ -7,30 +8,30 @@ use Rattle.list_kept.proofs.reading.elements_of_others.Goals as goal
 pub overflow_sub-result : goal.overflow_sub-result
 overflow_sub-result c =
     let lists = c.args.kept.now.content.lists in
-    let there : record_of c.args.id lists ≡ Some c.in-Some.rec.now =
-    sym c.get.ensures.«record» ∙ ap (option_map (λ (r : Bor Rec). r.now)) c.in-Some.is in
+    let there : record_of c.args.id lists ≡ Some (record_in c.args.kept.now.chains c.in-Some.rec.now) =
+    sym c.get.ensures.«record» ∙ ap (option_map (λ (r : Bor Rec). record_in c.args.kept.now.chains r.now)) c.in-Some.is in
     omega (
       arith,
       c.elements.ensures,
-      c.elements_of.ensures.elements,
-      elements_found c.args.id lists c.in-Some.rec.now c.get.ensures.apart there,
+      c.need.ensures,
+      elements_found c.args.id lists (record_in c.args.kept.now.chains c.in-Some.rec.now) c.get.ensures.apart there,
     )
 
 pub returns-in-Some : goal.returns-in-Some
 returns-in-Some c =
     let lists = c.args.kept.now.content.lists in
-    let there : record_of c.args.id lists ≡ Some c.in-Some.rec.now =
-    sym c.get.ensures.«record» ∙ ap (option_map (λ (r : Bor Rec). r.now)) c.in-Some.is in
+    let there : record_of c.args.id lists ≡ Some (record_in c.args.kept.now.chains c.in-Some.rec.now) =
+    sym c.get.ensures.«record» ∙ ap (option_map (λ (r : Bor Rec). record_in c.args.kept.now.chains r.now)) c.in-Some.is in
     omega (
       arith,
       c.elements.ensures,
-      c.elements_of.ensures.elements,
-      elements_found c.args.id lists c.in-Some.rec.now c.get.ensures.apart there,
+      c.need.ensures,
+      elements_found c.args.id lists (record_in c.args.kept.now.chains c.in-Some.rec.now) c.get.ensures.apart there,
     )
 
 pub returns-in-None : goal.returns-in-None
 returns-in-None c =
     let lists = c.args.kept.now.content.lists in
     let none : record_of c.args.id lists ≡ None =
-    sym c.get.ensures.«record» ∙ ap (option_map (λ (r : Bor Rec). r.now)) c.in-None.is in
+    sym c.get.ensures.«record» ∙ ap (option_map (λ (r : Bor Rec). record_in c.args.kept.now.chains r.now)) c.in-None.is in
     c.elements-in-None.ensures ∙ sym (elements_absent c.args.id lists none)

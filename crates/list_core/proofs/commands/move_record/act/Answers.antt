@@ -14,7 +14,7 @@ shift-requires-clause-there c = rw c.id_at-id.ensures (found-any c.args.kept.now
 pub shift-requires-clause-orderly : goal.shift-requires-clause-orderly
 shift-requires-clause-orderly c =
     let content = c.args.kept.now.content in
-    subst IsOrderly
+    subst (IsOrderly c.args.kept.now.elements)
     (sym (ap (λ (id : EntryId). put_back c.args.head c.args.header c.args.key (record_of id content.lists)
     (lists_without id content.lists)) c.id_at-id.ensures
     ∙ found-put_back c.args.head c.args.header c.args.key content.lists c.args.at c.requires.found))

@@ -4,29 +4,34 @@ use Rattle.list_laws.proofs.TakeLaws.{take_next}
 use Rattle.cf_types.specs.declared.numbers.EntryId.{EntryId}
 use Rattle.list_store.specs.declared.records.Rec.{Rec}
 use Rattle.list_store.specs.Lists.{records_of}
-use Rattle.list_store.proofs.TiedLaws.{none_within, some_now}
+use Rattle.list_store.specs.Record.{Record}
+use Rattle.list_store.specs.Records.{record_in}
+use Rattle.list_store.proofs.TiedLaws.{none_within}
+use Rattle.list_store.proofs.StoreLaws.{none_shown}
 use Rattle.list_core.proofs.commands.read_list.ids_of.Goals as goal
 
 pub unreachable-requires : goal.unreachable-requires
 unreachable-requires c =
     let recs = records_of c.args.kept.now.content.lists c.args.header in
     none_within recs c.loop-place.place (omega (arith, c.loop-place-test.true, c.len-place-end.ensures))
-    (some_now c.at.result (slice_get recs c.loop-place.place) c.at.ensures c.in-None.is)
+    (none_shown c.args.kept.now.chains c.at.result (slice_get recs c.loop-place.place) c.at.ensures.«record»
+    c.in-None.is)
 
 pub loop-place-preserved : goal.loop-place-preserved
 loop-place-preserved c =
     let recs = records_of c.args.kept.now.content.lists c.args.header in
-    let rec = c.in-Some.rec.now in
+    let rec = record_in c.args.kept.now.chains c.in-Some.rec.now in
     let there : slice_get recs c.loop-place.place ≡ Some rec =
-    sym c.at.ensures ∙ ap (option_map (λ (r : Bor Rec). r.now)) c.in-Some.is in
+    sym c.at.ensures.«record»
+    ∙ ap (option_map (λ (r : Bor Rec). record_in c.args.kept.now.chains r.now)) c.in-Some.is in
     c.in_ok-push-in-Some.ensures
     ∙ ap (λ (l : List EntryId). l ++ rec.id ∷ []) c.loop-place.invariant
-    ∙ sym (ap (map (λ (r : Rec). r.id)) (take_next recs c.loop-place.place rec there)
-    ∙ map-append (λ (r : Rec). r.id) (take c.loop-place.place recs) (rec ∷ []))
+    ∙ sym (ap (map (λ (r : Record). r.id)) (take_next recs c.loop-place.place rec there)
+    ∙ map-append (λ (r : Record). r.id) (take c.loop-place.place recs) (rec ∷ []))
 
 pub returns : goal.returns
 returns c =
     let recs = records_of c.args.kept.now.content.lists c.args.header in
     c.loop-place.invariant
-    ∙ ap (map (λ (r : Rec). r.id)) (take_all c.loop-place.place recs
+    ∙ ap (map (λ (r : Record). r.id)) (take_all c.loop-place.place recs
     (omega (arith, c.loop-place-test.false, c.len-place-end.ensures)))

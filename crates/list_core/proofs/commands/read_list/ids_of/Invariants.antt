@@ -1,8 +1,8 @@
 use Rattle.std.proofs.Common.{◌≡◌, take, map}
-use Rattle.list_store.specs.declared.records.Rec.{Rec}
+use Rattle.list_store.specs.Record.{Record}
 use Rattle.list_store.specs.Lists.{records_of}
 use Rattle.list_core.proofs.commands.read_list.ids_of.Given as goal
 
 abbrev pub invariant-loop-place : goal.invariant-loop-place
 invariant-loop-place l =
-    l.ids.items ≡ map (λ (rec : Rec). rec.id) (take l.place (records_of l.kept.content.lists l.header))
+    l.ids.items ≡ map (λ (rec : Record). rec.id) (take l.place (records_of l.kept.content.lists l.header))

@@ -1,22 +1,38 @@
-use Rattle.std.proofs.Common.{◌≡◌, sym, subst}
+use Rattle.std.proofs.Common.{◌≡◌, ◌∙◌, ap, sym, subst}
 use Rattle.std.specs.Prelude.{IfSome}
-use Rattle.list_store.specs.declared.records.Rec.{Rec}
+use Rattle.list_store.specs.Record.{Record}
 use Rattle.list_store.specs.Lists.{record_of, lists_replaced}
+use Rattle.list_kept.specs.declared.bare.Bare.{Bare}
+use Rattle.list_kept.specs.Data.{renewed}
 use Rattle.list_kept.specs.Orderly.{IsOrderly}
-use Rattle.list_core.proofs.FoundLaws.{found-any, found-named}
+use Rattle.list_kept.proofs.ToldLaws.{content_at}
+use Rattle.list_core.proofs.FoundLaws.{found-any, found-named, found-renewed}
 use Rattle.list_core.proofs.commands.update.act.Goals as goal
 
 pub replace-requires-clause-there : goal.replace-requires-clause-there
 replace-requires-clause-there c =
-    rw c.updated-rec.ensures (found-any c.args.kept.now.content.lists c.args.at c.requires.found)
+    rw c.updated-bare.ensures (found-any c.args.kept.now.content.lists c.args.at c.requires.found)
 
 pub replace-requires-clause-named : goal.replace-requires-clause-named
 replace-requires-clause-named c =
     let lists = c.args.kept.now.content.lists in
-    subst (λ (rec : Rec). IfSome (record_of rec.id lists) (λ old. old.name ≡ rec.name)) (sym c.updated-rec.ensures)
+    subst (λ (b : Bare). IfSome (record_of b.id lists) (λ old. old.name ≡ b.name)) (sym c.updated-bare.ensures)
     (found-named lists c.args.at c.requires.found)
 
 pub replace-requires-clause-orderly : goal.replace-requires-clause-orderly
 replace-requires-clause-orderly c =
-    subst (λ (rec : Rec). IsOrderly (lists_replaced rec c.args.kept.now.content.lists)) (sym c.updated-rec.ensures)
+    let lists = c.args.kept.now.content.lists in
+    let is = ap (λ (b : Bare). renewed b c.args.body.now (record_of b.id lists)) c.updated-bare.ensures
+    ∙ found-renewed lists c.args.at c.args.body.now c.args.adj c.requires.found in
+    subst (λ (rec : Record). IsOrderly c.args.kept.now.elements (lists_replaced rec lists)) (sym is)
     c.requires.orderly
+
+pub returns-clause-content : goal.returns-clause-content
+returns-clause-content c =
+    let content = c.args.kept.now.content in
+    let lists = content.lists in
+    let is = ap (λ (b : Bare). renewed b c.args.body.now (record_of b.id lists)) c.updated-bare.ensures
+    ∙ found-renewed lists c.args.at c.args.body.now c.args.adj c.requires.found in
+    c.replace.ensures.content
+    ∙ ap (λ (rec : Record). content_at (lists_replaced rec lists) content.limits content.locks content.monitors
+    content.next) is

@@ -1,6 +1,6 @@
 use Rattle.std.proofs.Common.{◌≡◌, not, List, ap, ◌∙◌}
 use Rattle.list_laws.proofs.FilterLaws.{filter_all, all_from_none}
-use Rattle.list_store.specs.declared.records.Rec.{Rec}
+use Rattle.list_store.specs.Record.{Record}
 use Rattle.list_store.specs.Lists.{all_records, records_without, is_id}
 use Rattle.list_model.specs.Refusals.{elements_refusal}
 use Rattle.list_model.specs.Commands.Write.{new_id}
@@ -13,4 +13,4 @@ returns c =
     let same : records_without (new_id content) all ≡ all = filter_all (λ rec. not (is_id (new_id content) rec)) all
     (all_from_none (is_id (new_id content)) all c.requires.alone) in
     let told = rw c.next.ensures at c.elements_refusal.ensures in
-    told ∙ ap (λ (l : List Rec). elements_refusal c.args.caps c.args.need l) same
+    told ∙ ap (λ (l : List Record). elements_refusal c.args.caps c.args.need l) same

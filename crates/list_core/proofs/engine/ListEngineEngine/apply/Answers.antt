@@ -1,11 +1,10 @@
-use Rattle.std.proofs.Common.{◌≡◌, Some, refl, sym, subst, arith}
+use Rattle.std.proofs.Common.{◌≡◌, ◌∙◌, Some, refl, sym, subst, arith}
 use Rattle.cf_types.proofs.GainsLaws.{gains_none}
 use Rattle.list_model.specs.Contents.{Content, IsContent}
 use Rattle.list_model.proofs.ContentLaws.{content-done}
 use Rattle.list_core.specs.Plans.{plan_for}
 use Rattle.list_core.specs.EngineView.{EngineView}
 use Rattle.list_core.proofs.PlanLaws.{plan_taken, plan_accepted, possible}
-use Rattle.list_core.proofs.engine.ListEngineEngine.apply.Goals.{in-Some-1, in-None-1}
 use Rattle.list_core.proofs.engine.ListEngineEngine.apply.Goals as goal
 
 pub act-requires-clause-possible : goal.act-requires-clause-possible
@@ -18,16 +17,6 @@ act-requires-clause-possible c =
     let accepted = plan_accepted e.shape e.caps e.kept.content c.args.by c.args.cmd.now c.in-Some.plan c.in-Ok.reply
     is c.in-Ok.is in
     possible e.shape e.caps e.kept.content c.args.by c.args.cmd.now c.self.invariant.content accepted.none
-
-pub act-requires-clause-copied : goal.act-requires-clause-copied
-act-requires-clause-copied c =
-    let e = c.self.inside in
-    let planned = subst (λ (s : EngineView). s.plan ≡ Some (plan_for s.held.shape s.held.caps s.held.state c.args.by
-    c.args.cmd.now)) (sym c.self.view_is) c.requires.ready.planned in
-    let is = plan_taken c.take.result e.plan c.in-Some.plan (plan_for e.shape e.caps e.kept.content c.args.by
-    c.args.cmd.now) c.take.ensures.value c.in-Some.is planned in
-    (plan_accepted e.shape e.caps e.kept.content c.args.by c.args.cmd.now c.in-Some.plan c.in-Ok.reply is
-    c.in-Ok.is).body
 
 pub act-requires-clause-orderly : goal.act-requires-clause-orderly
 act-requires-clause-orderly c =
@@ -43,7 +32,7 @@ act-requires-clause-orderly c =
     record {
       ordered = done.ordered;
       one_for_name = done.one_for_name;
-      elements = omega (arith, done.elements, c.self.invariant.caps.most_elements);
+      enough = omega (arith, done.elements, c.self.invariant.pool);
     }
 
 pub invariant_of-self : goal.invariant_of-self
@@ -61,11 +50,8 @@ invariant_of-self c =
       content = subst (λ (k : Content). IsContent e.shape e.caps k) (sym c.act.ensures.content)
           (content-done e.shape e.caps e.kept.content c.args.by c.args.cmd.now c.self.invariant.content
           accepted.none);
+      pool = c.act.ensures.elements ∙ c.self.invariant.pool;
     }
 
 pub returns-in-Err-clause-bits : goal.returns-in-Err-clause-bits
-returns-in-Err-clause-bits c =
-    elim c.match-body.branch [
-      | in-Some-1 w ↦ rw (w.self-is, ← c.self.view_is) (gains_none _ _ _ (λ conn index. refl))
-      | in-None-1 w ↦ rw (w.self-is, ← c.self.view_is) (gains_none _ _ _ (λ conn index. refl))
-    ]
+returns-in-Err-clause-bits c = rw (← c.self.view_is) (gains_none _ _ _ (λ conn index. refl))

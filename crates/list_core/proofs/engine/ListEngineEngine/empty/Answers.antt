@@ -10,6 +10,7 @@ invariant_of-result c =
     record {
       list = ap (λ (s : Shape). is_list s.kind) c.of-shape.ensures ∙ c.requires.kind;
       caps = c.requires.caps;
-      content = subst (λ (k : Content). IsContent c.of-shape.result c.args.caps k) (sym c.in_ok-kept.ensures)
+      content = subst (λ (k : Content). IsContent c.of-shape.result c.args.caps k) (sym c.in_ok-kept.ensures.content)
           (content-nothing c.of-shape.result c.args.caps);
+      pool = c.in_ok-kept.ensures.elements;
     }

@@ -1,4 +1,4 @@
-use Rattle.std.proofs.Common.{sym, subst}
+use Rattle.std.proofs.Common.{◌∙◌, sym, subst}
 use Rattle.list_model.specs.Contents.{Content, IsContent}
 use Rattle.list_model.proofs.EngineLaws.{leave-content}
 use Rattle.list_core.proofs.engine.ListEngineEngine.leave.Goals as goal
@@ -11,4 +11,5 @@ invariant_of-self c =
       caps = c.self.invariant.caps;
       content = subst (λ (k : Content). IsContent e.shape e.caps k) (sym c.leave.ensures.content)
           (leave-content e.shape e.caps e.kept.content c.args.conn c.args.keep c.self.invariant.content);
+      pool = c.leave.ensures.elements ∙ c.self.invariant.pool;
     }

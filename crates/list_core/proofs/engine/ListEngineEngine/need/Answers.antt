@@ -1,7 +1,7 @@
 use Rattle.std.proofs.Common.{◌≡◌, ℕ, not, List, sym, ap, ◌∙◌}
 use Rattle.cf_types.specs.declared.forms.Caps.{Caps}
 use Rattle.list_laws.proofs.FilterLaws.{filter_all, all_from_none}
-use Rattle.list_store.specs.declared.records.Rec.{Rec}
+use Rattle.list_store.specs.Record.{Record}
 use Rattle.list_store.specs.Lists.{all_records, records_without, is_id, count_of}
 use Rattle.list_model.specs.Records.{elements_in}
 use Rattle.list_model.specs.Commands.Write.{new_id}
@@ -21,5 +21,5 @@ returns c =
     let caps : ℕ → ℕ → Caps = λ n m. record { entries = n; elements = m } in
     rw (← c.self.view_is)
     (ap (λ (n : ℕ). caps n c.elements_of_others.result) c.count.ensures
-    ∙ ap (λ (n : ℕ). caps (count_of content.lists) n) (told ∙ ap (λ (l : List Rec). elements_in l) same)
+    ∙ ap (λ (n : ℕ). caps (count_of content.lists) n) (told ∙ ap (λ (l : List Record). elements_in l) same)
     ∙ sym (need-items e.shape content))

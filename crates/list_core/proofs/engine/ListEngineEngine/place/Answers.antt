@@ -1,7 +1,7 @@
-use Rattle.std.proofs.Common.{IsTrue, sym, subst, arith}
+use Rattle.std.proofs.Common.{◌≡◌, ◌∙◌, ℕ, IsTrue, sym, subst, arith}
 use Rattle.engine_api.specs.declared.shapes.Shape.{Shape}
 use Rattle.cf_types.specs.declared.forms.Caps.{Caps}
-use Rattle.cf_types.specs.Forms.{IsCapacity, is_list}
+use Rattle.cf_types.specs.Forms.{is_list}
 use Rattle.engine_api.specs.Items.{IsNextItem}
 use Rattle.engine_api.proofs.FrontLaws.{content-placed}
 use Rattle.list_model.specs.declared.items.ListItem.{ListItem}
@@ -15,18 +15,18 @@ use Rattle.list_core.specs.EngineView.{EngineView}
 use Rattle.list_core.proofs.PlanLaws.{either_way}
 use Rattle.list_core.proofs.engine.ListEngineEngine.place.Goals as goal
 
-placeable : (shape : Shape) (caps : Caps) (content : Content) (item : ListItem)
-    → IsNextItem list_meaning IsContent shape content item → IsCapacity caps
-    → IsContent shape caps (content_with content item) → IsPlaceable content item
-placeable shape caps content (Controls next limits locks watches) comes is placed = placed.watch
-placeable shape caps content (Row header id version name key body adj) comes is placed =
+placeable : (shape : Shape) (caps : Caps) (elements : ℕ) (content : Content) (item : ListItem)
+    → IsNextItem list_meaning IsContent shape content item → elements ≡ caps.elements
+    → IsContent shape caps (content_with content item) → IsPlaceable elements content item
+placeable shape caps elements content (Controls next limits locks watches) comes is placed = placed.watch
+placeable shape caps elements content (Row header id version name key body adj) comes is placed =
     let fits = next-fits shape content header id version name key body adj comes in (
       fits.header,
       fits.alone,
       record {
         ordered = placed.ordered;
         one_for_name = placed.one_for_name;
-        elements = omega (arith, placed.elements, is.most_elements);
+        enough = omega (arith, placed.elements, is);
       },
     )
 
@@ -43,7 +43,7 @@ place_item-requires c =
     (sym c.self.view_is)
     (content-placed list_meaning is_list IsContent list-fronts held.shape held.state c.args.item c.requires.next
     held.caps kind c.requires.fits) in
-    placeable e.shape e.caps e.kept.content c.args.item next c.self.invariant.caps placed
+    placeable e.shape e.caps e.kept.elements e.kept.content c.args.item next c.self.invariant.pool placed
 
 pub invariant_of-self : goal.invariant_of-self
 invariant_of-self c =
@@ -64,4 +64,5 @@ invariant_of-self c =
           (content_with e.kept.content c.args.item)
           c.place_item.new.kept.content c.place_item.ensures.ok c.place_item.ensures.err
           placed c.self.invariant.content;
+      pool = c.place_item.ensures.elements ∙ c.self.invariant.pool;
     }

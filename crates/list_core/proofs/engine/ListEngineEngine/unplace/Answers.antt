@@ -1,4 +1,4 @@
-use Rattle.std.proofs.Common.{sym, subst}
+use Rattle.std.proofs.Common.{◌∙◌, sym, subst}
 use Rattle.list_model.specs.Contents.{Content, IsContent}
 use Rattle.list_model.proofs.EngineLaws.{content-unplace}
 use Rattle.list_core.proofs.engine.ListEngineEngine.unplace.Goals as goal
@@ -9,6 +9,7 @@ invariant_of-self c =
     record {
       list = c.self.invariant.list;
       caps = c.self.invariant.caps;
-      content = subst (λ (k : Content). IsContent e.shape e.caps k) (sym c.pop.ensures)
+      content = subst (λ (k : Content). IsContent e.shape e.caps k) (sym c.pop.ensures.content)
           (content-unplace e.shape e.caps e.kept.content c.self.invariant.content);
+      pool = c.pop.ensures.elements ∙ c.self.invariant.pool;
     }

@@ -23,7 +23,8 @@ invariant_of-self c =
       told = still_told c;
       orderly = c.self.invariant.orderly;
       named = c.self.invariant.named;
-      counted = c.self.invariant.counted;
+      used = c.self.invariant.used;
+      whole = c.self.invariant.whole;
     }
 
 pub returns-clause-content : goal.returns-clause-content

@@ -1,7 +1,7 @@
 use Rattle.std.proofs.Common.{◌≡◌, Some, [], List, refl, sym, ap, arith}
 use Rattle.std.specs.List.{prefix_len}
 use Rattle.list_laws.specs.Pairwise.{pairwise}
-use Rattle.list_store.specs.declared.records.Rec.{Rec}
+use Rattle.list_store.specs.Record.{Record}
 use Rattle.list_store.specs.Lists.{records_of}
 use Rattle.list_model.specs.Records.{may_precede}
 use Rattle.list_model.proofs.ListLaws.{one-records}
@@ -24,7 +24,7 @@ returns-else-header-headers-clause-place c =
     let none : records_of lists c.args.header ≡ [] = none_past lists c.args.header
     (omega (arith, c.if-header-headers.false, c.headers.ensures)) in
     rw (← c.self.view_is)
-    (sym (ap (λ (l : List Rec). prefix_len (comes_behind c.args.head (Some c.args.key)) l) none))
+    (sym (ap (λ (l : List Record). prefix_len (comes_behind c.args.head (Some c.args.key)) l) none))
 
 pub returns-else-header-headers-clause-ordered : goal.returns-else-header-headers-clause-ordered
 returns-else-header-headers-clause-ordered c =

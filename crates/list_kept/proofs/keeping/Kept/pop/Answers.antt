@@ -8,8 +8,8 @@ use Rattle.list_kept.proofs.LastLaws.{none_test, zero_test}
 use Rattle.list_kept.proofs.ToldLaws.{content_at}
 use Rattle.list_kept.proofs.keeping.Kept.pop.Goals as goal
 
-pub returns-then-not-pop_record : goal.returns-then-not-pop_record
-returns-then-not-pop_record c =
+pub returns-then-not-pop_record-clause-content : goal.returns-then-not-pop_record-clause-content
+returns-then-not-pop_record-clause-content c =
     let content = c.args.self.now.content in
     let shape = c.args.shape in
     let nobody : Option ConnId = None in
@@ -22,7 +22,7 @@ returns-then-not-pop_record c =
     content.locks content.monitors content.next =
     c.pop_record.ensures.content in
     rw test
-    (c.reset.ensures
+    (c.reset.ensures.content
     ∙ ap (λ (k : Content). content_at k.lists (replicate (length k.limits) shape.caps.entries)
     (replicate (length k.locks) nobody) [] 1) back
     ∙ ap (λ (l : Lists). content_at l (replicate (length content.limits) shape.caps.entries)

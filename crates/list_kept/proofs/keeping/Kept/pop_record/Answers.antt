@@ -1,10 +1,14 @@
 use Rattle.std.proofs.Common.{◌≡◌, ◌-◌, ◌==◌, not, List, length, take, sym, ap, ◌∙◌, subst, arith}
 use Rattle.std.specs.List.{list_all}
-use Rattle.list_store.specs.declared.records.Rec.{Rec}
+use Rattle.list_store.specs.Record.{Record}
+use Rattle.list_store.specs.StoreView.{StoreView}
 use Rattle.list_store.specs.Lists.{Lists, all_records, records_of, with_records, lists_without, count_of}
-use Rattle.list_model.specs.Records.{elements_in}
+use Rattle.std.proofs.Common.{Option, ℕ}
+use Rattle.record_lists.specs.Lists.{lists_popped}
+use Rattle.list_store.specs.Records.{record_in}
+use Rattle.list_kept.specs.Data.{AreUsed}
 use Rattle.list_kept.specs.Named.{AreNamed}
-use Rattle.list_kept.proofs.NamedLaws.{named_less, taken, elements_with}
+use Rattle.list_kept.proofs.NamedLaws.{named_less, taken}
 use Rattle.list_watch.specs.declared.monitors.Monitor.{Monitor}
 use Rattle.list_watch.specs.declared.monitors.Watched.{Watched}
 use Rattle.list_watch.specs.Rows.{monitors_of, rows_turned}
@@ -19,55 +23,37 @@ use Rattle.list_kept.proofs.ToldLaws.{told-one, sym_test, content_at}
 use Rattle.list_kept.proofs.LastLaws.{last-count, last-gone, some_test}
 use Rattle.list_kept.proofs.keeping.Kept.pop_record.Goals as goal
 
-popped : (c : goal.After-settle) → c.pop.new.self.lists
-    ≡ with_records c.self.inside.store.lists c.in-Some.header
-    (take (length (records_of c.self.inside.store.lists c.in-Some.header) - 1) (records_of c.self.inside.store.lists
-    c.in-Some.header))
-popped c = c.in-Some.ensures.lists
+popped : (c : goal.After-settle) → c.give.new.store.lists ≡ lists_popped c.in-Some.header c.self.inside.store.lists
+popped c = c.give.ensures.lists ∙ c.in-Some.ensures.lists
 
 pub invariant_of-self : goal.invariant_of-self
 invariant_of-self c =
     let lists = c.self.inside.store.lists in
     let rows = c.self.inside.watch.rows in
-    let later = c.pop.new.self.lists in
+    let later = c.give.new.store.lists in
     let header = c.in-Some.header in
     let recs = take (length (records_of lists header) - 1) (records_of lists header) in
     let rest = lists_without c.in-Some.rec.id lists in
-    let with = taken c.in-Some.rec.id lists c.in-Some.rec c.pop.ensures.apart c.in-Some.ensures.found in
+    let rec = record_in c.self.inside.store.chains c.in-Some.rec in
+    let with = taken c.in-Some.rec.id lists rec c.pop.ensures.apart c.in-Some.ensures.found in
     record {
       told = ap (λ (l : List Watched). list_all (is_told later) l) c.settle.ensures
           ∙ ap (λ b. list_all (is_told later) (rows_turned header b rows)) c.has_records-full.ensures
           ∙ told-one header lists later rows
           (λ other e. ap (λ (l : Lists). has_records l other) (popped c)
-          ∙ ap (λ (l : List Rec). not (length l == 0)) (records-elsewhere lists header other recs
+          ∙ ap (λ (l : List Record). not (length l == 0)) (records-elsewhere lists header other recs
           (sym_test other header e))) c.self.invariant.told;
       orderly =
-          subst IsOrderly (sym c.in-Some.ensures.without)
-          (orderly-without c.in-Some.rec.id lists c.self.invariant.orderly);
+          subst (IsOrderly c.self.inside.elements) (sym (c.give.ensures.lists ∙ c.in-Some.ensures.without))
+          (orderly-without c.self.inside.elements c.in-Some.rec.id lists c.self.invariant.orderly);
       named =
-          subst (λ (l : Lists). AreNamed c.drop_name.new.names.names (all_records l)) (sym c.in-Some.ensures.without)
-          (named_less c.self.inside.names.names c.drop_name.new.names.names c.in-Some.rec (all_records rest)
+          subst (λ (l : Lists). AreNamed c.drop_name.new.names.names (all_records l)) (sym (c.give.ensures.lists ∙ c.in-Some.ensures.without))
+          (named_less c.self.inside.names.names c.drop_name.new.names.names rec (all_records rest)
           (all_records lists) with c.self.invariant.orderly.one_for_name c.self.invariant.named c.drop_name.ensures);
-      counted = omega (
-        arith,
-        c.self.invariant.counted,
-        c.elements_of.ensures.elements,
-        ap (λ (l : Lists). elements_in (all_records l)) c.in-Some.ensures.without,
-        elements_with c.in-Some.rec (all_records rest) (all_records lists) with,
-      );
+      used = subst AreUsed (sym (c.give.ensures.loose ∙ sym c.in-Some.ensures.was)) c.self.invariant.used;
+      whole = c.give.ensures.size ∙ ap (λ (l : List (Option (List ℕ))). length l) c.pop.ensures.chains
+          ∙ c.self.invariant.whole;
     }
-
-pub overflow_sub-self : goal.overflow_sub-self
-overflow_sub-self c =
-    let lists = c.self.inside.store.lists in
-    let rest = lists_without c.in-Some.rec.id lists in
-    omega (
-      arith,
-      c.self.invariant.counted,
-      c.elements_of.ensures.elements,
-      elements_with c.in-Some.rec (all_records rest) (all_records lists)
-          (taken c.in-Some.rec.id lists c.in-Some.rec c.pop.ensures.apart c.in-Some.ensures.found),
-    )
 
 pub returns-in-Some-clause-there : goal.returns-in-Some-clause-there
 returns-in-Some-clause-there c =
@@ -78,7 +64,7 @@ pub returns-in-Some-clause-content : goal.returns-in-Some-clause-content
 returns-in-Some-clause-content c =
     let k = c.self.inside in
     rw (← c.self.view_is)
-    (ap (λ (m : List Monitor). content_at c.pop.new.self.lists k.limits.items k.locks.items m k.next)
+    (ap (λ (m : List Monitor). content_at c.give.new.store.lists k.limits.items k.locks.items m k.next)
     (ap (λ (l : List Watched). monitors_of l) c.settle.ensures ∙ monitors-turned c.in-Some.header
     c.has_records-full.result k.watch.rows)
     ∙ ap (λ (l : Lists). content_at l k.limits.items k.locks.items (monitors_of k.watch.rows) k.next)
@@ -87,7 +73,7 @@ returns-in-Some-clause-content c =
 pub returns-in-None-clause-content : goal.returns-in-None-clause-content
 returns-in-None-clause-content c =
     let k = c.self.inside in
-    let count = ap (λ (l : List Rec). length l) c.in-None.ensures.none in
+    let count = ap (λ (l : List Record). length l) c.in-None.ensures.none in
     rw (← c.self.view_is)
     (ap (λ (l : Lists). content_at l k.limits.items k.locks.items (monitors_of k.watch.rows) k.next)
-    (c.in-None.ensures.same ∙ sym (first-all (count_of k.store.lists - 1) k.store.lists (omega (arith, count)))))
+    (ap (λ (v : StoreView). v.lists) c.in-None.ensures.same ∙ sym (first-all (count_of k.store.lists - 1) k.store.lists (omega (arith, count)))))

@@ -2,9 +2,11 @@ use Rattle.std.proofs.Common.{◌≡◌, ℕ, ◌==◌, true, List, sym, ap, ◌
 use Rattle.std.specs.List.{list_any, list_all}
 use Rattle.std.proofs.lemmas.Bool.{false≢true}
 use Rattle.list_store.specs.Lists.{Lists, all_records, is_id, lists_without}
-use Rattle.list_model.specs.Records.{elements_in}
+use Rattle.std.proofs.Common.{Option, length}
+use Rattle.list_store.specs.Records.{record_in}
+use Rattle.list_kept.specs.Data.{AreUsed}
 use Rattle.list_kept.specs.Named.{AreNamed}
-use Rattle.list_kept.proofs.NamedLaws.{named_less, taken, elements_with}
+use Rattle.list_kept.proofs.NamedLaws.{named_less, taken}
 use Rattle.record_lists.proofs.AllLaws.{any_all}
 use Rattle.list_store.proofs.SpotLaws.{unplaced, spot_with}
 use Rattle.list_watch.specs.declared.monitors.Monitor.{Monitor}
@@ -20,17 +22,20 @@ use Rattle.list_kept.proofs.PlaceLaws.{orderly-without}
 use Rattle.list_kept.proofs.ToldLaws.{told-one, gains-told, sym_test, content_at}
 use Rattle.list_kept.proofs.keeping.Kept.remove.Goals as goal
 
-still_told : (c : goal.After-turned) → list_all (is_told c.take-rec.new.store.lists) c.turned.new.self.rows ≡ true
+gone : (c : goal.After-turned) → c.give.new.store.lists ≡ lists_without c.args.id c.self.inside.store.lists
+gone c = c.give.ensures.lists ∙ c.take-rec.ensures.lists
+
+still_told : (c : goal.After-turned) → list_all (is_told c.give.new.store.lists) c.turned.new.self.rows ≡ true
 still_told c =
     let lists = c.self.inside.store.lists in
     let rows = c.self.inside.watch.rows in
-    let later = c.take-rec.new.store.lists in
+    let later = c.give.new.store.lists in
     let from = c.in-Some.from in
     let found = spot_with c.args.id lists from (sym c.header_of.ensures.header ∙ c.in-Some.is) in
     ap (λ (l : List Watched). list_all (is_told later) l) c.turned.ensures.rows
     ∙ ap (λ b. list_all (is_told later) (rows_turned from b rows)) c.has_records-full.ensures
     ∙ told-one from lists later rows
-    (λ other e. ap (λ (l : Lists). has_records l other) c.take-rec.ensures.lists
+    (λ other e. ap (λ (l : Lists). has_records l other) (gone c)
     ∙ full-others c.args.id lists found.0 other c.header_of.ensures.apart found.1
     (ap (λ (n : ℕ). n == other) found.2 ∙ sym_test other from e)) c.self.invariant.told
 
@@ -38,36 +43,21 @@ pub invariant_of-self : goal.invariant_of-self
 invariant_of-self c =
     let lists = c.self.inside.store.lists in
     let rest = lists_without c.args.id lists in
-    let with = taken c.args.id lists c.take-rec.result c.take-rec.ensures.apart c.take-rec.ensures.«record» in
+    let rec = record_in c.self.inside.store.chains c.take-rec.result in
+    let with = taken c.args.id lists rec c.take-rec.ensures.apart c.take-rec.ensures.«record» in
     record {
       told = still_told c;
       orderly =
-          subst IsOrderly (sym c.take-rec.ensures.lists)
-          (orderly-without c.args.id c.self.inside.store.lists c.self.invariant.orderly);
+          subst (IsOrderly c.self.inside.elements) (sym (c.give.ensures.lists ∙ c.take-rec.ensures.lists))
+          (orderly-without c.self.inside.elements c.args.id c.self.inside.store.lists c.self.invariant.orderly);
       named =
-          subst (λ (l : Lists). AreNamed c.drop_name.new.names.names (all_records l)) (sym c.take-rec.ensures.lists)
-          (named_less c.self.inside.names.names c.drop_name.new.names.names c.take-rec.result (all_records rest)
+          subst (λ (l : Lists). AreNamed c.drop_name.new.names.names (all_records l)) (sym (c.give.ensures.lists ∙ c.take-rec.ensures.lists))
+          (named_less c.self.inside.names.names c.drop_name.new.names.names rec (all_records rest)
           (all_records lists) with c.self.invariant.orderly.one_for_name c.self.invariant.named c.drop_name.ensures);
-      counted = omega (
-        arith,
-        c.self.invariant.counted,
-        c.elements_of.ensures.elements,
-        ap (λ (l : Lists). elements_in (all_records l)) c.take-rec.ensures.lists,
-        elements_with c.take-rec.result (all_records rest) (all_records lists) with,
-      );
+      used = subst AreUsed (sym (c.give.ensures.loose ∙ sym c.take-rec.ensures.was)) c.self.invariant.used;
+      whole = c.give.ensures.size ∙ ap (λ (l : List (Option (List ℕ))). length l) c.take-rec.ensures.chains
+          ∙ c.self.invariant.whole;
     }
-
-pub overflow_sub-self : goal.overflow_sub-self
-overflow_sub-self c =
-    let lists = c.self.inside.store.lists in
-    let rest = lists_without c.args.id lists in
-    omega (
-      arith,
-      c.self.invariant.counted,
-      c.elements_of.ensures.elements,
-      elements_with c.take-rec.result (all_records rest) (all_records lists)
-          (taken c.args.id lists c.take-rec.result c.take-rec.ensures.apart c.take-rec.ensures.«record»),
-    )
 
 pub unreachable-requires : goal.unreachable-requires
 unreachable-requires c =
@@ -82,16 +72,16 @@ pub returns-clause-content : goal.returns-clause-content
 returns-clause-content c =
     let k = c.self.inside in
     rw (← c.self.view_is)
-    (ap (λ (m : List Monitor). content_at c.take-rec.new.store.lists k.limits.items k.locks.items m k.next)
+    (ap (λ (m : List Monitor). content_at c.give.new.store.lists k.limits.items k.locks.items m k.next)
     (ap (λ (l : List Watched). monitors_of l) c.turned.ensures.rows ∙ monitors-turned c.in-Some.from
     c.has_records-full.result k.watch.rows)
     ∙ ap (λ (l : Lists). content_at l k.limits.items k.locks.items (monitors_of k.watch.rows) k.next)
-    c.take-rec.ensures.lists)
+    (c.give.ensures.lists ∙ c.take-rec.ensures.lists))
 
 pub returns-clause-bits : goal.returns-clause-bits
 returns-clause-bits c =
     let k = c.self.inside in
     rw (← c.self.view_is)
-    (gains-told k.store.lists c.take-rec.new.store.lists k.watch.rows c.turned.new.self.rows
+    (gains-told k.store.lists c.give.new.store.lists k.watch.rows c.turned.new.self.rows
     c.args.out.now.bits.items c.turned.new.out.bits.items
     c.self.invariant.told (still_told c) c.turned.ensures.bits)

@@ -1,84 +1,52 @@
-use Rattle.std.proofs.Common.{◌≡◌, Some, Option, sym, ap, ◌∙◌, subst, arith}
+use Rattle.std.proofs.Common.{◌≡◌, Some, Option, true, sym, ap, ◌∙◌, subst, arith}
 use Rattle.std.specs.Prelude.{IfSome}
+use Rattle.std.specs.List.{list_any}
 use Rattle.list_laws.proofs.FilterLaws.{found_passes}
-use Rattle.list_store.specs.declared.records.Rec.{Rec}
+use Rattle.list_store.specs.Record.{Record}
 use Rattle.list_store.specs.Lists.{Lists, all_records, is_id, record_of, lists_replaced}
 use Rattle.list_model.specs.Contents.{has_records}
-use Rattle.list_model.specs.Records.{elements_in}
 use Rattle.list_model.proofs.StoreLaws.{full-replaced}
+use Rattle.list_kept.specs.declared.bare.Bare.{Bare}
 use Rattle.list_kept.specs.declared.keeping.Kept.TheInside.{Inside}
 use Rattle.list_kept.specs.ContentView.{ContentView, content_view}
+use Rattle.list_kept.specs.Data.{AreUsed, renewed}
 use Rattle.list_kept.specs.Named.{AreNamed}
 use Rattle.list_kept.specs.Orderly.{IsOrderly}
-use Rattle.list_kept.proofs.NamedLaws.{replaced, named_other, elements_with, same_id}
+use Rattle.list_kept.proofs.DataLaws.{named-renewed}
+use Rattle.list_kept.proofs.NamedLaws.{some_found}
 use Rattle.list_kept.proofs.ToldLaws.{told-same}
 use Rattle.list_kept.proofs.keeping.Kept.replace.Goals as goal
 
-stays : (rec : Rec) (k : Inside) (view : ContentView) → content_view k ≡ view
-    → IsOrderly (lists_replaced rec view.content.lists) → IsOrderly (lists_replaced rec k.store.lists)
-stays rec k view e is = subst (λ (v : ContentView). IsOrderly (lists_replaced rec v.content.lists)) (sym e) is
-
-same_name : (rec old : Rec) (k : Inside) (view : ContentView) → content_view k ≡ view
-    → IfSome (record_of rec.id view.content.lists) (λ other. other.name ≡ rec.name)
-    → record_of rec.id k.store.lists ≡ Some old → old.name ≡ rec.name
-same_name rec old k view e is there =
-    subst (λ (o : Option Rec). IfSome o (λ other. other.name ≡ rec.name)) there
-    (subst (λ (v : ContentView). IfSome (record_of rec.id v.content.lists) (λ other. other.name ≡ rec.name)) (sym e) is)
-
-pub overflow_sub-self : goal.overflow_sub-self
-overflow_sub-self c =
-    let lists = c.self.inside.store.lists in
-    let r = replaced lists c.set-old.result c.args.rec c.set-old.ensures.apart c.set-old.ensures.«record» in
-    omega (
-      arith,
-      c.self.invariant.counted,
-      c.elements_of.ensures.elements,
-      elements_with c.set-old.result r.others (all_records lists) r.before,
-    )
-
-pub overflow_add-self : goal.overflow_add-self
-overflow_add-self c =
-    let lists = c.self.inside.store.lists in
-    let r = replaced lists c.set-old.result c.args.rec c.set-old.ensures.apart c.set-old.ensures.«record» in
-    omega (
-      arith,
-      c.self.invariant.counted,
-      c.elements_of.ensures.elements,
-      c.elements_of-need.ensures.elements,
-      elements_with c.set-old.result r.others (all_records lists) r.before,
-      elements_with c.args.rec r.others (all_records (lists_replaced c.args.rec lists)) r.after,
-      (stays c.args.rec c.self.inside c.args.self.now c.self.view_is c.requires.orderly).elements,
-    )
+pub renew-requires-clause-elements : goal.renew-requires-clause-elements
+renew-requires-clause-elements c =
+    let is = subst (λ (v : ContentView). IsOrderly v.elements (lists_replaced
+    (renewed c.args.bare c.args.body.now (record_of c.args.bare.id v.content.lists)) v.content.lists))
+    (sym c.self.view_is) c.requires.orderly in
+    omega (arith, c.self.invariant.whole, is.enough)
 
 pub invariant_of-self : goal.invariant_of-self
 invariant_of-self c =
     let lists = c.self.inside.store.lists in
-    let old = c.set-old.result in
-    let rec = c.args.rec in
-    let after = lists_replaced rec lists in
-    let r = replaced lists old rec c.set-old.ensures.apart c.set-old.ensures.«record» in
-    let is = stays rec c.self.inside c.args.self.now c.self.view_is c.requires.orderly in
-    let own : old.id ≡ rec.id = sym (same_id rec.id old (found_passes (is_id rec.id) (all_records lists) old
-    c.set-old.ensures.«record»)) in
+    let bare = c.args.bare in
+    let body = c.args.body.now in
+    let rec = renewed bare body (record_of bare.id lists) in
+    let is = subst (λ (v : ContentView). IsOrderly v.elements (lists_replaced
+    (renewed bare body (record_of bare.id v.content.lists)) v.content.lists))
+    (sym c.self.view_is) c.requires.orderly in
+    let there = subst (λ (v : ContentView). list_any (is_id bare.id) (all_records v.content.lists) ≡ true)
+    (sym c.self.view_is) c.requires.there in
+    let same = subst (λ (v : ContentView). IfSome (record_of bare.id v.content.lists) (λ old. old.name ≡ bare.name))
+    (sym c.self.view_is) c.requires.named in
     record {
-      told = told-same lists c.set-old.new.self.lists c.self.inside.watch.rows
-          (λ header. ap (λ (l : Lists). has_records l header) c.set-old.ensures.lists
+      told = told-same lists c.renew.new.store.lists c.self.inside.watch.rows
+          (λ header. ap (λ (l : Lists). has_records l header) c.renew.ensures.lists
           ∙ full-replaced rec lists header)
           c.self.invariant.told;
-      orderly = subst IsOrderly (sym c.set-old.ensures.lists) is;
+      orderly = subst (IsOrderly c.self.inside.elements) (sym c.renew.ensures.lists) is;
       named =
-          subst (λ (l : Lists). AreNamed c.self.inside.names.names (all_records l)) (sym c.set-old.ensures.lists)
-          (named_other c.self.inside.names.names old rec r.others (all_records lists) (all_records after) r.before
-          r.after c.self.invariant.orderly.one_for_name is.one_for_name
-          (same_name rec old c.self.inside c.args.self.now c.self.view_is c.requires.named c.set-old.ensures.«record»)
-          own c.self.invariant.named);
-      counted = omega (
-        arith,
-        c.self.invariant.counted,
-        c.elements_of.ensures.elements,
-        c.elements_of-need.ensures.elements,
-        ap (λ (l : Lists). elements_in (all_records l)) c.set-old.ensures.lists,
-        elements_with old r.others (all_records lists) r.before,
-        elements_with rec r.others (all_records after) r.after,
-      );
+          subst (λ (l : Lists). AreNamed c.self.inside.names.names (all_records l)) (sym c.renew.ensures.lists)
+          (named-renewed c.self.inside.names.names lists bare body c.renew.ensures.apart there same
+          c.self.invariant.orderly.one_for_name is.one_for_name c.self.invariant.named);
+      used = subst AreUsed (sym c.renew.ensures.loose) c.self.invariant.used;
+      whole = c.renew.ensures.size ∙ c.self.invariant.whole;
     }

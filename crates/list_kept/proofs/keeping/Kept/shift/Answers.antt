@@ -12,6 +12,8 @@ use Rattle.list_model.specs.Contents.{has_records}
 use Rattle.list_kept.specs.ContentView.{ContentView, put_back}
 use Rattle.list_model.specs.Records.{elements_in}
 use Rattle.list_model.specs.Commands.Move.{with_new_key}
+use Rattle.std.proofs.Common.{Option}
+use Rattle.list_kept.specs.Data.{AreUsed}
 use Rattle.list_kept.specs.Named.{AreNamed}
 use Rattle.list_kept.specs.Orderly.{IsOrderly}
 use Rattle.list_kept.proofs.NamedLaws.{named_other, taken, came_back, some_found, elements_with}
@@ -34,7 +36,7 @@ still_told c =
     ∙ ap (λ b. list_all (is_told later) (rows_turned c.args.header (has_records later c.args.header)
     (rows_turned from b rows))) c.has_records-full.ensures
     ∙ told-two from c.args.header lists later rows
-    (λ other e f. ap (λ (l : Lists). has_records l other) c.put_again.ensures
+    (λ other e f. ap (λ (l : Lists). has_records l other) c.put_again.ensures.lists
     ∙ full-put_back c.args.head c.args.id c.args.header c.args.key lists found.0 other c.header_of.ensures.apart
     found.1 (ap (λ (n : ℕ). other == n) found.2 ∙ e) f) c.self.invariant.told
 
@@ -43,7 +45,7 @@ invariant_of-self c =
     let lists = c.self.inside.store.lists in
     let rest = lists_without c.args.id lists in
     let after = put_back c.args.head c.args.header c.args.key (record_of c.args.id lists) rest in
-    let is = subst (λ (k : ContentView). IsOrderly (put_back c.args.head c.args.header c.args.key
+    let is = subst (λ (k : ContentView). IsOrderly k.elements (put_back c.args.head c.args.header c.args.key
     (record_of c.args.id k.content.lists) (lists_without c.args.id k.content.lists))) (sym c.self.view_is)
     c.requires.orderly in
     let lt = subst (λ (v : ContentView). c.args.header < length v.content.lists)
@@ -56,19 +58,14 @@ invariant_of-self c =
     record {
       told = still_told c;
       orderly =
-          subst IsOrderly (sym c.put_again.ensures) is;
+          subst (IsOrderly c.self.inside.elements) (sym c.put_again.ensures.lists) is;
       named =
-          subst (λ (l : Lists). AreNamed c.self.inside.names.names (all_records l)) (sym c.put_again.ensures)
+          subst (λ (l : Lists). AreNamed c.self.inside.names.names (all_records l)) (sym c.put_again.ensures.lists)
           (named_other c.self.inside.names.names one.0 (with_new_key c.args.key one.0) (all_records rest)
           (all_records lists) (all_records after) with back c.self.invariant.orderly.one_for_name is.one_for_name
           refl refl c.self.invariant.named);
-      counted = omega (
-        arith,
-        c.self.invariant.counted,
-        ap (λ (l : Lists). elements_in (all_records l)) c.put_again.ensures,
-        elements_with one.0 (all_records rest) (all_records lists) with,
-        elements_with (with_new_key c.args.key one.0) (all_records rest) (all_records after) back,
-      );
+      used = subst AreUsed (sym c.put_again.ensures.loose) c.self.invariant.used;
+      whole = ap (λ (l : List (Option (List ℕ))). length l) c.put_again.ensures.chains ∙ c.self.invariant.whole;
     }
 
 pub unreachable-requires : goal.unreachable-requires
@@ -90,7 +87,7 @@ returns-clause-content c =
     ∙ ap (λ (l : List Watched). monitors_of l) c.turned.ensures.rows
     ∙ monitors-turned c.in-Some.from c.has_records-full.result k.watch.rows)
     ∙ ap (λ (l : Lists). content_at l k.limits.items k.locks.items (monitors_of k.watch.rows) k.next)
-    c.put_again.ensures)
+    c.put_again.ensures.lists)
 
 pub returns-clause-bits : goal.returns-clause-bits
 returns-clause-bits c =

@@ -1,21 +1,26 @@
-use Rattle.std.proofs.Common.{List, sym, ap, ◌∙◌, subst}
+use Rattle.std.proofs.Common.{ℕ, List, Option, None, length, replicate, sym, ap, ◌∙◌, subst}
 use Rattle.std.specs.List.{list_all}
+use Rattle.std.proofs.lemmas.List.{length-replicate}
 use Rattle.list_watch.specs.declared.monitors.Watched.{Watched}
 use Rattle.list_kept.specs.Told.{is_told}
 use Rattle.list_store.specs.Lists.{Lists, all_records}
-use Rattle.list_model.specs.Records.{elements_in}
+use Rattle.list_kept.specs.Data.{AreUsed}
 use Rattle.list_kept.specs.Named.{AreNamed}
 use Rattle.list_kept.specs.Orderly.{IsOrderly}
-use Rattle.list_kept.proofs.PlaceLaws.{orderly-none, named_none, no_elements}
+use Rattle.list_kept.proofs.DataLaws.{no_chains}
+use Rattle.list_kept.proofs.PlaceLaws.{orderly-none, named_none}
 use Rattle.list_kept.proofs.keeping.Kept.with_names.Goals as goal
 
 pub invariant_of-result : goal.invariant_of-result
 invariant_of-result c =
+    let headers = c.headers_of-headers.result in
     record {
       told = ap (λ (l : List Watched). list_all (is_told c.in_ok-store.store.lists) l) c.in_ok-watch.ensures;
-      orderly = subst IsOrderly (sym c.in_ok-store.ensures) (orderly-none c.headers_of-headers.result);
-      named = subst (λ (l : Lists). AreNamed c.args.names.names (all_records l)) (sym c.in_ok-store.ensures)
-          (named_none c.args.names.names c.headers_of-headers.result c.requires);
-      counted = sym (ap (λ (l : Lists). elements_in (all_records l)) c.in_ok-store.ensures
-          ∙ no_elements c.headers_of-headers.result);
+      orderly = subst (IsOrderly c.args.elements) (sym c.in_ok-store.ensures.lists)
+          (orderly-none c.args.elements headers);
+      named = subst (λ (l : Lists). AreNamed c.args.names.names (all_records l)) (sym c.in_ok-store.ensures.lists)
+          (named_none c.args.names.names headers c.requires);
+      used = subst AreUsed (sym c.in_ok-store.ensures.loose) (no_chains c.args.elements);
+      whole = ap (λ (l : List (Option (List ℕ))). length l) c.in_ok-store.ensures.chains
+          ∙ length-replicate c.args.elements None;
     }

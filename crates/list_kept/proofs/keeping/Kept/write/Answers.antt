@@ -1,9 +1,9 @@
 use Rattle.std.proofs.Common.{◌≡◌, ℕ, ◌+◌, ◌<◌, Bool, true, List, length, sym, ap, ◌∙◌, subst, arith}
 use Rattle.std.specs.List.{list_all}
-use Rattle.list_store.specs.declared.records.Rec.{Rec}
+use Rattle.list_store.specs.Record.{Record}
 use Rattle.list_store.specs.Lists.{Lists, all_records}
-use Rattle.list_model.specs.Records.{elements_in}
 use Rattle.list_kept.specs.declared.keeping.Kept.TheInside.{Inside}
+use Rattle.list_kept.specs.Data.{AreUsed, with_data}
 use Rattle.list_kept.specs.Named.{AreNamed}
 use Rattle.list_kept.proofs.NamedLaws.{named_new, named_more, came, elements_with}
 use Rattle.list_watch.specs.declared.monitors.Monitor.{Monitor}
@@ -27,42 +27,40 @@ still_told c =
     ap (λ (l : List Watched). list_all (is_told later) l) c.turned.ensures.rows
     ∙ ap (λ b. list_all (is_told later) (rows_turned c.args.header b rows)) c.has_records-full.ensures
     ∙ told-one c.args.header lists later rows
-    (λ other e. ap (λ (l : Lists). has_records l other) c.put.ensures
-    ∙ full-elsewhere c.args.head c.args.header other c.args.rec lists (sym_test other c.args.header e))
+    (λ other e. ap (λ (l : Lists). has_records l other) c.put.ensures.lists
+    ∙ full-elsewhere c.args.head c.args.header other (with_data c.args.bare c.args.body.now) lists (sym_test other c.args.header e))
     c.self.invariant.told
 
-stays : (head : Bool) (header : ℕ) (rec : Rec) (k : Inside) (view : ContentView) → content_view k ≡ view
-    → IsOrderly (with_record head header rec view.content.lists)
-    → IsOrderly (with_record head header rec k.store.lists)
+stays : (head : Bool) (header : ℕ) (rec : Record) (k : Inside) (view : ContentView) → content_view k ≡ view
+    → IsOrderly view.elements (with_record head header rec view.content.lists)
+    → IsOrderly k.elements (with_record head header rec k.store.lists)
 stays head header rec k view e is =
-    subst (λ (v : ContentView). IsOrderly (with_record head header rec v.content.lists)) (sym e) is
+    subst (λ (v : ContentView). IsOrderly v.elements (with_record head header rec v.content.lists)) (sym e) is
 
 pub add_name-requires-clause-new : goal.add_name-requires-clause-new
 add_name-requires-clause-new c =
     let lists = c.self.inside.store.lists in
     let lt = subst (λ (v : ContentView). c.args.header < length v.content.lists)
     (sym c.self.view_is) c.requires.header in
-    named_new c.self.inside.names.names c.args.rec (all_records lists)
-    (all_records (with_record c.args.head c.args.header c.args.rec lists))
-    (came c.args.head c.args.header c.args.rec lists lt)
-    (stays c.args.head c.args.header c.args.rec c.self.inside c.args.self.now c.self.view_is
+    named_new c.self.inside.names.names (with_data c.args.bare c.args.body.now) (all_records lists)
+    (all_records (with_record c.args.head c.args.header (with_data c.args.bare c.args.body.now) lists))
+    (came c.args.head c.args.header (with_data c.args.bare c.args.body.now) lists lt)
+    (stays c.args.head c.args.header (with_data c.args.bare c.args.body.now) c.self.inside c.args.self.now c.self.view_is
     c.requires.orderly).one_for_name
     c.self.invariant.named
 
-pub overflow_add-self : goal.overflow_add-self
-overflow_add-self c =
+pub put-requires-clause-elements : goal.put-requires-clause-elements
+put-requires-clause-elements c =
     let lists = c.self.inside.store.lists in
+    let rec = with_data c.args.bare c.args.body.now in
     let lt = subst (λ (v : ContentView). c.args.header < length v.content.lists)
     (sym c.self.view_is) c.requires.header in
     omega (
       arith,
-      c.self.invariant.counted,
-      c.elements_of-need.ensures.elements,
-      elements_with c.args.rec (all_records lists)
-          (all_records (with_record c.args.head c.args.header c.args.rec lists))
-          (came c.args.head c.args.header c.args.rec lists lt),
-      (stays c.args.head c.args.header c.args.rec c.self.inside c.args.self.now c.self.view_is
-          c.requires.orderly).elements,
+      c.self.invariant.whole,
+      elements_with rec (all_records lists) (all_records (with_record c.args.head c.args.header rec lists))
+          (came c.args.head c.args.header rec lists lt),
+      (stays c.args.head c.args.header rec c.self.inside c.args.self.now c.self.view_is c.requires.orderly).enough,
     )
 
 pub invariant_of-self : goal.invariant_of-self
@@ -70,24 +68,19 @@ invariant_of-self c =
     let lists = c.self.inside.store.lists in
     let lt = subst (λ (v : ContentView). c.args.header < length v.content.lists)
     (sym c.self.view_is) c.requires.header in
-    let with = came c.args.head c.args.header c.args.rec lists lt in
-    let after = with_record c.args.head c.args.header c.args.rec lists in
-    let is = stays c.args.head c.args.header c.args.rec c.self.inside c.args.self.now c.self.view_is
+    let with = came c.args.head c.args.header (with_data c.args.bare c.args.body.now) lists lt in
+    let after = with_record c.args.head c.args.header (with_data c.args.bare c.args.body.now) lists in
+    let is = stays c.args.head c.args.header (with_data c.args.bare c.args.body.now) c.self.inside c.args.self.now c.self.view_is
     c.requires.orderly in
     record {
       told = still_told c;
-      orderly = subst IsOrderly (sym c.put.ensures) is;
+      orderly = subst (IsOrderly c.self.inside.elements) (sym c.put.ensures.lists) is;
       named =
-          subst (λ (l : Lists). AreNamed c.add_name.new.names.names (all_records l)) (sym c.put.ensures)
-          (named_more c.self.inside.names.names c.add_name.new.names.names c.args.rec (all_records lists)
+          subst (λ (l : Lists). AreNamed c.add_name.new.names.names (all_records l)) (sym c.put.ensures.lists)
+          (named_more c.self.inside.names.names c.add_name.new.names.names (with_data c.args.bare c.args.body.now) (all_records lists)
           (all_records after) with is.one_for_name c.self.invariant.named c.add_name.ensures);
-      counted = omega (
-        arith,
-        c.self.invariant.counted,
-        c.elements_of-need.ensures.elements,
-        ap (λ (l : Lists). elements_in (all_records l)) c.put.ensures,
-        elements_with c.args.rec (all_records lists) (all_records after) with,
-      );
+      used = subst AreUsed (sym c.put.ensures.loose) c.self.invariant.used;
+      whole = c.put.ensures.size ∙ c.self.invariant.whole;
     }
 
 pub returns-clause-content : goal.returns-clause-content
@@ -98,7 +91,7 @@ returns-clause-content c =
     (ap (λ (l : List Watched). monitors_of l) c.turned.ensures.rows ∙ monitors-turned c.args.header
     c.has_records-full.result k.watch.rows)
     ∙ ap (λ (l : Lists). content_at l k.limits.items k.locks.items (monitors_of k.watch.rows) (k.next + 1))
-    c.put.ensures)
+    c.put.ensures.lists)
 
 pub returns-clause-bits : goal.returns-clause-bits
 returns-clause-bits c =

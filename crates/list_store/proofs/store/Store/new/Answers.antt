@@ -1,35 +1,22 @@
-use Rattle.std.proofs.Common.{◌≡◌, ◌∙◌, ap, ℕ, arith, List, length}
-use Rattle.std.proofs.lemmas.List.{length-map}
-use Rattle.std.specs.declared.vec.Vec.{Vec}
-use Rattle.std.specs.declared.alloc.Global.{Global}
-use Rattle.list_store.specs.Orders.{orders_in}
-use Rattle.std.proofs.Common.{replicate, []}
-use Rattle.std.specs.List.{list_all}
-use Rattle.std.proofs.lemmas.List.{length-replicate}
-use Rattle.list_store.specs.Orders.{is_few}
-use Rattle.list_store.proofs.VecLaws.{few-replicate}
-use Rattle.list_store.specs.Tied.{lists_at}
-use Rattle.list_store.proofs.TiedLaws.{new_tied, no_lists}
+use Rattle.std.proofs.Common.{◌∙◌, ap, List, map}
+use Rattle.list_store.specs.declared.records.Rec.{Rec}
+use Rattle.list_store.specs.Records.{record_in}
+use Rattle.list_store.proofs.StoreLaws.{shown_none, held_none, whole_none}
 use Rattle.list_store.proofs.store.Store.new.Goals as goal
 
 pub invariant_of-result : goal.invariant_of-result
 invariant_of-result c =
-    let none : List ℕ = [] in
-    let made : orders_in c.in_ok-orders.orders.items ≡ replicate c.args.headers none = c.in_ok-orders.ensures in
     record {
-      tied = new_tied c.new.result (orders_in c.in_ok-orders.orders.items) c.new-2.result.entries c.args.headers made
-          c.new-2.ensures.empty;
-      few = ap (λ (l : List (List ℕ)). list_all is_few l) made ∙ few-replicate c.args.headers;
-      headers = omega (
-        arith,
-        length-map c.in_ok-orders.orders.items (λ (v : Vec ℕ Global). v.items),
-        ap (λ (l : List (List ℕ)). length l) made,
-        length-replicate c.args.headers none,
-        c.in_ok-orders.orders.ok.0,
-        c.ranges.headers,
-      );
+      held = (held_none c.in-Ok.pool.chains c.in_ok-table.table.lists c.args.headers c.in_ok-table.ensures).0;
+      whole = whole_none c.in-Ok.pool.chains c.args.elements c.in-Ok.ensures.chains;
     }
 
-pub returns : goal.returns
-returns c = ap (λ (l : List (List ℕ)). lists_at c.new.result l) c.in_ok-orders.ensures
-    ∙ no_lists c.new.result c.args.headers
+pub returns-in-Ok-clause-lists : goal.returns-in-Ok-clause-lists
+returns-in-Ok-clause-lists c =
+    ap (λ (l : List (List Rec)). map (map (record_in c.in-Ok.pool.chains)) l) c.in_ok-table.ensures
+    ∙ shown_none c.in-Ok.pool.chains c.args.headers
+
+pub returns-in-Ok-clause-loose : goal.returns-in-Ok-clause-loose
+returns-in-Ok-clause-loose c =
+    (held_none c.in-Ok.pool.chains c.in_ok-table.table.lists c.args.headers c.in_ok-table.ensures).1
+    ∙ c.in-Ok.ensures.chains

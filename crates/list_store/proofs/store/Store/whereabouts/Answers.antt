@@ -1,10 +1,24 @@
-use Rattle.std.proofs.Common.{◌∙◌}
-use Rattle.list_store.specs.Orders.{orders_in}
-use Rattle.list_store.specs.Tied.{lists_at}
+use Rattle.std.proofs.Common.{◌∙◌, ap, sym, refl, option_map}
+use Rattle.record_lists.proofs.MapLaws.{spot-map, apart-map}
+use Rattle.list_store.specs.Tied.{rec_id}
+use Rattle.list_store.specs.Spots.{as_spot}
+use Rattle.list_store.specs.Lists.{record_id}
+use Rattle.list_store.specs.Records.{record_in}
 use Rattle.list_store.proofs.SpotLaws.{spot_is}
+use Rattle.list_store.proofs.StoreLaws.{shown}
 use Rattle.list_store.proofs.store.Store.whereabouts.Goals as goal
 
 pub returns-clause-spot : goal.returns-clause-spot
 returns-clause-spot c =
-    rw (← c.self.view_is) (rw c.as_slice.ensures.value at c.spot.ensures
-    ∙ spot_is c.args.id (lists_at c.self.inside.slab (orders_in c.self.inside.orders.items)))
+    let chains = c.self.inside.pool.chains in
+    let lists = c.self.inside.table.lists in
+    rw (← c.self.view_is)
+    (c.whereabouts.ensures.spot
+    ∙ ap (option_map as_spot) (sym (spot-map (record_in chains) rec_id record_id (λ x. refl) c.args.id.0 lists))
+    ∙ spot_is c.args.id (shown chains lists))
+
+pub returns-clause-apart : goal.returns-clause-apart
+returns-clause-apart c =
+    rw (← c.self.view_is)
+    (apart-map (record_in c.self.inside.pool.chains) rec_id record_id (λ x. refl) c.self.inside.table.lists
+    ∙ c.whereabouts.ensures.apart)

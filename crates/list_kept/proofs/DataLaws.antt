@@ -1,0 +1,125 @@
+-- Records and the chains in which their data lie.
+use Rattle.std.proofs.Common.{◌≡◌, ℕ, zero, suc, ◌+◌, ◌≤◌, ◌<◌, true, List, [], ◌∷◌, set, get_or, slice_get, length, replicate, sum_by, Option, None, Some, refl, sym, ap, ◌∙◌, subst, arith, get_or-set_same, length-set}
+use Rattle.std.specs.Prelude.{IfSome, is_none}
+use Rattle.std.specs.Option.{option_or}
+use Rattle.std.specs.List.{list_all, list_any}
+use Rattle.std.proofs.lemmas.List.Sums.{sum_by-cons}
+use Rattle.cf_pool.specs.Pools.{need_at}
+use Rattle.list_laws.specs.Pairwise.{pairwise}
+use Rattle.list_laws.proofs.FilterLaws.{found_passes}
+use Rattle.list_keys.specs.Names.{Named}
+use Rattle.list_store.specs.Record.{Record}
+use Rattle.list_store.specs.Lists.{Lists, is_id, ids_apart, all_records, record_of, lists_replaced}
+use Rattle.list_store.specs.Records as store
+use Rattle.list_store.specs.StoreView.{StoreView}
+use Rattle.list_model.specs.Records.{names_apart, elements_in, elements_of}
+use Rattle.list_kept.specs.declared.bare.Bare.{Bare}
+use Rattle.list_kept.specs.Data.{AreUsed, blank, with_data, renewed}
+use Rattle.list_kept.specs.Named.{AreNamed}
+use Rattle.list_kept.proofs.NamedLaws.{replaced, named_other, elements_with, same_id, some_found}
+
+-- where no chain is without a record, such chains take no elements
+pub no_need : (loose : List (Option (List ℕ))) → list_all is_none loose ≡ true → sum_by need_at loose ≡ 0
+no_need [] h = refl
+no_need (None ∷ xs) h = omega (arith, sum_by-cons need_at None xs, no_need xs h)
+no_need (Some b ∷ xs) h = absurd (cc)
+
+pub no_chains : (n : ℕ) → AreUsed (replicate n None)
+no_chains zero = refl
+no_chains (suc n) = no_chains n
+
+pub same_need : (o : Option (List ℕ)) → need_at o ≡ elements_of o
+same_need None = refl
+same_need (Some bytes) = refl
+
+pub same_elements : (recs : List Record) → store.elements_in recs ≡ elements_in recs
+same_elements [] = refl
+same_elements (rec ∷ recs) =
+    omega (
+      arith,
+      sum_by-cons (λ (r : Record). need_at r.body) rec recs,
+      sum_by-cons (λ (r : Record). elements_of r.body) rec recs,
+      same_need rec.body,
+      same_elements recs,
+    )
+
+-- the elements that are free, where records have all chains
+pub free_elements : (recs : List Record) (loose chains : List (Option (List ℕ))) (free : ℕ) → AreUsed loose
+    → store.elements_in recs + sum_by need_at loose + free ≡ length chains → elements_in recs + free ≡ length chains
+free_elements recs loose chains free used e = omega (arith, e, no_need loose used, same_elements recs)
+
+-- elements aren't wanting where records' data and those that come fit
+pub wanting : (s after : StoreView) (body : Option (List ℕ)) → AreUsed s.loose
+    → elements_in (all_records s.lists) + elements_of body ≤ length s.chains → s.free < elements_of body → after ≡ s
+    → store.elements_in (all_records after.lists) + sum_by need_at after.loose + after.free ≡ length after.chains → ⊥
+wanting s after body used enough lt same all =
+    let e = subst (λ (v : StoreView). store.elements_in (all_records v.lists) + sum_by need_at v.loose + v.free
+    ≡ length v.chains) same all in
+    omega (arith, enough, lt, free_elements (all_records s.lists) s.loose s.chains s.free used e)
+
+-- a record stands in place of another: its elements for those of the other
+pub elements_replaced : (lists : Lists) (old rec : Record) → pairwise ids_apart (all_records lists) ≡ true
+    → record_of rec.id lists ≡ Some old
+    → elements_in (all_records (lists_replaced rec lists)) + elements_of old.body
+    ≡ elements_in (all_records lists) + elements_of rec.body
+elements_replaced lists old rec apart e =
+    let r = replaced lists old rec apart e in
+    omega (
+      arith,
+      elements_with old r.others (all_records lists) r.before,
+      elements_with rec r.others (all_records (lists_replaced rec lists)) r.after,
+    )
+
+given_need : (body own : Option (List ℕ)) → elements_of body ≤ elements_of (option_or body own)
+given_need None own = omega arith
+given_need (Some bytes) own = omega arith
+
+-- there are elements for new data once the old ones are gone
+pub elements_renewed : (lists : Lists) (old : Record) (bare : Bare) (body : Option (List ℕ)) (n : ℕ)
+    → pairwise ids_apart (all_records lists) ≡ true → record_of bare.id lists ≡ Some old
+    → elements_in (all_records (lists_replaced (renewed bare body (record_of bare.id lists)) lists)) ≤ n
+    → elements_in (all_records (lists_replaced (with_data (blank bare.id) None) lists)) + elements_of body ≤ n
+elements_renewed lists old bare body n apart e enough =
+    let rec = with_data bare (option_or body old.body) in
+    let le : elements_in (all_records (lists_replaced rec lists)) ≤ n =
+    subst (λ (o : Option Record). elements_in (all_records (lists_replaced (renewed bare body o) lists)) ≤ n) e enough
+    in
+    omega (
+      arith,
+      le,
+      elements_replaced lists old (with_data (blank bare.id) None) apart e,
+      elements_replaced lists old rec apart e,
+      given_need body old.body,
+    )
+
+pub renewed_found : (lists : Lists) (old : Record) (bare : Bare) (body : Option (List ℕ))
+    → record_of bare.id lists ≡ Some old
+    → renewed bare body (record_of bare.id lists) ≡ with_data bare (option_or body old.body)
+renewed_found lists old bare body e = ap (λ (o : Option Record). renewed bare body o) e
+
+pub named-renewed : (names : Named) (lists : Lists) (bare : Bare) (body : Option (List ℕ))
+    → pairwise ids_apart (all_records lists) ≡ true → list_any (is_id bare.id) (all_records lists) ≡ true
+    → IfSome (record_of bare.id lists) (λ old. old.name ≡ bare.name)
+    → pairwise names_apart (all_records lists) ≡ true
+    → pairwise names_apart (all_records (lists_replaced (renewed bare body (record_of bare.id lists)) lists)) ≡ true
+    → AreNamed names (all_records lists)
+    → AreNamed names (all_records (lists_replaced (renewed bare body (record_of bare.id lists)) lists))
+named-renewed names lists bare body apart there same before after are =
+    go (some_found bare.id lists there)
+  where
+    go : (rec : Record) × (record_of bare.id lists ≡ Some rec)
+        → AreNamed names (all_records (lists_replaced (renewed bare body (record_of bare.id lists)) lists))
+    go found =
+        let old = found.0 in
+        let rec = with_data bare (option_or body old.body) in
+        let is = renewed_found lists old bare body found.1 in
+        let r = replaced lists old rec apart found.1 in
+        let own : old.id ≡ bare.id = sym (same_id bare.id old (found_passes (is_id bare.id) (all_records lists) old
+        found.1)) in
+        let name : old.name ≡ bare.name = subst (λ (o : Option Record). IfSome o (λ other. other.name ≡ bare.name))
+        found.1 same in
+        subst (λ (x : Record). AreNamed names (all_records (lists_replaced x lists))) (sym is)
+        (named_other names old rec r.others (all_records lists) (all_records (lists_replaced rec lists)) r.before
+        r.after before
+        (subst (λ (x : Record). pairwise names_apart (all_records (lists_replaced x lists)) ≡ true) is after)
+        name own are)

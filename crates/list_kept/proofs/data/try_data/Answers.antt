@@ -1,0 +1,12 @@
+use Rattle.std.proofs.Common.{◌∙◌, ℕ, List, Option, None, ap, set}
+use Rattle.list_laws.proofs.TableLaws.{set_same}
+use Rattle.list_store.specs.StoreView.{StoreView}
+use Rattle.list_store.proofs.HeldLaws.{set_twice}
+use Rattle.list_kept.proofs.data.try_data.Goals as goal
+
+pub returns-in-Ok-clause-was : goal.returns-in-Ok-clause-was
+returns-in-Ok-clause-was c =
+    let loose = c.args.store.now.loose in
+    let k = c.in-Ok.chain.head in
+    ap (λ (v : StoreView). set v.loose k None) c.in-Ok.ensures.put
+    ∙ set_twice loose k _ None ∙ set_same loose k None c.in-Ok.ensures.fresh_loose

@@ -1,0 +1,55 @@
+use Rattle.std.proofs.Common.{◌≡◌, ◌∙◌, ◌<◌, ap, sym, subst, arith, refl, false, List, length, map}
+use Rattle.std.specs.List.{list_any}
+use Rattle.std.proofs.lemmas.List.{length-map}
+use Rattle.record_lists.proofs.MapLaws.{with-map, any-map}
+use Rattle.list_store.specs.declared.records.Rec.{Rec}
+use Rattle.list_store.specs.StoreView.{StoreView}
+use Rattle.list_store.specs.Tied.{rec_id}
+use Rattle.list_store.specs.Lists.{record_id, is_id, all_records}
+use Rattle.list_store.specs.Records.{record_in, HasChain, AreHeld, loose_in}
+use Rattle.list_store.proofs.StoreLaws.{added_held, added_loose}
+use Rattle.list_store.proofs.store.Store.add.Goals as goal
+
+within : (c : goal.After-add) → c.args.header < length c.self.inside.table.lists
+within c =
+    omega (
+      arith,
+      subst (λ (s : StoreView). c.args.header < length s.lists) (sym c.self.view_is) c.requires.header,
+      length-map c.self.inside.table.lists (map (record_in c.self.inside.pool.chains)),
+    )
+
+own : (c : goal.After-add)
+    → HasChain (loose_in c.self.inside.pool.chains (all_records c.self.inside.table.lists)) c.args.rec.body
+own c = subst (λ (s : StoreView). HasChain s.loose c.args.rec.body) (sym c.self.view_is) c.requires.chain
+
+pub add-requires-clause-alone : goal.add-requires-clause-alone
+add-requires-clause-alone c =
+    sym (any-map (record_in c.self.inside.pool.chains) rec_id record_id (λ x. refl) c.args.rec.id.0
+    c.self.inside.table.lists)
+    ∙ subst (λ (s : StoreView). list_any (is_id c.args.rec.id) (all_records s.lists) ≡ false) (sym c.self.view_is)
+    c.requires.alone
+
+pub invariant_of-self : goal.invariant_of-self
+invariant_of-self c =
+    let chains = c.self.inside.pool.chains in
+    record {
+      held = subst (λ (l : List (List Rec)). AreHeld chains (all_records l)) (sym c.add.ensures)
+          (added_held chains c.self.inside.table.lists c.self.invariant.held c.args.header c.args.place c.args.rec
+          (within c) (own c));
+      whole = c.self.invariant.whole;
+    }
+
+pub returns-clause-lists : goal.returns-clause-lists
+returns-clause-lists c =
+    let chains = c.self.inside.pool.chains in
+    rw (← c.self.view_is)
+    (ap (λ (l : List (List Rec)). map (map (record_in chains)) l) c.add.ensures
+    ∙ with-map (record_in chains) c.args.header c.args.place c.args.rec c.self.inside.table.lists)
+
+pub returns-clause-loose : goal.returns-clause-loose
+returns-clause-loose c =
+    let chains = c.self.inside.pool.chains in
+    rw (← c.self.view_is)
+    (ap (λ (l : List (List Rec)). loose_in chains (all_records l)) c.add.ensures
+    ∙ added_loose chains c.self.inside.table.lists c.self.invariant.held c.args.header c.args.place c.args.rec
+    (within c) (own c))

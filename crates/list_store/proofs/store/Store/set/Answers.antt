@@ -1,0 +1,75 @@
+use Rattle.std.proofs.Common.{◌≡◌, ◌∙◌, ap, sym, subst, refl, ℕ, true, List, Some, map, option_map}
+use Rattle.std.specs.List.{list_any}
+use Rattle.record_lists.specs.Lists as generic
+use Rattle.record_lists.proofs.MapLaws.{replaced-map, record-map, any-map, apart-map}
+use Rattle.list_store.specs.declared.records.Rec.{Rec}
+use Rattle.list_store.specs.StoreView.{StoreView}
+use Rattle.list_store.specs.Tied.{rec_id}
+use Rattle.list_store.specs.Lists.{record_id, is_id, all_records}
+use Rattle.list_store.specs.Records.{record_in, HasChain, chains_less, AreHeld, loose_in}
+use Rattle.list_store.proofs.StoreLaws.{replaced_held, replaced_chain, replaced_was}
+use Rattle.list_store.proofs.store.Store.set.Goals as goal
+
+own : (c : goal.After-set)
+    → HasChain (loose_in c.self.inside.pool.chains (all_records c.self.inside.table.lists)) c.args.rec.body
+own c = subst (λ (s : StoreView). HasChain s.loose c.args.rec.body) (sym c.self.view_is) c.requires.chain
+
+found : (c : goal.After-set)
+    → generic.record_of rec_id c.args.rec.id.0 c.self.inside.table.lists ≡ Some c.set.result
+found c =
+    ap (λ (i : ℕ). generic.record_of rec_id i c.self.inside.table.lists) (sym (ap (λ i. i.0) c.requires.same))
+    ∙ c.set.ensures.«record»
+
+pub set-requires-clause-there : goal.set-requires-clause-there
+set-requires-clause-there c =
+    sym (any-map (record_in c.self.inside.pool.chains) rec_id record_id (λ x. refl) c.args.id.0
+    c.self.inside.table.lists)
+    ∙ subst (λ (s : StoreView). list_any (is_id c.args.id) (all_records s.lists) ≡ true) (sym c.self.view_is)
+    c.requires.there
+
+pub invariant_of-self : goal.invariant_of-self
+invariant_of-self c =
+    let chains = c.self.inside.pool.chains in
+    record {
+      held = subst (λ (l : List (List Rec)). AreHeld chains (all_records l)) (sym c.set.ensures.lists)
+          (replaced_held chains c.self.inside.table.lists c.self.invariant.held c.set.result c.args.rec
+          c.set.ensures.apart (found c) (own c));
+      whole = c.self.invariant.whole;
+    }
+
+pub returns-clause-record : goal.returns-clause-record
+returns-clause-record c =
+    let chains = c.self.inside.pool.chains in
+    rw (← c.self.view_is)
+    (record-map (record_in chains) rec_id record_id (λ x. refl) c.args.id.0 c.self.inside.table.lists
+    ∙ ap (option_map (record_in chains)) c.set.ensures.«record»)
+
+pub returns-clause-chain : goal.returns-clause-chain
+returns-clause-chain c =
+    let chains = c.self.inside.pool.chains in
+    subst (λ (l : List (List Rec)). HasChain (loose_in chains (all_records l)) c.set.result.body)
+    (sym c.set.ensures.lists)
+    (replaced_chain chains c.self.inside.table.lists c.self.invariant.held c.set.result c.args.rec
+    c.set.ensures.apart (found c) (own c))
+
+pub returns-clause-lists : goal.returns-clause-lists
+returns-clause-lists c =
+    let chains = c.self.inside.pool.chains in
+    rw (← c.self.view_is)
+    (ap (λ (l : List (List Rec)). map (map (record_in chains)) l) c.set.ensures.lists
+    ∙ replaced-map (record_in chains) rec_id record_id (λ x. refl) c.args.rec c.self.inside.table.lists)
+
+pub returns-clause-was : goal.returns-clause-was
+returns-clause-was c =
+    let chains = c.self.inside.pool.chains in
+    rw (← c.self.view_is)
+    (replaced_was chains c.self.inside.table.lists c.self.invariant.held c.set.result c.args.rec
+    c.set.ensures.apart (found c) (own c)
+    ∙ ap (λ (l : List (List Rec)). chains_less c.set.result.body (loose_in chains (all_records l)))
+    (sym c.set.ensures.lists))
+
+pub returns-clause-apart : goal.returns-clause-apart
+returns-clause-apart c =
+    rw (← c.self.view_is)
+    (apart-map (record_in c.self.inside.pool.chains) rec_id record_id (λ x. refl) c.self.inside.table.lists
+    ∙ c.set.ensures.apart)

@@ -1,0 +1,35 @@
+use Rattle.std.proofs.Common.{◌≡◌, ℕ, arith, length}
+use Rattle.std.proofs.lemmas.List.{length-map}
+use Rattle.std.specs.declared.vec.Vec.{Vec}
+use Rattle.std.specs.declared.alloc.Global.{Global}
+use Rattle.list_store.specs.Orders.{orders_in}
+use Rattle.record_lists.specs.Lists.{IsLastFull, all_records}
+use Rattle.list_store.specs.Tied.{lists_at}
+use Rattle.std.proofs.Common.{[], ◌<◌}
+use Rattle.list_store.proofs.TiedLaws.{weaker_some, weaker_none}
+use Rattle.list_store.specs.Tied.{rec_at}
+use Rattle.record_lists.proofs.MapLaws.{last-map, none-map}
+use Rattle.list_store.proofs.ties.last_of.Goals as goal
+
+pub returns-clause-found : goal.returns-clause-found
+returns-clause-found c =
+    weaker_some c.last_header.result (λ h. IsLastFull h (orders_in c.args.orders.now))
+    (λ h. IsLastFull h (lists_at c.args.slab.now (orders_in c.args.orders.now)))
+    (λ h is. last-map (rec_at c.args.slab.now) (orders_in c.args.orders.now) h is) c.last_header.ensures.found
+
+pub returns-clause-within : goal.returns-clause-within
+returns-clause-within c =
+    weaker_some c.last_header.result (λ h. IsLastFull h (orders_in c.args.orders.now))
+    (λ h. h < length c.args.orders.now)
+    (λ h is. omega (
+      arith,
+      is.within,
+      length-map c.args.orders.now
+          (λ (v : Vec ℕ Global). v.items),
+    )) c.last_header.ensures.found
+
+pub returns-clause-none : goal.returns-clause-none
+returns-clause-none c =
+    weaker_none c.last_header.result (all_records (orders_in c.args.orders.now)
+    ≡ []) (all_records (lists_at c.args.slab.now (orders_in c.args.orders.now)) ≡ [])
+    (none-map (rec_at c.args.slab.now) (orders_in c.args.orders.now)) c.last_header.ensures.none

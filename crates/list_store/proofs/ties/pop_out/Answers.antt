@@ -1,0 +1,20 @@
+use Rattle.std.proofs.Common.{◌∙◌, ◌-◌, ap, ℕ, arith, List, length, set}
+use Rattle.std.specs.declared.vec.Vec.{Vec}
+use Rattle.std.specs.declared.alloc.Global.{Global}
+use Rattle.list_store.specs.declared.records.Rec.{Rec}
+use Rattle.record_lists.specs.Lists.{records_of}
+use Rattle.list_store.specs.Orders.{orders_in}
+use Rattle.list_store.specs.Tied.{lists_at}
+use Rattle.list_store.proofs.TiedLaws.{length-at, remove_last}
+use Rattle.list_store.proofs.ties.pop_out.Goals as goal
+
+pub returns-clause-popped : goal.returns-clause-popped
+returns-clause-popped c =
+    let lists = lists_at c.args.slab.now (orders_in c.args.orders.now.items) in
+    let keys = ap (λ (l : List (Vec ℕ Global)). length
+    (records_of (orders_in l) c.args.header)) c.as_slice.ensures.value in
+    let many = length-at c.args.slab.now (orders_in c.args.orders.now.items) c.args.header in
+    c.pull.ensures.removed
+    ∙ ap (λ (l : List Rec). set lists c.args.header l)
+    (remove_last (records_of lists c.args.header) (c.count-last.result - 1) c.requires.full.full
+    (omega (arith, keys, many, c.count-last.ensures)))

@@ -1,0 +1,46 @@
+use Rattle.std.proofs.Common.{◌∙◌, ap, sym, ℕ, arith, option_map}
+use Rattle.std.proofs.lemmas.List.{length-map}
+use Rattle.std.specs.declared.vec.Vec.{Vec}
+use Rattle.std.specs.declared.alloc.Global.{Global}
+use Rattle.list_store.specs.Orders.{orders_in}
+use Rattle.record_lists.proofs.SpotLaws.{get_within}
+use Rattle.record_lists.specs.Lists.{records_of}
+use Rattle.list_store.specs.Spots.{as_spot}
+use Rattle.list_store.proofs.TiedLaws.{key_stands, header_stands, found_spot, unfound_spot, few-at}
+use Rattle.list_store.proofs.ties.spot.Goals as goal
+
+pub place_in-requires-clause-header : goal.place_in-requires-clause-header
+place_in-requires-clause-header c =
+    omega (
+      arith,
+      length-map c.args.orders.now (λ (v : Vec ℕ Global). v.items),
+      header_stands c.args.slab.now (orders_in c.args.orders.now) c.args.spots.now.entries c.requires.tied c.args.id.0
+          _ _ (sym c.spot_for.ensures ∙ c.in-Some.is),
+    )
+
+pub place_in-requires-clause-there : goal.place_in-requires-clause-there
+place_in-requires-clause-there c = key_stands c.args.slab.now
+    (orders_in c.args.orders.now) c.args.spots.now.entries c.requires.tied c.args.id.0 _ _ (sym c.spot_for.ensures
+    ∙ c.in-Some.is)
+
+pub overflow_cast-result : goal.overflow_cast-result
+overflow_cast-result c =
+    let few = few-at (orders_in c.args.orders.now) c.in-Some.header
+    (header_stands c.args.slab.now (orders_in c.args.orders.now) c.args.spots.now.entries c.requires.tied c.args.id.0
+    _ _ (sym c.spot_for.ensures ∙ c.in-Some.is)) c.requires.few in
+    omega (
+      arith,
+      few,
+      get_within (records_of
+          (orders_in c.args.orders.now) c.in-Some.header) c.place_in.result _ c.place_in.ensures,
+    )
+
+pub returns-in-Some : goal.returns-in-Some
+returns-in-Some c = ap (option_map as_spot)
+    (sym (found_spot c.args.slab.now (orders_in c.args.orders.now) c.args.spots.now.entries c.requires.tied
+    c.args.id.0 _ _ _ (sym c.spot_for.ensures ∙ c.in-Some.is) c.place_in.ensures))
+
+pub returns-in-None : goal.returns-in-None
+returns-in-None c = ap (option_map as_spot)
+    (sym (unfound_spot c.args.slab.now (orders_in c.args.orders.now) c.args.spots.now.entries c.requires.tied
+    c.args.id.0 (sym c.spot_for.ensures ∙ c.in-None.is)))
