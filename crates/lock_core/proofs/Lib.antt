@@ -1,3 +1,4 @@
 pub mod ReadLaws
 pub mod GrantLaws
+pub mod LetterLaws
 pub mod EngineLaws

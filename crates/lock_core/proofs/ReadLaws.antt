@@ -1,18 +1,17 @@
 -- What is read of waiters and of interests, and what is found among them.
-use Rattle.std.proofs.Common.{◌≡◌, ℕ, ◌+◌, ◌≤◌, Bool, true, false, not, ◌&&◌, ◌||◌, ◌==◌, cond, if◌then◌else◌, List, [], ◌∷◌, Option, Some, None, is_some, option_map, length, filter, find, map, refl, sym, ap, ◌∙◌, arith}
+use Rattle.std.proofs.Common.{◌≡◌, ℕ, ◌+◌, ◌≤◌, Bool, true, false, ◌||◌, cond, if◌then◌else◌, List, [], ◌∷◌, Option, Some, None, is_some, option_map, filter, find, refl, sym, ap, ◌∙◌, arith}
 use Rattle.std.specs.List.{list_any}
 use Rattle.std.proofs.lemmas.List.Sums.{sum_by-cons}
-use Rattle.cf_types.specs.declared.numbers.ConnId.{ConnId}
-use Rattle.cf_types.specs.declared.resources.Resource.{Resource}
-use Rattle.list_laws.proofs.FilterLaws.{any_is_found, filter-filter}
-use Rattle.lock_table.specs.declared.holdings.Held.{Held}
+use Rattle.list_laws.proofs.FilterLaws.{any_is_found}
 use Rattle.lock_queue.specs.declared.waiters.Waiter.{Waiter}
-use Rattle.lock_queue.specs.Waiters.{is_waiter, waiter_of, waiters_with, recorded_by, recorded_of, recorded_in, IsQueue}
+use Rattle.lock_queue.specs.Waiters.{waiter_of, waiters_with, recorded_by, recorded_of, recorded_in, IsQueue}
 use Rattle.lock_queue.proofs.CountLaws.{recorded_less, recorded_more}
-use Rattle.lock_model.specs.Interests.{Interest, is_by}
+use Rattle.lock_model.specs.Interests.{Interest}
 use Rattle.lock_model.specs.Contents.{records_of, records_waiting}
 use Rattle.lock_model.specs.Refusals.{record_refusal}
+use Rattle.cf_types.specs.declared.refusals.Refusal.{Refusal}
 use Rattle.cf_types.specs.declared.refusals.Refusal.TheVariants.{NoRecord}
+use Rattle.engine_api.specs.Meaning.{first_refusal}
 
 -- ---- one that is found
 
@@ -35,6 +34,11 @@ pub record_refusal-any : (p : Interest → Bool) (is : List Interest) → record
     (if list_any p is then None else Some NoRecord)
 record_refusal-any p [] = refl
 record_refusal-any p (i ∷ is) = refused_step (p i) (list_any p is) i (filter p is) (record_refusal-any p is)
+
+-- one cause alone is the first
+pub first_of_one : (cause : Option Refusal) → cause ≡ first_refusal (cause ∷ [])
+first_of_one None = refl
+first_of_one (Some refusal) = refl
 
 -- ---- record data that waiters bring
 

@@ -1,6 +1,7 @@
 -- The engine as contracts see it.
 use Rattle.std.specs.Prelude.{◌≡◌, ◌+◌, ◌≤◌, ◌<◌, IsTrue, List, length, Option, Some}
 use Rattle.cf_types.specs.declared.effects.Effects.{Effects}
+use Rattle.cf_types.specs.declared.events.Letter.{Letter}
 use Rattle.cf_types.specs.declared.resources.Resource.{Resource}
 use Rattle.cf_types.specs.declared.lock_commands.LockCmd.{LockCmd}
 use Rattle.cf_types.specs.Forms.{IsCapacity, is_lock}
@@ -8,6 +9,7 @@ use Rattle.engine_api.specs.Meaning.{Held, Wish}
 use Rattle.engine_api.specs.Meaning.Wish.{ForCmd, ForLeave, ForForget}
 use Rattle.lock_model.specs.Contents.{Content, IsContent}
 use Rattle.lock_model.specs.Departures.{resources_of}
+use Rattle.lock_model.specs.Step.{after}
 use Rattle.lock_core.specs.declared.plans.Plan.{Plan}
 use Rattle.lock_core.specs.declared.engine.LockEngine.TheInside.{Inside}
 use Rattle.lock_core.specs.Plans.{plan_for}
@@ -40,20 +42,26 @@ pub record IsKept (e : Inside) : Type 0 where
   pub content : IsContent e.caps e.locks.content
   pub counted : IsCounted e.locks.content
 
--- the plan is that for the command, and there is room for all that it can do, with one item more
-pub record IsReadyFor (e : EngineView) (plan : Plan) (out : Effects) : Type 0 where
+-- the plan is that for the command, and there is room for all that it can do, with one item more,
+-- and for the letters that it sends
+pub record IsReadyFor (e : EngineView) (plan : Plan) (sent : List Letter) (out : Effects) :
+    Type 0 where
   pub planned : e.plan ≡ Some plan
-  pub room : HasRoom 1 e.stock out
+  pub room : HasRoom 1 e.stock
   pub waiter : 1 ≤ e.stock.waiter_room
-  pub told : length e.stock.content.interests ≤ out.mail.room
+  pub letters : length sent ≤ out.mail.room
   pub counted : length e.stock.content.interests + length e.stock.content.waiters < 4294967295
 
--- the resources of the connector are there, and there is room for all that wait
+-- the resources of the connector are there, and there is room for all that wait to be granted and
+-- told
 pub record IsReadyToLeave (e : EngineView) (resources : List Resource) (out : Effects) : Type 0 where
   pub planned : e.leaving ≡ Some resources
-  pub room : HasRoom 0 e.stock out
+  pub room : HasRoom 0 e.stock
+  pub letters : length e.stock.content.waiters ≤ out.mail.room
 
 abbrev pub IsReady : EngineView → Wish LockCmd → Effects → Type 0
-IsReady e (ForCmd by cmd) out = IsReadyFor e (plan_for e.held.caps e.stock.content by cmd) out
+IsReady e (ForCmd by cmd) out =
+    IsReadyFor e (plan_for e.held.caps e.stock.content by cmd) (after e.stock.content by cmd).letters
+    out
 IsReady e (ForLeave conn) out = IsReadyToLeave e (resources_of conn e.stock.content) out
 IsReady e ForForget out = Unit {0}

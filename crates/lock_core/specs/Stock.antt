@@ -1,6 +1,5 @@
 -- The interests and waiters of a lock structure, with room for more.
 use Rattle.std.specs.Prelude.{ℕ, ◌+◌, ◌≤◌, if◌then◌else◌, List, length, Option, Some, None}
-use Rattle.cf_types.specs.declared.effects.Effects.{Effects}
 use Rattle.cf_types.specs.declared.resources.Resource.{Resource}
 use Rattle.lock_queue.specs.declared.waiters.Waiter.{Waiter}
 use Rattle.lock_queue.specs.Waiters.{first_of, waiters_with}
@@ -31,10 +30,9 @@ stock l =
     }
 
 -- there is room for all that wait to be granted, and for so many more
-pub record HasRoom (extra : ℕ) (stock : Stock) (out : Effects) : Type 0 where
+pub record HasRoom (extra : ℕ) (stock : Stock) : Type 0 where
   pub owners : length stock.content.waiters + extra ≤ stock.owner_room
   pub records : records_waiting stock.content.waiters + extra ≤ stock.record_room
-  pub letters : length stock.content.waiters + extra ≤ out.mail.room
 
 -- the first of those that wait for a resource, where it may own it
 abbrev pub if_grantable : List Interest → Option Waiter → Option Waiter

@@ -1,5 +1,6 @@
 use crate::departures::resources_of;
 use crate::grants::grant_each;
+use crate::letters::most_letters;
 use crate::locks::{ItemOrder, Locks};
 use crate::plans::{Plan, act, make_plan};
 use cf_types::{
@@ -115,7 +116,8 @@ impl Engine for LockEngine {
 
     fn ready(&mut self, by: ConnId, cmd: &LockCmd, out: &mut Effects) -> Result<(), NoMemory> {
         let plan = make_plan(self.alloc, self.caps, &self.locks, by, cmd)?;
-        self.locks.reserve(out)?;
+        let letters = most_letters(&self.locks, cmd);
+        self.locks.reserve(letters, out)?;
         self.plan = Some(plan);
         Ok(())
     }
@@ -140,7 +142,8 @@ impl Engine for LockEngine {
 
     fn leave_ready(&mut self, conn: ConnId, out: &mut Effects) -> Result<(), NoMemory> {
         let resources = resources_of(self.alloc, &self.locks, conn)?;
-        self.locks.reserve(out)?;
+        let letters = self.locks.count_waiters();
+        self.locks.reserve(letters, out)?;
         self.leaving = Some(Listing::from_vec(resources));
         Ok(())
     }
@@ -210,22 +213,15 @@ impl Engine for LockEngine {
     ghost ready_more = { λ e. room-cases (IsReady e)
         (λ by cmd out other is bits mail. record {
           planned = is.planned;
-          room = record {
-            owners = is.room.owners;
-            records = is.room.records;
-            letters = le-trans is.room.letters mail;
-          };
+          room = is.room;
           waiter = is.waiter;
-          told = le-trans is.told mail;
+          letters = le-trans is.letters mail;
           counted = is.counted;
         })
         (λ conn out other is bits mail. record {
           planned = is.planned;
-          room = record {
-            owners = is.room.owners;
-            records = is.room.records;
-            letters = le-trans is.room.letters mail;
-          };
+          room = is.room;
+          letters = le-trans is.letters mail;
         })
         (λ out other is bits mail. is) };
 

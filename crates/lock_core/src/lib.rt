@@ -6,6 +6,7 @@ mod commands;
 mod departures;
 mod engine;
 mod grants;
+mod letters;
 mod locks;
 mod plans;
 mod refusals;

@@ -63,7 +63,6 @@ fn where_grantable(interests: &Interests, first: Option<&Waiter>) -> Option<Wait
 }
 
 ghost use Rattle.std.specs.Prelude.{◌&&◌, Option, Some, None, true, false, not, filter, is_some, option_map};
-ghost use Rattle.cf_types.specs.declared.effects.Effects.{Effects};
 ghost use Rattle.lock_queue.specs.Waiters.{recorded_of, waiters_without_conn};
 ghost use Rattle.lock_model.specs.Interests.{interests_without};
 ghost use Rattle.lock_model.specs.Departures.{interests_left, with_returned};
@@ -77,7 +76,7 @@ ghost use Rattle.lock_core.specs.Stock.{if_grantable, content_placed};
 
 // The manager, if there is one, is told of one that waits.
 fn tell_contention(manager: Option<ConnId>, w: &Waiter, out: &mut Effects)
-    requires { 1 ≤ out.old.mail.room }
+    requires { length (requests.contention w.now manager) ≤ out.old.mail.room }
     ensures mail { out.new.mail.items ≡ out.old.mail.items ++ requests.contention w.now manager }
     ensures letters { out.new.mail.room + length (requests.contention w.now manager) ≡
         out.old.mail.room }
@@ -167,12 +166,13 @@ impl Locks {
     pub(crate) fn grant_one(&mut self, w: &Waiter, out: &mut Effects)
         requires waits { waiter_of w.now.r w.now.conn self.old.content.waiters ≡ Some w.now }
         requires queue { IsQueue self.old.content.waiters }
-        requires room { HasRoom 0 self.old out.old }
+        requires room { HasRoom 0 self.old }
+        requires letter { 1 ≤ out.old.mail.room }
         ensures content { self.new.content ≡ content_granted w.now self.old.content }
         ensures mail { out.new.mail.items ≡ out.old.mail.items ++ granted_letter w.now ∷ [] }
         ensures letters { out.new.mail.room + 1 ≡ out.old.mail.room }
         ensures bits { out.new.bits ≡ out.old.bits }
-        ensures room { HasRoom 0 self.new out.new }
+        ensures room { HasRoom 0 self.new }
         ensures fewer { length self.new.content.waiters + 1 ≡ length self.old.content.waiters }
         ensures limit { self.new.limit ≡ self.old.limit }
     {
@@ -192,7 +192,7 @@ impl Locks {
         requires owner_room { 1 ≤ self.old.owner_room }
         requires record_room { 1 ≤ self.old.record_room }
         ensures content { self.new.content ≡ requests.content_asked true w.now self.old.content }
-        ensures room { (out : Effects) → HasRoom 1 self.old out → HasRoom 0 self.new out }
+        ensures room { HasRoom 1 self.old → HasRoom 0 self.new }
         ensures limit { self.new.limit ≡ self.old.limit }
     {
         self.interests.grant(w);
@@ -201,7 +201,8 @@ impl Locks {
     /// A request waits, and the manager is told.
     pub(crate) fn wait(&mut self, w: &Waiter, out: &mut Effects) -> LockReply
         requires waiter_room { 1 ≤ self.old.waiter_room }
-        requires mail_room { 1 ≤ out.old.mail.room }
+        requires mail_room { length (requests.contention_letters w.now self.old.content) ≤
+            out.old.mail.room }
         ensures reply { result ≡ requests.reply false w.now self.old.content }
         ensures content { self.new.content ≡ requests.content_asked false w.now self.old.content }
         ensures mail { out.new.mail.items ≡ out.old.mail.items ++ requests.contention_letters w.now
@@ -220,7 +221,7 @@ impl Locks {
     pub(crate) fn give_up(&mut self, conn: ConnId, r: &Resource)
         ensures content { self.new.content ≡ record self.old.content
             { interests = interests_without r.now conn self.old.content.interests } }
-        ensures room { (out : Effects) → HasRoom 1 self.old out → HasRoom 0 self.new out }
+        ensures room { HasRoom 1 self.old → HasRoom 0 self.new }
         ensures limit { self.new.limit ≡ self.old.limit }
     {
         self.interests.remove(r, conn);
@@ -228,13 +229,14 @@ impl Locks {
 
     /// A waiter is denied, and told so.
     pub(crate) fn deny(&mut self, r: &Resource, conn: ConnId, out: &mut Effects)
-        requires { HasRoom 1 self.old out.old }
+        requires room { HasRoom 1 self.old }
+        requires letter { 1 ≤ out.old.mail.room }
         ensures content { self.new.content ≡ decide.content_denied r.now conn self.old.content }
         ensures mail { out.new.mail.items ≡ out.old.mail.items ++ decide.denied_letter r.now conn ∷
             [] }
         ensures letters { out.new.mail.room + 1 ≡ out.old.mail.room }
         ensures bits { out.new.bits ≡ out.old.bits }
-        ensures room { HasRoom 0 self.new out.new }
+        ensures room { HasRoom 0 self.new }
         ensures limit { self.new.limit ≡ self.old.limit }
     {
         let _ = self.queue.remove(r, conn);
@@ -247,7 +249,7 @@ impl Locks {
     /// A connector neither owns a resource nor waits for it any more.
     pub(crate) fn end_part(&mut self, r: &Resource, conn: ConnId)
         ensures content { self.new.content ≡ rt_delete.content_unowned r.now conn self.old.content }
-        ensures room { (out : Effects) → HasRoom 1 self.old out → HasRoom 0 self.new out }
+        ensures room { HasRoom 1 self.old → HasRoom 0 self.new }
         ensures limit { self.new.limit ≡ self.old.limit }
     {
         self.interests.remove(r, conn);
@@ -269,7 +271,8 @@ impl Locks {
             self.old.content.interests }
         ensures waiters { self.new.content.waiters ≡ waiters_without_conn conn
             self.old.content.waiters }
-        ensures room { (out : Effects) → HasRoom 0 self.old out → HasRoom 0 self.new out }
+        ensures room { HasRoom 0 self.old → HasRoom 0 self.new }
+        ensures fewer { length self.new.content.waiters ≤ length self.old.content.waiters }
         ensures limit { self.new.limit ≡ self.old.limit }
     {
         self.interests.leave(conn, keep);
@@ -285,6 +288,13 @@ impl Locks {
         } else {
             self.interests.count_records() + count_waiting_with(&self.queue, w)
         }
+    }
+
+    /// How many wait.
+    pub(crate) fn count_waiters(&self) -> usize
+        ensures { result ≡ length self.now.content.waiters }
+    {
+        self.queue.len() as usize
     }
 
     /// How many own and wait.
@@ -314,15 +324,15 @@ impl Locks {
         }
     }
 
-    /// Takes room for all that wait to be granted and be told, for one more to own or wait and be
-    /// told, and to tell all owners.
-    pub(crate) fn reserve(&mut self, out: &mut Effects) -> Result<(), NoMemory>
+    /// Takes room for all that wait to be granted, for one more to own or wait, and for so many
+    /// letters.
+    pub(crate) fn reserve(&mut self, letters: usize, out: &mut Effects) -> Result<(), NoMemory>
         requires { records_waiting self.old.content.waiters ≤ self.old.limit }
         ensures content { self.new.content ≡ self.old.content }
         ensures limit { self.new.limit ≡ self.old.limit }
-        ensures room { OnOk result (HasRoom 1 self.new out.new) }
+        ensures room { OnOk result (HasRoom 1 self.new) }
         ensures waiter { OnOk result (1 ≤ self.new.waiter_room) }
-        ensures told { OnOk result (length self.new.content.interests ≤ out.new.mail.room) }
+        ensures letters { OnOk result (letters ≤ out.new.mail.room) }
         ensures few { OnOk result (length self.new.content.interests + length
             self.new.content.waiters < 4294967295) }
         ensures bits { out.new.bits ≡ out.old.bits }
@@ -335,7 +345,7 @@ impl Locks {
         }
         self.interests.reserve(waiters + 1)?;
         self.queue.room()?;
-        out.mail.reserve(owners as usize + waiters as usize + 1)
+        out.mail.reserve(letters)
     }
 
     /// The item at a place, from 0: the interests, and then the waiters.

@@ -1,11 +1,13 @@
 //! What is got ready for a command, and what is done then.
 ghost use Rattle.std.specs.Prelude.{◌≡◌, ◌+◌, ◌≤◌, ◌++◌, IfOk, length};
+ghost use Rattle.std.specs.Result.{result_err};
 ghost use Rattle.lock_model.specs.Step.{cause, reply, after};
 ghost use Rattle.lock_core.specs.Plans.{read_by, plan_for};
 ghost use Rattle.lock_core.specs.Stock.{HasRoom};
 
 use crate::commands::{alter, decide, obtain, release, rt_delete, rt_read};
 use crate::locks::Locks;
+use crate::refusals::Judged;
 use cf_types::{
     Adjunct, Caps, ConnId, Effects, Listing, LockCmd, LockReply, NoMemory, Refusal, Resource,
 };
@@ -20,8 +22,8 @@ pub(crate) struct Plan {
 }
 
 // Why a command is refused.
-fn refusal(caps: Caps, locks: &Locks, by: ConnId, cmd: &LockCmd) -> Option<Refusal>
-    ensures { result ≡ cause caps locks.now.content by cmd.now }
+fn refusal(caps: Caps, locks: &Locks, by: ConnId, cmd: &LockCmd) -> Judged
+    ensures { result_err result ≡ cause caps locks.now.content by cmd.now }
 {
     match cmd {
         LockCmd::Obtain { r, excl, rec } => {
@@ -63,7 +65,7 @@ pub(crate) fn make_plan(
 {
     let records = read(alloc, &locks.interests, cmd)?;
     Ok(Plan {
-        refusal: refusal(caps, locks, by, cmd),
+        refusal: refusal(caps, locks, by, cmd).err(),
         records,
     })
 }
@@ -76,9 +78,9 @@ pub(crate) fn act(
     cmd: &LockCmd,
     out: &mut Effects,
 ) -> LockReply
-    requires room { HasRoom 1 locks.old out.old }
+    requires room { HasRoom 1 locks.old }
     requires waiter { 1 ≤ locks.old.waiter_room }
-    requires told { length locks.old.content.interests ≤ out.old.mail.room }
+    requires letters { length (after locks.old.content by cmd.now).letters ≤ out.old.mail.room }
     requires read { records ≡ read_by cmd.now locks.old.content.interests }
     ensures reply { result ≡ reply locks.old.content by cmd.now }
     ensures content { locks.new.content ≡ (after locks.old.content by cmd.now).content }

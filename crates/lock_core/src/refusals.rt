@@ -1,6 +1,6 @@
 //! Causes of refusals that commands share.
 ghost use Rattle.std.specs.Prelude.{◌≡◌, ◌<◌, Option, Some, None, IsTrue, if◌then◌else◌, option_map, is_some};
-ghost use Rattle.engine_api.specs.Meaning.{first_refusal};
+ghost use Rattle.std.specs.Result.{result_err};
 ghost use Rattle.cf_types.specs.declared.refusals.Refusal.{Refusal};
 ghost use Rattle.cf_types.specs.declared.refusals.Refusal.TheVariants.{AlreadyInterested, NotInterested, NoRecord};
 ghost use Rattle.lock_table.specs.declared.holdings.Held.{Held};
@@ -16,17 +16,8 @@ use lock_interests::Interests;
 use lock_queue::{Queue, Waiter};
 use lock_table::Held;
 
-/// The first cause that holds.
-pub(crate) fn first_refusal(causes: &[Option<Refusal>]) -> Option<Refusal>
-    ensures { result ≡ first_refusal causes.now }
-{
-    for cause in causes {
-        if let Some(refusal) = cause {
-            return Some(*refusal);
-        }
-    }
-    None
-}
+/// What judging a command comes to: why it is refused, if it is.
+pub(crate) type Judged = Result<(), Refusal>;
 
 // Whether a connector waits for a resource.
 fn waits(queue: &Queue, r: &Resource, conn: ConnId) -> bool
@@ -36,63 +27,62 @@ fn waits(queue: &Queue, r: &Resource, conn: ConnId) -> bool
 }
 
 /// The connector waits for the resource.
-pub(crate) fn pending_refusal(queue: &Queue, r: &Resource, conn: ConnId) -> Option<Refusal>
-    ensures { result ≡ pending_refusal r.now conn queue.now.waiters }
+pub(crate) fn pending_refusal(queue: &Queue, r: &Resource, conn: ConnId) -> Judged
+    ensures { result_err result ≡ pending_refusal r.now conn queue.now.waiters }
 {
     if waits(queue, r, conn) {
-        Some(Refusal::StillPending)
+        Err(Refusal::StillPending)
     } else {
-        None
+        Ok(())
     }
 }
 
 /// The connector doesn't wait for the resource.
-pub(crate) fn waiter_refusal(queue: &Queue, r: &Resource, conn: ConnId) -> Option<Refusal>
-    ensures { result ≡ waiter_refusal r.now conn queue.now.waiters }
+pub(crate) fn waiter_refusal(queue: &Queue, r: &Resource, conn: ConnId) -> Judged
+    ensures { result_err result ≡ waiter_refusal r.now conn queue.now.waiters }
 {
     if waits(queue, r, conn) {
-        None
+        Ok(())
     } else {
-        Some(Refusal::NoWaiter)
+        Err(Refusal::NoWaiter)
     }
 }
 
 // There is an interest.
-fn held_refusal(held: Option<&Held>) -> Option<Refusal>
-    ensures { result ≡ option_map (λ (held : Held). AlreadyInterested held.excl)
+fn held_refusal(held: Option<&Held>) -> Judged
+    ensures { result_err result ≡ option_map (λ (held : Held). AlreadyInterested held.excl)
         (option_map (λ held. held.now) held.entry) }
 {
     match held {
-        Some(held) => Some(Refusal::AlreadyInterested { excl: held.excl }),
-        None => None,
+        Some(held) => Err(Refusal::AlreadyInterested { excl: held.excl }),
+        None => Ok(()),
     }
 }
 
 /// The connector has an interest in the resource.
-pub(crate) fn interested_refusal(
-    interests: &Interests,
-    r: &Resource,
-    conn: ConnId,
-) -> Option<Refusal>
-    ensures { result ≡ interested_refusal (interest_of r.now conn interests.now.interests) }
+pub(crate) fn interested_refusal(interests: &Interests, r: &Resource, conn: ConnId) -> Judged
+    ensures { result_err result
+        ≡ interested_refusal (interest_of r.now conn interests.now.interests) }
 {
     held_refusal(interests.held_of(r, conn))
 }
 
 // There is no interest.
-fn no_held_refusal(held: Option<&Held>) -> Option<Refusal>
-    ensures { result ≡ (if is_some (option_map (λ held. held.now) held.entry) then None else Some
+fn no_held_refusal(held: Option<&Held>) -> Judged
+    ensures { result_err result
+        ≡ (if is_some (option_map (λ held. held.now) held.entry) then None else Some
         NotInterested) }
 {
     match held {
-        Some(_) => None,
-        None => Some(Refusal::NotInterested),
+        Some(_) => Ok(()),
+        None => Err(Refusal::NotInterested),
     }
 }
 
 /// The connector has no interest in the resource.
-pub(crate) fn interest_refusal(interests: &Interests, r: &Resource, conn: ConnId) -> Option<Refusal>
-    ensures { result ≡ interest_refusal (interest_of r.now conn interests.now.interests) }
+pub(crate) fn interest_refusal(interests: &Interests, r: &Resource, conn: ConnId) -> Judged
+    ensures { result_err result
+        ≡ interest_refusal (interest_of r.now conn interests.now.interests) }
 {
     no_held_refusal(interests.held_of(r, conn))
 }
@@ -108,40 +98,39 @@ fn is_manager(by: ConnId, manager: Option<ConnId>) -> bool
 }
 
 /// The caller isn't the manager of the resource.
-pub(crate) fn manager_refusal(interests: &Interests, by: ConnId, r: &Resource) -> Option<Refusal>
-    ensures { result ≡ manager_refusal by (manager_of r.now interests.now.interests) }
+pub(crate) fn manager_refusal(interests: &Interests, by: ConnId, r: &Resource) -> Judged
+    ensures { result_err result ≡ manager_refusal by (manager_of r.now interests.now.interests) }
 {
     let manager = interests.manager_of(r);
     if is_manager(by, manager) {
-        None
+        Ok(())
     } else {
-        Some(Refusal::NotManager { manager })
+        Err(Refusal::NotManager { manager })
     }
 }
 
 /// There would be more record data than the structure may have, where a request is granted at once
 /// or waits.
-pub(crate) fn records_refusal(
-    caps: Caps,
-    locks: &Locks,
-    w: &Waiter,
-    at_once: bool,
-) -> Option<Refusal>
-    ensures { result
+pub(crate) fn records_refusal(caps: Caps, locks: &Locks, w: &Waiter, at_once: bool) -> Judged
+    ensures { result_err result
         ≡ records_refusal caps (requests.content_asked at_once w.now locks.now.content) }
 {
     if locks.records_after(w, at_once) <= caps.elements as usize {
-        None
+        Ok(())
     } else {
-        Some(Refusal::RecordsFull {
+        Err(Refusal::RecordsFull {
             limit: caps.elements,
         })
     }
 }
 
 /// There is none with such record data.
-pub(crate) fn record_refusal(found: bool) -> Option<Refusal>
-    ensures { result ≡ (if found then None else Some NoRecord) }
+pub(crate) fn record_refusal(found: bool) -> Judged
+    ensures { result_err result ≡ (if found then None else Some NoRecord) }
 {
-    if found { None } else { Some(Refusal::NoRecord) }
+    if found {
+        Ok(())
+    } else {
+        Err(Refusal::NoRecord)
+    }
 }

@@ -154,11 +154,19 @@ impl Interests {
         is_held_retained(find_by(self.owners.owners(r), conn))
     }
 
+    /// How many letters `notify` sends.
+    pub fn count_told(&self, r: &Resource, conn: ConnId) -> usize
+        ensures { result ≡ length (decide.notify_letters r.now conn self.now.interests) }
+    {
+        let _ = self.owners.len();
+        count_told(self.owners.owners(r), r, conn)
+    }
+
     /// Tells each owner of a resource that isn't retained that the connector `conn` waits for it,
-    /// by a letter; `conn` itself gets none. `out` must have room for as many letters as there are
-    /// interests.
+    /// by a letter; `conn` itself gets none. `out` must have room for these letters.
     pub fn notify(&self, r: &Resource, conn: ConnId, out: &mut Effects)
-        requires { length self.now.interests ≤ out.old.mail.room }
+        requires { length (decide.notify_letters r.now conn self.now.interests) ≤
+            out.old.mail.room }
         ensures mail { out.new.mail.items ≡ out.old.mail.items ++ decide.notify_letters r.now conn
             self.now.interests }
         ensures letters { out.new.mail.room + length
@@ -545,9 +553,23 @@ fn is_told(held: &Held, r: &Resource, conn: ConnId) -> bool
     held.r == *r && !held.retained && held.conn != conn
 }
 
+// How many owners are told of a waiter.
+fn count_told(owners: Owners<'_>, r: &Resource, conn: ConnId) -> usize
+    requires { length (owners_left owners) < 4294967296 }
+    ensures { result ≡ length (letters_told r.now conn (owners_left owners.entry)) }
+{
+    let mut count = 0usize;
+    for held in owners {
+        if is_told(held, r, conn) {
+            count += 1;
+        }
+    }
+    count
+}
+
 // Tells the owners that aren't retained of a waiter, but not itself.
 fn notify(owners: Owners<'_>, r: &Resource, conn: ConnId, out: &mut Effects)
-    requires { length (owners_left owners) ≤ out.old.mail.room }
+    requires { length (letters_told r.now conn (owners_left owners)) ≤ out.old.mail.room }
     ensures mail { out.new.mail.items
         ≡ out.old.mail.items ++ letters_told r.now conn (owners_left owners.entry) }
     ensures letters { out.new.mail.room + length (letters_told r.now conn (owners_left owners.entry))

@@ -83,6 +83,13 @@ fn first_in<'a>(waiters: &'a Waiting, r: &Resource) -> Option<&'a Waiter>
     waiters.iter().find(|waiter| waiter.r == *r)
 }
 
+// How many wait for a resource.
+fn count_in(waiters: &Waiting, r: &Resource) -> usize
+    ensures { result ≡ length (waiters_of r.now waiters.now) }
+{
+    waiters.iter().filter(|waiter| waiter.r == *r).count()
+}
+
 // The one at a place of those that wait for a resource.
 fn nth_in<'a>(waiters: &'a Waiting, r: &Resource, n: usize) -> Option<&'a Waiter>
     ensures { option_map (λ waiter. waiter.now) result
@@ -265,6 +272,15 @@ fn first_on<'a>(entries: &'a [Waiting], r: &Resource) -> Option<&'a Waiter>
 {
     let slot = slot_of(entries, r);
     first_in(&entries[slot], r)
+}
+
+// How many wait for a resource.
+fn count_on(entries: &[Waiting], r: &Resource) -> usize
+    requires { AreEntries entries.now }
+    ensures { result ≡ length (waiters_of r.now (waiters_in entries.now)) }
+{
+    let slot = slot_of(entries, r);
+    count_in(&entries[slot], r)
 }
 
 // A connector waits for nothing more.
@@ -700,6 +716,15 @@ impl Queue {
         ensures queue { IsQueue self.now.waiters }
     {
         first_on(&self.entries, r)
+    }
+
+    /// How many wait for a resource.
+    pub fn count_of(&self, r: &Resource) -> usize
+        ensures count { result ≡ length (waiters_of r.now self.now.waiters) }
+        ensures few { result < 4294967296 }
+    {
+        let _ = self.len();
+        count_on(&self.entries, r)
     }
 
     /// What a connector waits for at a resource.

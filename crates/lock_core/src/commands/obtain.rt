@@ -1,12 +1,13 @@
 //! OBTAIN of IXLLOCK: a connector asks for a resource.
 ghost use Rattle.std.specs.Prelude.{◌≡◌, ◌+◌, ◌≤◌, ◌++◌, length};
+ghost use Rattle.std.specs.Result.{result_err};
 ghost use Rattle.engine_api.specs.Meaning.{first_refusal};
 ghost use Rattle.lock_model.specs.Commands.Obtain as obtain;
 ghost use Rattle.lock_core.specs.Stock.{HasRoom};
 
 use crate::locks::Locks;
-use crate::refusals::{first_refusal, interested_refusal, pending_refusal, records_refusal};
-use cf_types::{Adjunct, Caps, ConnId, Effects, LockReply, Refusal, Resource};
+use crate::refusals::{Judged, interested_refusal, pending_refusal, records_refusal};
+use cf_types::{Adjunct, Caps, ConnId, Effects, LockReply, Resource};
 use lock_interests::held_by;
 use lock_queue::Waiter;
 
@@ -38,19 +39,19 @@ fn is_at_once(locks: &Locks, w: &Waiter) -> bool
 }
 
 /// Why the command is refused.
-pub(crate) fn refusal(caps: Caps, locks: &Locks, w: &Waiter) -> Option<Refusal>
-    ensures { result ≡ first_refusal (obtain.causes caps w.now locks.now.content) }
+pub(crate) fn refusal(caps: Caps, locks: &Locks, w: &Waiter) -> Judged
+    ensures { result_err result ≡ first_refusal (obtain.causes caps w.now locks.now.content) }
 {
-    let pending_cause = pending_refusal(&locks.queue, &w.r, w.conn);
-    let interested_cause = interested_refusal(&locks.interests, &w.r, w.conn);
-    let records_cause = records_refusal(caps, locks, w, is_at_once(locks, w));
-    first_refusal(&[pending_cause, interested_cause, records_cause])
+    pending_refusal(&locks.queue, &w.r, w.conn)?;
+    interested_refusal(&locks.interests, &w.r, w.conn)?;
+    records_refusal(caps, locks, w, is_at_once(locks, w))
 }
 
 /// Does the command.
 pub(crate) fn act(locks: &mut Locks, w: &Waiter, out: &mut Effects) -> LockReply
-    requires room { HasRoom 1 locks.old out.old }
+    requires room { HasRoom 1 locks.old }
     requires waiter { 1 ≤ locks.old.waiter_room }
+    requires letters { length (obtain.after w.now locks.old.content).letters ≤ out.old.mail.room }
     ensures reply { result ≡ obtain.reply w.now locks.old.content }
     ensures content { locks.new.content ≡ (obtain.after w.now locks.old.content).content }
     ensures mail { out.new.mail.items ≡ out.old.mail.items

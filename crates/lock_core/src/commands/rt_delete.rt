@@ -1,26 +1,29 @@
 //! DELETE of IXLRT: record data go, and a retained interest with them.
-ghost use Rattle.std.specs.Prelude.{◌≡◌, ◌+◌, ◌++◌, length};
+ghost use Rattle.std.specs.Prelude.{◌≡◌, ◌+◌, ◌≤◌, ◌++◌, length};
+ghost use Rattle.std.specs.Result.{result_err};
 ghost use Rattle.engine_api.specs.Meaning.{first_refusal};
 ghost use Rattle.lock_model.specs.Commands.RtDelete as rt_delete;
 ghost use Rattle.lock_core.specs.Stock.{HasRoom};
 
 use crate::grants::grant;
 use crate::locks::Locks;
-use crate::refusals::{first_refusal, record_refusal};
-use cf_types::{ConnId, Effects, Refusal, Resource};
+use crate::refusals::{Judged, record_refusal};
+use cf_types::{ConnId, Effects, Resource};
 use lock_interests::Interests;
 
 /// Why the command is refused.
-pub(crate) fn refusal(interests: &Interests, r: &Resource, conn: ConnId) -> Option<Refusal>
-    ensures { result ≡ first_refusal (rt_delete.causes r.now conn interests.now.interests) }
+pub(crate) fn refusal(interests: &Interests, r: &Resource, conn: ConnId) -> Judged
+    ensures { result_err result
+        ≡ first_refusal (rt_delete.causes r.now conn interests.now.interests) }
 {
-    let record_cause = record_refusal(interests.has_record(r, conn));
-    first_refusal(&[record_cause])
+    record_refusal(interests.has_record(r, conn))
 }
 
 /// Does the command.
 pub(crate) fn act(locks: &mut Locks, r: &Resource, conn: ConnId, out: &mut Effects)
-    requires { HasRoom 1 locks.old out.old }
+    requires room { HasRoom 1 locks.old }
+    requires letters { length (rt_delete.after r.now conn locks.old.content).letters ≤
+        out.old.mail.room }
     ensures content { locks.new.content ≡ (rt_delete.after r.now conn locks.old.content).content }
     ensures mail { out.new.mail.items ≡ out.old.mail.items
         ++ (rt_delete.after r.now conn locks.old.content).letters }

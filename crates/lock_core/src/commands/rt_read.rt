@@ -1,16 +1,16 @@
 //! READ of IXLRT: the record data of a connector.
 ghost use Rattle.std.specs.Prelude.{◌≡◌};
+ghost use Rattle.std.specs.Result.{result_err};
 ghost use Rattle.engine_api.specs.Meaning.{first_refusal};
 ghost use Rattle.lock_model.specs.Commands.RtRead as rt_read;
 
-use crate::refusals::{first_refusal, record_refusal};
-use cf_types::{ConnId, Refusal};
+use crate::refusals::{Judged, record_refusal};
+use cf_types::ConnId;
 use lock_interests::Interests;
 
 /// Why the command is refused.
-pub(crate) fn refusal(interests: &Interests, conn: ConnId) -> Option<Refusal>
-    ensures { result ≡ first_refusal (rt_read.causes conn interests.now.interests) }
+pub(crate) fn refusal(interests: &Interests, conn: ConnId) -> Judged
+    ensures { result_err result ≡ first_refusal (rt_read.causes conn interests.now.interests) }
 {
-    let record_cause = record_refusal(interests.has_records(conn));
-    first_refusal(&[record_cause])
+    record_refusal(interests.has_records(conn))
 }

@@ -1,4 +1,4 @@
-use Rattle.std.proofs.Common.{◌≡◌, [], List, filter, fold, map, sym, ap, ◌∙◌}
+use Rattle.std.proofs.Common.{[], List, filter, fold, map, sym, ap, ◌∙◌}
 use Rattle.std.proofs.lemmas.List.Sums.{fold-append}
 use Rattle.cf_types.specs.declared.resources.Resource.{Resource}
 use Rattle.lock_queue.specs.declared.waiters.Waiter.{Waiter}

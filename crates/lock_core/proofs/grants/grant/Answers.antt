@@ -1,12 +1,23 @@
 use Rattle.std.proofs.Common.{◌≡◌, ◌++◌, ◌∷◌, [], List, length, append_assoc, append-nil, sym, ap, ◌∙◌, arith}
 use Rattle.cf_types.specs.declared.events.Letter.{Letter}
-use Rattle.lock_model.specs.Grants.{Settlement, grant, with_letters_before, settlement_of, granted_letter}
+use Rattle.lock_model.specs.Grants.{Settlement, grant, with_letters_before, settlement_of, granted_letter, content_granted}
 use Rattle.lock_core.proofs.GrantLaws.{next-waits, grant-next, grant-none}
 use Rattle.lock_core.proofs.grants.grant.Goals as goal
 
 pub grant_one-requires-clause-waits : goal.grant_one-requires-clause-waits
 grant_one-requires-clause-waits c =
     next-waits c.loop-w.locks.content c.args.r.now c.in-Some.w c.next.ensures.queue (sym c.in-Some.ensures.next)
+
+pub grant_one-requires-clause-letter : goal.grant_one-requires-clause-letter
+grant_one-requires-clause-letter c =
+    let r = c.args.r.now in
+    let w = c.in-Some.w in
+    let old = c.loop-w.locks.content in
+    let step = grant-next old r w c.next.ensures.queue (sym c.in-Some.ensures.next) in
+    let many : length (grant r old).letters
+    ≡ length (granted_letter w ∷ (grant r (content_granted w old)).letters) =
+    ap (λ (l : Settlement). length l.letters) step in
+    omega (arith, many, c.requires.letters, c.loop-w.invariant.2)
 
 pub loop-w-preserved : goal.loop-w-preserved
 loop-w-preserved c =
@@ -30,6 +41,7 @@ loop-w-preserved c =
       c.grant_one.ensures.bits ∙ c.loop-w.invariant.3,
       c.grant_one.ensures.room,
       c.grant_one.ensures.limit ∙ c.loop-w.invariant.5,
+      omega (arith, many, c.grant_one.ensures.fewer, c.loop-w.invariant.6),
     )
 
 pub returns-clause-content : goal.returns-clause-content
@@ -54,3 +66,11 @@ returns-clause-letters c =
     grant-none c.loop-w.locks.content r (sym c.next.ensures.next ∙ c.in_default.is) in
     let many : length (grant r c.loop-w.locks.content).letters ≡ 0 = ap (λ (l : Settlement). length l.letters) none in
     omega (arith, many, c.loop-w.invariant.2)
+
+pub returns-clause-fewer : goal.returns-clause-fewer
+returns-clause-fewer c =
+    let r = c.args.r.now in
+    let none : grant r c.loop-w.locks.content ≡ settlement_of c.loop-w.locks.content =
+    grant-none c.loop-w.locks.content r (sym c.next.ensures.next ∙ c.in_default.is) in
+    let many : length (grant r c.loop-w.locks.content).letters ≡ 0 = ap (λ (l : Settlement). length l.letters) none in
+    omega (arith, many, c.loop-w.invariant.6)

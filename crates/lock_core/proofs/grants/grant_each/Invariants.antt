@@ -1,4 +1,4 @@
-use Rattle.std.proofs.Common.{◌≡◌, ◌+◌, ◌++◌, drop, length}
+use Rattle.std.proofs.Common.{◌≡◌, ◌+◌, ◌≤◌, ◌++◌, drop, length}
 use Rattle.lock_model.specs.Grants.{grant_each}
 use Rattle.lock_core.specs.Stock.{HasRoom}
 use Rattle.lock_core.proofs.grants.grant_each.Given as goal
@@ -12,5 +12,6 @@ invariant-loop-r l =
     × (l.initial.out.mail.room + length (grant_each (drop l.r-index l.resources) l.locks.content).letters
     ≡ l.out.mail.room + length (grant_each l.resources l.initial.locks.content).letters)
     × (l.out.bits ≡ l.initial.out.bits)
-    × HasRoom 0 l.locks l.out
+    × HasRoom 0 l.locks
+    × (length l.locks.content.waiters ≤ l.out.mail.room)
     × (l.locks.limit ≡ l.initial.locks.limit)

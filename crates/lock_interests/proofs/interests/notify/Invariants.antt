@@ -9,5 +9,5 @@ invariant-loop-held l =
     ++ letters_told l.r l.conn (owners_left l.fn.owners))
     × (l.initial.out.mail.room + length (letters_told l.r l.conn (owners_left l.held-iterator)) ≡ l.out.mail.room +
     length (letters_told l.r l.conn (owners_left l.fn.owners)))
-    × (length (owners_left l.held-iterator) ≤ l.out.mail.room)
+    × (length (letters_told l.r l.conn (owners_left l.held-iterator)) ≤ l.out.mail.room)
     × (l.out.bits ≡ l.initial.out.bits)

@@ -1,12 +1,12 @@
-use Rattle.std.proofs.Common.{[], ◌∷◌, Option, ap, sym}
+use Rattle.std.proofs.Common.{[], ◌∷◌, Option, ap, sym, ◌∙◌}
 use Rattle.cf_types.specs.declared.refusals.Refusal.{Refusal}
 use Rattle.engine_api.specs.Meaning.{first_refusal}
 use Rattle.lock_model.specs.Commands.RtDelete as rt_delete
-use Rattle.lock_core.proofs.ReadLaws.{record_refusal-any}
+use Rattle.lock_core.proofs.ReadLaws.{first_of_one, record_refusal-any}
 use Rattle.lock_core.proofs.commands.rt_delete.refusal.Goals as goal
 
 pub returns : goal.returns
 returns c =
-    rw (c.first_refusal.ensures, c.record_refusal-record_cause.ensures, c.has_record.ensures)
-    (ap (λ (cause : Option Refusal). first_refusal (cause ∷ []))
+    rw (c.record_refusal.ensures, c.has_record.ensures)
+    (first_of_one _ ∙ ap (λ (cause : Option Refusal). first_refusal (cause ∷ []))
     (sym (record_refusal-any (rt_delete.is_recorded c.args.r.now c.args.conn) c.args.interests.now.interests)))

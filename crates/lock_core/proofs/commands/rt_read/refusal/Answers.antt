@@ -1,12 +1,12 @@
-use Rattle.std.proofs.Common.{[], ◌∷◌, Option, ap, sym}
+use Rattle.std.proofs.Common.{[], ◌∷◌, Option, ap, sym, ◌∙◌}
 use Rattle.cf_types.specs.declared.refusals.Refusal.{Refusal}
 use Rattle.engine_api.specs.Meaning.{first_refusal}
 use Rattle.lock_model.specs.Commands.RtRead as rt_read
-use Rattle.lock_core.proofs.ReadLaws.{record_refusal-any}
+use Rattle.lock_core.proofs.ReadLaws.{first_of_one, record_refusal-any}
 use Rattle.lock_core.proofs.commands.rt_read.refusal.Goals as goal
 
 pub returns : goal.returns
 returns c =
-    rw (c.first_refusal.ensures, c.record_refusal-record_cause.ensures, c.has_records.ensures)
-    (ap (λ (cause : Option Refusal). first_refusal (cause ∷ []))
+    rw (c.record_refusal.ensures, c.has_records.ensures)
+    (first_of_one _ ∙ ap (λ (cause : Option Refusal). first_refusal (cause ∷ []))
     (sym (record_refusal-any (rt_read.is_recorded c.args.conn) c.args.interests.now.interests)))

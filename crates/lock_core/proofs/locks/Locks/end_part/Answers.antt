@@ -5,8 +5,8 @@ use Rattle.lock_core.proofs.GrantLaws.{fewer-without}
 use Rattle.lock_core.proofs.locks.Locks.end_part.Goals as goal
 
 pub returns-clause-room : goal.returns-clause-room
-returns-clause-room c out h =
-    let room = subst (λ (s : Stock). HasRoom 1 s out) (sym c.self.view_is) h in
+returns-clause-room c h =
+    let room = subst (λ (s : Stock). HasRoom 1 s) (sym c.self.view_is) h in
     let few = fewer-without c.args.r.now c.args.conn c.self.inside.queue.waiters in
     let left : (length c.remove-2.new.self.waiters ≤ length c.self.inside.queue.waiters)
     × (records_waiting c.remove-2.new.self.waiters ≤ records_waiting c.self.inside.queue.waiters) =
@@ -14,5 +14,4 @@ returns-clause-room c out h =
     record {
       owners = omega (arith, room.owners, left.0, c.remove.ensures.owner_room);
       records = omega (arith, room.records, left.1, c.remove.ensures.record_room);
-      letters = omega (arith, room.letters, left.0);
     }

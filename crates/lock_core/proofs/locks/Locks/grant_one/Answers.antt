@@ -29,17 +29,16 @@ grant-requires-clause-record_room c =
     (sym c.self.view_is) c.requires.queue in
     let waits : waiter_of w.r w.conn c.self.inside.queue.waiters ≡ Some w =
     subst (λ (s : Stock). waiter_of w.r w.conn s.content.waiters ≡ Some w) (sym c.self.view_is) c.requires.waits in
-    let room = subst (λ (s : Stock). HasRoom 0 s c.args.out.now) (sym c.self.view_is) c.requires.room in
+    let room = subst (λ (s : Stock). HasRoom 0 s) (sym c.self.view_is) c.requires.room in
     omega (arith, room.records, records-waits w c.self.inside.queue.waiters is waits)
 
 pub returns-clause-room : goal.returns-clause-room
 returns-clause-room c =
-    let room = subst (λ (s : Stock). HasRoom 0 s c.args.out.now) (sym c.self.view_is) c.requires.room in
+    let room = subst (λ (s : Stock). HasRoom 0 s) (sym c.self.view_is) c.requires.room in
     let left = left_of c in
     record {
       owners = omega (arith, room.owners, left.0, c.grant.ensures.owner_room);
       records = omega (arith, room.records, left.1, c.grant.ensures.record_room);
-      letters = omega (arith, room.letters, left.0, c.push.ensures.room);
     }
 
 pub returns-clause-fewer : goal.returns-clause-fewer

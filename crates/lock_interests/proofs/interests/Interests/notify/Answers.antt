@@ -1,10 +1,7 @@
-use Rattle.std.proofs.Common.{◌≡◌, ◌+◌, ◌++◌, List, length, ap, subst, ◌∙◌, arith}
-use Rattle.std.proofs.lemmas.List.{length-map}
+use Rattle.std.proofs.Common.{◌≡◌, ◌+◌, ◌++◌, ◌≤◌, List, length, ap, subst, ◌∙◌, arith}
 use Rattle.cf_types.specs.declared.events.Letter.{Letter}
-use Rattle.list_laws.proofs.FilterLaws.{length-filter-le}
-use Rattle.lock_table.specs.declared.holdings.Held.{Held}
-use Rattle.lock_table.specs.Holdings.{is_on}
-use Rattle.lock_interests.specs.InterestsView.{InterestsView, with_record}
+use Rattle.lock_model.specs.Commands.Decide as decide
+use Rattle.lock_interests.specs.InterestsView.{InterestsView}
 use Rattle.lock_interests.proofs.OwnerLaws.{told_left}
 use Rattle.lock_interests.proofs.interests.Interests.notify.Goals as goal
 
@@ -12,10 +9,9 @@ pub notify-requires : goal.notify-requires
 notify-requires c =
     omega (
       arith,
-      ap (λ (l : List Held). length l) c.owners.ensures,
-      length-filter-le (is_on c.args.r.now) c.self.inside.owners.owners,
-      length-map c.self.inside.owners.owners (with_record c.self.inside.records.records),
-      ap (λ (v : InterestsView). length v.interests) c.self.view_is,
+      ap (λ (l : List Letter). length l)
+          (told_left c.args.r.now c.args.conn c.self.inside.owners.owners c.self.inside.records.records _ c.owners.ensures),
+      ap (λ (v : InterestsView). length (decide.notify_letters c.args.r.now c.args.conn v.interests)) c.self.view_is,
       c.requires,
     )
 

@@ -1,0 +1,106 @@
+-- How many letters a command sends at most.
+use Rattle.std.proofs.Common.{◌+◌, ◌≤◌, Bool, true, false, not, if◌then◌else◌, ◌∷◌, [], List, Option, Some, None}
+use Rattle.std.proofs.Common.{length, filter, ap, arith}
+use Rattle.cf_types.specs.declared.numbers.ConnId.{ConnId}
+use Rattle.cf_types.specs.declared.resources.Resource.{Resource}
+use Rattle.cf_types.specs.declared.lock_commands.Decision.TheVariants.{Deny}
+use Rattle.list_laws.proofs.FilterLaws.{filter_swap, length-filter-le}
+use Rattle.lock_queue.specs.declared.waiters.Waiter.{Waiter}
+use Rattle.lock_queue.specs.Waiters.{is_on, is_waiter, waiters_of, waiters_without}
+use Rattle.lock_model.specs.Interests.{may_own, manager_of, interests_without}
+use Rattle.lock_model.specs.Contents.{Content}
+use Rattle.lock_model.specs.Grants.{Settlement, settlement_of, with_letters_before, grants, grant, held_by}
+use Rattle.lock_model.specs.Grants.{content_granted, granted_letter}
+use Rattle.lock_model.specs.Requests as requests
+use Rattle.lock_model.specs.Commands.Obtain as obtain
+use Rattle.lock_model.specs.Commands.Alter as alter
+use Rattle.lock_model.specs.Commands.Release as release
+use Rattle.lock_model.specs.Commands.Decide as decide
+use Rattle.lock_model.specs.Commands.RtDelete as rt_delete
+
+-- ---- those that are granted
+
+granted_step : (b : Bool) (w : Waiter) (ws : List Waiter) (content : Content) (left : Settlement)
+    → length left.letters ≤ length ws
+    → length (if b then with_letters_before (granted_letter w ∷ []) left else settlement_of content).letters
+    ≤ length (w ∷ ws)
+granted_step true w ws content left h = omega (arith, h)
+granted_step false w ws content left h = omega arith
+
+grants_few : (ws : List Waiter) (content : Content) → length (grants ws content).letters ≤ length ws
+grants_few [] content = omega arith
+grants_few (w ∷ ws) content =
+    granted_step (may_own (held_by w) content.interests) w ws content (grants ws (content_granted w content))
+    (grants_few ws (content_granted w content))
+
+pub grant_few : (r : Resource) (content : Content)
+    → length (grant r content).letters ≤ length (waiters_of r content.waiters)
+grant_few r content = grants_few (waiters_of r content.waiters) content
+
+-- no more than all that wait
+pub grant_within : (r : Resource) (content : Content) → length (grant r content).letters ≤ length content.waiters
+grant_within r content = omega (arith, grant_few r content, length-filter-le (is_on r) content.waiters)
+
+fewer_without : (r : Resource) (conn : ConnId) (waiters : List Waiter)
+    → length (waiters_of r (waiters_without r conn waiters)) ≤ length (waiters_of r waiters)
+fewer_without r conn waiters =
+    let q : Waiter → Bool = λ (w : Waiter). not (is_waiter r conn w) in
+    omega (
+      arith,
+      ap (λ (l : List Waiter). length l) (filter_swap (is_on r) q waiters),
+      length-filter-le q (filter (is_on r) waiters),
+    )
+
+-- ---- those of a command
+
+pub contention_few : (w : Waiter) (manager : Option ConnId) → length (requests.contention w manager) ≤ 1
+contention_few w None = omega arith
+contention_few w (Some conn) = omega arith
+
+obtain_step : (b : Bool) (w : Waiter) (content : Content)
+    → length (if b then settlement_of (requests.content_asked true w content)
+    else requests.wait_settlement w content).letters ≤ 1
+obtain_step true w content = omega arith
+obtain_step false w content = contention_few w (manager_of w.r content.interests)
+
+pub obtain_few : (w : Waiter) (content : Content) → length (obtain.after w content).letters ≤ 1
+obtain_few w content = obtain_step (obtain.at_once w content) w content
+
+alter_step : (b : Bool) (w : Waiter) (content : Content)
+    → length (if b then grant w.r (requests.content_asked true w content)
+    else requests.wait_settlement w content).letters ≤ length (waiters_of w.r content.waiters) + 1
+alter_step true w content = omega (arith, grant_few w.r (requests.content_asked true w content))
+alter_step false w content = omega (arith, contention_few w (manager_of w.r content.interests))
+
+pub alter_few : (w : Waiter) (content : Content)
+    → length (alter.after w content).letters ≤ length (waiters_of w.r content.waiters) + 1
+alter_few w content = alter_step (alter.at_once w content) w content
+
+pub release_few : (by : ConnId) (r : Resource) (content : Content)
+    → length (release.after by r content).letters ≤ length (waiters_of r content.waiters)
+release_few by r content = grant_few r (record content { interests = interests_without r by content.interests })
+
+pub denied_few : (r : Resource) (conn : ConnId) (content : Content)
+    → length (decide.after Deny r conn content).letters ≤ length (waiters_of r content.waiters) + 1
+denied_few r conn content =
+    omega (
+      arith,
+      grant_few r (decide.content_denied r conn content),
+      fewer_without r conn content.waiters,
+    )
+
+delete_step : (b : Bool) (r : Resource) (conn : ConnId) (content : Content)
+    → length (if b then grant r (rt_delete.content_unowned r conn content)
+    else settlement_of (rt_delete.content_unrecorded r conn content)).letters
+    ≤ length (waiters_of r content.waiters)
+delete_step true r conn content =
+    omega (
+      arith,
+      grant_few r (rt_delete.content_unowned r conn content),
+      fewer_without r conn content.waiters,
+    )
+delete_step false r conn content = omega arith
+
+pub delete_few : (r : Resource) (conn : ConnId) (content : Content)
+    → length (rt_delete.after r conn content).letters ≤ length (waiters_of r content.waiters)
+delete_few r conn content = delete_step (rt_delete.is_retained r conn content.interests) r conn content

@@ -1,0 +1,32 @@
+use Rattle.std.proofs.Common.{arith}
+use Rattle.lock_model.specs.Contents.{Content}
+use Rattle.lock_model.specs.Commands.Alter as alter
+use Rattle.lock_core.proofs.LetterLaws.{alter_few, release_few, delete_few}
+use Rattle.lock_core.proofs.letters.most_letters.Goals as goal
+
+pub returns-in-Alter : goal.returns-in-Alter
+returns-in-Alter c by =
+    let content : Content = record {
+      interests = c.locks.inside.interests.interests;
+      waiters = c.locks.inside.queue.waiters;
+    } in
+    let w = alter.request by c.in-Alter.r c.in-Alter.excl c.in-Alter.rec in
+    rw (← c.locks.view_is, c.in-Alter.is) (omega (arith, alter_few w content, c.count_of.ensures.count))
+
+pub returns-in-Release : goal.returns-in-Release
+returns-in-Release c by =
+    let content : Content = record {
+      interests = c.locks.inside.interests.interests;
+      waiters = c.locks.inside.queue.waiters;
+    } in
+    rw (← c.locks.view_is, c.in-Release.is)
+    (omega (arith, release_few by c.in-Release.r content, c.count_of-in-Release.ensures.count))
+
+pub returns-in-RtDelete : goal.returns-in-RtDelete
+returns-in-RtDelete c by =
+    let content : Content = record {
+      interests = c.locks.inside.interests.interests;
+      waiters = c.locks.inside.queue.waiters;
+    } in
+    rw (← c.locks.view_is, c.in-RtDelete.is)
+    (omega (arith, delete_few c.in-RtDelete.r c.in-RtDelete.conn content, c.count_of-in-RtDelete.ensures.count))

@@ -1,0 +1,35 @@
+//! For how many letters a command wants room.
+ghost use Rattle.std.specs.Prelude.{◌≤◌, length};
+ghost use Rattle.cf_types.specs.declared.numbers.ConnId.{ConnId};
+ghost use Rattle.lock_model.specs.Commands.Decide as decide;
+ghost use Rattle.lock_model.specs.Step.{after};
+
+use crate::locks::Locks;
+use cf_types::{ConnId, Decision, LockCmd, Resource};
+
+// How many letters a decision sends at most: with a denial one to the waiter, and one to each that
+// is granted.
+fn most_decided(locks: &Locks, how: Decision, r: &Resource, conn: ConnId) -> usize
+    ensures { length (decide.after how r.now conn locks.now.content).letters ≤ result }
+{
+    match how {
+        Decision::Keep => 0,
+        Decision::Deny => locks.queue.count_of(r) + 1,
+        Decision::Notify => locks.interests.count_told(r, conn),
+    }
+}
+
+/// How many letters a command sends at most, whoever gives it. Who waits for its resource may be
+/// granted it; and one that asks for a resource may have its manager told instead.
+pub(crate) fn most_letters(locks: &Locks, cmd: &LockCmd) -> usize
+    ensures { (by : ConnId) → length (after locks.now.content by cmd.now).letters ≤ result }
+{
+    match cmd {
+        LockCmd::Obtain { .. } => 1,
+        LockCmd::Alter { r, .. } => locks.queue.count_of(r) + 1,
+        LockCmd::Release { r } => locks.queue.count_of(r),
+        LockCmd::Decide { r, conn, how } => most_decided(locks, *how, r, *conn),
+        LockCmd::RtRead { .. } => 0,
+        LockCmd::RtDelete { conn: _, r } => locks.queue.count_of(r),
+    }
+}
