@@ -1,9 +1,11 @@
 -- A seat is split, and a seat takes in another.
-use Rattle.std.proofs.Common.{◌≡◌, ◌≢◌, ◌+◌, ◌<◌, ◌≤◌, ◌⊎◌, ℕ, zero, suc, Bool, true, false, List, [], ◌∷◌, ◌++◌, length, set, get_or, Contains}
+use Rattle.std.proofs.Common.{◌≡◌, ◌≢◌, ◌+◌, ◌<◌, ◌≤◌, ◌⊎◌, ℕ, zero, suc, Bool, true, false, List, [], ◌∷◌, ◌++◌}
+use Rattle.std.proofs.Common.{length, set, get_or, Contains}
 use Rattle.std.proofs.Common.{refl, sym, ap, ◌∙◌, subst, inl, inr, ⊎_elim, arith, true≢false, length-append}
 use Rattle.std.proofs.lemmas.List.{length-set}
 use Rattle.std.proofs.lemmas.List.Sums.{sum_by_push}
-use Rattle.std.proofs.lemmas.List.Elements.{All-weaker, All-nil, All-cons, All-append, Contains-append_left, Contains-append_right}
+use Rattle.std.proofs.lemmas.List.Elements.{All-weaker, All-nil, All-cons, All-append, Contains-append_left}
+use Rattle.std.proofs.lemmas.List.Elements.{Contains-append_right}
 use mathlib.Core.Option.{some, some-injective, some-ne-none}
 use mathlib.Core.Logic.{dite}
 use native.Mathlib.Decide.{ℕ_discrete}
@@ -69,7 +71,8 @@ splits size id v pos has room s kept at =
       read = f.read;
     })
 
-    spent : (k : ℕ) → IsSpent (set s.views id (without_right v)) k → IsSpent (set s.views id (without_right v) ++ next_view v ∷ []) k
+    spent : (k : ℕ) → IsSpent (set s.views id (without_right v)) k
+        → IsSpent (set s.views id (without_right v) ++ next_view v ∷ []) k
     spent k t = (t.0, t.1, at_longer (set s.views id (without_right v)) (next_view v ∷ []) t.0 spent_view t.2)
 
     answered : (r : Reading) → IsAnswered (set s.views id (without_right v)) r
@@ -86,7 +89,8 @@ splits size id v pos has room s kept at =
         (λ (t : get_elem? views seat ≡ some u). ⊎_elim (λ (z : u ≡ spent_view). inl z)
         (λ (f : IsLive views seat u). inr (moved views views' seat u spent answered
         (λ r q. absurd (true≢false (sym r ∙ ap (λ (x : View). x.right)
-        (same-at views seat id u (without_right v) (omega arith) t (set_here s.views id (without_right v) (within s.views id v at)))))) f))
+        (same-at views seat id u (without_right v) (omega arith) t
+        (set_here s.views id (without_right v) (within s.views id v at)))))) f))
         (before seat u t))
         (λ (t : (seat ≡ length views) × (next_view v ≡ u)).
         let place : seat ≡ length views = t.0 in
@@ -131,7 +135,8 @@ joins size id v other w pos pos' s kept at apart there = record {
 
     -- the other seat's place, the first seat's, and any other
     at-other : get_elem? (set (set s.views id (joined v w)) other spent_view) other ≡ some spent_view
-    at-other = set_here (set s.views id (joined v w)) other spent_view (within (set s.views id (joined v w)) other w there)
+    at-other = set_here (set s.views id (joined v w)) other spent_view
+        (within (set s.views id (joined v w)) other w there)
 
     at-first : get_elem? (set (set s.views id (joined v w)) other spent_view) id ≡ some (joined v w)
     at-first = set_else (set s.views id (joined v w)) other id spent_view (λ e. apart (sym e))
@@ -139,7 +144,8 @@ joins size id v other w pos pos' s kept at apart there = record {
 
     at-else : (j : ℕ) (u : View) → j ≢ id → j ≢ other → get_elem? s.views j ≡ some u
         → get_elem? (set (set s.views id (joined v w)) other spent_view) j ≡ some u
-    at-else j u far off e = set_else (set s.views id (joined v w)) other j spent_view off ∙ (set_else s.views id j (joined v w) far ∙ e)
+    at-else j u far off e = set_else (set s.views id (joined v w)) other j spent_view off
+        ∙ (set_else s.views id j (joined v w) far ∙ e)
 
     spent : (k : ℕ) → IsSpent s.views k → IsSpent (set (set s.views id (joined v w)) other spent_view) k
     spent k t = (
@@ -147,7 +153,8 @@ joins size id v other w pos pos' s kept at apart there = record {
       t.1,
       dite (ℕ_discrete t.0 other)
           (λ (e : t.0 ≡ other). ap (get_elem? (set (set s.views id (joined v w)) other spent_view)) e ∙ at-other)
-          (λ (ne : t.0 ≢ other). at-else t.0 spent_view (λ e. not-spent v pos (same-at s.views t.0 id spent_view v e t.2 at)) ne t.2),
+          (λ (ne : t.0 ≢ other). at-else t.0 spent_view
+          (λ e. not-spent v pos (same-at s.views t.0 id spent_view v e t.2 at)) ne t.2),
     )
 
     gone : (k : ℕ) → IsOwn s.views other k → IsSpent (set (set s.views id (joined v w)) other spent_view) k
@@ -192,19 +199,28 @@ joins size id v other w pos pos' s kept at apart there = record {
       own = Contains-append_left v.gathered w.gathered v.number f.own;
       right = λ r. f.right r ∙ sym lengths;
       gathered = All-append (IsOwn (set (set s.views id (joined v w)) other spent_view) id) v.gathered w.gathered
-          (All-weaker (IsOwn s.views id) (IsOwn (set (set s.views id (joined v w)) other spent_view) id) own v.gathered f.gathered)
-          (All-weaker (IsOwn s.views other) (IsOwn (set (set s.views id (joined v w)) other spent_view) id) (λ k o. inr (gone k o)) w.gathered h.gathered);
-      ever = All-append (λ (g : Grant). IsOwn (set (set s.views id (joined v w)) other spent_view) id g.hand) v.ever w.ever
-          (All-weaker (λ (g : Grant). IsOwn s.views id g.hand) (λ (g : Grant). IsOwn (set (set s.views id (joined v w)) other spent_view) id g.hand) (λ g. own g.hand) v.ever f.ever)
-          (All-weaker (λ (g : Grant). IsOwn s.views other g.hand) (λ (g : Grant). IsOwn (set (set s.views id (joined v w)) other spent_view) id g.hand) (λ g o. inr (gone g.hand o)) w.ever h.ever);
+          (All-weaker (IsOwn s.views id) (IsOwn (set (set s.views id (joined v w)) other spent_view) id) own v.gathered
+          f.gathered)
+          (All-weaker (IsOwn s.views other) (IsOwn (set (set s.views id (joined v w)) other spent_view) id)
+          (λ k o. inr (gone k o)) w.gathered h.gathered);
+      ever = All-append (λ (g : Grant). IsOwn (set (set s.views id (joined v w)) other spent_view) id g.hand) v.ever
+          w.ever
+          (All-weaker (λ (g : Grant). IsOwn s.views id g.hand)
+          (λ (g : Grant). IsOwn (set (set s.views id (joined v w)) other spent_view) id g.hand) (λ g. own g.hand)
+          v.ever f.ever)
+          (All-weaker (λ (g : Grant). IsOwn s.views other g.hand)
+          (λ (g : Grant). IsOwn (set (set s.views id (joined v w)) other spent_view) id g.hand)
+          (λ g o. inr (gone g.hand o)) w.ever h.ever);
       held = All-append Has v.held w.held
           (All-weaker (λ (x : Hold). (hand : ℕ) × Contains v.ever (grant hand x.word x.excl)) Has
           (λ x t. (t.0, Contains-append_left v.ever w.ever (grant t.0 x.word x.excl) t.1)) v.held f.held)
           (All-weaker (λ (x : Hold). (hand : ℕ) × Contains w.ever (grant hand x.word x.excl)) Has
           (λ x t. (t.0, Contains-append_right v.ever w.ever (grant t.0 x.word x.excl) t.1)) w.held h.held);
       read = All-append (IsAnswered (set (set s.views id (joined v w)) other spent_view)) v.read w.read
-          (All-weaker (IsAnswered s.views) (IsAnswered (set (set s.views id (joined v w)) other spent_view)) answered v.read f.read)
-          (All-weaker (IsAnswered s.views) (IsAnswered (set (set s.views id (joined v w)) other spent_view)) answered w.read h.read);
+          (All-weaker (IsAnswered s.views) (IsAnswered (set (set s.views id (joined v w)) other spent_view)) answered
+          v.read f.read)
+          (All-weaker (IsAnswered s.views) (IsAnswered (set (set s.views id (joined v w)) other spent_view)) answered
+          w.read h.read);
     }
 
     fit : AllFit (set (set s.views id (joined v w)) other spent_view)
@@ -213,7 +229,8 @@ joins size id v other w pos pos' s kept at apart there = record {
         let views' = set (set s.views id (joined v w)) other spent_view in
         ⊎_elim (λ (t : (seat ≡ other) × (spent_view ≡ u)). inl (sym t.1))
         (λ (t : (seat ≢ other) × (get_elem? views seat ≡ some u)). ⊎_elim
-        (λ (x : (seat ≡ id) × (joined v w ≡ u)). inr (subst (λ (p : ℕ × View). IsLive views' p.0 p.1) (λ i. (sym x.0 i, x.1 i))
+        (λ (x : (seat ≡ id) × (joined v w ≡ u)). inr
+        (subst (λ (p : ℕ × View). IsLive views' p.0 p.1) (λ i. (sym x.0 i, x.1 i))
         (both (live (kept.fit id v at)) (⊎_elim (λ (z : w ≡ spent_view). absurd (not-spent w pos' (sym z)))
         (λ (f : IsLive s.views other w). f) (kept.fit other w was)))))
         (λ (x : (seat ≢ id) × (get_elem? s.views seat ≡ some u)). ⊎_elim (λ (z : u ≡ spent_view). inl z)

@@ -1,11 +1,13 @@
 -- Each step keeps the rule.
-use Rattle.std.proofs.Common.{◌≡◌, ◌≢◌, ◌==◌, ◌+◌, ◌-◌, ◌*◌, ◌%◌, ◌^◌, ◌<◌, ◌≤◌, ◌⊎◌, ℕ, zero, suc, Bool, true, false, not, cond}
+use Rattle.std.proofs.Common.{◌≡◌, ◌≢◌, ◌==◌, ◌+◌, ◌-◌, ◌*◌, ◌%◌, ◌^◌, ◌<◌, ◌≤◌, ◌⊎◌, ℕ, zero, suc, Bool, true, false}
+use Rattle.std.proofs.Common.{not, cond}
 use Rattle.std.proofs.Common.{List, [], ◌∷◌, ◌++◌, length, set, get_or, Contains}
 use Rattle.std.proofs.Common.{refl, sym, ap, ◌∙◌, subst, inl, inr, ⊎_elim, arith}
 use Rattle.std.specs.Prelude.{if◌then◌else◌}
 use Rattle.std.proofs.lemmas.Bool.{eqb-true}
 use Rattle.std.proofs.lemmas.List.{length-set}
-use Rattle.std.proofs.lemmas.List.Elements.{All-weaker, All-push, All-filter, All-contains, Contains-append_left, Contains-push}
+use Rattle.std.proofs.lemmas.List.Elements.{All-weaker, All-push, All-filter, All-contains, Contains-append_left}
+use Rattle.std.proofs.lemmas.List.Elements.{Contains-push}
 use mathlib.Core.Option.{some, some-injective, some-ne-none}
 use mathlib.Core.Logic.{dite}
 use native.Mathlib.Decide.{ℕ_discrete}
@@ -21,7 +23,8 @@ use Rattle.lock_words.specs.declared.view.Size.{Size}
 use Rattle.lock_words.specs.Values.{tally, IsValue, says_excl, Admits, Adds}
 use Rattle.lock_words.specs.View.{hold, reading, grant, spent_view, looked, granted, tried, released, Becomes}
 use Rattle.lock_words.specs.Rule.{total, IsSpent, IsOwn, IsAnswered, IsLive, AllFit, Kept}
-use Rattle.lock_words.proofs.Tallies.{one, tally-push, one-other, one-same, one-opposite, tally-released, tally-spared, counted, sum-set, somewhere}
+use Rattle.lock_words.proofs.Tallies.{one, tally-push, one-other, one-same, one-opposite, tally-released, tally-spared}
+use Rattle.lock_words.proofs.Tallies.{counted, sum-set, somewhere}
 use Rattle.lock_words.proofs.Tallies.{value-sum, value-is, value-same, value-state, values-set, taken-off}
 
 pub within : (vs : List View) (i : ℕ) (v : View) → get_elem? vs i ≡ some v → i < length vs
@@ -30,7 +33,8 @@ within (x ∷ xs) zero v e = omega arith
 within (x ∷ xs) (suc i) v e = let h = within xs i v e in omega arith
 
 -- two things at one place are one
-pub same-at : (vs : List View) (i j : ℕ) (u v : View) → i ≡ j → get_elem? vs i ≡ some u → get_elem? vs j ≡ some v → u ≡ v
+pub same-at : (vs : List View) (i j : ℕ) (u v : View) → i ≡ j → get_elem? vs i ≡ some u → get_elem? vs j ≡ some v
+    → u ≡ v
 same-at vs i j u v p a b = some-injective u v (sym a ∙ (ap (get_elem? vs) p ∙ b))
 
 -- a hand isn't one that was taken in
@@ -47,7 +51,8 @@ moved views views' seat v spent answered right f = record {
   own = f.own;
   right = λ r. right r (f.right r);
   gathered = All-weaker (IsOwn views seat) (IsOwn views' seat) own v.gathered f.gathered;
-  ever = All-weaker (λ (g : Grant). IsOwn views seat g.hand) (λ (g : Grant). IsOwn views' seat g.hand) (λ g. own g.hand) v.ever f.ever;
+  ever = All-weaker (λ (g : Grant). IsOwn views seat g.hand) (λ (g : Grant). IsOwn views' seat g.hand) (λ g. own g.hand)
+      v.ever f.ever;
   held = f.held;
   read = All-weaker (IsAnswered views) (IsAnswered views') answered v.read f.read;
 }
@@ -73,7 +78,8 @@ module _ (views : List View) (id : ℕ) (v w : View) (at : get_elem? views id �
         a.2,
         set_here views id w (within views id v at),
         a.4,
-        more (grant a.2 r.word (says_excl r.value)) (subst (λ (u : View). Contains u.ever (grant a.2 r.word (says_excl r.value)))
+        more (grant a.2 r.word (says_excl r.value))
+            (subst (λ (u : View). Contains u.ever (grant a.2 r.word (says_excl r.value)))
             (same-at views a.0 id a.1 v e a.3 at) a.5),
       ))
       (λ (ne : a.0 ≢ id). (a.0, a.1, a.2, set_else views id a.0 w ne ∙ a.3, a.4, a.5))
@@ -82,14 +88,17 @@ module _ (views : List View) (id : ℕ) (v w : View) (at : get_elem? views id �
   pub fit-set : AllFit views → ((g : Grant) → Contains v.ever g → Contains w.ever g)
       → (IsLive (set views id w) id v → IsLive (set views id w) id w) → AllFit (set views id w)
   fit-set fit more mine seat u e = ⊎_elim
-      (λ (t : (seat ≡ id) × (w ≡ u)). inr (subst (λ (p : ℕ × View). IsLive (set views id w) p.0 p.1) (λ i. (sym t.0 i, t.1 i))
-      (⊎_elim (λ (z : v ≡ spent_view). absurd (not-spent v pos (sym z))) (λ (f : IsLive views id v). mine (here id v f)) (fit id v at))))
+      (λ (t : (seat ≡ id) × (w ≡ u)). inr
+      (subst (λ (p : ℕ × View). IsLive (set views id w) p.0 p.1) (λ i. (sym t.0 i, t.1 i))
+      (⊎_elim (λ (z : v ≡ spent_view). absurd (not-spent v pos (sym z))) (λ (f : IsLive views id v). mine (here id v f))
+      (fit id v at))))
       (λ (t : (seat ≢ id) × (get_elem? views seat ≡ some u)). ⊎_elim (λ (z : u ≡ spent_view). inl z)
       (λ (f : IsLive views seat u). inr (here seat u f)) (fit seat u t.1))
       (at_set views id seat w u e)
     where
       here : (seat : ℕ) (u : View) → IsLive views seat u → IsLive (set views id w) seat u
-      here seat u f = moved views (set views id w) seat u spent-set (answered-set more) (λ _ q. q ∙ sym (length-set views id w)) f
+      here seat u f = moved views (set views id w) seat u spent-set (answered-set more)
+          (λ _ q. q ∙ sym (length-set views id w)) f
 
 -- what a hand finds in a word that it doesn't hold is another's
 pub answers : (size : Size) (s : State ℕ View) (id word : ℕ) (v : View) → Kept size s → get_elem? s.views id ≡ some v
@@ -99,7 +108,8 @@ answers size s id word v kept at pos no_share no_excl some_value =
     let n = get_or s.words word 0 in
     let b = says_excl n in
     let there = somewhere (λ u. tally word b u.held) s.views
-    (some_of b (value-state (total word false s.views) (total word true s.views) n (kept.words word) some_value b refl)) in
+    (some_of b (value-state (total word false s.views) (total word true s.views) n (kept.words word) some_value b refl))
+    in
     go there.0 there.1 b there.2 there.3 (kept.fit there.0 there.1 there.2)
   where
     some_of : (b : Bool) → 0 < cond b (total word true s.views) (total word false s.views) → 0 < total word b s.views
@@ -113,29 +123,36 @@ answers size s id word v kept at pos no_share no_excl some_value =
     apart : (seat : ℕ) (u : View) (hand : ℕ) (b : Bool) → get_elem? s.views seat ≡ some u → 0 < tally word b u.held
         → IsOwn s.views seat hand → hand ≢ v.number
     apart seat u hand b there has own same =
-        let mine : v.number ≡ suc id = ⊎_elim (λ (z : v ≡ spent_view). absurd (not-spent v pos (sym z))) (λ (f : IsLive s.views id v). f.number) (kept.fit id v at) in
+        let mine : v.number ≡ suc id =
+        ⊎_elim (λ (z : v ≡ spent_view). absurd (not-spent v pos (sym z))) (λ (f : IsLive s.views id v). f.number)
+        (kept.fit id v at) in
         ⊎_elim
         (λ (p : hand ≡ suc seat). let e : tally word b u.held ≡ 0 = ap (λ (x : View). tally word b x.held)
         (same-at s.views seat id u v (omega arith) there at) ∙ nothing b in omega arith)
-        (λ (p : IsSpent s.views hand). let n = p.1 in not-spent v pos (same-at s.views p.0 id spent_view v (omega arith) p.2 at))
+        (λ (p : IsSpent s.views hand). let n = p.1
+        in not-spent v pos (same-at s.views p.0 id spent_view v (omega arith) p.2 at))
         own
 
     go : (seat : ℕ) (u : View) (b : Bool) → get_elem? s.views seat ≡ some u → 0 < tally word b u.held
         → (u ≡ spent_view) ⊎ IsLive s.views seat u
-        → (j : ℕ) × (x : View) × (hand : ℕ) × (get_elem? s.views j ≡ some x) × (hand ≢ v.number) × Contains x.ever (grant hand word b)
-    go seat u b there has (inl z) = let e : tally word b u.held ≡ 0 = ap (λ (x : View). tally word b x.held) z in absurd (omega arith)
+        → (j : ℕ) × (x : View) × (hand : ℕ) × (get_elem? s.views j ≡ some x) × (hand ≢ v.number)
+        × Contains x.ever (grant hand word b)
+    go seat u b there has (inl z) =
+        let e : tally word b u.held ≡ 0 = ap (λ (x : View). tally word b x.held) z in absurd (omega arith)
     go seat u b there has (inr f) =
         let got = counted (λ x. (hand : ℕ) × Contains u.ever (grant hand x.word x.excl)) word b u.held f.held has in (
           seat,
           u,
           got.0,
           there,
-          apart seat u got.0 b there has (All-contains (λ (g : Grant). IsOwn s.views seat g.hand) u.ever (grant got.0 word b) f.ever got.1),
+          apart seat u got.0 b there has
+              (All-contains (λ (g : Grant). IsOwn s.views seat g.hand) u.ever (grant got.0 word b) f.ever got.1),
           got.1,
         )
 
 -- a step on one word, by a hand
-pub stepped-kept : (size : Size) (s : State ℕ View) (id i n : ℕ) (v w : View) → Kept size s → get_elem? s.views id ≡ some v
+pub stepped-kept : (size : Size) (s : State ℕ View) (id i n : ℕ) (v w : View) → Kept size s
+    → get_elem? s.views id ≡ some v
     → 0 < v.number → i < suc size.words
     → ((g : Grant) → Contains v.ever g → Contains w.ever g)
     → (IsLive (set s.views id w) id v → IsLive (set s.views id w) id w)
@@ -150,7 +167,8 @@ stepped-kept size s id i n v w kept at pos below more mine same here = record {
 }
 
 -- a reading more
-pub live-looked : (views : List View) (seat : ℕ) (v : View) (word value : ℕ) → IsAnswered views (reading v.number word value)
+pub live-looked : (views : List View) (seat : ℕ) (v : View) (word value : ℕ)
+    → IsAnswered views (reading v.number word value)
     → IsLive views seat v → IsLive views seat (looked v word value)
 live-looked views seat v word value answer f = record {
   number = f.number;
@@ -191,7 +209,8 @@ live-released views seat v word f = record {
   right = f.right;
   gathered = f.gathered;
   ever = f.ever;
-  held = All-filter (λ (x : Hold). not (x.word == word)) (λ (x : Hold). (hand : ℕ) × Contains v.ever (grant hand x.word x.excl)) v.held f.held;
+  held = All-filter (λ (x : Hold). not (x.word == word))
+      (λ (x : Hold). (hand : ℕ) × Contains v.ever (grant hand x.word x.excl)) v.held f.held;
   read = f.read;
 }
 
@@ -208,9 +227,11 @@ looks size slots id i me below pos no_share no_excl s kept width at small =
       tt,
       stepped-kept size s id i n v w kept at pos (omega arith) (λ g h. h)
           (live-looked (set s.views id w) id v i n
-          (answered-set s.views id v w at pos (λ g h. h) (reading v.number i n) (answers size s id i v kept at pos no_share no_excl)))
+          (answered-set s.views id v w at pos (λ g h. h) (reading v.number i n)
+          (answers size s id i v kept at pos no_share no_excl)))
           (λ k e ne. refl)
-          (value-same (total i false s.views) (total i true s.views) n _ _ _ (sums n false) (sums n true) refl (kept.words i)),
+          (value-same (total i false s.views) (total i true s.views) n _ _ _ (sums n false) (sums n true) refl
+          (kept.words i)),
       (refl, refl),
     )
   where
@@ -220,7 +241,8 @@ looks size slots id i me below pos no_share no_excl s kept width at small =
 -- a hand exchanges a word that it doesn't hold, from a value that admits it
 pub tries : (size : Size) (slots id i old new : ℕ) (excl : Bool) (me : Me ℕ View) → i < size.words → 0 < me.0.number
     → tally i false me.0.held ≡ 0 → tally i true me.0.held ≡ 0 → Admits old excl → Adds old excl new
-    → Allows (Kept size) slots id me i (λ n. either (n == old) new n) (λ n after. Becomes me (tried me.0 i old new n) after)
+    → Allows (Kept size) slots id me i (λ n. either (n == old) new n)
+    (λ n after. Becomes me (tried me.0 i old new n) after)
 tries size slots id i old new excl me below pos no_share no_excl admits adds s kept width at small =
     go (get_or s.words i 0 == old) refl
   where
@@ -242,15 +264,23 @@ tries size slots id i old new excl me below pos no_share no_excl admits adds s k
     more n g h = Contains-append_left me.0.ever (grant me.0.number i excl ∷ []) g h
 
     sums : (n : ℕ) (e : Bool) → total i e (set s.views id (got n)) ≡ total i e s.views + one i e (hold i excl)
-    sums n e = omega (arith, sum-set (λ u. tally i e u.held) s.views id me.0 (got n) at, tally-push i e me.0.held (hold i excl))
+    sums n e = omega (
+      arith,
+      sum-set (λ u. tally i e u.held) s.views id me.0 (got n) at,
+      tally-push i e me.0.held (hold i excl),
+    )
 
     value : (e : Bool) → excl ≡ e → Admits old e → new ≡ cond e 9223372036854775808 (old + 1) → (n : ℕ) → n ≡ old
         → IsValue (total i false s.views) (total i true s.views) n
         → IsValue (total i false s.views + one i false (hold i e)) (total i true s.views + one i true (hold i e)) new
-    value true is adm q n same v = let t = value-sum (total i false s.views) (total i true s.views) n v in let a : old ≡ 0 = adm in
-        value-is _ _ _ (omega (arith, t.0, t.1, a, q, same, one-same i true, one-opposite i true)) (omega (arith, t.0, t.1, a, same, one-same i true, one-opposite i true))
-    value false is adm q n same v = let t = value-sum (total i false s.views) (total i true s.views) n v in let a : old < 65535 = adm in
-        value-is _ _ _ (omega (arith, t.0, t.1, a, q, same, one-same i false, one-opposite i false)) (omega (arith, t.0, t.1, a, same, one-same i false, one-opposite i false))
+    value true is adm q n same v =
+        let t = value-sum (total i false s.views) (total i true s.views) n v in let a : old ≡ 0 = adm in
+        value-is _ _ _ (omega (arith, t.0, t.1, a, q, same, one-same i true, one-opposite i true))
+        (omega (arith, t.0, t.1, a, same, one-same i true, one-opposite i true))
+    value false is adm q n same v =
+        let t = value-sum (total i false s.views) (total i true s.views) n v in let a : old < 65535 = adm in
+        value-is _ _ _ (omega (arith, t.0, t.1, a, q, same, one-same i false, one-opposite i false))
+        (omega (arith, t.0, t.1, a, same, one-same i false, one-opposite i false))
 
     same : (n : ℕ) (e : Bool) → total i e s.views ≡ total i e (set s.views id (looked me.0 i n))
     same n e = omega (arith, sum-set (λ u. tally i e u.held) s.views id me.0 (looked me.0 i n) at)
@@ -285,7 +315,8 @@ tries size slots id i old new excl me below pos no_share no_excl admits adds s k
 pub frees : (size : Size) (slots id i share : ℕ) (me : Me ℕ View) → i < size.words → 0 < me.0.number
     → tally i false me.0.held + tally i true me.0.held ≡ 1
     → share ≡ tally i false me.0.held + tally i true me.0.held * 9223372036854775808
-    → Allows (Kept size) slots id me i (λ n. (n + (2 ^ 64 - share)) % 2 ^ 64) (λ n after. Becomes me (released me.0 i) after)
+    → Allows (Kept size) slots id me i (λ n. (n + (2 ^ 64 - share)) % 2 ^ 64)
+    (λ n after. Becomes me (released me.0 i) after)
 frees size slots id i share me below pos holds is s kept width at small =
     let n = get_or s.words i 0 in
     let w = released me.0 i in
@@ -298,14 +329,44 @@ frees size slots id i share me below pos holds is s kept width at small =
       stepped-kept size s id i ((n + (2 ^ 64 - share)) % 2 ^ 64) me.0 w kept at pos (omega arith) (λ g h. h)
           (live-released (set s.views id w) id me.0 i)
           (λ k e ne. tally-spared i k e me.0.held ne)
-          (value-is _ _ _ (omega (arith, sums false, sums true, tally-released i false me.0.held, tally-released i true me.0.held, old.0, old.1, lower, is, holds))
-          (omega (arith, sums false, sums true, tally-released i false me.0.held, tally-released i true me.0.held, old.1))),
+          (value-is _ _ _ (omega (
+            arith,
+            sums false,
+            sums true,
+            tally-released i false me.0.held,
+            tally-released i true me.0.held,
+            old.0,
+            old.1,
+            lower,
+            is,
+            holds,
+          ))
+          (omega (
+            arith,
+            sums false,
+            sums true,
+            tally-released i false me.0.held,
+            tally-released i true me.0.held,
+            old.1,
+          ))),
       (refl, refl),
     )
   where
-    sums : (e : Bool) → total i e (set s.views id (released me.0 i)) + tally i e me.0.held ≡ total i e s.views + tally i e (released me.0 i).held
+    sums : (e : Bool) → total i e (set s.views id (released me.0 i)) + tally i e me.0.held
+        ≡ total i e s.views + tally i e (released me.0 i).held
     sums e = sum-set (λ u. tally i e u.held) s.views id me.0 (released me.0 i) at
 
     at_least : (n : ℕ) → n ≡ total i false s.views + total i true s.views * 9223372036854775808
         → total i false s.views + total i true s.views * 65535 ≤ 65535 → share ≤ n
-    at_least n sum most = omega (arith, sums false, sums true, tally-released i false me.0.held, tally-released i true me.0.held, is, holds, sum, most)
+    at_least n sum most =
+        omega (
+          arith,
+          sums false,
+          sums true,
+          tally-released i false me.0.held,
+          tally-released i true me.0.held,
+          is,
+          holds,
+          sum,
+          most,
+        )

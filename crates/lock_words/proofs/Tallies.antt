@@ -1,6 +1,8 @@
 -- Counts of items over one list and over all seats.
-use Rattle.std.proofs.Common.{◌≡◌, ◌≢◌, ◌==◌, ◌+◌, ◌-◌, ◌*◌, ◌%◌, ◌^◌, ◌<◌, ◌≤◌, ◌&&◌, ℕ, zero, suc, Bool, true, false, not, cond}
-use Rattle.std.proofs.Common.{List, [], ◌∷◌, ◌++◌, length, set, get_or, filter, All, AllPairs, Option, Some, None, sum_by}
+use Rattle.std.proofs.Common.{◌≡◌, ◌≢◌, ◌==◌, ◌+◌, ◌-◌, ◌*◌, ◌%◌, ◌^◌, ◌<◌, ◌≤◌, ◌&&◌, ℕ, zero, suc, Bool, true, false}
+use Rattle.std.proofs.Common.{not, cond}
+use Rattle.std.proofs.Common.{List, [], ◌∷◌, ◌++◌, length, set, get_or, filter, All, AllPairs, Option, Some, None}
+use Rattle.std.proofs.Common.{sum_by}
 use Rattle.std.proofs.Common.{refl, sym, ap, ◌∙◌, subst, inl, inr, ⊎_elim, arith, eq-eqb, ne_eqb, eq-zero-or-pos}
 use Rattle.std.specs.Prelude.{if◌then◌else◌}
 use Rattle.std.proofs.lemmas.Bool.{eqb-true, eqb-false}
@@ -67,7 +69,8 @@ pub tally-spared : (w k : ℕ) (e : Bool) (xs : List Hold) → k ≢ w → tally
 tally-spared w k e [] ne = refl
 tally-spared w k e (x ∷ xs) ne = go (tally-spared w k e xs ne) (x.word == w) refl
   where
-    go : tally k e (left w xs) ≡ tally k e xs → (b : Bool) → (x.word == w) ≡ b → tally k e (left w (x ∷ xs)) ≡ tally k e (x ∷ xs)
+    go : tally k e (left w xs) ≡ tally k e xs → (b : Bool) → (x.word == w) ≡ b
+        → tally k e (left w (x ∷ xs)) ≡ tally k e (x ∷ xs)
     go more true is = ap (λ t. tally k e (cond (not t) (x ∷ left w xs) (left w xs))) is
         ∙ (more
         ∙ omega (
@@ -105,7 +108,8 @@ counted P w e (x ∷ xs) all pos = go e (x.word == w) x.excl refl refl (counted 
     go false true false p q later pos = it false (eqb-true x.word w p) q
 
 -- the first hold of a word tells how it is held, where there is at most one
-pub held-as : (w : ℕ) (o : Option Bool) (xs : List Hold) → tally w false xs ≡ noted false o → tally w true xs ≡ noted true o
+pub held-as : (w : ℕ) (o : Option Bool) (xs : List Hold) → tally w false xs ≡ noted false o
+    → tally w true xs ≡ noted true o
     → held_as xs w ≡ o
 held-as w None [] p q = refl
 held-as w (Some true) [] p q = absurd (omega arith)
@@ -171,8 +175,10 @@ alone f (x ∷ xs) (suc i) v e others = omega (
 
 -- a word's value, as one sum
 pub value-sum : (s x n : ℕ) → IsValue s x n → (n ≡ s + x * 9223372036854775808) × (s + x * 65535 ≤ 65535)
-value-sum s x n v = ⊎_elim (λ (t : (x ≡ 0) × (n ≡ s) × (s ≤ 65535)). let a = t.0 in let b = t.1 in let c = t.2 in (omega arith, omega arith))
-    (λ (t : (x ≡ 1) × (s ≡ 0) × (n ≡ 9223372036854775808)). let a = t.0 in let b = t.1 in let c = t.2 in (omega arith, omega arith)) v
+value-sum s x n v = ⊎_elim
+    (λ (t : (x ≡ 0) × (n ≡ s) × (s ≤ 65535)). let a = t.0 in let b = t.1 in let c = t.2 in (omega arith, omega arith))
+    (λ (t : (x ≡ 1) × (s ≡ 0) × (n ≡ 9223372036854775808)). let a = t.0 in let b = t.1 in let c = t.2
+    in (omega arith, omega arith)) v
 
 pub value-is : (s x n : ℕ) → n ≡ s + x * 9223372036854775808 → s + x * 65535 ≤ 65535 → IsValue s x n
 value-is s x n sum most = ⊎_elim (λ (z : x ≡ 0). inl (z, omega arith, omega arith))
@@ -183,53 +189,66 @@ value-same s x n s' x' n' p q r = subst (λ (t : ℕ × ℕ × ℕ). IsValue t.0
 
 -- a value above 0 has a holder of its state
 pub value-state : (s x n : ℕ) → IsValue s x n → 0 < n → (b : Bool) → says_excl n ≡ b → 0 < cond b x s
-value-state s x n v pos true is = let t = value-sum s x n v in let e = eqb-true n 9223372036854775808 is in omega (arith, t.0, t.1, e)
+value-state s x n v pos true is =
+    let t = value-sum s x n v in let e = eqb-true n 9223372036854775808 is in omega (arith, t.0, t.1, e)
 value-state s x n v pos false is = let t = value-sum s x n v in let ne = eqb-false n 9223372036854775808 is in
     ⊎_elim (λ (a : (x ≡ 0) × (n ≡ s) × (s ≤ 65535)). let b = a.1 in omega arith)
     (λ (a : (x ≡ 1) × (s ≡ 0) × (n ≡ 9223372036854775808)). absurd (ne a.2)) v
 
 -- one seat's change, seen from the words
-pub values-set : (ws : List ℕ) (views : List View) (id i n : ℕ) (v w : View) → get_elem? views id ≡ some v → i < length ws
+pub values-set : (ws : List ℕ) (views : List View) (id i n : ℕ) (v w : View) → get_elem? views id ≡ some v
+    → i < length ws
     → ((k : ℕ) → IsValue (total k false views) (total k true views) (get_or ws k 0))
     → ((k : ℕ) (e : Bool) → k ≢ i → tally k e w.held ≡ tally k e v.held)
     → IsValue (total i false (set views id w)) (total i true (set views id w)) n
     → (k : ℕ) → IsValue (total k false (set views id w)) (total k true (set views id w)) (get_or (set ws i n) k 0)
 values-set ws views id i n v w at within all same here k = dite (ℕ_discrete k i)
-    (λ (e : k ≡ i). subst (λ j. IsValue (total j false (set views id w)) (total j true (set views id w)) (get_or (set ws i n) j 0)) (sym e)
-    (subst (λ m. IsValue (total i false (set views id w)) (total i true (set views id w)) m) (sym (get_or-set_same ws i n 0 within)) here))
-    (λ (ne : k ≢ i). value-same (total k false views) (total k true views) (get_or ws k 0) _ _ _ (sums k false ne) (sums k true ne)
+    (λ (e : k ≡ i). subst
+    (λ j. IsValue (total j false (set views id w)) (total j true (set views id w)) (get_or (set ws i n) j 0))
+    (sym e)
+    (subst (λ m. IsValue (total i false (set views id w)) (total i true (set views id w)) m)
+    (sym (get_or-set_same ws i n 0 within)) here))
+    (λ (ne : k ≢ i). value-same (total k false views) (total k true views) (get_or ws k 0) _ _ _ (sums k false ne)
+    (sums k true ne)
     (sym (get_or-set_other ws i k n 0 ne)) (all k))
   where
     sums : (k : ℕ) (e : Bool) → k ≢ i → total k e views ≡ total k e (set views id w)
     sums k e ne = omega (arith, sum-set (λ u. tally k e u.held) views id v w at, same k e ne)
 
 -- two elements' parts are within a sum
-pair-le : (f : Hold → ℕ) (xs : List Hold) (i j : ℕ) (d : Hold) → i < j → j < length xs → f (get_or xs i d) + f (get_or xs j d) ≤ sum_by f xs
+pair-le : (f : Hold → ℕ) (xs : List Hold) (i j : ℕ) (d : Hold) → i < j → j < length xs
+    → f (get_or xs i d) + f (get_or xs j d) ≤ sum_by f xs
 pair-le f [] i j d lt within = absurd (omega arith)
 pair-le f (x ∷ xs) i zero d lt within = absurd (omega arith)
 pair-le f (x ∷ xs) zero (suc j) d lt within = omega (arith, sum_by-cons f x xs, get_or-le-sum_by f xs j d (omega arith))
-pair-le f (x ∷ xs) (suc i) (suc j) d lt within = omega (arith, sum_by-cons f x xs, pair-le f xs i j d (omega arith) (omega arith))
+pair-le f (x ∷ xs) (suc i) (suc j) d lt within =
+    omega (arith, sum_by-cons f x xs, pair-le f xs i j d (omega arith) (omega arith))
 
 one-of : (x : Hold) (w : ℕ) (b : Bool) → x.word ≡ w → x.excl ≡ b → one w b x ≡ 1
 one-of x w b p q = ap (one w b) (λ i. hold (p i) (q i)) ∙ one-same w b
 
 -- where each word has a value, no two locks exclude one another
-pub compatible-in : (xs : List Hold) → ((w : ℕ) → (n : ℕ) × IsValue (tally w false xs) (tally w true xs) n) → AllPairs AreCompatible xs
+pub compatible-in : (xs : List Hold) → ((w : ℕ) → (n : ℕ) × IsValue (tally w false xs) (tally w true xs) n)
+    → AllPairs AreCompatible xs
 compatible-in xs values i j d lt within same =
     let x = get_or xs i d in
     let y = get_or xs j d in
     let v = values y.word in
     let t = value-sum (tally y.word false xs) (tally y.word true xs) v.0 v.1 in
-    go x y x.excl y.excl same refl refl (pair-le (one y.word false) xs i j d lt within) (pair-le (one y.word true) xs i j d lt within) t.1
+    go x y x.excl y.excl same refl refl (pair-le (one y.word false) xs i j d lt within)
+    (pair-le (one y.word true) xs i j d lt within) t.1
   where
     go : (x y : Hold) (b c : Bool) → x.word ≡ y.word → x.excl ≡ b → y.excl ≡ c
         → one y.word false x + one y.word false y ≤ tally y.word false xs
         → one y.word true x + one y.word true y ≤ tally y.word true xs
         → tally y.word false xs + tally y.word true xs * 65535 ≤ 65535 → (x.excl ≡ false) × (y.excl ≡ false)
     go x y false false same p q f t most = (p, q)
-    go x y true true same p q f t most = absurd (omega (arith, one-of x y.word true same p, one-of y y.word true refl q, t, most))
-    go x y true false same p q f t most = absurd (omega (arith, one-of x y.word true same p, one-of y y.word false refl q, f, t, most))
-    go x y false true same p q f t most = absurd (omega (arith, one-of x y.word false same p, one-of y y.word true refl q, f, t, most))
+    go x y true true same p q f t most =
+        absurd (omega (arith, one-of x y.word true same p, one-of y y.word true refl q, t, most))
+    go x y true false same p q f t most =
+        absurd (omega (arith, one-of x y.word true same p, one-of y y.word false refl q, f, t, most))
+    go x y false true same p q f t most =
+        absurd (omega (arith, one-of x y.word false same p, one-of y y.word true refl q, f, t, most))
 
 -- a step of a hand takes its share off a word
 pub taken-off : (n k : ℕ) → k ≤ n → n < 18446744073709551616 → (n + (2 ^ 64 - k)) % 2 ^ 64 ≡ n - k
