@@ -1,15 +1,13 @@
 //! Faults of the program.
-use cf_types::NoMemory;
-use plex_script::ReadFault;
+use plex_seat::{NoMemory, ReadFault, Unanswered};
 use std::io;
-use struct_cell::CallRefused;
 use thiserror::Error;
 
 /// Why there is nothing to show.
 #[derive(Debug, Drop, Error)]
 pub enum Fault {
-    /// The text is no policy of two members with a lock structure.
-    #[error("no policy of two members with a lock structure")]
+    /// The text is no policy of two members.
+    #[error("no policy of two members")]
     Policy,
 
     /// A member waited for the other, or for an event, as long as it may.
@@ -20,9 +18,9 @@ pub enum Fault {
     #[error("an unforeseen reply")]
     Unforeseen,
 
-    /// A call wasn't made: the journal was full, or there was no memory.
+    /// A call wasn't answered.
     #[error(transparent)]
-    Refused(#[from] CallRefused),
+    Unanswered(#[from] Unanswered),
 
     /// There was no memory.
     #[error("out of memory")]

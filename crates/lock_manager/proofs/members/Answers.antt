@@ -1,59 +1,17 @@
--- The desks of the members, from the start of the board to its end.
-use Rattle.std.proofs.Common.{rules, ◌≡◌, length, ◌∙◌, ap, arith}
-use Rattle.desk_model.specs.Desks.{DeskShown}
-use Rattle.lock_manager.proofs.MemberLaws.{seats, member, all-of_board, all-owners}
-use Rattle.lock_manager.proofs.OutcomeLaws.{outcome}
-use Rattle.lock_manager.specs.Members.{HasLocks}
+-- The answer is told at the seat of the member that leaves last.
+use Rattle.std.proofs.Common.{rules, ◌≡◌}
+use Rattle.plex_seat.specs.Answers.{HasHeard}
+use Rattle.plex_seat.proofs.OutcomeLaws.{seat_answer}
+use Rattle.lock_manager.specs.Members.{locks, recoverer}
 use Rattle.lock_manager.proofs.members.Goals as goal
-
-pub work-failed-requires-clause-members : goal.work-failed-requires-clause-members
-work-failed-requires-clause-members g c κs within =
-    let structure : HasLocks c.in-Ok-start.board = search rules in
-    let three : length c.in-Ok-start.desks.items ≡ 3 = search rules in
-    let seated =
-    seats c.in-Ok-start.board c.in-Ok-start.desks.items c.pop-2.new.self.items c.pop.new.self.items
-    c.in-Some-Some.a c.in-Some-Some.b (length c.args.script.now.connectors) c.in-Ok-start.ensures.callers
-    c.in-Ok-start.ensures.desks three c.in-Some-Some.ensures.items c.in-Some-Some.ensures'.items in (
-      member c.in-Ok-start.board c.in-Some-Some.a 1 structure seated.first (omega arith) (omega arith),
-      member c.in-Ok-start.board c.in-Some-Some.b 2 structure seated.second (omega arith) (omega arith),
-    )
-
-pub close-histories-requires-clause-desks : goal.close-histories-requires-clause-desks
-close-histories-requires-clause-desks g c κs within =
-    let three : length c.in-Ok-start.desks.items ≡ 3 = search rules in
-    let seated =
-    seats c.in-Ok-start.board c.in-Ok-start.desks.items c.pop-2.new.self.items c.pop.new.self.items
-    c.in-Some-Some.a c.in-Some-Some.b (length c.args.script.now.connectors) c.in-Ok-start.ensures.callers
-    c.in-Ok-start.ensures.desks three c.in-Some-Some.ensures.items c.in-Some-Some.ensures'.items in
-    all-of_board c.in-Ok-start.board c.pop-2.new.self.items c.push_reserved.new.self.items
-    c.push_reserved-2.new.self.items c.in-Some-Some.a c.in-Some-Some.b c.work-failed.new.a c.work-failed.new.b
-    seated c.work-failed.ensures.stay.0 c.work-failed.ensures.stay.1 c.push_reserved.ensures.items
-    c.push_reserved-2.ensures.items
-
-pub close-histories-requires-clause-owners : goal.close-histories-requires-clause-owners
-close-histories-requires-clause-owners g c κs within =
-    let three : length c.in-Ok-start.desks.items ≡ 3 = search rules in
-    let seated =
-    seats c.in-Ok-start.board c.in-Ok-start.desks.items c.pop-2.new.self.items c.pop.new.self.items
-    c.in-Some-Some.a c.in-Some-Some.b (length c.args.script.now.connectors) c.in-Ok-start.ensures.callers
-    c.in-Ok-start.ensures.desks three c.in-Some-Some.ensures.items c.in-Some-Some.ensures'.items in
-    all-owners c.in-Ok-start.board c.pop-2.new.self.items c.push_reserved.new.self.items
-    c.push_reserved-2.new.self.items c.in-Some-Some.a c.in-Some-Some.b c.work-failed.new.a c.work-failed.new.b
-    seated c.work-failed.ensures.stay.0 c.work-failed.ensures.stay.1 c.push_reserved.ensures.items
-    c.push_reserved-2.ensures.items
 
 pub returns : goal.returns
 returns g c =
-    let structure : HasLocks c.in-Ok-start.board = search rules in
-    let three : length c.in-Ok-start.desks.items ≡ 3 = search rules in
-    let seated =
-    seats c.in-Ok-start.board c.in-Ok-start.desks.items c.pop-2.new.self.items c.pop.new.self.items
-    c.in-Some-Some.a c.in-Some-Some.b (length c.args.script.now.connectors) c.in-Ok-start.ensures.callers
-    c.in-Ok-start.ensures.desks three c.in-Some-Some.ensures.items c.in-Some-Some.ensures'.items in
+    let owner : c.in-Some.b.desk.owner ≡ recoverer = search rules in
+    let heard : HasHeard c.work-failed.new.b c.in_ok-read.field-0 = search rules in
     record {
-      outcome = outcome c.in-Ok-start.board c.args.script.now c.close-histories.result.0.items
-          c.push_reserved.new.self.items c.push_reserved-2.new.self.items c.work-failed.new.b c.in_ok-seen.field-0
-          structure c.in-Ok-start.ensures.forms c.close-histories.ensures.histories c.push_reserved-2.ensures.items
-          c.work-failed.ensures.stay.1.of_board
-          (c.work-failed.ensures.stay.1.owner ∙ ap (λ (d : DeskShown). d.owner) seated.second) (search rules);
+      outcome = seat_answer c.in_ok-plex.plex c.args.script.now c.in-Some-close.histories.items locks recoverer
+          c.in-Some.b c.work-failed.new.b c.in_ok-read.field-0 c.in-Some.ensures.seat.0 c.in-Some.ensures.seat.1 owner
+          c.work-failed.ensures.same.1 c.in_ok-plex.ensures.forms c.leave.new.desks.items c.leave-2.new.desks.items
+          c.in-Some-close.ensures c.leave-2.ensures.desks c.leave-2.ensures.own heard c.in-Some.ensures.there;
     }

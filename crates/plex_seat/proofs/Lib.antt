@@ -1,0 +1,3 @@
+pub mod SeatLaws
+pub mod PlexLaws
+pub mod OutcomeLaws

@@ -1,0 +1,47 @@
+-- The desks of a board as it begins, and desks that are one for each caller.
+use Rattle.std.proofs.Common.{◌≡◌, ℕ, ◌<◌, ◌+◌, ◌-◌, ◌==◌, suc, true, List, [], ◌∷◌, length, map, get_or, drop, sym, ap, ◌∙◌, arith}
+use Rattle.std.specs.Prelude.{All}
+use Rattle.std.specs.List.{range_with_len}
+use Rattle.std.proofs.lemmas.Bool.Decides.{nat_tests}
+use Rattle.std.proofs.lemmas.List.{drop_more, drop_all}
+use Rattle.std.proofs.lemmas.List.FromFn.{length-map-range_with_len}
+use Rattle.std.proofs.lemmas.List.Elements.{All-map, All-same}
+use Rattle.desk_model.specs.Desks.{DeskShown}
+use Rattle.desk_model.specs.Boards.{BoardShown, IsDeskOf, new_desk}
+use Rattle.desk_model.proofs.DeskLaws.{new_desk-of_board}
+
+module _ {L : Type 0} (board : BoardShown L) (desks : List DeskShown) (n : ℕ)
+    (new : desks ≡ map (new_desk board) (range_with_len 0 n)) where
+  pub new-of_board : All (IsDeskOf board) desks
+  new-of_board =
+      All-same (IsDeskOf board) desks (map (new_desk board) (range_with_len 0 n)) new
+      (All-map (IsDeskOf board) (new_desk board) (range_with_len 0 n)
+      (λ k d lt. new_desk-of_board board (get_or (range_with_len 0 n) k d)))
+
+  pub new-length : length desks ≡ n
+  new-length = ap length new ∙ length-map-range_with_len (new_desk board) 0 n
+
+abbrev pub owner_of : DeskShown → ℕ
+owner_of desk = desk.owner.0
+
+-- the desks from this place on are those of the callers from its number on
+abbrev pub AreFrom : ℕ → List DeskShown → Type 0
+AreFrom i desks = map owner_of (drop i desks) ≡ range_with_len i (length desks - i)
+
+pub from_next : (desks : List DeskShown) (i : ℕ) (d : DeskShown) → i < length desks → get_or desks i d ≡ d
+    → owner_of d ≡ i → AreFrom (i + 1) desks → AreFrom i desks
+from_next desks i d below there own rest =
+    let left : length desks - i ≡ suc (length desks - (i + 1)) = omega (arith, below) in
+    ap (map owner_of) (drop_more desks i d below)
+    ∙ ap (λ n. n ∷ map owner_of (drop (i + 1) desks)) (ap owner_of there ∙ own)
+    ∙ ap (λ l. i ∷ l) rest
+    ∙ sym (ap (range_with_len i) left)
+
+-- behind the last desk nothing is left, so they are all the callers'
+pub all_of : (desks : List DeskShown) (next i count : ℕ) → next ≡ i → i ≡ length desks
+    → (AreFrom i desks → AreFrom 0 desks) → (next == count) ≡ true → map owner_of desks ≡ range_with_len 0 count
+all_of desks next i count at end all counted =
+    let none : length desks - i ≡ 0 = omega (arith, end) in
+    let whole : length desks - 0 ≡ count = grind (arith, nat_tests) in
+    all (ap (map owner_of) (drop_all i desks (omega (arith, end))) ∙ sym (ap (range_with_len i) none))
+    ∙ ap (range_with_len 0) whole

@@ -1,0 +1,48 @@
+-- A member's own call is among those of its pass.
+use Rattle.std.proofs.Common.{◌≡◌, ℕ, ◌++◌, ◌==◌, List, [], ◌∷◌, Bool, true, false, Option, None, Some, refl, sym, ap, ◌∙◌, arith}
+use Rattle.std.specs.Prelude.{is_some, find}
+use Rattle.std.specs.Bool.{if◌then◌else◌}
+use Rattle.std.proofs.lemmas.Bool.{false≢true}
+use Rattle.std.proofs.lemmas.Bool.Decides.{nat_tests}
+use Rattle.cf_types.specs.declared.numbers.StrNo.{StrNo}
+use Rattle.engine_api.specs.declared.told.Told.{Told}
+use Rattle.plex_script.specs.declared.scripts.AnyAsk.{AnyAsk}
+use Rattle.plex_script.specs.Heard.{AnyCall, call_numbered}
+use Rattle.any_cell.specs.declared.any_reply.AnyReply.{AnyReply}
+use Rattle.any_cell.specs.Passes.{PassShown, with_call}
+use Rattle.desk_model.specs.Desks.{DeskShown, pass_at, IsAnsweredOn}
+use Rattle.desk_model.specs.Boards.{BoardShown}
+use Rattle.desk_model.proofs.DeskLaws.{pass_at-with_pass_same, desk-length}
+use Rattle.plex_seat.specs.Seats.{IsSeat}
+
+-- the last that is looked for is found
+found_last : {A : Type 0} (p : A → Bool) (xs : List A) (y : A) → p y ≡ true → is_some (find p (xs ++ y ∷ [])) ≡ true
+found_last p [] y here = elim (p y) as (λ b. b ≡ true → is_some (if b then Some y else None) ≡ true) [
+  | true ↦ λ h. refl
+  | false ↦ λ h. h
+] here
+found_last p (x ∷ xs) y here =
+    let rest = found_last p xs y here in
+    elim (p x) as (λ b. is_some (if b then Some x else find p (xs ++ y ∷ [])) ≡ true) [ true ↦ refl | false ↦ rest ]
+
+same_number : (n : ℕ) → (n == n) ≡ true
+same_number n = grind (arith, nat_tests)
+
+module _ {L : Type 0} (board : BoardShown L) (on : StrNo) (asked : AnyAsk) (told : Told) (before between : DeskShown)
+    (seated : IsSeat board before on) (answered : IsAnsweredOn on asked told before between) where
+  pass_is : pass_at between on ≡ with_call asked told answered.reply (pass_at before on)
+  pass_is =
+      ap (λ d. pass_at d on) answered.desk
+      ∙ pass_at-with_pass_same before on (with_call asked told answered.reply (pass_at before on))
+      (omega (arith, desk-length board before seated.of_board, seated.there))
+
+  own_call : is_some (call_numbered told.no (pass_at between on).calls) ≡ true
+  own_call =
+      ap (λ (p : PassShown). is_some (call_numbered told.no p.calls)) pass_is
+      ∙ found_last (λ (call : AnyCall). call.no == told.no) (pass_at before on).calls
+      (record { no = told.no; by = (pass_at before on).owner; ask = asked; told = told }) (same_number told.no)
+
+  -- so there is a reply
+  pub no_reply : (found : Option AnyReply) → found ≡ None
+      → is_some found ≡ is_some (call_numbered told.no (pass_at between on).calls) → ⊥
+  no_reply found none own = false≢true (sym (ap (λ (o : Option AnyReply). is_some o) none) ∙ own ∙ own_call)

@@ -1,0 +1,73 @@
+-- What a member asks and is answered.
+use Rattle.std.specs.Prelude.{◌≡◌, ◌≢◌, ℕ, ◌<◌, ◌≤◌, ◌++◌, ◌∷◌, [], Bool, true, false, List, Some, IfSome}
+use Rattle.cf_types.specs.declared.shell_commands.ShellCmd.{ShellCmd}
+use Rattle.engine_api.specs.declared.asks.Ask.TheVariants as ask
+use Rattle.engine_api.specs.declared.told.Told.{Told}
+use Rattle.plex_script.specs.declared.scripts.AnyAsk.{AnyAsk}
+use Rattle.plex_script.specs.declared.scripts.AnyAsk.TheVariants as any
+use Rattle.plex_script.specs.declared.scripts.Script.{Script}
+use Rattle.plex_report.specs.Lines.{reply_words}
+use Rattle.plex_report.specs.ReplyWords.{cache_reply_words, list_reply_words, lock_reply_words}
+use Rattle.struct_cell.specs.declared.refused.CallRefused.{CallRefused}
+use Rattle.struct_cell.specs.declared.refused.CallRefused.TheVariants.{JournalFull, NoMemory}
+use Rattle.run_model.specs.Types.{StrType, OfCache, OfList, OfLock, type_of_ask}
+use Rattle.any_cell.specs.declared.any_reply.AnyReply.{AnyReply}
+use Rattle.any_cell.specs.declared.any_reply.AnyReply.TheVariants as reply
+use Rattle.any_cell.specs.Passes.{reply_numbered}
+use Rattle.desk_model.specs.Desks.{IsLaterOn, pass_at}
+use Rattle.desk_model.specs.Boards.{cell_on}
+use Rattle.plex_seat.specs.declared.answers.Answer.{Answer}
+use Rattle.plex_seat.specs.declared.answers.Unanswered.{Unanswered}
+use Rattle.plex_seat.specs.declared.answers.Unanswered.TheVariants.{OtherKind, NotMade, Unread}
+use Rattle.plex_seat.specs.Seats.{SeatShown, HasType, pass_of}
+
+-- a common command, as it is asked of a structure of this type
+abbrev pub common_ask : StrType → ShellCmd → AnyAsk
+common_ask OfCache command = any.Cache (ask.Shell command)
+common_ask OfList command = any.List (ask.Shell command)
+common_ask OfLock command = any.Lock (ask.Shell command)
+
+abbrev pub is_same_type : StrType → StrType → Bool
+is_same_type OfCache OfCache = true
+is_same_type OfList OfList = true
+is_same_type OfLock OfLock = true
+is_same_type _ _ = false
+
+-- the words of a reply, as the report has them
+abbrev pub any_reply_words : Script → AnyReply → List (List ℕ)
+any_reply_words script (reply.Cache answer) = reply_words cache_reply_words script false answer
+any_reply_words script (reply.List answer) = reply_words list_reply_words script false answer
+any_reply_words script (reply.Lock answer) = reply_words lock_reply_words script false answer
+
+module _ {L : Type 0} where
+  -- the member's call was made: its pass has one call more, with a number above all that it knew
+  pub record HasCalled (asked : AnyAsk) (number : ℕ) (before after : SeatShown L) : Type 0 where
+    pub told : Told
+    pub number_is : number ≡ told.no
+    pub newer : (pass_of before).known < number
+    pub calls : (pass_of after).calls
+        ≡ (pass_of before).calls ++ record { no = told.no; by = (pass_of before).owner; ask = asked; told = told } ∷ []
+    pub tests : (pass_of after).tests ≡ (pass_of before).tests
+
+  -- the reply is the one that the member's pass has under that number
+  abbrev pub HasHeard : SeatShown L → Answer → Type 0
+  HasHeard seat answer = Some answer.reply ≡ reply_numbered answer.no (pass_of seat).replies
+
+  -- the call was made, and this is the answer to it
+  pub record HasAnswer (asked : AnyAsk) (answer : Answer) (before after : SeatShown L) : Type 0 where
+    pub called : HasCalled asked answer.no before after
+    pub heard : HasHeard after answer
+
+  -- the call wasn't made: the journal was full, and the member may have seen more complete; or memory lacked
+  pub record IsNotMade (refusal : CallRefused) (before after : SeatShown L) : Type 0 where
+    pub later : IsLaterOn before.on before.desk after.desk
+    pub no_memory : refusal ≡ NoMemory → after.desk ≡ before.desk
+    pub full : refusal ≢ NoMemory → IfSome (cell_on before.board before.on)
+        (λ cell. (refusal ≡ JournalFull cell.limit) × (cell.limit ≤ (pass_at after.desk before.on).known))
+
+  -- Why there is no answer: the structure is of another type, and nothing was asked; or the call wasn't made; or it was
+  -- made, and its reply may be asked for.
+  abbrev pub HasFault : AnyAsk → Unanswered → SeatShown L → SeatShown L → Type 0
+  HasFault asked OtherKind before after = (after ≡ before) × (HasType (type_of_ask asked) before → ⊥)
+  HasFault asked (NotMade refusal) before after = IsNotMade refusal before after
+  HasFault asked (Unread number) before after = HasCalled asked number before after

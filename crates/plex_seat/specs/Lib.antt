@@ -1,0 +1,4 @@
+pub mod Seats
+pub mod Answers
+pub mod Outcomes
+pub mod Names

@@ -1,0 +1,22 @@
+-- What is left of a member's work once the structures are closed.
+use Rattle.std.specs.Prelude.{◌≡◌, List, slice_get, Some}
+use Rattle.cf_types.specs.declared.forms.StrForm.{StrForm}
+use Rattle.cf_types.specs.declared.numbers.ConnId.{ConnId}
+use Rattle.cf_types.specs.declared.numbers.StrNo.{StrNo}
+use Rattle.plex_script.specs.declared.asks.AnyHistory.{AnyHistory}
+use Rattle.plex_script.specs.declared.scripts.Script.{Script}
+use Rattle.run_model.specs.Kinds.{IsAnyLegal}
+use Rattle.any_cell.specs.Passes.{reply_numbered}
+use Rattle.any_cell.specs.Cells.{own_replies}
+use Rattle.plex_seat.specs.declared.answers.Answer.{Answer}
+
+-- A structure's history is one that a single thread could have made, and the answer is the one that it has for the
+-- caller's call of that number.
+pub record IsAnswerOf (script : Script) (histories : List AnyHistory) (on : StrNo) (caller : ConnId) (answer : Answer) :
+    Type 0 where
+  pub form : StrForm
+  pub entries : AnyHistory
+  pub form_is : slice_get script.structures on.0 ≡ Some form
+  pub history_is : slice_get histories on.0 ≡ Some entries
+  pub legal : IsAnyLegal form entries
+  pub reply : Some answer.reply ≡ reply_numbered answer.no (own_replies entries caller)

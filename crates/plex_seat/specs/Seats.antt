@@ -1,0 +1,53 @@
+-- A member's seat at a structure, as contracts see it.
+use Rattle.std.specs.Prelude.{◌≡◌, ℕ, ◌<◌, ◌≤◌, ◌++◌, ◌∷◌, [], length, IfSome}
+use Rattle.std.specs.Option.{option_map_or}
+use Rattle.cf_types.specs.declared.numbers.StrNo.{StrNo}
+use Rattle.cf_types.specs.Forms.{IsConnector}
+use Rattle.run_model.specs.Types.{StrType, OfCache}
+use Rattle.vec_words.specs.declared.logged.Tested.{Tested}
+use Rattle.any_cell.specs.Passes.{PassShown}
+use Rattle.any_cell.specs.Cells.{CellShown}
+use Rattle.desk_model.specs.Desks.{DeskShown, pass_at, with_pass}
+use Rattle.desk_model.specs.Boards.{BoardShown, IsDeskOf, cell_on}
+
+-- the board, the member's desk, and which structure of the board it is
+pub record SeatShown (L : Type 0) : Type 0 where
+  pub board : BoardShown L
+  pub desk : DeskShown
+  pub on : StrNo
+
+-- the structure is there, and the desk is a connector's at that board
+pub record IsSeat {L : Type 0} (board : BoardShown L) (desk : DeskShown) (on : StrNo) : Type 0 where
+  pub there : on.0 < length board.cells
+  pub of_board : IsDeskOf board desk
+  pub connector : IsConnector desk.owner
+
+-- the member's pass to the structure
+abbrev pub pass_of : {L : Type 0} → SeatShown L → PassShown
+pass_of seat = pass_at seat.desk seat.on
+
+-- the structure's type
+abbrev pub type_at : {L : Type 0} → SeatShown L → StrType
+type_at {L} seat = option_map_or (λ (cell : CellShown L). cell.str_type) (cell_on seat.board seat.on) OfCache
+
+abbrev pub HasType : {L : Type 0} → StrType → SeatShown L → Type 0
+HasType str_type seat = IfSome (cell_on seat.board seat.on) (λ cell. str_type ≡ cell.str_type)
+
+-- the member's vector has a bit of this index
+abbrev pub HasBit : {L : Type 0} → ℕ → SeatShown L → Type 0
+HasBit index seat = IfSome (cell_on seat.board seat.on) (λ cell. index < cell.words.len)
+
+-- the same member's seat at the same structure
+pub record IsSame {L : Type 0} (before after : SeatShown L) : Type 0 where
+  pub board : after.board ≡ before.board
+  pub on : after.on ≡ before.on
+  pub owner : after.desk.owner ≡ before.desk.owner
+
+-- the member's pass has one test more, which was answered so; it knows the number of the answer
+pub record HasTested {L : Type 0} (index : ℕ) (tested : Tested) (before after : SeatShown L) : Type 0 where
+  pub later : (pass_of before).known ≤ tested.at
+  pub desk : let pass = pass_of before in after.desk ≡ with_pass before.on (record pass {
+    known = tested.at;
+    tests = pass.tests
+        ++ record { index = index; bit = tested.bit; at = tested.at; sure = pass.sure } ∷ [];
+  }) before.desk

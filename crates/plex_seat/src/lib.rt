@@ -1,0 +1,24 @@
+//! Programs at a board: the structures of a policy, the seats from which members use them, and the
+//! words of what is answered. What a program needs of the crates below is named here too.
+#![tactic(auto)]
+
+mod answers;
+mod asks;
+mod plex;
+mod seat;
+mod words;
+
+pub use answers::{Answer, Unanswered};
+pub use any_cell::AnyReply;
+pub use cf_types::{
+    CacheCmd, CacheReply, ConnId, Event, ListCmd, ListReply, LockCmd, LockReply, NoMemory, Refusal,
+    Resource, ShellReply, StrNo, parse_adjunct, parse_body, parse_name,
+};
+pub use engine_api::Reply;
+pub use plex::{Plex, policy};
+pub use plex_report::render;
+pub use plex_script::{AnyHistory, ReadFault, Script};
+pub use seat::Seat;
+pub use struct_cell::CallRefused;
+pub use vec_words::Tested;
+pub use words::put_reply;

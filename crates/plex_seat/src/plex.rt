@@ -1,0 +1,103 @@
+//! The structures of a policy.
+ghost use Rattle.std.specs.Prelude.{◌≡◌, ◌≤◌, IfOk, IfSome, IsTrue, All, map};
+ghost use Rattle.std.specs.List.{range_with_len};
+ghost use Rattle.desk_model.specs.Boards.{IsPolicy, IsDeskOf, AreClosed};
+
+use cf_link::Steady;
+use cf_types::NoMemory;
+use plex_board::{Board, Desk};
+use plex_script::{AnyHistory, ReadFault, Script, read, well_formed};
+use std::alloc::Global;
+use std::marker::Model;
+use std::sync::Wait;
+
+/// How many links there are to the facilities: four for each of 16 structures.
+const LINKS: usize = 64;
+
+/// The script that a text is, which states a policy.
+pub fn policy(alloc: Global, text: &[u8]) -> Result<Script, ReadFault>
+    ensures { IfOk result (λ script. IsPolicy script) }
+{
+    let script = read(alloc, text)?;
+    well_formed(text, &script);
+    Ok(script)
+}
+
+/// The structures of a policy, which members share by `&`, over links that are never down.
+/// Contracts see the board.
+#[derive(Drop)]
+pub struct Plex {
+    pub(crate) board: Board<Steady>,
+    count: usize,
+}
+
+impl Model for Plex {
+    ghost use Rattle.std.specs.Prelude.{◌≡◌, ◌+◌};
+    ghost use Rattle.cf_link.specs.declared.steady.Steady.{Steady};
+    ghost use Rattle.desk_model.specs.Boards.{BoardShown};
+
+    ghost Value = { BoardShown Steady };
+
+    ghost view = { λ plex. plex.board };
+
+    ghost invariant = { λ plex. plex.board.callers + 1 ≡ plex.count };
+}
+
+impl Plex {
+    /// The structures of a policy, and a desk for each caller: the operator's, and then the
+    /// connectors' in their order. A call is made where its structure's journal has fewer than
+    /// `calls` entries.
+    pub fn open(
+        rt: &impl Wait,
+        alloc: Global,
+        script: &Script,
+        calls: u32,
+    ) -> Result<(Plex, Vec<Desk>), NoMemory>
+        requires policy { IsPolicy script.now }
+        requires calls { (1 ≤ calls) × (calls ≤ 4294967000) }
+        ensures forms { IfOk result (λ r. map (λ cell. cell.form) r.0.cells
+            ≡ script.now.structures) }
+        ensures desks { IfOk result (λ r. All (IsDeskOf r.0) r.1.items) }
+    {
+        let Ok(links) = vec![in alloc; Steady; LINKS] else {
+            return Err(NoMemory);
+        };
+        match Board::start(rt, alloc, script, calls, links) {
+            Ok((board, desks)) => {
+                let count = desks.len();
+                Ok((Plex { board, count }, desks))
+            }
+            Err(_) => Err(NoMemory),
+        }
+    }
+
+    /// Ends the structures: the history of each. There is none where the desks aren't one for each
+    /// caller, in order from the operator's.
+    pub fn close(self, rt: &impl Wait, desks: Vec<Desk>) -> Option<Vec<AnyHistory>>
+        requires { All (IsDeskOf self) desks.items }
+        ensures { IfSome result (λ histories. AreClosed self desks.items histories.items) }
+    {
+        let Plex { board, count } = self;
+        if are_all(count, desks.as_slice()) {
+            let (histories, _) = board.close(rt, desks);
+            Some(histories)
+        } else {
+            None
+        }
+    }
+}
+
+// Whether these are so many desks, those of the callers in order, from the operator on.
+fn are_all(count: usize, desks: &[Desk]) -> bool
+    ensures { IsTrue result
+        → map (λ desk. desk.owner.0) desks.now ≡ range_with_len 0 count }
+{
+    let mut next = 0usize;
+    for desk in desks {
+        if usize::from(desk.owner().0) != next {
+            return false;
+        }
+        next += 1;
+    }
+    next == count
+}

@@ -1,0 +1,319 @@
+//! A member's seat at a structure.
+ghost use Rattle.std.specs.Prelude.{◌≡◌, ◌+◌, ◌<◌, ◌≤◌, ◌++◌, ◌∷◌, [], IfOk, IfErr, IfSome, IfNone, IsTrue, All, length};
+ghost use Rattle.std.specs.Vec.{vec_len, vec_capacity};
+ghost use Rattle.run_model.specs.Kinds.{MayAskAny};
+ghost use Rattle.run_model.specs.Types.{type_of_ask};
+ghost use Rattle.plex_script.specs.declared.scripts.AnyAsk.TheVariants as any;
+ghost use Rattle.engine_api.specs.declared.asks.Ask.TheVariants as ask;
+ghost use Rattle.engine_api.specs.Asking.{MayCommand};
+ghost use Rattle.cf_types.specs.Forms.{IsConnector};
+ghost use Rattle.cf_types.specs.declared.shell_commands.ShellCmd.TheVariants as cmd;
+ghost use Rattle.any_cell.specs.Passes.{reply_numbered};
+ghost use Rattle.desk_model.specs.Desks.{IsLaterOn};
+ghost use Rattle.desk_model.specs.Boards.{IsDeskOf, cell_on};
+ghost use Rattle.plex_seat.specs.Seats.{IsSame, HasType, HasBit, pass_of, type_at, HasTested};
+ghost use Rattle.plex_seat.specs.Answers.{HasAnswer, HasFault, common_ask};
+
+use crate::answers::{Answer, Unanswered};
+use crate::asks::{common_ask, is_of_kind};
+use crate::plex::Plex;
+use any_cell::AnyReply;
+use cf_link::Steady;
+use cf_types::limits::CONNECTORS;
+use cf_types::{CacheCmd, ConnId, ListCmd, LockCmd, NoMemory, ShellCmd, StrNo};
+use engine_api::Ask;
+use plex_board::{Board, Desk};
+use plex_script::AnyAsk;
+use std::alloc::Global;
+use std::marker::Model;
+use std::sync::Wait;
+use std::thread::yield_now;
+use vec_words::Tested;
+
+/// A connector's desk at one structure. It may go to another thread. Contracts see the board, the
+/// desk, and which structure it is.
+#[derive(Drop)]
+pub struct Seat<'p> {
+    board: &'p Board<Steady>,
+    desk: Desk,
+    on: StrNo,
+}
+
+impl<'p> Model for Seat<'p> {
+    ghost use Rattle.cf_link.specs.declared.steady.Steady.{Steady};
+    ghost use Rattle.plex_seat.specs.Seats.{SeatShown, IsSeat};
+
+    ghost Value = { SeatShown Steady };
+
+    ghost view = { λ seat. record { board = seat.board.now; desk = seat.desk; on = seat.on } };
+
+    ghost invariant = { λ seat. IsSeat seat.board.now seat.desk seat.on };
+}
+
+impl<'p> Seat<'p> {
+    /// The last of these desks, at a structure. There is no seat where that is the operator's desk
+    /// or the structure isn't there.
+    pub fn take(plex: &'p Plex, desks: &mut Vec<Desk>, on: StrNo) -> Option<Seat<'p>>
+        requires { All (IsDeskOf plex.now) desks.old.items }
+        ensures desks { All (IsDeskOf plex.now) desks.new.items }
+        ensures seat { IfSome result (λ seat. (seat.board ≡ plex.now) × (seat.on ≡ on)) }
+        ensures there { IfSome result (λ _. on.0 < length plex.now.cells) }
+        ensures left { IfSome result
+            (λ seat. desks.old.items ≡ desks.new.items ++ seat.desk ∷ []) }
+        ensures none { IfNone result (desks.new.items ≡ desks.old.items) }
+        ensures room { vec_capacity desks.new ≡ vec_capacity desks.old }
+    {
+        let desk = desks.pop()?;
+        let owner = desk.owner().0;
+        if owner == 0 || owner > CONNECTORS || on.0 >= plex.board.structures() {
+            desks.push_reserved(desk);
+            return None;
+        }
+        Some(Seat {
+            board: &plex.board,
+            desk,
+            on,
+        })
+    }
+
+    /// The desk goes back behind these.
+    pub fn leave(self, desks: &mut Vec<Desk>)
+        requires of_board { All (IsDeskOf self.board) desks.old.items }
+        requires room { vec_len desks.old + 1 ≤ vec_capacity desks.old }
+        ensures desks { desks.new.items ≡ desks.old.items ++ self.entry.desk ∷ [] }
+        ensures of_board { All (IsDeskOf self.entry.board) desks.new.items }
+        ensures room { vec_capacity desks.new ≡ vec_capacity desks.old }
+        ensures own { IsDeskOf self.entry.board self.entry.desk }
+    {
+        let Seat { desk, .. } = self;
+        desks.push_reserved(desk);
+    }
+
+    /// Whose seat it is.
+    pub fn owner(&self) -> ConnId
+        ensures { result ≡ self.now.desk.owner }
+    {
+        self.desk.owner()
+    }
+
+    /// A command of a lock structure, and the reply (IXLLOCK, IXLRT).
+    pub fn lock(
+        &mut self,
+        rt: &impl Wait,
+        alloc: Global,
+        cmd: LockCmd,
+    ) -> Result<Answer, Unanswered>
+        ensures same { IsSame self.old self.new }
+        ensures answer { IfOk result
+            (λ answer. HasAnswer (any.Lock (ask.Content cmd)) answer self.old self.new) }
+        ensures fault { IfErr result
+            (λ fault. HasFault (any.Lock (ask.Content cmd)) fault self.old self.new) }
+    {
+        self.ask_of(rt, alloc, AnyAsk::Lock(Ask::Content(cmd)))
+    }
+
+    /// A command of a cache structure, and the reply (IXLCACHE).
+    pub fn cache(
+        &mut self,
+        rt: &impl Wait,
+        alloc: Global,
+        cmd: CacheCmd,
+    ) -> Result<Answer, Unanswered>
+        ensures same { IsSame self.old self.new }
+        ensures answer { IfOk result
+            (λ answer. HasAnswer (any.Cache (ask.Content cmd)) answer self.old self.new) }
+        ensures fault { IfErr result
+            (λ fault. HasFault (any.Cache (ask.Content cmd)) fault self.old self.new) }
+    {
+        self.ask_of(rt, alloc, AnyAsk::Cache(Ask::Content(cmd)))
+    }
+
+    /// A command of a list structure, and the reply (IXLLIST).
+    pub fn list(
+        &mut self,
+        rt: &impl Wait,
+        alloc: Global,
+        cmd: ListCmd,
+    ) -> Result<Answer, Unanswered>
+        ensures same { IsSame self.old self.new }
+        ensures answer { IfOk result
+            (λ answer. HasAnswer (any.List (ask.Content cmd)) answer self.old self.new) }
+        ensures fault { IfErr result
+            (λ fault. HasFault (any.List (ask.Content cmd)) fault self.old self.new) }
+    {
+        self.ask_of(rt, alloc, AnyAsk::List(Ask::Content(cmd)))
+    }
+
+    /// CONNECT (IXLCONN), with disposition KEEP or DELETE.
+    pub fn connect(
+        &mut self,
+        rt: &impl Wait,
+        alloc: Global,
+        keep: bool,
+    ) -> Result<Answer, Unanswered>
+        ensures same { IsSame self.old self.new }
+        ensures answer { IfOk result (λ answer. HasAnswer
+            (common_ask (type_at self.old) (cmd.Connect keep)) answer self.old self.new) }
+        ensures fault { IfErr result (λ fault. HasFault
+            (common_ask (type_at self.old) (cmd.Connect keep)) fault self.old self.new) }
+    {
+        self.common(rt, alloc, ShellCmd::Connect { keep })
+    }
+
+    /// DISCONNECT (IXLDISC).
+    pub fn disconnect(&mut self, rt: &impl Wait, alloc: Global) -> Result<Answer, Unanswered>
+        ensures same { IsSame self.old self.new }
+        ensures answer { IfOk result (λ answer. HasAnswer
+            (common_ask (type_at self.old) cmd.Disconnect) answer self.old self.new) }
+        ensures fault { IfErr result (λ fault. HasFault
+            (common_ask (type_at self.old) cmd.Disconnect) fault self.old self.new) }
+    {
+        self.common(rt, alloc, ShellCmd::Disconnect)
+    }
+
+    /// FAIL: the member's task or system fails.
+    pub fn fail(&mut self, rt: &impl Wait, alloc: Global) -> Result<Answer, Unanswered>
+        ensures same { IsSame self.old self.new }
+        ensures answer { IfOk result (λ answer. HasAnswer
+            (common_ask (type_at self.old) cmd.Fail) answer self.old self.new) }
+        ensures fault { IfErr result (λ fault. HasFault
+            (common_ask (type_at self.old) cmd.Fail) fault self.old self.new) }
+    {
+        self.common(rt, alloc, ShellCmd::Fail)
+    }
+
+    /// NEXT: the event exit is given the next event.
+    pub fn next_event(&mut self, rt: &impl Wait, alloc: Global) -> Result<Answer, Unanswered>
+        ensures same { IsSame self.old self.new }
+        ensures answer { IfOk result (λ answer. HasAnswer
+            (common_ask (type_at self.old) cmd.Next) answer self.old self.new) }
+        ensures fault { IfErr result (λ fault. HasFault
+            (common_ask (type_at self.old) cmd.Next) fault self.old self.new) }
+    {
+        self.common(rt, alloc, ShellCmd::Next)
+    }
+
+    /// RESPOND (IXLEERSP): the oldest event taken that is to be answered is answered.
+    pub fn respond(&mut self, rt: &impl Wait, alloc: Global) -> Result<Answer, Unanswered>
+        ensures same { IsSame self.old self.new }
+        ensures answer { IfOk result (λ answer. HasAnswer
+            (common_ask (type_at self.old) cmd.Respond) answer self.old self.new) }
+        ensures fault { IfErr result (λ fault. HasFault
+            (common_ask (type_at self.old) cmd.Respond) fault self.old self.new) }
+    {
+        self.common(rt, alloc, ShellCmd::Respond)
+    }
+
+    // A common command that each connector may give.
+    fn common(&mut self, rt: &impl Wait, alloc: Global, cmd: ShellCmd) -> Result<Answer, Unanswered>
+        requires { IsConnector self.old.desk.owner → MayCommand self.old.desk.owner cmd }
+        ensures same { IsSame self.old self.new }
+        ensures answer { IfOk result (λ answer. HasAnswer
+            (common_ask (type_at self.old) cmd) answer self.old self.new) }
+        ensures fault { IfErr result (λ fault. HasFault
+            (common_ask (type_at self.old) cmd) fault self.old self.new) }
+    {
+        let asked = common_ask(self.board.kind(self.on), cmd);
+        self.ask(rt, alloc, asked)
+    }
+
+    // A call of a structure that may be of another kind, and the reply to it.
+    fn ask_of(&mut self, rt: &impl Wait, alloc: Global, ask: AnyAsk) -> Result<Answer, Unanswered>
+        requires { IsConnector self.old.desk.owner → MayAskAny self.old.desk.owner ask }
+        ensures same { IsSame self.old self.new }
+        ensures answer { IfOk result (λ answer. HasAnswer ask answer self.old self.new) }
+        ensures fault { IfErr result (λ fault. HasFault ask fault self.old self.new) }
+    {
+        if is_of_kind(&ask, self.board.kind(self.on)) {
+            self.ask(rt, alloc, ask)
+        } else {
+            Err(Unanswered::OtherKind)
+        }
+    }
+
+    // A call, and the reply to it.
+    fn ask(&mut self, rt: &impl Wait, alloc: Global, ask: AnyAsk) -> Result<Answer, Unanswered>
+        requires kind { HasType (type_of_ask ask) self.old }
+        requires may { IsConnector self.old.desk.owner → MayAskAny self.old.desk.owner ask }
+        ensures same { IsSame self.old self.new }
+        ensures answer { IfOk result (λ answer. HasAnswer ask answer self.old self.new) }
+        ensures fault { IfErr result (λ fault. HasFault ask fault self.old self.new) }
+    {
+        let no = match self.board.call(rt, alloc, &mut self.desk, self.on, ask) {
+            Ok(told) => told.no,
+            Err(refusal) => return Err(Unanswered::NotMade(refusal)),
+        };
+        match self.board.reply(rt, alloc, &mut self.desk, self.on, no) {
+            Ok(Some(reply)) => Ok(Answer { no, reply }),
+            Ok(None) => unreachable!(),
+            Err(_) => Err(Unanswered::Unread { no }),
+        }
+    }
+
+    /// The reply to a call of the member's, by its number: `None` where no call of the member's has
+    /// that number.
+    pub fn reply(
+        &mut self,
+        rt: &impl Wait,
+        alloc: Global,
+        no: u32,
+    ) -> Result<Option<AnyReply>, NoMemory>
+        ensures same { IsSame self.old self.new }
+        ensures later { IsLaterOn self.old.on self.old.desk self.new.desk }
+        ensures reply { IfOk result
+            (λ reply. reply ≡ reply_numbered no (pass_of self.new).replies) }
+    {
+        self.board.reply(rt, alloc, &mut self.desk, self.on, no)
+    }
+
+    /// How many bits the member's vector has.
+    pub fn vector(&self) -> u32
+        ensures { IfSome (cell_on self.now.board self.now.on) (λ cell. cell.words.len ≡ result) }
+    {
+        self.board.vector(self.on)
+    }
+
+    /// Tests a bit of the member's vector: no lock, no memory, no waiting (IXLVECTR TESTLOCALCACHE
+    /// and TESTLISTSTATE).
+    pub fn test(&mut self, index: u32) -> Tested
+        requires { HasBit index self.old }
+        ensures same { IsSame self.old self.new }
+        ensures tested { HasTested index result self.old self.new }
+    {
+        self.board.test(&mut self.desk, self.on, index)
+    }
+
+    /// Puts a note of what the member has seen of the structure into the structure's box. It
+    /// answers the number of a call that the member has seen complete.
+    pub fn post(&mut self, rt: &impl Wait) -> u32
+        ensures seat { self.new ≡ self.old }
+        ensures sure { result ≡ (pass_of self.old).sure }
+    {
+        self.board.post(rt, &mut self.desk, self.on)
+    }
+
+    /// Tells the member the note in the structure's box. It answers the number of a call that the
+    /// member has now seen complete.
+    pub fn take_note(&mut self, rt: &impl Wait) -> u32
+        ensures same { IsSame self.old self.new }
+        ensures later { IsLaterOn self.old.on self.old.desk self.new.desk }
+        ensures sure { result ≡ (pass_of self.new).sure }
+    {
+        self.board.take(rt, &mut self.desk, self.on)
+    }
+
+    /// Takes notes, at most so many, till one tells of a call past this one, and says whether one
+    /// did.
+    pub fn wait_past(&mut self, rt: &impl Wait, call: u32, looks: u32) -> bool
+        ensures same { IsSame self.old self.new }
+        ensures past { IsTrue result → call < (pass_of self.new).sure }
+    {
+        for _ in 0..looks {
+            if self.take_note(rt) > call {
+                return true;
+            }
+            yield_now();
+        }
+        false
+    }
+}
