@@ -1,7 +1,9 @@
 """What the calls of a structure are answered, after docs/commands alone: a second reading of those pages, against which reports can be held.
 
-`Structure(policy lines).call(by, command)` gives the reply, and `bit(conn, index)` a bit of a vector. Nothing here is proved."""
+`Structure(policy lines).call(by, command)` gives the reply, `lost_before(by, command, links)` the marks that are due before a call over `Links` that
+are down at listed calls, and `bit(conn, index)` a bit of a vector. Nothing here is proved."""
 
+import collections
 import math
 
 
@@ -674,6 +676,23 @@ class Rebuild:
         self.stage, self.new, self.copied = 'QUIESCE', None, 0
 
 
+class Links:
+    """The links of a structure, of which each is down at listed calls, and how often each was asked."""
+
+    def __init__(self, downs):
+        self.downs, self.asked = downs, collections.Counter()
+
+    def is_down(self, cf):
+        self.asked[cf] += 1
+        return (cf, self.asked[cf]) in self.downs
+
+
+def listed_links(text, place):
+    """The links of the structure with this place, from 0, of a text whose lines have place, number of the facility, and number of the call."""
+    lines = [line.split() for line in text.splitlines()]
+    return Links({(f'CF{cf}', int(call)) for of, cf, call in lines if int(of) == place})
+
+
 KINDS = {'CACHE': Cache, 'LIST': Lists, 'LOCK': Locks}
 OWED = ('DISCFAIL', 'QUIESCE', 'CLEANUP', 'STOP')
 TOLD = {'CONNECT': 'REBUILDCONNECT', 'COPY': 'CONNECTSDONE', 'CLEANUP': 'CLEANUP'}
@@ -711,6 +730,25 @@ class Structure:
 
     # Entries.
 
+    def shell_call(self, words):
+        """The name of a call that the shell does, and what does it: nothing for one on the content."""
+        first = words[0] if words[0] not in ('REBUILD', 'DUPLEX') else '_'.join(words[:2])
+        return first, getattr(self, 'do_' + first.lower(), None)
+
+    def lost_before(self, by, command, links):
+        """The facilities whose links this call asks, and finds down. One that is refused before asks none."""
+        first, shell = self.shell_call(command.split(' '))
+        try:
+            if first == 'COPY':
+                self.copy_causes(by, None)
+                return next(([cf] for cf in (self.primary, self.rebuild.new) if links.is_down(cf)), [])
+            if shell:
+                return []
+            self.content_causes(by, None)
+            return [cf for cf in (self.primary, self.secondary) if cf and links.is_down(cf)]
+        except Refused:
+            return []
+
     def call(self, by, command):
         """The reply to a call; of a mark, what was lost."""
         words = command.split(' ')
@@ -720,8 +758,7 @@ class Structure:
             self.just_lost = words[1] if told == 'FAILED' else None
             return told
         try:
-            first = words[0] if words[0] not in ('REBUILD', 'DUPLEX') else '_'.join(words[:2])
-            shell = getattr(self, 'do_' + first.lower(), None)
+            first, shell = self.shell_call(words)
             if shell:
                 return shell(by, Options(words[2 if '_' in first else 1:]), lost)
             self.content_causes(by, lost)
@@ -982,14 +1019,17 @@ class Structure:
         self.gave(by)
         return f'OK {new}'
 
-    def do_copy(self, by, words, lost):
+    def copy_causes(self, by, lost):
         self.connected(by)
         self.lost_facility(lost)
         self.standing()
         self.rebuilding()
+        self.in_stage(self.rebuild.stage == 'COPY')
+        self.reach(by, self.primary, self.rebuild.new)
+
+    def do_copy(self, by, words, lost):
+        self.copy_causes(by, lost)
         it = self.rebuild
-        self.in_stage(it.stage == 'COPY')
-        self.reach(by, self.primary, it.new)
         moved = min(words.number(), self.content.items() - it.copied)
         it.copied += moved
         return f'COPIED {moved} {self.content.items() - it.copied}'

@@ -19,6 +19,7 @@ class Structure:
         self.keep = rng.choice(('KEEP', 'DELETE'))
         self.headers, self.locks, self.refs = rng.choice((1, 2, 4)), rng.choice((0, 1, 2)), rng.choice(('NAMES', 'KEYS', 'NOTHING'))
         self.rebuilt, self.duplexed, self.lost = rng.random() < 0.5, rng.random() < 0.4, rng.random() < 0.4
+        self.stopped = 1.0
 
     def policy(self):
         size = f'{self.kind} {self.entries} {self.elements} {self.conns}'
@@ -141,13 +142,13 @@ def connector_lines(rng, it, who, others, count):
         pick = rng.random()
         if it.vector and pick < 0.22:
             lines.append(test_line(rng, it))
-        elif pick < 0.28:
+        elif pick < 0.3:
             lines.append('EVENTS')
-        elif pick < 0.32:
-            lines.append(rng.choice(('POST', 'TAKE')))
         elif pick < 0.33:
+            lines.append(rng.choice(('POST', 'TAKE')))
+        elif pick < 0.34:
             lines.append(rng.choice(('NEXT', 'RESPOND')))
-        elif pick < 0.36:
+        elif pick < 0.35:
             lines += [rng.choice(('DISCONNECT', 'FAIL', 'FAIL')), f'CONNECT {rng.choice(("KEEP", "DELETE"))}']
         elif pick < 0.38:
             lines.append('CONNECT KEEP')
@@ -165,7 +166,7 @@ def operator_line(rng, it, facilities, others):
     choices = []
     if it.rebuilt:
         other = f'REBUILD START {rng.choice((1, 4, 64))} {rng.choice((1, 4, 64))}'
-        choices += [f'REBUILD START {it.entries} {it.elements}', other] * 3 + ['REBUILD STOP']
+        choices += [f'REBUILD START {it.entries} {it.elements}', other] * 3 + ['REBUILD STOP'] * (rng.random() < it.stopped)
     if it.duplexed:
         choices += ['DUPLEX START', 'DUPLEX START', 'DUPLEX STOP']
     if it.lost:
@@ -183,14 +184,19 @@ def shuffled(rng, callers):
     return [next(each[caller]) for caller in turns]
 
 
-def random_script(rng):
+def random_script(rng, links=False):
+    """A random script. For links that may be down there are more lines of the operator, who seldom stops a rebuild; a structure is duplexed or rebuilt,
+    and not both; and VARY is rarer, so that links find something to lose."""
     facilities = [f'CF{n + 1}' for n in range(rng.randint(2, 4))]
     structures = [Structure(rng, f'S{n}') for n in range(rng.choice((1, 1, 1, 2, 3, 4)))]
+    if links:
+        for it in structures:
+            it.rebuilt, it.lost, it.stopped = it.rebuilt and not it.duplexed, it.lost and rng.random() < 0.3, 0.05
     connectors = [f'C{n}' for n in range(rng.choice(CONNECTORS))]
     policy = [f'FACILITY {cf} 1000' for cf in facilities]
     for it in structures:
         policy.append(it.policy())
-        chosen = rng.sample(facilities, rng.choice((1, 2, 2, len(facilities))))
+        chosen = it.facilities = rng.sample(facilities, rng.choice((2 if links else 1, 2, 2, len(facilities))))
         policy += [f'PREF {it.name} {cf} {rng.choice((200, 200, 200, it.entries + it.elements, 3))}' for cf in chosen]
     policy += [f'CONNECTOR {name}' for name in connectors]
     share = max(4, rng.choice((LINES, LINES, LINES // 4)) // len(connectors))
@@ -199,16 +205,20 @@ def random_script(rng):
         used = rng.sample(structures, rng.randint(1, len(structures)))
         lines = [connector_lines(rng, it, who, connectors, max(3, share // len(used))) for it in used]
         callers.append(shuffled(rng, lines))
-    asked = rng.choice((0, 5, 20, 60))
+    asked = rng.choice((20, 200, 800) if links else (0, 5, 20, 60))
     callers.append([operator_line(rng, rng.choice(structures), facilities, connectors) for _ in range(asked)])
     return Script(policy, shuffled(rng, callers), structures, facilities, connectors)
 
 
 def random_links(rng, script):
-    """Calls at which links are down: the place of a structure, the number of a facility, the number of a call."""
+    """Calls at which links are down: the place of a structure, the number of a facility, the number of a call. The link to the facility in which
+    the structure is made is asked by each command on the content: it is down late, and seldom where there is no second instance. A link to one to
+    which the structure moves, or where the second instance stands, may be down at once."""
     lines = []
-    for place in range(len(script.structures)):
-        for cf in script.facilities:
-            calls = {rng.choice((rng.randint(1, 9), rng.randint(1, 80), rng.randint(1, 400))) for _ in range(rng.choice((0, 1, 1, 2, 4)))}
+    for place, it in enumerate(script.structures):
+        for cf in it.facilities:
+            first = cf == it.facilities[0]
+            times = rng.choice(((0, 1, 1, 2) if it.duplexed else (0, 0, 0, 1)) if first else (0, 1, 1, 2, 4))
+            calls = {rng.randint(1, rng.choice((80, 400, 400) if first else (4, 80, 400))) for _ in range(times)}
             lines += [f'{place} {cf[2:]} {call}\n' for call in sorted(calls)]
     return ''.join(lines)

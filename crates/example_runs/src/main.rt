@@ -2,6 +2,9 @@
 //! it: NAME.plex is the script, and NAME.report the report. They are run by the word `serial`, or NAME.locks
 //! by the word `locks`. NAME.links is run by the word `serial` over links that are down at the calls which the
 //! file of that name lists.
+//!
+//! With `show WORD NAME` it prints what is written of NAME.plex by that word, over the links that NAME.links
+//! lists, and ends with the status of that run; or with 1 where a file isn't there, or memory lacks before it.
 #![tactic(auto)]
 
 mod listed;
@@ -14,8 +17,9 @@ use listed::listed;
 use plex_agent::OpenGate;
 use plex_run::run;
 use std::alloc::Global;
+use std::io::Write;
 use std::process::ExitCode;
-use std::rt::Files;
+use std::rt::{Env, Files};
 use std::sync::Wait;
 use std::thread::Threads;
 use std::{env, fs, io};
@@ -74,28 +78,79 @@ fn word_of(way: &str) -> &str {
     if way == "locks" { way } else { "serial" }
 }
 
+// The script of a story.
+fn script_of(rt: &(impl Files + AllocGlobal), name: &str) -> io::Result<Vec<u8>> {
+    fs::read(rt, format!(in rt.alloc(); "{name}.plex")?)
+}
+
 // Whether the script of a story has the report beside it.
 fn has_its_report(
     rt: &(impl Threads + Wait + Sync + Files + AllocGlobal),
     story: &str,
 ) -> io::Result<bool> {
     let (name, way) = story.split_once('.').unwrap_or((story, ""));
-    let script = fs::read(rt, format!(in rt.alloc(); "{name}.plex")?)?;
+    let script = script_of(rt, name)?;
     let wanted = fs::read(rt, format!(in rt.alloc(); "{name}.report")?)?;
     let links = links_of(rt, name, way)?;
     let (status, wrote) = report_of(rt, rt.alloc(), word_of(way), script, links)?;
     Ok(status == 0 && wrote == wanted)
 }
 
-fn main(rt: HostRuntime) -> io::Result<ExitCode> {
-    let mut code = ExitCode::SUCCESS;
-    for name in env::args(&rt)?.skip(1) {
-        if has_its_report(&rt, name.as_str())? {
-            println!(rt; "{name}: as its report")?;
+// Tells of each story whether it has its report; whether all have.
+fn have_their_reports(
+    rt: &(impl Threads + Wait + Sync + Files + Print + AllocGlobal),
+    stories: &[String],
+) -> io::Result<bool> {
+    let mut all = true;
+    for story in stories {
+        if has_its_report(rt, story.as_str())? {
+            println!(rt; "{story}: as its report")?;
         } else {
-            println!(rt; "{name}: another report")?;
-            code = ExitCode::FAILURE;
+            println!(rt; "{story}: another report")?;
+            all = false;
         }
     }
-    Ok(code)
+    Ok(all)
+}
+
+// What the program writes of a script by this word, over the links that its file lists, with its status.
+fn report_over_its_links(
+    rt: &(impl Threads + Wait + Sync + Files + AllocGlobal),
+    word: &str,
+    name: &str,
+) -> io::Result<(u8, Vec<u8>)> {
+    let script = script_of(rt, name)?;
+    let links = links_of(rt, name, "links")?;
+    report_of(rt, rt.alloc(), word, script, links)
+}
+
+// The word and the name behind `show`.
+fn shown(words: &[String]) -> Option<(&str, &str)> {
+    match words {
+        [first, word, name] if first.as_str() == "show" => Some((word.as_str(), name.as_str())),
+        _ => None,
+    }
+}
+
+// The words behind the program's name.
+fn program_words(rt: &(impl Env + AllocGlobal)) -> io::Result<Vec<String>> {
+    let mut words = Vec::new(rt.alloc());
+    for word in env::args(rt)?.skip(1) {
+        words.push(word)?;
+    }
+    Ok(words)
+}
+
+fn main(rt: HostRuntime) -> io::Result<ExitCode> {
+    let words = program_words(&rt)?;
+    if let Some((word, name)) = shown(&words) {
+        let (status, wrote) = report_over_its_links(&rt, word, name)?;
+        rt.stdout().write_all(&wrote)?;
+        return Ok(ExitCode::from(status));
+    }
+    if have_their_reports(&rt, &words)? {
+        Ok(ExitCode::SUCCESS)
+    } else {
+        Ok(ExitCode::FAILURE)
+    }
 }
