@@ -241,22 +241,7 @@ two_listed (Some a) (Some b) = omega arith
 
 two_of_command : (shell : Shell) (command : ShellCmd) → (let asks = asks_of_command shell command in length asks.links ≤ 2)
 two_of_command shell (cmd.Copy n) = two_listed shell.instances.primary (fresh_of shell.rebuild)
-two_of_command shell (cmd.Connect keep) = omega arith
-two_of_command shell cmd.Disconnect = omega arith
-two_of_command shell cmd.Fail = omega arith
-two_of_command shell cmd.Next = omega arith
-two_of_command shell cmd.Respond = omega arith
-two_of_command shell (cmd.RebuildStart caps) = omega arith
-two_of_command shell cmd.RebuildStop = omega arith
-two_of_command shell cmd.RebuildConnect = omega arith
-two_of_command shell cmd.RebuildComplete = omega arith
-two_of_command shell (cmd.ForceConn other) = omega arith
-two_of_command shell cmd.ForceStr = omega arith
-two_of_command shell (cmd.LoseConn other cf) = omega arith
-two_of_command shell (cmd.RestoreConn other cf) = omega arith
-two_of_command shell (cmd.Vary cf off) = omega arith
-two_of_command shell cmd.DuplexStart = omega arith
-two_of_command shell cmd.DuplexStop = omega arith
+two_of_command shell command = omega arith
 
 two_of : {C : Type 0} (shell : Shell) (asked : Ask C) → (let asks = asks_of shell asked in length asks.links ≤ 2)
 two_of shell (ask.Shell command) = two_of_command shell command

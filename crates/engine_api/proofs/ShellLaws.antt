@@ -24,23 +24,13 @@ use Rattle.engine_api.specs.declared.histories.Entry.{Entry}
 use Rattle.engine_api.specs.History.{after_what, machine_after, replay, next_entry, with_call, next_reply}
 use Rattle.engine_api.specs.Machine.{Machine, opening, unless, content_reply, content_done, capacity, room_of, departure_from, command_done, step, entered_machine}
 use Rattle.engine_api.specs.Meaning.{Meaning, Outcome, unless_refused}
-use Rattle.engine_api.specs.Rebuilds.{is_switch}
 use Rattle.engine_api.specs.Instances.{is_at}
-use Rattle.engine_api.specs.Shell.{Shell, shell_cause, content_cause, shell_done, leaver, with_posted, no_deeds, goes, deallocated, unless_gone, facility_of, switched, shell_onward, given_outcome, stop_outcome, rebuild_connect_outcome, complete_outcome, conns_answered, take_event, responded, response_outcome, is_kept, fresh_loss, primary_loss, loss_outcome, vary_outcome, simplex_again, stopped_outcome, simplex_outcome, idle_outcome, with_off}
+use Rattle.engine_api.specs.Shell.{Shell, shell_cause, content_cause, shell_done, leaver, with_posted, no_deeds, facility_of, given_outcome, stop_outcome, rebuild_connect_outcome, complete_outcome, conns_answered, take_event, responded, response_outcome, is_kept, fresh_loss, primary_loss, loss_outcome, vary_outcome, simplex_again, stopped_outcome, simplex_outcome, idle_outcome, with_off}
 use Rattle.rebuild_core.specs.declared.rebuild.Rebuild.{Rebuild}
-use Rattle.rebuild_core.specs.Stages.{without_owing, outcome_of, is_response}
+use Rattle.rebuild_core.specs.Stages.{is_response}
 use Rattle.engine_api.proofs.HistoryLaws.{replay-push}
 
--- ---- cases
-
 -- ---- the connections that commands leave
-
-pub conns-unless_gone : (form : StrForm) (shell : Shell) → (unless_gone form shell).conns ≡ shell.conns
-conns-unless_gone form shell = go (goes form shell.conns)
-  where
-    go : (gone : Bool) → (cond gone (deallocated form shell) shell).conns ≡ shell.conns
-    go true = refl
-    go false = refl
 
 conns-take_event : (shell : Shell) (by : ConnId) (taken : Option Event)
     → (take_event shell by taken).shell.conns ≡ shell.conns
@@ -49,36 +39,15 @@ conns-take_event shell by (Some taken) = refl
 
 length-answering : (by : ConnId) (answered : Event) (conns : Connections)
     → length (conns_answered by answered conns) ≡ length conns
-length-answering by (event.NewConn other) conns = refl
 length-answering by (event.DiscFail other) conns = length-set conns other.0 _
-length-answering by (event.Quiesce number) conns = refl
-length-answering by (event.RebuildConnect number) conns = refl
-length-answering by (event.ConnectsDone number) conns = refl
-length-answering by (event.Cleanup number) conns = refl
-length-answering by (event.Complete number) conns = refl
-length-answering by (event.Stop number) conns = refl
-length-answering by (event.StopDone number) conns = refl
-length-answering by (event.LostConn cf) conns = refl
-length-answering by event.StrFail conns = refl
-length-answering by (event.Contention r other) conns = refl
-length-answering by (event.Notify r other) conns = refl
-length-answering by (event.Granted r excl) conns = refl
-length-answering by (event.Denied r) conns = refl
+length-answering by answered conns = refl
 
 length-with_departure : (conn : ConnId) (keep : Bool) (conns : Connections)
     → length (with_departure conn keep conns) ≡ length conns
 length-with_departure conn keep conns =
     length-set (map (excused_state conn) conns) conn.0 _ ∙ length-map conns (excused_state conn)
 
--- no connection changes where a rebuild goes on
-conns-switched : (behind : Bool) (rebuild : Rebuild) (shell : Shell) → (switched behind rebuild shell).conns ≡
-    shell.conns
-conns-switched true rebuild shell = refl
-conns-switched false rebuild shell = refl
-
-pub conns-onward : (rebuild : Rebuild) (shell : Shell) → (shell_onward rebuild shell).conns ≡ shell.conns
-conns-onward rebuild shell = conns-switched (is_switch (outcome_of rebuild)) rebuild _
-
+-- no connection changes where a rebuild goes on or stops
 conns-stop : (shell : Shell) (rebuild : Option Rebuild) → (stop_outcome shell rebuild).shell.conns ≡ shell.conns
 conns-stop shell None = refl
 conns-stop shell (Some rebuild) = refl
@@ -123,12 +92,12 @@ conns-simplex_again (Some cf) shell = refl
 conns-rebuild_connect : (form : StrForm) (shell : Shell) (by : ConnId) (rebuild : Option Rebuild)
     → (rebuild_connect_outcome form shell by rebuild).shell.conns ≡ shell.conns
 conns-rebuild_connect form shell by None = refl
-conns-rebuild_connect form shell by (Some rebuild) = conns-onward _ shell
+conns-rebuild_connect form shell by (Some rebuild) = refl
 
 conns-complete : (shell : Shell) (by : ConnId) (rebuild : Option Rebuild)
     → (complete_outcome shell by rebuild).shell.conns ≡ shell.conns
 conns-complete shell by None = refl
-conns-complete shell by (Some rebuild) = conns-onward (without_owing by rebuild) shell
+conns-complete shell by (Some rebuild) = refl
 
 conns-responded : (by : ConnId) (answered : Event) (rebuild : Option Rebuild) (shell : Shell)
     → (responded by answered rebuild shell).shell.conns ≡ shell.conns
@@ -138,7 +107,7 @@ conns-responded by answered (Some rebuild) shell = go (is_response rebuild.stage
     go : (awaited : Bool)
         → (cond awaited (given_outcome (answer.Responded answered) by rebuild shell)
         (record { reply = answer.Responded answered; shell = shell; deeds = no_deeds })).shell.conns ≡ shell.conns
-    go true = conns-onward (without_owing by rebuild) shell
+    go true = refl
     go false = refl
 
 conns-respond : (shell : Shell) (by : ConnId) (answered : Event)
@@ -154,34 +123,25 @@ length-respond shell by (Some answered) =
 -- there are as many connections after a command as before
 length-shell_done : (form : StrForm) (room : Room) (shell : Shell) (by : ConnId) (command : ShellCmd)
     → length (shell_done form room shell by command).shell.conns ≡ length shell.conns
-length-shell_done form room shell by (cmd.Connect keep) =
-    length-set shell.conns by.0 _
-length-shell_done form room shell by cmd.Disconnect =
-    ap (λ (c : Connections). length c) (conns-unless_gone form _) ∙ length-with_departure by false shell.conns
+length-shell_done form room shell by (cmd.Connect keep) = length-set shell.conns by.0 _
+length-shell_done form room shell by cmd.Disconnect = length-with_departure by false shell.conns
 length-shell_done form room shell by cmd.Fail =
-    ap (λ (c : Connections). length c) (conns-unless_gone form _)
-    ∙ length-with_departure by (is_kept (state_of shell.conns by)) shell.conns
+    length-with_departure by (is_kept (state_of shell.conns by)) shell.conns
 length-shell_done form room shell by cmd.Next =
     ap (λ (c : Connections). length c) (conns-take_event shell by (next_event shell.mail by))
 length-shell_done form room shell by cmd.Respond = length-respond shell by (owed_event shell.mail by)
-length-shell_done form room shell by (cmd.ForceConn other) =
-    ap (λ (c : Connections). length c) (conns-unless_gone form _) ∙ length-set shell.conns other.0 None
-length-shell_done form room shell by cmd.ForceStr = refl
-length-shell_done form room shell by (cmd.RebuildStart caps) = refl
+length-shell_done form room shell by (cmd.ForceConn other) = length-set shell.conns other.0 None
 length-shell_done form room shell by cmd.RebuildStop =
     ap (λ (c : Connections). length c) (conns-stop shell shell.rebuild)
 length-shell_done form room shell by cmd.RebuildConnect =
     ap (λ (c : Connections). length c) (conns-rebuild_connect form shell by shell.rebuild)
-length-shell_done form room shell by (cmd.Copy n) = refl
 length-shell_done form room shell by cmd.RebuildComplete =
     ap (λ (c : Connections). length c) (conns-complete shell by shell.rebuild)
-length-shell_done form room shell by (cmd.LoseConn other cf) = refl
-length-shell_done form room shell by (cmd.RestoreConn other cf) = refl
 length-shell_done form room shell by (cmd.Vary cf off) =
     ap (λ (c : Connections). length c) (conns-vary form cf off shell)
-length-shell_done form room shell by cmd.DuplexStart = refl
 length-shell_done form room shell by cmd.DuplexStop =
     ap (λ (c : Connections). length c) (conns-simplex_again shell.instances.secondary shell)
+length-shell_done form room shell by command = refl
 
 length-unconnected : length no_connections ≡ CALLERS
 unfolding no_connections
@@ -228,8 +188,6 @@ module _ {C R I S : Type 0} (meaning : Meaning C R I S) (form : StrForm) where
   -- there is a place for the operator and one for each connector
   pub length-conns-replay : (history : List (Entry C R)) → length (replay meaning form history).shell.conns ≡ CALLERS
   length-conns-replay history = length-conns-fold (opening meaning form) history ∙ length-unconnected
-
-  -- ---- a connector is active exactly where its own calls tell so
 
   -- ---- refused calls
 

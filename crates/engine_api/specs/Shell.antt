@@ -361,7 +361,13 @@ abbrev pub deallocated : StrForm → Shell → Shell
 deallocated form shell = record shell { instances = no_instance; failed = false; caps = form.caps }
 
 abbrev pub unless_gone : StrForm → Shell → Shell
-unless_gone form shell = if goes form shell.conns then deallocated form shell else shell
+unless_gone form shell =
+    let gone = goes form shell.conns in
+    record shell {
+      instances = if gone then no_instance else shell.instances;
+      failed = not gone && shell.failed;
+      caps = if gone then form.caps else shell.caps;
+    }
 
 -- where no primary stands one is made in the first place that is large enough
 abbrev pub made_at : StrForm → Shell → ConnId → Option CfId
@@ -402,9 +408,11 @@ connect_outcome form shell by keep =
 -- a rebuild goes on, or its stage has passed: then its members are told, and behind COPY the new instance takes the
 -- old one's place
 abbrev pub switched : Bool → Rebuild → Shell → Shell
-switched false rebuild shell = shell
-switched true rebuild shell =
-    record shell { instances = record shell.instances { primary = rebuild.fresh }; caps = rebuild.caps }
+switched switch rebuild shell =
+    record shell {
+      instances = record shell.instances { primary = if switch then rebuild.fresh else shell.instances.primary };
+      caps = if switch then rebuild.caps else shell.caps;
+    }
 
 abbrev pub shell_onward : Rebuild → Shell → Shell
 shell_onward rebuild shell =

@@ -44,10 +44,10 @@ impl Shell {
     /// Why REBUILD CONNECT is refused, if it is.
     pub(crate) fn judge_rebuild_connect(&self, by: ConnId, room: &Room) -> Judged
         requires { IsCaller by }
-        ensures { result_err result ≡ first_refusal (unless_active self.now.shell by
-            ∷ if_failed self.now.shell ∷ unless_rebuilding self.now.shell.rebuild
-            ∷ unless_owed is_connect by self.now.shell.rebuild
-            ∷ unless_copied_to self.now.form self.now.shell room.now by self.now.shell.rebuild) }
+        ensures { let shell = self.now.shell in
+            result_err result ≡ first_refusal (unless_active shell by ∷ if_failed shell
+            ∷ unless_rebuilding shell.rebuild ∷ unless_owed is_connect by shell.rebuild
+            ∷ unless_copied_to self.now.form shell room.now by shell.rebuild) }
     {
         self.unless_active(by)?;
         self.if_failed()?;

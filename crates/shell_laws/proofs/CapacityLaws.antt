@@ -1,5 +1,5 @@
 -- The content fits the instance that it is in, and the new one of a rebuild.
-use Rattle.std.proofs.Common.{◌≡◌, Bool, true, false, IsTrue, List, [], ◌∷◌, ◌++◌, Option, None, Some, refl, sym, ap, subst, arith}
+use Rattle.std.proofs.Common.{◌≡◌, Bool, true, false, IsTrue, List, [], ◌∷◌, ◌++◌, Option, None, Some, refl, sym, subst, arith}
 use Rattle.std.specs.Prelude.{if◌then◌else◌, is_some, unwrap_or, fold}
 use Rattle.std.proofs.lemmas.Bool.{both_ways}
 use Rattle.cf_types.specs.declared.events.Event.{Event}
@@ -32,7 +32,7 @@ use Rattle.engine_api.specs.Machine.{Machine, opening, step, loss_step, unless, 
 use Rattle.engine_api.specs.Meaning.{Meaning, unless_refused, first_refusal}
 use Rattle.engine_api.specs.Rebuilds.{fresh_of, is_switch, is_held_up, letters_past}
 use Rattle.engine_api.specs.Shapes.{shape_of}
-use Rattle.engine_api.specs.Shell.{if_failed, simplex_again, with_off, Shell, ShellOutcome, Leaver, shell_cause, content_cause, if_small, if_too_small, if_rebuilding, unless_active, unless_rebuilding, unless_owed, is_connect, unless_copied_to, no_deeds, with_posted, goes, deallocated, unless_gone, facility_of, is_kept, switched, shell_onward, shell_without, given_outcome, stop_outcome, fresh_made, rebuild_connect_outcome, complete_outcome, departing_shell, emptied, take_event, conns_answered, responded, response_outcome}
+use Rattle.engine_api.specs.Shell.{if_failed, simplex_again, with_off, Shell, ShellOutcome, Leaver, shell_cause, content_cause, if_small, if_too_small, if_rebuilding, unless_active, unless_rebuilding, unless_owed, is_connect, unless_copied_to, no_deeds, with_posted, goes, unless_gone, facility_of, is_kept, switched, shell_onward, shell_without, given_outcome, stop_outcome, fresh_made, rebuild_connect_outcome, complete_outcome, departing_shell, emptied, take_event, conns_answered, responded, response_outcome}
 use Rattle.rebuild_core.specs.declared.passed.Passed.{Passed}
 use Rattle.rebuild_core.specs.declared.passed.Passed.TheVariants.{No, Into, Ended}
 use Rattle.rebuild_core.specs.declared.rebuild.Rebuild.{Rebuild}
@@ -43,7 +43,6 @@ use Rattle.shell_laws.proofs.LossLaws.{InEachCase, loss-cases, vary-cases}
 use Rattle.shell_laws.proofs.CauseLaws.{idle_rebuild, not_above, not_so, past_first, past_second, second_none, third_none}
 use Rattle.shell_laws.proofs.StepLaws.{acting, done, first_none, active_of, active_member, somebody_member}
 use Rattle.shell_laws.proofs.PlaceLaws.{switch_stands, no_switch}
-use Rattle.engine_api.proofs.ShellLaws.{conns-unless_gone}
 use Rattle.shell_laws.proofs.MemberLaws.{content_waits, manned-after, manned-opening}
 
 -- ---- needs and capacities
@@ -85,10 +84,8 @@ fits_first form shell room by rebuild is fine = fits_accepted form.kind room.nee
 held_up : (at : Stage) (members owing : List ConnId) (fresh : Option CfId) → IsPlaced at members owing fresh
     → is_some fresh ≡ true → is_held_up at true ≡ true
 held_up Quiesce members owing fresh placed stands = absurd (let wrong : false ≡ true = rw placed at stands in cc)
-held_up Connect members owing fresh placed stands = refl
-held_up Copy members owing fresh placed stands = refl
-held_up Cleanup members owing fresh placed stands = refl
 held_up Stopping members owing fresh placed stands = absurd (let wrong : false ≡ true = rw placed at stands in cc)
+held_up at members owing fresh placed stands = refl
 
 -- so none stands where a command on the content is accepted
 pub none_fresh_then : (shell : Shell) (by : ConnId) → IsManned shell → content_cause shell by ≡ None
@@ -171,11 +168,9 @@ module _ {C R I S : Type 0} (meaning : Meaning C R I S) (is_kind : Kind → Bool
 
     room_in : (at : Stage) (rebuild : Rebuild) (content : S) → HasRoom meaning form (Some rebuild) content
         → HasRoom meaning form (Some (rebuild_in at rebuild)) content
-    room_in Quiesce rebuild content room = λ stands. absurd (cc)
     room_in Connect rebuild content room = room
     room_in Copy rebuild content room = room
-    room_in Cleanup rebuild content room = λ stands. absurd (cc)
-    room_in Stopping rebuild content room = λ stands. absurd (cc)
+    room_in at rebuild content room = λ stands. absurd (cc)
 
     room_emptied : (rebuild : Option Rebuild) (content : S) → HasRoom meaning form rebuild content
         → HasRoom meaning form (emptied rebuild) content
@@ -183,11 +178,8 @@ module _ {C R I S : Type 0} (meaning : Meaning C R I S) (is_kind : Kind → Bool
     room_emptied (Some rebuild) content room = go rebuild.stage
       where
         go : (at : Stage) → HasRoom meaning form (Some (rebuild_emptied at rebuild)) content
-        go Quiesce = room
-        go Connect = room
         go Copy = room
-        go Cleanup = room
-        go Stopping = room
+        go at = room
 
     -- ---- a rebuild goes on
 
@@ -204,14 +196,11 @@ module _ {C R I S : Type 0} (meaning : Meaning C R I S) (is_kind : Kind → Bool
             (with_posted (letters_past rebuild) (record shell { rebuild = rebuild_left passed rebuild })))
             (if is_switch passed then meaning.forget content else content)
         go No fresh = (is, room)
-        go (Into Quiesce) fresh = (is, room_in Quiesce rebuild content room)
-        go (Into Connect) fresh = (is, room_in Connect rebuild content room)
-        go (Into Copy) fresh = (is, room_in Copy rebuild content room)
         go (Into Cleanup) fresh = (
           laws.content_moved (shape_of form) shell.caps rebuild.caps content kind is (room (fresh refl)),
           λ stands. absurd (cc),
         )
-        go (Into Stopping) fresh = (is, room_in Stopping rebuild content room)
+        go (Into at) fresh = (is, room_in at rebuild content room)
         go Ended fresh = (is, tt)
 
     holds_without : (by : ConnId) (rebuild : Option Rebuild) (shell : Shell) (content : S) → shell.rebuild ≡ rebuild
@@ -226,13 +215,13 @@ module _ {C R I S : Type 0} (meaning : Meaning C R I S) (is_kind : Kind → Bool
 
     -- ---- instances that are made and end
 
-    holds_unless_gone : (shell : Shell) (content : S) (all : Bool) → all ≡ goes form shell.conns
-        → Holds shell content → Holds (unless_gone form shell) (if all then nothing else content)
-    holds_unless_gone shell content all is holds =
-        subst (λ (b : Bool). Holds (unless_gone form shell) (if b then nothing else content)) (sym is)
-        (go (goes form shell.conns))
+    holds_unless_gone : (shell : Shell) (content : S) → Holds shell content
+        → Holds (unless_gone form shell) (if goes form shell.conns then nothing else content)
+    holds_unless_gone shell content holds = go (goes form shell.conns)
       where
-        go : (b : Bool) → Holds (if b then deallocated form shell else shell) (if b then nothing else content)
+        go : (b : Bool)
+            → IsContent (shape_of form) (if b then form.caps else shell.caps) (if b then nothing else content)
+            × HasRoom meaning form shell.rebuild (if b then nothing else content)
         go true = (laws.content_empty (shape_of form) form.caps, room_nothing shell.rebuild content holds.1)
         go false = holds
 
@@ -245,8 +234,7 @@ module _ {C R I S : Type 0} (meaning : Meaning C R I S) (is_kind : Kind → Bool
         let left : Shell = shell_without by shell.rebuild cleared in
         let told : Shell =
         with_posted (letters_to (actives conns) (event.DiscFail by)) (record left { conns = conns }) in
-        holds_unless_gone told content (goes form (unless_gone form told).conns)
-        (ap (goes form) (conns-unless_gone form told)) (holds_without by shell.rebuild cleared content refl holds)
+        holds_unless_gone told content (holds_without by shell.rebuild cleared content refl holds)
 
     content_made : (caps : Caps) (rebuilding : Bool) (made : Option CfId) (content : S)
         → IsContent (shape_of form) caps content
@@ -437,7 +425,7 @@ module _ {C R I S : Type 0} (meaning : Meaning C R I S) (is_kind : Kind → Bool
           holds_unless_gone (record (before_it (cmd.ForceConn other)) {
             conns = conns;
             rebuild = emptied machine.shell.rebuild;
-          }) content (goes form conns) refl (left.0, room_emptied machine.shell.rebuild content left.1)
+          }) content (left.0, room_emptied machine.shell.rebuild content left.1)
 
       holds_command : (command : ShellCmd)
           → shell_cause form (room_of meaning form machine) machine.shell by command ≡ None
@@ -454,7 +442,6 @@ module _ {C R I S : Type 0} (meaning : Meaning C R I S) (is_kind : Kind → Bool
       holds_command (cmd.RebuildStart caps) fine = (held.content, λ stands. absurd (cc))
       holds_command cmd.RebuildStop fine = holds_stop machine.shell.rebuild
       holds_command cmd.RebuildConnect fine = holds_connection machine.shell.rebuild refl fine
-      holds_command (cmd.Copy n) fine = same
       holds_command cmd.RebuildComplete fine =
           holds_completion machine.shell.rebuild manned.placed held.room
       holds_command (cmd.ForceConn other) fine = holds_forced other
@@ -462,11 +449,9 @@ module _ {C R I S : Type 0} (meaning : Meaning C R I S) (is_kind : Kind → Bool
         laws.content_empty (shape_of form) form.caps,
         room_nothing machine.shell.rebuild machine.content held.room,
       )
-      holds_command (cmd.LoseConn other cf) fine = same
-      holds_command (cmd.RestoreConn other cf) fine = same
       holds_command (cmd.Vary cf off) fine = holds_vary cf off
-      holds_command cmd.DuplexStart fine = same
       holds_command cmd.DuplexStop fine = holds_again machine.shell.instances.secondary
+      holds_command command fine = same
 
       -- no new instance stands where a command on the content is accepted
       room_for_any : (rebuild : Option Rebuild) → machine.shell.rebuild ≡ rebuild

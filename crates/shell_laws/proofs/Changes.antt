@@ -4,7 +4,6 @@
 use Rattle.std.proofs.Common.{◌≡◌, Bool, true, false, ◌&&◌, cond, [], Option, None, Some, is_some, is_none, refl, sym, ap, ◌∙◌, subst}
 use Rattle.std.proofs.lemmas.Bool.{false≢true}
 use Rattle.cf_types.specs.declared.events.Event.{Event}
-use Rattle.cf_types.specs.declared.events.Event.TheVariants as event
 use Rattle.cf_types.specs.declared.forms.StrForm.{StrForm}
 use Rattle.cf_types.specs.declared.numbers.CfId.{CfId}
 use Rattle.cf_types.specs.declared.numbers.ConnId.{ConnId}
@@ -12,14 +11,14 @@ use Rattle.cf_types.specs.declared.refusals.Refusal.{Refusal}
 use Rattle.cf_types.specs.declared.shell_commands.ShellCmd.{ShellCmd}
 use Rattle.cf_types.specs.declared.shell_commands.ShellCmd.TheVariants as cmd
 use Rattle.cf_types.specs.declared.shell_commands.ShellReply.TheVariants as reply
-use Rattle.cf_types.specs.Connections.{state_of, with_forced, with_departure, actives}
-use Rattle.cf_types.specs.Mailboxes.{next_event, owed_event, with_cleared, with_response, letters_to}
+use Rattle.cf_types.specs.Connections.{state_of, with_forced, with_departure}
+use Rattle.cf_types.specs.Mailboxes.{next_event, owed_event, with_cleared, with_response}
 use Rattle.engine_api.specs.declared.asks.Ask.TheVariants as ask
 use Rattle.engine_api.specs.declared.deeds.Room.{Room}
-use Rattle.engine_api.specs.Instances.{place_for, units_of}
+use Rattle.engine_api.specs.Instances.{Instances, no_instance, place_for, units_of}
 use Rattle.engine_api.specs.Machine.{Machine, unless, room_of, command_done, departure_from, with_back_of, with_made, step, entered_machine, loss_step, content_after, copied_after}
 use Rattle.engine_api.specs.Meaning.{Departure}
-use Rattle.engine_api.specs.Shell.{Shell, Leaver, ShellOutcome, shell_cause, shell_done, leaver, no_deeds, with_posted, goes, deallocated, shell_without, departure_outcome, candidates, given_outcome, stop_outcome, rebuild_connect_outcome, complete_outcome, conns_answered, responded, emptied, force_connection, take_event, response_outcome, is_kept, vary_outcome, simplex_again}
+use Rattle.engine_api.specs.Shell.{Shell, Leaver, ShellOutcome, shell_cause, shell_done, leaver, no_deeds, with_posted, goes, shell_without, departure_outcome, candidates, given_outcome, stop_outcome, rebuild_connect_outcome, complete_outcome, conns_answered, responded, force_connection, take_event, response_outcome, is_kept, vary_outcome, simplex_again}
 use Rattle.rebuild_core.specs.declared.rebuild.Rebuild.{Rebuild}
 use Rattle.rebuild_core.specs.Stages.{is_response}
 use Rattle.shell_laws.proofs.LossLaws.{loss-cases, vary-cases}
@@ -55,31 +54,23 @@ made_none : (primary place : Option CfId) → is_some (cond (is_none primary) pl
 made_none (Some cf) place e = absurd (false≢true e)
 made_none None place e = refl
 
-gone_then : (form : StrForm) (shell : Shell) (b : Bool) → goes form shell.conns ≡ b
-    → goes form (cond b (deallocated form shell) shell).conns ≡ true
-    → is_some (cond b (deallocated form shell) shell).instances.primary ≡ false
-gone_then form shell true is goes = refl
-gone_then form shell false is goes = absurd (false≢true (sym is ∙ goes))
+-- where all ends, no primary stands
+gone_then : (b : Bool) (at : Instances) → b ≡ true → is_some (cond b no_instance at).primary ≡ false
+gone_then true at e = refl
+gone_then false at e = absurd (false≢true e)
 
 cautious_depart : (form : StrForm) (shell : Shell) (by : ConnId) (keep : Bool)
     → Cautious shell (departure_outcome form shell by keep)
 cautious_depart form shell by keep =
-    let conns = with_departure by keep shell.conns in
-    let cleared : Shell = record shell { mail = with_cleared by shell.mail } in
-    let left : Shell = record (shell_without by shell.rebuild cleared) { conns = conns } in
-    let told : Shell = with_posted (letters_to (actives conns) (event.DiscFail by)) left in
-    record { back = refl; drop = gone_then form told (goes form conns) refl; make = λ e none. absurd (false≢true e) }
+    let left : Shell = shell_without by shell.rebuild (record shell { mail = with_cleared by shell.mail }) in
+    let gone : Bool = goes form (with_departure by keep shell.conns) in
+    record { back = refl; drop = gone_then gone left.instances; make = λ e none. absurd (false≢true e) }
 
 cautious_force : (form : StrForm) (shell : Shell) (other : ConnId)
     → Cautious shell (force_connection form shell other)
 cautious_force form shell other =
-    let left : Shell = record shell { conns = with_forced other shell.conns; rebuild = emptied shell.rebuild } in
-    record { back = refl; drop = forced left (goes form left.conns); make = λ e none. absurd (false≢true e) }
-  where
-    forced : (left : Shell) (b : Bool) → b ≡ true
-        → is_some (cond b (deallocated form left) left).instances.primary ≡ false
-    forced left true e = refl
-    forced left false e = absurd (false≢true e)
+    let gone : Bool = goes form (with_forced other shell.conns) in
+    record { back = refl; drop = gone_then gone shell.instances; make = λ e none. absurd (false≢true e) }
 
 idle : (shell : Shell) (acted : ShellOutcome) → acted.deeds.back ≡ None → acted.deeds.drop_all ≡ false
     → acted.deeds.make ≡ None → Cautious shell acted
@@ -156,40 +147,23 @@ cautious form room shell by cmd.Disconnect h = cautious_depart form shell by fal
 cautious form room shell by cmd.Fail h = cautious_depart form shell by (is_kept (state_of shell.conns by))
 cautious form room shell by cmd.Next h = cautious_event shell by (next_event shell.mail by)
 cautious form room shell by cmd.Respond h = cautious_response shell by (owed_event shell.mail by)
-cautious form room shell by (cmd.RebuildStart caps) h = idle shell _ refl refl refl
 cautious form room shell by cmd.RebuildStop h = cautious_stop shell shell.rebuild
 cautious form room shell by cmd.RebuildConnect h = cautious_place form shell by shell.rebuild refl
-cautious form room shell by (cmd.Copy n) h = idle shell _ refl refl refl
 cautious form room shell by cmd.RebuildComplete h = cautious_completion shell by shell.rebuild
 cautious form room shell by (cmd.ForceConn other) h = cautious_force form shell other
 cautious form room shell by cmd.ForceStr h =
     record { back = refl; drop = λ e. refl; make = λ e none. absurd (false≢true e) }
-cautious form room shell by (cmd.LoseConn other cf) h = idle shell _ refl refl refl
-cautious form room shell by (cmd.RestoreConn other cf) h = idle shell _ refl refl refl
 cautious form room shell by (cmd.Vary cf off) h = cautious_vary form shell cf off
-cautious form room shell by cmd.DuplexStart h = idle shell _ refl refl refl
 cautious form room shell by cmd.DuplexStop h = cautious_simplex shell shell.instances.secondary
+cautious form room shell by command h = idle shell _ refl refl refl
 
 -- nobody leaves the content with a command that lets the new instance take the old one's place
 nobody_leaves : (form : StrForm) (room : Room) (shell before : Shell) (by : ConnId) (command : ShellCmd)
     → (shell_done form room shell by command).deeds.switch ≡ true → leaver before by command ≡ None
-nobody_leaves form room shell before by (cmd.Connect keep) e = refl
 nobody_leaves form room shell before by cmd.Disconnect e = absurd (false≢true e)
 nobody_leaves form room shell before by cmd.Fail e = absurd (false≢true e)
-nobody_leaves form room shell before by cmd.Next e = refl
-nobody_leaves form room shell before by cmd.Respond e = refl
-nobody_leaves form room shell before by (cmd.RebuildStart caps) e = refl
-nobody_leaves form room shell before by cmd.RebuildStop e = refl
-nobody_leaves form room shell before by cmd.RebuildConnect e = refl
-nobody_leaves form room shell before by (cmd.Copy n) e = refl
-nobody_leaves form room shell before by cmd.RebuildComplete e = refl
 nobody_leaves form room shell before by (cmd.ForceConn other) e = absurd (false≢true e)
-nobody_leaves form room shell before by cmd.ForceStr e = refl
-nobody_leaves form room shell before by (cmd.LoseConn other cf) e = refl
-nobody_leaves form room shell before by (cmd.RestoreConn other cf) e = refl
-nobody_leaves form room shell before by (cmd.Vary cf off) e = refl
-nobody_leaves form room shell before by cmd.DuplexStart e = refl
-nobody_leaves form room shell before by cmd.DuplexStop e = refl
+nobody_leaves form room shell before by command e = refl
 
 -- ---- what is made anew
 
@@ -298,22 +272,7 @@ module _ {C R I S : Type 0} (meaning : Meaning C R I S) (form : StrForm)
       connected machine _ by keep (is_some (state_of shell.conns by)) (is_some machine.shell.rebuild)
       (made_at form shell by) refl
       (λ e. made_none shell.instances.primary (place_for (units_of shell.caps) (candidates form shell by)) e)
-  command_change machine by cmd.Disconnect = other_change machine by cmd.Disconnect tt
-  command_change machine by cmd.Fail = other_change machine by cmd.Fail tt
-  command_change machine by cmd.Next = other_change machine by cmd.Next tt
-  command_change machine by cmd.Respond = other_change machine by cmd.Respond tt
-  command_change machine by (cmd.RebuildStart caps) = other_change machine by (cmd.RebuildStart caps) tt
-  command_change machine by cmd.RebuildStop = other_change machine by cmd.RebuildStop tt
-  command_change machine by cmd.RebuildConnect = other_change machine by cmd.RebuildConnect tt
-  command_change machine by (cmd.Copy n) = other_change machine by (cmd.Copy n) tt
-  command_change machine by cmd.RebuildComplete = other_change machine by cmd.RebuildComplete tt
-  command_change machine by (cmd.ForceConn other) = other_change machine by (cmd.ForceConn other) tt
-  command_change machine by cmd.ForceStr = other_change machine by cmd.ForceStr tt
-  command_change machine by (cmd.LoseConn other cf) = other_change machine by (cmd.LoseConn other cf) tt
-  command_change machine by (cmd.RestoreConn other cf) = other_change machine by (cmd.RestoreConn other cf) tt
-  command_change machine by (cmd.Vary cf off) = other_change machine by (cmd.Vary cf off) tt
-  command_change machine by cmd.DuplexStart = other_change machine by cmd.DuplexStart tt
-  command_change machine by cmd.DuplexStop = other_change machine by cmd.DuplexStop tt
+  command_change machine by command = other_change machine by command tt
 
   -- that a call has come makes no difference to the content
   move_entered : (before after : Machine S) (by : ConnId) (told : What C) → Move meaning form before after by told

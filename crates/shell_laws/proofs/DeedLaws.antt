@@ -3,7 +3,6 @@ use Rattle.std.proofs.Common.{◌≡◌, ℕ, Bool, true, false, List, [], ◌�
 use Rattle.std.specs.Prelude.{if◌then◌else◌, ◌||◌, ◌&&◌, is_some, is_none, unwrap_or}
 use Rattle.std.proofs.lemmas.Bool.{and_parts, both_ways, eqb-true, false_from_ne_true}
 use Rattle.cf_types.specs.declared.events.Event.{Event}
-use Rattle.cf_types.specs.declared.events.Event.TheVariants as event
 use Rattle.cf_types.specs.declared.events.Stage.{Stage}
 use Rattle.cf_types.specs.declared.events.Stage.TheVariants.{Quiesce, Connect, Copy, Cleanup, Stopping}
 use Rattle.cf_types.specs.declared.forms.Caps.{Caps}
@@ -18,7 +17,7 @@ use Rattle.cf_types.specs.declared.shell_commands.ShellReply.{ShellReply}
 use Rattle.cf_types.specs.declared.shell_commands.ShellReply.TheVariants as shown
 use Rattle.cf_types.specs.Connections.{Connections, actives, defined_count, is_active, state_of, with_departure, with_forced}
 use Rattle.cf_types.specs.ConnSets.{without_member}
-use Rattle.cf_types.specs.Mailboxes.{next_event, owed_event, letters_to, with_cleared, with_response}
+use Rattle.cf_types.specs.Mailboxes.{next_event, owed_event, with_cleared, with_response}
 use Rattle.cf_types.proofs.ConnectionLaws.{is_active-within, actives-with_departure, actives-with_forced}
 use Rattle.engine_api.specs.declared.deeds.Deeds.{Deeds}
 use Rattle.engine_api.specs.declared.deeds.Room.{Room}
@@ -26,16 +25,15 @@ use Rattle.engine_api.specs.Instances.{units_of}
 use Rattle.engine_api.specs.Items.{Fits}
 use Rattle.engine_api.specs.Machine.{Machine, items_of, room_of}
 use Rattle.engine_api.specs.Meaning.{Meaning, first_refusal}
-use Rattle.engine_api.specs.Rebuilds.{fresh_of, is_copy, is_switch, letters_past}
-use Rattle.engine_api.specs.Shell.{mark_outcome, with_off, if_failed, simplex_again, Shell, ShellOutcome, candidates, caps_in, caps_made, complete_outcome, conns_answered, deallocated, departing_shell, departure_outcome, emptied, facility_of, force_connection, fresh_made, given_outcome, goes, if_left, if_no_place, if_rebuilding, if_too_small, is_connect, is_drop, is_kept, no_deeds, rebuild_connect_outcome, responded, response_outcome, shell_cause, shell_onward, shell_without, stop_outcome, switched, take_event, unless_active, unless_copied_to, unless_failed, unless_gone, unless_owed, unless_rebuilding, with_posted}
-use Rattle.engine_api.proofs.ShellLaws.{conns-unless_gone}
+use Rattle.engine_api.specs.Rebuilds.{fresh_of, is_copy, is_switch}
+use Rattle.engine_api.specs.Shell.{mark_outcome, with_off, if_failed, simplex_again, Shell, ShellOutcome, candidates, caps_in, caps_made, complete_outcome, conns_answered, departing_shell, departure_outcome, emptied, facility_of, force_connection, fresh_made, given_outcome, goes, if_left, if_no_place, if_rebuilding, if_too_small, is_connect, is_drop, is_kept, no_deeds, rebuild_connect_outcome, responded, response_outcome, shell_cause, shell_without, stop_outcome, take_event, unless_active, unless_copied_to, unless_failed, unless_owed, unless_rebuilding}
 use Rattle.rebuild_core.specs.declared.rebuild.Rebuild.{Rebuild}
-use Rattle.rebuild_core.specs.Stages.{fresh_in, is_response, outcome, outcome_of, rebuild_emptied, rebuild_left, rebuild_onward, rebuild_without, with_place, without_owing}
+use Rattle.rebuild_core.specs.Stages.{fresh_in, is_response, outcome, outcome_of, rebuild_emptied, rebuild_left, rebuild_without, with_place, without_owing}
 use Rattle.shell_laws.specs.Steps.{rebuild_next}
 use Rattle.shell_laws.specs.Tellings.Telling.{Departs}
 use Rattle.shell_laws.specs.Capacities.{AreFitting, caps_behind, fresh_behind, fresh_caps}
 use Rattle.shell_laws.specs.Members.{HasPlace, IsManned, IsPlaced, Somebody}
-use Rattle.shell_laws.proofs.StepLaws.{acting, active_member, active_of, connect_stage, done, first_none, rebuild-departing, rebuild-onward, rebuild-unless_gone, somebody_member}
+use Rattle.shell_laws.proofs.StepLaws.{acting, active_member, active_of, connect_stage, done, first_none, rebuild-departing, somebody_member}
 use Rattle.shell_laws.proofs.PlaceLaws.{no_switch, nobody_active, placed_for, switch_copy, switch_stands}
 use Rattle.shell_laws.proofs.MemberLaws.{idle_failed, manned-members}
 use Rattle.shell_laws.proofs.LossLaws.{InEachCase, loss-cases, vary-cases}
@@ -53,11 +51,9 @@ Matches form before acted =
 -- a new instance goes with CONNECT and COPY alone
 fresh_placed : (at : Stage) (members owing : List ConnId) (fresh : Option CfId) → IsPlaced at members owing fresh
     → fresh ≡ fresh_in at fresh
-fresh_placed Quiesce members owing fresh placed = placed
 fresh_placed Connect members owing fresh placed = refl
 fresh_placed Copy members owing fresh placed = refl
-fresh_placed Cleanup members owing fresh placed = placed
-fresh_placed Stopping members owing fresh placed = placed
+fresh_placed at members owing fresh placed = placed
 
 -- with members left, the new instance stays the rebuild's until it takes the primary's place
 fresh_passed : (at : Stage) (members owing : List ConnId) (rebuild : Rebuild) → Somebody members
@@ -72,18 +68,6 @@ fresh_passed Copy (conn ∷ conns) [] rebuild somebody placed = refl
 fresh_passed Cleanup (conn ∷ conns) [] rebuild somebody placed = rw placed refl
 fresh_passed Stopping (conn ∷ conns) [] rebuild somebody placed = rw placed refl
 
--- where it takes the primary's place, its capacity is the primary's
-caps_onward : (rebuild : Rebuild) (shell : Shell)
-    → (shell_onward rebuild shell).caps ≡ (if is_switch (outcome_of rebuild) then rebuild.caps else shell.caps)
-caps_onward rebuild shell = go (is_switch (outcome_of rebuild))
-  where
-    told : Shell
-    told = with_posted (letters_past rebuild) (record shell { rebuild = rebuild_onward rebuild })
-
-    go : (b : Bool) → (switched b rebuild told).caps ≡ (if b then rebuild.caps else shell.caps)
-    go true = refl
-    go false = refl
-
 -- only COPY gives way to the new instance
 no_switch_outside : (at : Stage) (members owing : List ConnId) → is_copy at ≡ false
     → is_switch (outcome at members owing) ≡ false
@@ -95,11 +79,8 @@ no_switch_outside at members owing outside =
 -- and no response is awaited in COPY
 responds_outside : (at : Stage) (number : ℕ) (answered : Event) → is_response at number answered ≡ true
     → is_copy at ≡ false
-responds_outside Quiesce number answered awaited = refl
-responds_outside Connect number answered awaited = refl
 responds_outside Copy number answered awaited = absurd (cc)
-responds_outside Cleanup number answered awaited = refl
-responds_outside Stopping number answered awaited = refl
+responds_outside at number answered awaited = refl
 
 -- ---- a member gives what the stage waits for
 
@@ -107,10 +88,8 @@ matches_given : (form : StrForm) (answer : ShellReply) (by : ConnId) (rebuild : 
     → shell.rebuild ≡ Some rebuild → Somebody rebuild.members → HasPlace (Some rebuild)
     → Matches form shell (given_outcome answer by rebuild shell)
 matches_given form answer by rebuild shell is somebody placed = (
-  caps_onward given shell
-      ∙ ap (λ (r : Option Rebuild). if switch then caps_in r shell.caps else shell.caps) (sym is),
-  ap fresh_caps (rebuild-onward given shell)
-      ∙ fresh_passed rebuild.stage rebuild.members given.owing given somebody
+  ap (λ (r : Option Rebuild). if switch then caps_in r shell.caps else shell.caps) (sym is),
+  fresh_passed rebuild.stage rebuild.members given.owing given somebody
       (fresh_placed rebuild.stage rebuild.members rebuild.owing rebuild.fresh placed)
       ∙ alike switch (fresh_caps (Some rebuild))
       ∙ ap (λ (r : Option Rebuild). if switch || false then None else fresh_caps r) (sym is),
@@ -183,45 +162,24 @@ caps_without : (by : ConnId) (rebuild : Option Rebuild) (shell : Shell)
 caps_without by None shell = refl
 caps_without by (Some rebuild) shell =
     let without : Rebuild = rebuild_without by rebuild in
-    caps_onward without shell
-    ∙ ap (λ (b : Bool). if b then without.caps else shell.caps) (no_switch by rebuild)
-
--- where the structure goes, the capacity is the policy's again
-caps_unless_gone : (form : StrForm) (shell : Shell) (all : Bool) → all ≡ goes form shell.conns
-    → (unless_gone form shell).caps ≡ (if all then form.caps else shell.caps)
-caps_unless_gone form shell all is =
-    go (goes form shell.conns) ∙ ap (λ (b : Bool). if b then form.caps else shell.caps) (sym is)
-  where
-    go : (b : Bool) → (if b then deallocated form shell else shell).caps ≡ (if b then form.caps else shell.caps)
-    go true = refl
-    go false = refl
+    ap (λ (b : Bool). if b then without.caps else shell.caps) (no_switch by rebuild)
 
 matches_departure : (form : StrForm) (shell : Shell) (by : ConnId) (keep : Bool)
     → (goes form (with_departure by keep shell.conns) ≡ true → rebuild_next [] by Departs shell.rebuild ≡ None)
     → Matches form shell (departure_outcome form shell by keep)
 matches_departure form shell by keep gone = (
-  caps_unless_gone form told all (ap (goes form) conns)
-      ∙ ap (λ (caps : Caps). if all then form.caps else caps) (caps_without by shell.rebuild cleared),
-  fresh_departing by shell.rebuild after.rebuild all behind
-      (λ goes_all. behind ∙ gone (sym (ap (goes form) conns) ∙ goes_all)),
+  ap (λ (caps : Caps). if all then form.caps else caps) (caps_without by shell.rebuild cleared),
+  fresh_departing by shell.rebuild after.rebuild all behind (λ goes_all. behind ∙ gone goes_all),
 )
   where
     cleared : Shell
     cleared = record shell { mail = with_cleared by shell.mail }
-
-    told : Shell
-    told =
-        with_posted (letters_to (actives (with_departure by keep shell.conns)) (event.DiscFail by))
-        (record (shell_without by shell.rebuild cleared) { conns = with_departure by keep shell.conns })
 
     after : Shell
     after = departing_shell form shell by keep
 
     all : Bool
     all = goes form after.conns
-
-    conns : after.conns ≡ with_departure by keep shell.conns
-    conns = conns-unless_gone form told
 
     behind : after.rebuild ≡ rebuild_next [] by Departs shell.rebuild
     behind = rebuild-departing [] form shell by keep
@@ -284,11 +242,8 @@ fresh_emptied None = refl
 fresh_emptied (Some rebuild) = go rebuild.stage
   where
     go : (at : Stage) → fresh_caps (Some (rebuild_emptied at rebuild)) ≡ fresh_caps (Some rebuild)
-    go Quiesce = refl
-    go Connect = refl
     go Copy = refl
-    go Cleanup = refl
-    go Stopping = refl
+    go at = refl
 
 fresh_forced : (rebuild : Option Rebuild) (all : Bool) → (all ≡ true → rebuild ≡ None)
     → fresh_caps (emptied rebuild) ≡ (if all || false then None else fresh_caps rebuild)
@@ -298,16 +253,8 @@ fresh_forced rebuild false gone = fresh_emptied rebuild
 matches_forced : (form : StrForm) (shell : Shell) (other : ConnId)
     → (goes form (with_forced other shell.conns) ≡ true → shell.rebuild ≡ None)
     → Matches form shell (force_connection form shell other)
-matches_forced form shell other gone = (
-  caps_unless_gone form forced (goes form conns) refl,
-  ap fresh_caps (rebuild-unless_gone form forced) ∙ fresh_forced shell.rebuild (goes form conns) gone,
-)
-  where
-    conns : Connections
-    conns = with_forced other shell.conns
-
-    forced : Shell
-    forced = record shell { conns = conns; rebuild = emptied shell.rebuild }
+matches_forced form shell other gone =
+    (refl, fresh_forced shell.rebuild (goes form (with_forced other shell.conns)) gone)
 
 -- ---- places for the new instance
 
@@ -477,9 +424,8 @@ module _ {C R I S : Type 0} (meaning : Meaning C R I S) (form : StrForm) (machin
       → MatchesBehind (rebuild_connect_outcome form (before_it cmd.RebuildConnect) by rebuild)
   matches_connection None is somebody fine = (refl, refl)
   matches_connection (Some rebuild) is somebody fine = (
-    caps_onward given shell ∙ rw stays refl,
-    ap fresh_caps (rebuild-onward given shell)
-        ∙ fresh_passed given.stage given.members given.owing given (somebody rebuild refl) (rw connect refl)
+    rw stays refl,
+    fresh_passed given.stage given.members given.owing given (somebody rebuild refl) (rw connect refl)
         ∙ fresh_connecting (is_switch (outcome_of given)) made rebuild machine.shell.rebuild machine.shell.caps stays is
         (place_found form machine.shell (room_of meaning form machine) by rebuild (connecting_past rebuild is fine)),
   )
@@ -544,7 +490,6 @@ module _ {C R I S : Type 0} (meaning : Meaning C R I S) (form : StrForm) (machin
   capacities-command cmd.RebuildStop manned fine = matches_stop machine.shell.rebuild refl
   capacities-command cmd.RebuildConnect manned fine =
       matches_connection machine.shell.rebuild refl (somebody_in manned) fine
-  capacities-command (cmd.Copy n) manned fine = (refl, refl)
   capacities-command cmd.RebuildComplete manned fine =
       matches_completion machine.shell.rebuild refl manned.placed (somebody_in manned)
   capacities-command (cmd.ForceConn other) manned fine =
@@ -559,11 +504,9 @@ module _ {C R I S : Type 0} (meaning : Meaning C R I S) (form : StrForm) (machin
         ap fresh_caps (no_rebuild machine.shell machine.shell.rebuild manned refl
             (none_active machine.shell.conns (omega (arith, few)))),
       )
-  capacities-command (cmd.LoseConn other cf) manned fine = (refl, refl)
-  capacities-command (cmd.RestoreConn other cf) manned fine = (refl, refl)
   capacities-command (cmd.Vary cf off) manned fine = matches_vary cf off
-  capacities-command cmd.DuplexStart manned fine = (refl, refl)
   capacities-command cmd.DuplexStop manned fine = matches_again machine.shell.instances.secondary
+  capacities-command command manned fine = (refl, refl)
 
   -- ---- what may be done
 
@@ -717,20 +660,12 @@ module _ {C R I S : Type 0} (meaning : Meaning C R I S) (form : StrForm) (machin
       → shell_cause form (room_of meaning form machine) machine.shell by command ≡ None
       → AreFitting meaning form machine (done meaning form machine by command).deeds
   fitting-command (cmd.Connect keep) manned fine = fitting_connect keep fine
-  fitting-command cmd.Disconnect manned fine = fitting_any _ refl refl refl
-  fitting-command cmd.Fail manned fine = fitting_any _ refl refl refl
   fitting-command cmd.Next manned fine = fitting_next (next_event (before_it cmd.Next).mail by)
   fitting-command cmd.Respond manned fine = fitting_response (owed_event (before_it cmd.Respond).mail by)
-  fitting-command (cmd.RebuildStart caps) manned fine = fitting_any _ refl refl refl
   fitting-command cmd.RebuildStop manned fine = fitting_stop machine.shell.rebuild
   fitting-command cmd.RebuildConnect manned fine = fitting_connection machine.shell.rebuild refl manned fine
-  fitting-command (cmd.Copy n) manned fine = fitting_any _ refl refl refl
   fitting-command cmd.RebuildComplete manned fine =
       fitting_completion machine.shell.rebuild refl manned.placed fine
-  fitting-command (cmd.ForceConn other) manned fine = fitting_any _ refl refl refl
-  fitting-command cmd.ForceStr manned fine = fitting_any _ refl refl refl
-  fitting-command (cmd.LoseConn other cf) manned fine = fitting_any _ refl refl refl
-  fitting-command (cmd.RestoreConn other cf) manned fine = fitting_any _ refl refl refl
   fitting-command (cmd.Vary cf off) manned fine = fitting_vary cf off
-  fitting-command cmd.DuplexStart manned fine = fitting_any _ refl refl refl
   fitting-command cmd.DuplexStop manned fine = fitting_again machine.shell.instances.secondary
+  fitting-command command manned fine = fitting_any _ refl refl refl

@@ -4,7 +4,7 @@ use Rattle.std.proofs.Math.Nat.{min-le_right}
 use Rattle.std.specs.Prelude.{if◌then◌else◌, ◌||◌, is_some, min, fold}
 use Rattle.cf_types.specs.declared.events.Event.{Event}
 use Rattle.cf_types.specs.declared.events.Stage.{Stage}
-use Rattle.cf_types.specs.declared.events.Stage.TheVariants.{Quiesce, Connect, Copy, Cleanup, Stopping}
+use Rattle.cf_types.specs.declared.events.Stage.TheVariants.{Connect, Copy, Cleanup}
 use Rattle.cf_types.specs.declared.forms.StrForm.{StrForm}
 use Rattle.cf_types.specs.declared.numbers.CfId.{CfId}
 use Rattle.cf_types.specs.declared.numbers.ConnId.{ConnId}
@@ -32,7 +32,7 @@ use Rattle.engine_api.specs.Machine.{Machine, opening, step, loss_step, unless, 
 use Rattle.shell_laws.specs.Filling.{IsFilling, IsFilled}
 use Rattle.shell_laws.proofs.LossLaws.{InEachCase, loss-cases, vary-cases}
 use Rattle.shell_laws.proofs.CauseLaws.{idle_rebuild, never, past_first, third_none}
-use Rattle.shell_laws.proofs.StepLaws.{acting, called, done, connect_stage, rebuild-onward}
+use Rattle.shell_laws.proofs.StepLaws.{acting, called, done, connect_stage}
 use Rattle.shell_laws.specs.Members.{Somebody, IsManned}
 use Rattle.engine_api.specs.History.{after_what, machine_after, replay}
 use Rattle.shell_laws.proofs.MemberLaws.{content_waits, manned-members, manned-after, manned-opening}
@@ -88,18 +88,9 @@ not_connect r copy connect = let wrong : Copy ≡ Connect = sym copy ∙ connect
 module _ (form : StrForm) (room : Room) (shell : Shell) (by : ConnId) where
   copy_stage : (n : ℕ) (rebuild : Rebuild) (at : Stage) → shell.rebuild ≡ Some rebuild → rebuild.stage ≡ at
       → shell_cause form room shell by (cmd.Copy n) ≡ None → rebuild.stage ≡ Copy
-  copy_stage n rebuild Quiesce is in_stage fine =
-      absurd (never (if_lost shell) (if_failed shell) (refusal.WrongStage Quiesce) _
-      (past_first (unless_active shell by) _ (rw (is, in_stage) at fine)))
-  copy_stage n rebuild Connect is in_stage fine =
-      absurd (never (if_lost shell) (if_failed shell) (refusal.WrongStage Connect) _
-      (past_first (unless_active shell by) _ (rw (is, in_stage) at fine)))
   copy_stage n rebuild Copy is in_stage fine = in_stage
-  copy_stage n rebuild Cleanup is in_stage fine =
-      absurd (never (if_lost shell) (if_failed shell) (refusal.WrongStage Cleanup) _
-      (past_first (unless_active shell by) _ (rw (is, in_stage) at fine)))
-  copy_stage n rebuild Stopping is in_stage fine =
-      absurd (never (if_lost shell) (if_failed shell) (refusal.WrongStage Stopping) _
+  copy_stage n rebuild at is in_stage fine =
+      absurd (never (if_lost shell) (if_failed shell) (refusal.WrongStage at) _
       (past_first (unless_active shell by) _ (rw (is, in_stage) at fine)))
 
 module _ {C R I S : Type 0} (meaning : Meaning C R I S) (form : StrForm) (machine : Machine S) (by : ConnId)
@@ -200,12 +191,12 @@ module _ {C R I S : Type 0} (meaning : Meaning C R I S) (form : StrForm) (machin
   filled_again None filling = same_filled _ filling
   filled_again (Some cf) filling = same_filled _ filling
 
-  filled_departure : (command : ShellCmd) (deeds : Deeds) (after : Option Rebuild) (content : S) (shell : Shell)
+  filled_departure : (deeds : Deeds) (after : Option Rebuild) (content : S) (shell : Shell)
       (all : Bool) → IsFilling machine.shell.rebuild
       → deeds.restart ≡ is_restart machine.shell.rebuild after → deeds.switch ≡ false
       → deeds.drop_fresh ≡ is_drop machine.shell.rebuild after → deeds.drop_all ≡ all → (n : ℕ)
       → Filled (record { shell = shell; content = content; copied = copied_after deeds n })
-  filled_departure command deeds after content shell all filling restart switch drop all_is n =
+  filled_departure deeds after content shell all filling restart switch drop all_is n =
       empty_filled (record { shell = shell; content = content; copied = copied_after deeds n })
       (none_copied (deeds.restart || (deeds.switch || (deeds.drop_fresh || deeds.drop_all))) n
       (rw (restart, switch, drop, all_is) (departure_empties machine.shell.rebuild after all filling)))
@@ -237,7 +228,7 @@ module _ {C R I S : Type 0} (meaning : Meaning C R I S) (form : StrForm) (machin
           let given : Rebuild = without_owing by rebuild in
           let shell : Shell = before_it cmd.RebuildComplete in
           let left : (shell_onward given shell).rebuild ≡ Some given =
-          rebuild-onward given shell ∙ ap (λ (p : Passed). rebuild_left p given) on in
+          ap (λ (p : Passed). rebuild_left p given) on in
           subst (FilledAt given shell) (sym on)
           (same_filled (shell_onward given shell) (subst IsFilling (sym left) (filling.0, filling.1)))
       go (inr past) =
@@ -303,11 +294,11 @@ module _ {C R I S : Type 0} (meaning : Meaning C R I S) (form : StrForm) (machin
   filled_filling manned (cmd.Connect keep) fine filling =
       absurd (idle_command _ _ _ fine filling)
   filled_filling manned cmd.Disconnect fine filling =
-      filled_departure cmd.Disconnect (outcome_by cmd.Disconnect).deeds (outcome_by cmd.Disconnect).shell.rebuild
+      filled_departure (outcome_by cmd.Disconnect).deeds (outcome_by cmd.Disconnect).shell.rebuild
       (command_done meaning form machine by cmd.Disconnect).machine.content (outcome_by cmd.Disconnect).shell
       (outcome_by cmd.Disconnect).deeds.drop_all filling refl refl refl refl (machine.copied + 0)
   filled_filling manned cmd.Fail fine filling =
-      filled_departure cmd.Fail (outcome_by cmd.Fail).deeds (outcome_by cmd.Fail).shell.rebuild
+      filled_departure (outcome_by cmd.Fail).deeds (outcome_by cmd.Fail).shell.rebuild
       (command_done meaning form machine by cmd.Fail).machine.content (outcome_by cmd.Fail).shell
       (outcome_by cmd.Fail).deeds.drop_all filling refl refl refl refl (machine.copied + 0)
   filled_filling manned cmd.Next fine filling = filled_next (next_event (before_it cmd.Next).mail by) filling
@@ -326,11 +317,9 @@ module _ {C R I S : Type 0} (meaning : Meaning C R I S) (form : StrForm) (machin
       (none_copied _ (machine.copied + 0) (forced_empties machine.shell.rebuild _ filling))
   filled_filling manned cmd.ForceStr fine filling =
       empty_filled (command_done meaning form machine by cmd.ForceStr).machine refl
-  filled_filling manned (cmd.LoseConn other cf) fine filling = same_filled _ filling
-  filled_filling manned (cmd.RestoreConn other cf) fine filling = same_filled _ filling
   filled_filling manned (cmd.Vary cf off) fine filling = filled_vary cf off filling
-  filled_filling manned cmd.DuplexStart fine filling = same_filled _ filling
   filled_filling manned cmd.DuplexStop fine filling = filled_again machine.shell.instances.secondary filling
+  filled_filling manned command fine filling = same_filled _ filling
 
   filled_command : IsManned machine.shell → (command : ShellCmd)
       → shell_cause form (room_of meaning form machine) machine.shell by command ≡ None
@@ -338,23 +327,7 @@ module _ {C R I S : Type 0} (meaning : Meaning C R I S) (form : StrForm) (machin
       → Filled (command_done meaning form machine by command).machine
   filled_command manned command fine (inr filling) = filled_filling manned command fine filling
   filled_command manned (cmd.Copy n) fine (inl none) = filled_copy n (inl none) fine
-  filled_command manned (cmd.Connect keep) fine (inl none) = filled_empty (cmd.Connect keep) none refl
-  filled_command manned cmd.Disconnect fine (inl none) = filled_empty cmd.Disconnect none refl
-  filled_command manned cmd.Fail fine (inl none) = filled_empty cmd.Fail none refl
-  filled_command manned cmd.Next fine (inl none) = filled_empty cmd.Next none refl
-  filled_command manned cmd.Respond fine (inl none) = filled_empty cmd.Respond none refl
-  filled_command manned (cmd.RebuildStart caps) fine (inl none) = filled_empty (cmd.RebuildStart caps) none refl
-  filled_command manned cmd.RebuildStop fine (inl none) = filled_empty cmd.RebuildStop none refl
-  filled_command manned cmd.RebuildConnect fine (inl none) = filled_empty cmd.RebuildConnect none refl
-  filled_command manned cmd.RebuildComplete fine (inl none) = filled_empty cmd.RebuildComplete none refl
-  filled_command manned (cmd.ForceConn other) fine (inl none) = filled_empty (cmd.ForceConn other) none refl
-  filled_command manned cmd.ForceStr fine (inl none) = filled_empty cmd.ForceStr none refl
-  filled_command manned (cmd.LoseConn other cf) fine (inl none) = filled_empty (cmd.LoseConn other cf) none refl
-  filled_command manned (cmd.RestoreConn other cf) fine (inl none) =
-      filled_empty (cmd.RestoreConn other cf) none refl
-  filled_command manned (cmd.Vary cf off) fine (inl none) = filled_empty (cmd.Vary cf off) none refl
-  filled_command manned cmd.DuplexStart fine (inl none) = filled_empty cmd.DuplexStart none refl
-  filled_command manned cmd.DuplexStop fine (inl none) = filled_empty cmd.DuplexStop none refl
+  filled_command manned command fine (inl none) = filled_empty command none refl
 
   -- ---- the content under a copy
 
@@ -462,17 +435,14 @@ module _ {C R I S : Type 0} (meaning : Meaning C R I S) (form : StrForm) (machin
   front_filling manned cmd.RebuildStop fine filling = front_stop machine.shell.rebuild
   front_filling manned cmd.RebuildConnect fine filling =
       absurd (not_connecting machine.shell.rebuild refl filling fine)
-  front_filling manned (cmd.Copy n) fine filling = inr refl
   front_filling manned cmd.RebuildComplete fine filling =
       front_completion machine.shell.rebuild filling (somebody_rebuilds manned)
   front_filling manned (cmd.ForceConn other) fine filling =
       inl (none_copied _ (machine.copied + 0) (forced_empties machine.shell.rebuild _ filling))
   front_filling manned cmd.ForceStr fine filling = inl refl
-  front_filling manned (cmd.LoseConn other cf) fine filling = inr refl
-  front_filling manned (cmd.RestoreConn other cf) fine filling = inr refl
   front_filling manned (cmd.Vary cf off) fine filling = front_vary cf off
-  front_filling manned cmd.DuplexStart fine filling = inr refl
   front_filling manned cmd.DuplexStop fine filling = front_again machine.shell.instances.secondary
+  front_filling manned command fine filling = inr refl
 
   front_unmoved : (command : ShellCmd) → machine.copied ≡ 0 → moved_by (room_of meaning form machine) command ≡ 0
       → IsFront (command_done meaning form machine by command).machine
@@ -483,22 +453,7 @@ module _ {C R I S : Type 0} (meaning : Meaning C R I S) (form : StrForm) (machin
   front_empty : (command : ShellCmd) → machine.copied ≡ 0
       → IsFront (command_done meaning form machine by command).machine
   front_empty (cmd.Copy n) none = inr refl
-  front_empty (cmd.Connect keep) none = front_unmoved (cmd.Connect keep) none refl
-  front_empty cmd.Disconnect none = front_unmoved cmd.Disconnect none refl
-  front_empty cmd.Fail none = front_unmoved cmd.Fail none refl
-  front_empty cmd.Next none = front_unmoved cmd.Next none refl
-  front_empty cmd.Respond none = front_unmoved cmd.Respond none refl
-  front_empty (cmd.RebuildStart caps) none = front_unmoved (cmd.RebuildStart caps) none refl
-  front_empty cmd.RebuildStop none = front_unmoved cmd.RebuildStop none refl
-  front_empty cmd.RebuildConnect none = front_unmoved cmd.RebuildConnect none refl
-  front_empty cmd.RebuildComplete none = front_unmoved cmd.RebuildComplete none refl
-  front_empty (cmd.ForceConn other) none = front_unmoved (cmd.ForceConn other) none refl
-  front_empty cmd.ForceStr none = inl refl
-  front_empty (cmd.LoseConn other cf) none = inr refl
-  front_empty (cmd.RestoreConn other cf) none = inr refl
-  front_empty (cmd.Vary cf off) none = front_vary cf off
-  front_empty cmd.DuplexStart none = inr refl
-  front_empty cmd.DuplexStop none = front_again machine.shell.instances.secondary
+  front_empty command none = front_unmoved command none refl
 
   front_command : IsManned machine.shell → (command : ShellCmd)
       → shell_cause form (room_of meaning form machine) machine.shell by command ≡ None

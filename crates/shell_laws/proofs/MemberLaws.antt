@@ -1,6 +1,7 @@
 -- In a rebuild the members are just the connectors that are active, of whom there are some, and a primary stands where
 -- somebody is.
-use Rattle.std.proofs.Common.{◌≡◌, ◌≢◌, Bool, true, false, List, [], ◌∷◌, length, Option, None, Some, refl, sym, ap, ◌∙◌, subst, arith}
+use Rattle.std.proofs.Common.{◌≡◌, ◌≢◌, Bool, true, false, List, [], ◌∷◌, length, Option, None, Some, refl, sym, ap}
+use Rattle.std.proofs.Common.{◌∙◌, subst, arith}
 use Rattle.std.specs.Prelude.{is_some, if◌then◌else◌, unwrap_or, fold}
 use Rattle.cf_types.specs.declared.limits.TheConstants.{CALLERS}
 use Rattle.cf_types.specs.declared.connections.ConnState.{ConnState}
@@ -8,7 +9,7 @@ use Rattle.cf_types.specs.declared.connections.ConnState.TheVariants as conn
 use Rattle.cf_types.specs.declared.events.Event.{Event}
 use Rattle.cf_types.specs.declared.events.Event.TheVariants as event
 use Rattle.cf_types.specs.declared.events.Stage.{Stage}
-use Rattle.cf_types.specs.declared.events.Stage.TheVariants.{Quiesce, Connect, Copy, Cleanup, Stopping}
+use Rattle.cf_types.specs.declared.events.Stage.TheVariants.{Quiesce, Copy, Stopping}
 use Rattle.cf_types.specs.declared.forms.StrForm.{StrForm}
 use Rattle.cf_types.specs.declared.numbers.CfId.{CfId}
 use Rattle.cf_types.specs.declared.numbers.ConnId.{ConnId}
@@ -17,10 +18,12 @@ use Rattle.cf_types.specs.declared.refusals.Refusal.TheVariants as refusal
 use Rattle.cf_types.specs.declared.shell_commands.ShellCmd.{ShellCmd}
 use Rattle.cf_types.specs.declared.shell_commands.ShellCmd.TheVariants as cmd
 use Rattle.cf_types.specs.declared.shell_commands.ShellReply.TheVariants as shown
-use Rattle.cf_types.specs.Connections.{Connections, no_connections, defined_count, state_of, actives, is_active, is_active_state, with_departure, with_forced}
+use Rattle.cf_types.specs.Connections.{Connections, no_connections, defined_count, state_of, actives, is_active}
+use Rattle.cf_types.specs.Connections.{is_active_state, with_departure, with_forced}
 use Rattle.cf_types.specs.ConnSets.{is_member, without_member}
 use Rattle.cf_types.specs.Mailboxes.{next_event, owed_event, letters_to, with_cleared, with_response}
-use Rattle.cf_types.proofs.ConnectionLaws.{defined_count-unconnected, is_active-within, actives-with_departure, actives-with_answer, actives-with_forced}
+use Rattle.cf_types.proofs.ConnectionLaws.{defined_count-unconnected, is_active-within, actives-with_departure}
+use Rattle.cf_types.proofs.ConnectionLaws.{actives-with_answer, actives-with_forced}
 use Rattle.engine_api.specs.declared.asks.What.{What}
 use Rattle.engine_api.specs.declared.asks.What.TheVariants as what
 use Rattle.engine_api.specs.declared.histories.Entry.{Entry}
@@ -28,25 +31,35 @@ use Rattle.engine_api.specs.declared.asks.Ask.{Ask}
 use Rattle.engine_api.specs.declared.asks.Ask.TheVariants as ask
 use Rattle.engine_api.specs.Instances.{units_of}
 use Rattle.engine_api.specs.Meaning.{Meaning}
-use Rattle.engine_api.specs.Shell.{if_failed, if_lost, mark_outcome, with_off, if_quiesced, simplex_again, no_deeds, unless_active, unless_failed, conns_answered, facility_of, is_kept, Shell, ShellOutcome, shell_cause, if_rebuilding, shell_onward, shell_without, departing_shell, take_event, with_posted, emptied, responded, response_outcome, given_outcome, stop_outcome, rebuild_connect_outcome, complete_outcome, fresh_made, content_cause, candidates, unless_reached, if_too_many, if_connected, if_severed}
+use Rattle.engine_api.specs.Shell.{if_failed, if_lost, mark_outcome, with_off, if_quiesced, simplex_again, no_deeds}
+use Rattle.engine_api.specs.Shell.{unless_active, unless_failed, conns_answered, facility_of, is_kept, Shell}
+use Rattle.engine_api.specs.Shell.{ShellOutcome, shell_cause, if_rebuilding, shell_onward, shell_without}
+use Rattle.engine_api.specs.Shell.{departing_shell, take_event, with_posted, emptied, responded, response_outcome}
+use Rattle.engine_api.specs.Shell.{given_outcome, stop_outcome, rebuild_connect_outcome, complete_outcome, fresh_made}
+use Rattle.engine_api.specs.Shell.{content_cause, candidates, unless_reached, if_too_many, if_connected, if_severed}
 use Rattle.rebuild_core.specs.declared.passed.Passed.{Passed}
 use Rattle.rebuild_core.specs.declared.passed.Passed.TheVariants.{No, Into, Ended}
 use Rattle.rebuild_core.specs.declared.rebuild.Rebuild.{Rebuild}
-use Rattle.rebuild_core.specs.Stages.{without_owing, rebuild_without, outcome, with_place, rebuild_emptied, rebuild_left, rebuild_onward, is_response}
+use Rattle.rebuild_core.specs.Stages.{without_owing, rebuild_without, outcome, with_place, rebuild_emptied}
+use Rattle.rebuild_core.specs.Stages.{rebuild_left, rebuild_onward, is_response}
 use Rattle.shell_laws.specs.Tellings.{Telling, mark_telling, telling, is_awaited}
-use Rattle.shell_laws.specs.Tellings.Telling.{Starts, Places, Completes, Responds, Stops, Departs, Fails, Forces, Nothing}
+use Rattle.shell_laws.specs.Tellings.Telling.{Starts, Places, Completes, Responds, Stops, Departs, Fails, Forces}
+use Rattle.shell_laws.specs.Tellings.Telling.{Nothing}
 use Rattle.shell_laws.specs.Steps.{MayBeTold, rebuild_next, rebuild_given}
 use Rattle.shell_laws.specs.Members.{HasMembers, HasPlace, HasPrimary, Somebody, IsManned}
 use Rattle.shell_laws.proofs.CauseLaws.{fourth_none, idle_rebuild, not_above, past_second, third_none}
 use Rattle.shell_laws.proofs.LossLaws.{InEachCase, loss-cases, vary-cases}
-use Rattle.shell_laws.proofs.PairLaws.{Change, bare-change, change-command, change-loss, change-told, paired-change, paired_alone, unfailed-change}
+use Rattle.shell_laws.proofs.PairLaws.{Change, bare-change, change-command, change-loss, change-told, paired-change}
+use Rattle.shell_laws.proofs.PairLaws.{paired_alone, unfailed-change}
 use Rattle.shell_laws.proofs.PairLaws.Change.{Keeps}
-use Rattle.shell_laws.proofs.PlaceLaws.{placed-next, switch_stands, primary-onward, primary-without, primary-unless_gone, primary-connect, nobody_active}
+use Rattle.shell_laws.proofs.PlaceLaws.{placed-next, switch_stands, primary-onward, primary-without}
+use Rattle.shell_laws.proofs.PlaceLaws.{primary-unless_gone, primary-connect, nobody_active}
 use Rattle.engine_api.specs.History.{after_what, machine_after, replay}
 use Rattle.engine_api.specs.Rebuilds.{is_held_up}
 use Rattle.engine_api.specs.Machine.{Machine, opening, step, loss_step, unless, room_of, command_done, content_done}
-use Rattle.engine_api.proofs.ShellLaws.{length-conns-step, length-conns-replay, conns-loss, conns-onward, conns-unless_gone}
-use Rattle.shell_laws.proofs.StepLaws.{room, acting, done, called, told, first_none, active_of, active_member, tells_command, rebuild-step, rebuild-loss, may_command, may-step, may-loss}
+use Rattle.engine_api.proofs.ShellLaws.{length-conns-step, length-conns-replay, conns-loss}
+use Rattle.shell_laws.proofs.StepLaws.{room, acting, done, called, told, first_none, active_of, active_member}
+use Rattle.shell_laws.proofs.StepLaws.{tells_command, rebuild-step, rebuild-loss, may_command, may-step, may-loss}
 
 -- ---- members
 
@@ -76,69 +89,39 @@ members-given false by rebuild conns are = are
 
 members-in_emptied : (stage : Stage) (rebuild : Rebuild)
     → (rebuild_emptied stage rebuild).members ≡ rebuild.members
-members-in_emptied Quiesce rebuild = refl
-members-in_emptied Connect rebuild = refl
 members-in_emptied Copy rebuild = refl
-members-in_emptied Cleanup rebuild = refl
-members-in_emptied Stopping rebuild = refl
+members-in_emptied stage rebuild = refl
 
 -- who is active behind an entry that tells this, but for a CONNECT
 abbrev active_past : Telling → ConnId → List ConnId → List ConnId
-active_past (Starts number caps) by active = active
-active_past (Places cf) by active = active
-active_past Completes by active = active
-active_past (Responds event) by active = active
-active_past Stops by active = active
 active_past Departs by active = without_member by active
-active_past Forces by active = active
-active_past Fails by active = active
-active_past Nothing by active = active
+active_past _ by active = active
 
 -- the members are just those active behind whatever may be told, and there are some
 members-next : (active : List ConnId) (by : ConnId) (told : Telling) (rebuild : Option Rebuild)
     → MayBeTold active told rebuild → HasMembers rebuild active
     → HasMembers (rebuild_next active by told rebuild) (active_past told by active)
 members-next active by (Starts number caps) rebuild may are = (refl, may)
-members-next active by (Places cf) None may are = tt
 members-next active by (Places cf) (Some rebuild) may are =
     members-given (is_awaited rebuild.stage rebuild.number (Places cf)) by (with_place cf rebuild) active are
-members-next active by Completes None may are = tt
 members-next active by Completes (Some rebuild) may are =
     members-given (is_awaited rebuild.stage rebuild.number Completes) by rebuild active are
-members-next active by (Responds event) None may are = tt
 members-next active by (Responds event) (Some rebuild) may are =
     members-given (is_awaited rebuild.stage rebuild.number (Responds event)) by rebuild active are
-members-next active by Stops None may are = tt
 members-next active by Stops (Some rebuild) may are = are
-members-next active by Departs None may are = tt
 members-next active by Departs (Some rebuild) may are =
     members-onward (rebuild_without by rebuild) (without_member by active) (ap (without_member by) (are.0))
-members-next active by Forces None may are = tt
 members-next active by Forces (Some rebuild) may are = (members-in_emptied rebuild.stage rebuild ∙ are.0, are.1)
-members-next active by Fails None may are = tt
 members-next active by Fails (Some rebuild) may are = tt
-members-next active by Nothing None may are = tt
 members-next active by Nothing (Some rebuild) may are = are
+members-next active by told None may are = tt
 
 -- ---- connections
 
 actives-answering : (by : ConnId) (answered : Event) (conns : Connections)
     → actives (conns_answered by answered conns) ≡ actives conns
-actives-answering by (event.NewConn other) conns = refl
 actives-answering by (event.DiscFail other) conns = actives-with_answer by other conns
-actives-answering by (event.Quiesce number) conns = refl
-actives-answering by (event.RebuildConnect number) conns = refl
-actives-answering by (event.ConnectsDone number) conns = refl
-actives-answering by (event.Cleanup number) conns = refl
-actives-answering by (event.Complete number) conns = refl
-actives-answering by (event.Stop number) conns = refl
-actives-answering by (event.StopDone number) conns = refl
-actives-answering by (event.LostConn cf) conns = refl
-actives-answering by event.StrFail conns = refl
-actives-answering by (event.Contention r other) conns = refl
-actives-answering by (event.Notify r other) conns = refl
-actives-answering by (event.Granted r excl) conns = refl
-actives-answering by (event.Denied r) conns = refl
+actives-answering by answered conns = refl
 
 -- whoever can be forced away isn't active
 pub idle_failed : (state : Option ConnState) → unless_failed state ≡ None → is_active_state state ≡ false
@@ -148,15 +131,6 @@ idle_failed (Some conn.Failed) fine = refl
 idle_failed None fine = refl
 
 -- ---- who is active behind a command
-
-conns-departing : (form : StrForm) (shell : Shell) (by : ConnId) (keep : Bool)
-    → (departing_shell form shell by keep).conns ≡ with_departure by keep shell.conns
-conns-departing form shell by keep =
-    let conns = with_departure by keep shell.conns in
-    let cleared : Shell = record shell { mail = with_cleared by shell.mail } in
-    let left : Shell = shell_without by shell.rebuild cleared in
-    conns-unless_gone form
-    (with_posted (letters_to (actives conns) (event.DiscFail by)) (record left { conns = conns }))
 
 -- CONNECT alone makes a connector active
 abbrev is_connection : ShellCmd → Bool
@@ -169,15 +143,8 @@ somebody_without by (first ∷ rest) somebody = (first, (rest, refl))
 
 somebody_past : (told : Telling) (by : ConnId) (active : List ConnId) → Somebody (active_past told by active)
     → Somebody active
-somebody_past (Starts number caps) by active somebody = somebody
-somebody_past (Places cf) by active somebody = somebody
-somebody_past Completes by active somebody = somebody
-somebody_past (Responds event) by active somebody = somebody
-somebody_past Stops by active somebody = somebody
 somebody_past Departs by active somebody = somebody_without by active somebody
-somebody_past Forces by active somebody = somebody
-somebody_past Fails by active somebody = somebody
-somebody_past Nothing by active somebody = somebody
+somebody_past told by active somebody = somebody
 
 -- ---- what is lost
 
@@ -217,8 +184,7 @@ module _ {C R I S : Type 0} (meaning : Meaning C R I S) (form : StrForm) (machin
       → unless_active machine.shell by ≡ None
       → actives (departing_shell form shell by keep).conns ≡ without_member by now
   follows_departure shell keep is fine =
-      ap (λ (conns : Connections). actives conns)
-      (conns-departing form shell by keep ∙ ap (with_departure by keep) is)
+      ap (λ (conns : Connections). actives (with_departure by keep conns)) is
       ∙ actives-with_departure by keep machine.shell.conns
       (is_active-within machine.shell.conns by (active_of (is_active machine.shell.conns by) fine))
 
@@ -240,13 +206,14 @@ module _ {C R I S : Type 0} (meaning : Meaning C R I S) (form : StrForm) (machin
       by_rebuild None shell is = ap (λ (c : Connections). actives c) is ∙ actives-answering by answered _
       by_rebuild (Some rebuild) shell is = go (is_response rebuild.stage rebuild.number answered)
         where
+          same : actives shell.conns ≡ now
+          same = ap (λ (c : Connections). actives c) is ∙ actives-answering by answered _
+
           go : (b : Bool) → Follows cmd.Respond (if b
               then given_outcome (shown.Responded answered) by rebuild shell
               else record { reply = shown.Responded answered; shell = shell; deeds = no_deeds })
-          go true =
-              ap (λ (c : Connections). actives c) (conns-onward (without_owing by rebuild) shell ∙ is)
-              ∙ actives-answering by answered _
-          go false = ap (λ (c : Connections). actives c) is ∙ actives-answering by answered _
+          go true = same
+          go false = same
 
   follows_stop : (rebuild : Option Rebuild) → Follows cmd.RebuildStop (stop_outcome (before_it cmd.RebuildStop) rebuild)
   follows_stop None = refl
@@ -255,27 +222,17 @@ module _ {C R I S : Type 0} (meaning : Meaning C R I S) (form : StrForm) (machin
   follows_connection : (rebuild : Option Rebuild)
       → Follows cmd.RebuildConnect (rebuild_connect_outcome form (before_it cmd.RebuildConnect) by rebuild)
   follows_connection None = refl
-  follows_connection (Some rebuild) =
-      let at : CfId =
-      unwrap_or rebuild.fresh (facility_of (fresh_made form (before_it cmd.RebuildConnect) by rebuild)) in
-      ap (λ (c : Connections). actives c)
-      (conns-onward (without_owing by (with_place at rebuild)) (before_it cmd.RebuildConnect))
+  follows_connection (Some rebuild) = refl
 
   follows_completion : (rebuild : Option Rebuild)
       → Follows cmd.RebuildComplete (complete_outcome (before_it cmd.RebuildComplete) by rebuild)
   follows_completion None = refl
-  follows_completion (Some rebuild) =
-      ap (λ (c : Connections). actives c)
-      (conns-onward (without_owing by rebuild) (before_it cmd.RebuildComplete))
+  follows_completion (Some rebuild) = refl
 
   follows_forced : (other : ConnId) → unless_failed (state_of machine.shell.conns other) ≡ None
       → Follows (cmd.ForceConn other) (outcome_by (cmd.ForceConn other))
   follows_forced other fine =
-      ap (λ (c : Connections). actives c) (conns-unless_gone form (record (before_it (cmd.ForceConn other)) {
-        conns = with_forced other machine.shell.conns;
-        rebuild = emptied machine.shell.rebuild;
-      }))
-      ∙ actives-with_forced other machine.shell.conns (idle_failed (state_of machine.shell.conns other) fine)
+      actives-with_forced other machine.shell.conns (idle_failed (state_of machine.shell.conns other) fine)
 
   follows_vary : (cf : CfId) (off : Bool) → Follows (cmd.Vary cf off) (outcome_by (cmd.Vary cf off))
   follows_vary cf off =
@@ -301,19 +258,14 @@ module _ {C R I S : Type 0} (meaning : Meaning C R I S) (form : StrForm) (machin
       (first_none (unless_active machine.shell by) [] fine)
   follows_command cmd.Next other fine = follows_next (next_event (before_it cmd.Next).mail by)
   follows_command cmd.Respond other fine = follows_response (owed_event (before_it cmd.Respond).mail by)
-  follows_command (cmd.RebuildStart caps) other fine = refl
   follows_command cmd.RebuildStop other fine = follows_stop machine.shell.rebuild
   follows_command cmd.RebuildConnect other fine = follows_connection machine.shell.rebuild
-  follows_command (cmd.Copy n) other fine = refl
   follows_command cmd.RebuildComplete other fine = follows_completion machine.shell.rebuild
   follows_command (cmd.ForceConn conn) other fine =
       follows_forced conn (first_none (unless_failed (state_of machine.shell.conns conn)) [] fine)
-  follows_command cmd.ForceStr other fine = refl
-  follows_command (cmd.LoseConn conn cf) other fine = refl
-  follows_command (cmd.RestoreConn conn cf) other fine = refl
   follows_command (cmd.Vary cf off) other fine = follows_vary cf off
-  follows_command cmd.DuplexStart other fine = refl
   follows_command cmd.DuplexStop other fine = follows_simplex machine.shell.instances.secondary
+  follows_command command other fine = refl
 
   -- ---- the members behind a command
 
@@ -426,12 +378,10 @@ module _ {C R I S : Type 0} (meaning : Meaning C R I S) (form : StrForm) (machin
       primary_next (next_event (before_it cmd.Next).mail by) stands
   primary_command cmd.Respond other placed fine stands = λ somebody unfailed.
       primary_response (owed_event (before_it cmd.Respond).mail by) placed stands
-  primary_command (cmd.RebuildStart caps) other placed fine stands = λ somebody unfailed. stands
   primary_command cmd.RebuildStop other placed fine stands = λ somebody unfailed.
       primary_stop machine.shell.rebuild stands
   primary_command cmd.RebuildConnect other placed fine stands = λ somebody unfailed.
       primary_connection machine.shell.rebuild stands
-  primary_command (cmd.Copy n) other placed fine stands = λ somebody unfailed. stands
   primary_command cmd.RebuildComplete other placed fine stands = λ somebody unfailed.
       primary_completion machine.shell.rebuild placed stands
   primary_command (cmd.ForceConn conn) other placed fine stands = λ somebody unfailed.
@@ -442,12 +392,10 @@ module _ {C R I S : Type 0} (meaning : Meaning C R I S) (form : StrForm) (machin
   primary_command cmd.ForceStr other placed fine stands = λ somebody unfailed.
       let few = not_above 0 (defined_count machine.shell.conns) _ [] fine in
       absurd (nobody_active machine.shell.conns (omega (arith, few)) somebody)
-  primary_command (cmd.LoseConn conn cf) other placed fine stands = λ somebody unfailed. stands
-  primary_command (cmd.RestoreConn conn cf) other placed fine stands = λ somebody unfailed. stands
   primary_command (cmd.Vary cf off) other placed fine stands = primary_vary cf off (λ somebody unfailed. stands)
-  primary_command cmd.DuplexStart other placed fine stands = λ somebody unfailed. stands
   primary_command cmd.DuplexStop other placed fine stands = λ somebody unfailed.
       primary_simplex machine.shell.instances.secondary stands
+  primary_command command other placed fine stands = λ somebody unfailed. stands
 
   primary_other : (command : ShellCmd) → is_connection command ≡ false → IsManned machine.shell
       → shell_cause form (room meaning form machine by) machine.shell by command ≡ None
@@ -497,22 +445,7 @@ module _ {C R I S : Type 0} (meaning : Meaning C R I S) (form : StrForm) (machin
       → IsMannedBehind command
   manned-command (cmd.Connect keep) manned fine =
       (members_connect keep fine, λ somebody unfailed. primary_connecting keep fine)
-  manned-command cmd.Disconnect manned fine = manned_other cmd.Disconnect refl manned fine
-  manned-command cmd.Fail manned fine = manned_other cmd.Fail refl manned fine
-  manned-command cmd.Next manned fine = manned_other cmd.Next refl manned fine
-  manned-command cmd.Respond manned fine = manned_other cmd.Respond refl manned fine
-  manned-command (cmd.RebuildStart caps) manned fine = manned_other (cmd.RebuildStart caps) refl manned fine
-  manned-command cmd.RebuildStop manned fine = manned_other cmd.RebuildStop refl manned fine
-  manned-command cmd.RebuildConnect manned fine = manned_other cmd.RebuildConnect refl manned fine
-  manned-command (cmd.Copy n) manned fine = manned_other (cmd.Copy n) refl manned fine
-  manned-command cmd.RebuildComplete manned fine = manned_other cmd.RebuildComplete refl manned fine
-  manned-command (cmd.ForceConn conn) manned fine = manned_other (cmd.ForceConn conn) refl manned fine
-  manned-command cmd.ForceStr manned fine = manned_other cmd.ForceStr refl manned fine
-  manned-command (cmd.LoseConn conn cf) manned fine = manned_other (cmd.LoseConn conn cf) refl manned fine
-  manned-command (cmd.RestoreConn conn cf) manned fine = manned_other (cmd.RestoreConn conn cf) refl manned fine
-  manned-command (cmd.Vary cf off) manned fine = manned_other (cmd.Vary cf off) refl manned fine
-  manned-command cmd.DuplexStart manned fine = manned_other cmd.DuplexStart refl manned fine
-  manned-command cmd.DuplexStop manned fine = manned_other cmd.DuplexStop refl manned fine
+  manned-command command manned fine = manned_other command refl manned fine
 
 -- ---- calls
 
@@ -646,10 +579,8 @@ manned-members shell rebuild manned is =
 
 held_up_either : (at : Stage) (owes : Bool) → is_held_up at true ≡ true → is_held_up at owes ≡ true
 held_up_either Quiesce owes held = absurd (cc)
-held_up_either Connect owes held = refl
-held_up_either Copy owes held = refl
-held_up_either Cleanup owes held = refl
 held_up_either Stopping owes held = absurd (cc)
+held_up_either at owes held = refl
 
 -- all connectors' content commands are refused then
 pub content_waits : (shell : Shell) (rebuild : Rebuild) (by : ConnId) → IsManned shell → shell.rebuild ≡ Some rebuild

@@ -11,7 +11,7 @@ use Rattle.engine_api.specs.declared.asks.What.TheVariants as what
 use Rattle.engine_api.specs.Machine.{Machine}
 use Rattle.engine_api.specs.Meaning.{Meaning}
 use Rattle.engine_api.specs.Shapes.{shape_of}
-use Rattle.engine_api.specs.Shell.{Shell, Leaver, leaver}
+use Rattle.engine_api.specs.Shell.{Leaver, leaver}
 use Rattle.shell_laws.specs.Accepted.{accepted_as}
 
 -- an instance stands

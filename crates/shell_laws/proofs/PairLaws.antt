@@ -21,10 +21,10 @@ use Rattle.cf_types.specs.Mailboxes.{next_event, owed_event, letters_to, with_cl
 use Rattle.engine_api.specs.Instances.{Instances, is_at, no_instance, place_for, units_of}
 use Rattle.engine_api.specs.Machine.{Machine, room_of}
 use Rattle.engine_api.specs.Meaning.{Meaning, first_refusal}
-use Rattle.engine_api.specs.Rebuilds.{fresh_of, is_switch, letters_past}
-use Rattle.engine_api.specs.Shell.{Shell, ShellOutcome, candidates, complete_outcome, conns_answered, deallocated, departing_shell, emptied, facility_of, fresh_made, given_outcome, goes, if_duplexed, if_failed, if_no_place, if_rebuilding, is_candidate, is_kept, is_off, is_severed, loss_outcome, mark_outcome, no_deeds, rebuild_connect_outcome, responded, response_outcome, shell_cause, shell_onward, shell_without, simplex_again, simplex_outcome, stop_outcome, switched, take_event, refusal_when, unless_allocated, unless_gone, unless_somebody, with_off, with_posted, with_primary}
+use Rattle.engine_api.specs.Rebuilds.{fresh_of}
+use Rattle.engine_api.specs.Shell.{Shell, ShellOutcome, candidates, complete_outcome, conns_answered, departing_shell, emptied, facility_of, fresh_made, given_outcome, goes, if_duplexed, if_failed, if_no_place, if_rebuilding, is_candidate, is_kept, is_off, is_severed, loss_outcome, mark_outcome, no_deeds, rebuild_connect_outcome, responded, response_outcome, shell_cause, shell_onward, shell_without, simplex_again, simplex_outcome, stop_outcome, take_event, refusal_when, unless_allocated, unless_gone, unless_somebody, with_off, with_posted, with_primary}
 use Rattle.rebuild_core.specs.declared.rebuild.Rebuild.{Rebuild}
-use Rattle.rebuild_core.specs.Stages.{is_response, outcome_of, rebuild_onward, rebuild_without, with_place, without_owing}
+use Rattle.rebuild_core.specs.Stages.{is_response, with_place, without_owing}
 use Rattle.shell_laws.specs.Members.{IsBare, IsManned, IsPaired, Somebody}
 use Rattle.shell_laws.proofs.CauseLaws.{idle_rebuild, not_above, not_so, past_first, past_second, second_none}
 use Rattle.shell_laws.proofs.LossLaws.{InEachCase, loss-cases, vary-cases}
@@ -162,34 +162,21 @@ change-loss form cf shell bare =
 
 -- ---- rebuilds and departures
 
-secondary_switched : (b : Bool) (rebuild : Rebuild) (shell : Shell)
-    → (switched b rebuild shell).instances.secondary ≡ shell.instances.secondary
-secondary_switched false rebuild shell = refl
-secondary_switched true rebuild shell = refl
-
-failed_switched : (b : Bool) (rebuild : Rebuild) (shell : Shell) → (switched b rebuild shell).failed ≡ shell.failed
-failed_switched false rebuild shell = refl
-failed_switched true rebuild shell = refl
-
 -- a rebuild goes on, in a shell whose instances are the same
 change_onward : (before shell : Shell) (rebuild given : Rebuild) → before.rebuild ≡ Some rebuild
     → shell.instances ≡ before.instances → shell.failed ≡ before.failed → Change before (shell_onward given shell)
 change_onward before shell rebuild given is same failed =
-    Rebuilds rebuild is
-    (secondary_switched switch given told ∙ ap (λ (i : Instances). i.secondary) same)
-    (failed_switched switch given told ∙ failed)
-  where
-    switch : Bool
-    switch = is_switch (outcome_of given)
-
-    told : Shell
-    told = with_posted (letters_past given) (record shell { rebuild = rebuild_onward given })
+    Rebuilds rebuild is (ap (λ (i : Instances). i.secondary) same) failed
 
 change_unless_gone : (form : StrForm) (before shell : Shell) → Change before shell
     → Change before (unless_gone form shell)
 change_unless_gone form before shell change = go (goes form shell.conns) refl
   where
-    go : (b : Bool) → goes form shell.conns ≡ b → Change before (if b then deallocated form shell else shell)
+    go : (b : Bool) → goes form shell.conns ≡ b → Change before (record shell {
+      instances = if b then no_instance else shell.instances;
+      failed = not b && shell.failed;
+      caps = if b then form.caps else shell.caps;
+    })
     go true gone =
         Goes refl refl (nobody_active shell.conns
         (eqb-true (defined_count shell.conns) 0 ((and_parts _ _ gone).1)))
@@ -205,18 +192,7 @@ change_without : (by : ConnId) (rebuild : Option Rebuild) (before shell : Shell)
     → Change before (left_with letters conns (shell_without by rebuild shell))
 change_without by None before shell letters conns is left same failed = Keeps same failed (λ none. left)
 change_without by (Some rebuild) before shell letters conns is left same failed =
-    Rebuilds rebuild is
-    (secondary_switched switch given told ∙ ap (λ (i : Instances). i.secondary) same)
-    (failed_switched switch given told ∙ failed)
-  where
-    given : Rebuild
-    given = rebuild_without by rebuild
-
-    switch : Bool
-    switch = is_switch (outcome_of given)
-
-    told : Shell
-    told = with_posted (letters_past given) (record shell { rebuild = rebuild_onward given })
+    Rebuilds rebuild is (ap (λ (i : Instances). i.secondary) same) failed
 
 -- ---- places
 
@@ -458,7 +434,6 @@ module _ {C R I S : Type 0} (meaning : Meaning C R I S) (form : StrForm) (machin
   change-command (cmd.RebuildStart caps) fine = change_start caps fine
   change-command cmd.RebuildStop fine = change_stop machine.shell.rebuild refl
   change-command cmd.RebuildConnect fine = change_connection machine.shell.rebuild refl
-  change-command (cmd.Copy n) fine = Keeps refl refl (λ none. none)
   change-command cmd.RebuildComplete fine = change_completion machine.shell.rebuild refl
   change-command (cmd.ForceConn other) fine =
       let shell : Shell = before_it (cmd.ForceConn other) in
@@ -467,8 +442,7 @@ module _ {C R I S : Type 0} (meaning : Meaning C R I S) (form : StrForm) (machin
         rebuild = emptied machine.shell.rebuild;
       }) (Keeps refl refl (idle_emptied machine.shell.rebuild))
   change-command cmd.ForceStr fine = change_structure fine
-  change-command (cmd.LoseConn other cf) fine = Keeps refl refl (λ none. none)
-  change-command (cmd.RestoreConn other cf) fine = Keeps refl refl (λ none. none)
   change-command (cmd.Vary cf off) fine = change_vary cf off
   change-command cmd.DuplexStart fine = change_pair fine
   change-command cmd.DuplexStop fine = change_again machine.shell.instances.secondary refl
+  change-command command fine = Keeps refl refl (λ none. none)

@@ -15,10 +15,10 @@ use Rattle.cf_types.specs.Connections.{Connections, actives, is_active, is_activ
 use Rattle.cf_types.specs.ConnSets.{without_member}
 use Rattle.cf_types.proofs.ConnSetLaws.{filter_none_from}
 use Rattle.cf_types.proofs.ConnectionLaws.{gone-from_none_defined}
-use Rattle.engine_api.specs.Instances.{Instances, place_for}
+use Rattle.engine_api.specs.Instances.{Instances, no_instance, place_for}
 use Rattle.engine_api.specs.Meaning.{first_refusal}
-use Rattle.engine_api.specs.Rebuilds.{is_switch, letters_past}
-use Rattle.engine_api.specs.Shell.{Shell, refusal_when, is_connect, if_no_place, with_primary, with_posted, switched, shell_onward, shell_without, goes, deallocated, unless_gone}
+use Rattle.engine_api.specs.Rebuilds.{is_switch}
+use Rattle.engine_api.specs.Shell.{Shell, refusal_when, is_connect, if_no_place, with_primary, shell_onward, shell_without, goes, unless_gone}
 use Rattle.rebuild_core.specs.declared.rebuild.Rebuild.{Rebuild}
 use Rattle.rebuild_core.specs.Stages.{outcome, outcome_of, owing_after, is_response, rebuild_left, rebuild_onward, rebuild_emptied, rebuild_without, with_place, without_owing}
 use Rattle.shell_laws.specs.Steps.{MayBeTold, rebuild_given, rebuild_next}
@@ -47,11 +47,8 @@ placed-onward rebuild placed =
 -- outside CONNECT it does not matter who owes
 placed_owed : (at : Stage) (members owing others : List ConnId) (fresh : Option CfId) → is_connect at ≡ false
     → IsPlaced at members owing fresh → IsPlaced at members others fresh
-placed_owed Quiesce members owing others fresh elsewhere placed = placed
 placed_owed Connect members owing others fresh elsewhere placed = absurd (cc)
-placed_owed Copy members owing others fresh elsewhere placed = placed
-placed_owed Cleanup members owing others fresh elsewhere placed = placed
-placed_owed Stopping members owing others fresh elsewhere placed = placed
+placed_owed at members owing others fresh elsewhere placed = placed
 
 placed_given : (b : Bool) (by : ConnId) (rebuild : Rebuild)
     → (b ≡ true → HasPlace (Some (without_owing by rebuild))) → HasPlace (Some rebuild)
@@ -60,38 +57,26 @@ placed_given true by rebuild given placed = placed-onward (without_owing by rebu
 placed_given false by rebuild given placed = placed
 
 completes_elsewhere : (at : Stage) (number : ℕ) → is_awaited at number Completes ≡ true → is_connect at ≡ false
-completes_elsewhere Quiesce number awaited = absurd (cc)
-completes_elsewhere Connect number awaited = absurd (cc)
 completes_elsewhere Copy number awaited = refl
-completes_elsewhere Cleanup number awaited = absurd (cc)
-completes_elsewhere Stopping number awaited = absurd (cc)
+completes_elsewhere at number awaited = absurd (cc)
 
 responds_elsewhere : (at : Stage) (number : ℕ) (answered : Event) → is_response at number answered ≡ true
     → is_connect at ≡ false
-responds_elsewhere Quiesce number answered awaited = refl
 responds_elsewhere Connect number answered awaited = absurd (cc)
-responds_elsewhere Copy number answered awaited = refl
-responds_elsewhere Cleanup number answered awaited = refl
-responds_elsewhere Stopping number answered awaited = refl
+responds_elsewhere at number answered awaited = refl
 
 placed_without : (at : Stage) (by : ConnId) (members owing : List ConnId) (fresh : Option CfId)
     → IsPlaced at members owing fresh
     → IsPlaced at (without_member by members) (owing_after at by (without_member by members) owing) fresh
-placed_without Quiesce by members owing fresh placed = placed
 placed_without Connect by members owing fresh (inl all) = inl (ap (without_member by) all)
 placed_without Connect by members owing fresh (inr stands) = inr stands
-placed_without Copy by members owing fresh placed = placed
-placed_without Cleanup by members owing fresh placed = placed
-placed_without Stopping by members owing fresh placed = placed
+placed_without at by members owing fresh placed = placed
 
 placed_emptied : (at : Stage) (rebuild : Rebuild) → rebuild.stage ≡ at → HasPlace (Some rebuild)
     → HasPlace (Some (rebuild_emptied at rebuild))
-placed_emptied Quiesce rebuild in_stage placed = placed
-placed_emptied Connect rebuild in_stage placed = placed
 placed_emptied Copy rebuild in_stage placed =
     let stands : is_some rebuild.fresh ≡ true = rw in_stage at placed in rw in_stage stands
-placed_emptied Cleanup rebuild in_stage placed = placed
-placed_emptied Stopping rebuild in_stage placed = placed
+placed_emptied at rebuild in_stage placed = placed
 
 -- it stands where it is to stand behind whatever may be told
 pub placed-next : (active : List ConnId) (by : ConnId) (told : Telling) (rebuild : Option Rebuild)
@@ -129,11 +114,8 @@ placed-next active by Nothing (Some rebuild) may placed = placed
 pub switch_copy : (at : Stage) (members owing : List ConnId) → is_switch (outcome at members owing) ≡ true → at ≡ Copy
 switch_copy at [] owing switch = absurd (cc)
 switch_copy at (conn ∷ conns) (other ∷ others) switch = absurd (cc)
-switch_copy Quiesce (conn ∷ conns) [] switch = absurd (cc)
-switch_copy Connect (conn ∷ conns) [] switch = absurd (cc)
 switch_copy Copy (conn ∷ conns) [] switch = refl
-switch_copy Cleanup (conn ∷ conns) [] switch = absurd (cc)
-switch_copy Stopping (conn ∷ conns) [] switch = absurd (cc)
+switch_copy at (conn ∷ conns) [] switch = absurd (cc)
 
 -- it stands where it does so
 pub switch_stands : (by : ConnId) (rebuild : Rebuild) → HasPlace (Some rebuild)
@@ -166,17 +148,15 @@ no_switch by rebuild = go rebuild.stage (without_member by rebuild.members)
 
 -- ---- the primary
 
-primary_switched : (b : Bool) (rebuild : Rebuild) (shell : Shell) → (b ≡ true → is_some rebuild.fresh ≡ true)
-    → is_some shell.instances.primary ≡ true → is_some (switched b rebuild shell).instances.primary ≡ true
-primary_switched false rebuild shell fresh stands = stands
-primary_switched true rebuild shell fresh stands = fresh refl
-
 pub primary-onward : (rebuild : Rebuild) (shell : Shell)
     → (is_switch (outcome_of rebuild) ≡ true → is_some rebuild.fresh ≡ true)
     → is_some shell.instances.primary ≡ true → is_some (shell_onward rebuild shell).instances.primary ≡ true
-primary-onward rebuild shell fresh stands =
-    primary_switched (is_switch (outcome_of rebuild)) rebuild
-    (with_posted (letters_past rebuild) (record shell { rebuild = rebuild_onward rebuild })) fresh stands
+primary-onward rebuild shell fresh stands = go (is_switch (outcome_of rebuild)) fresh
+  where
+    go : (b : Bool) → (b ≡ true → is_some rebuild.fresh ≡ true)
+        → is_some (if b then rebuild.fresh else shell.instances.primary) ≡ true
+    go true fresh = fresh refl
+    go false fresh = stands
 
 pub primary-without : (by : ConnId) (rebuild : Option Rebuild) (shell : Shell)
     → is_some shell.instances.primary ≡ true → is_some (shell_without by rebuild shell).instances.primary ≡ true
@@ -194,17 +174,15 @@ nobody_active conns none (conn, (others, are)) =
     let wrong : [] ≡ conn ∷ others = sym nobody ∙ are in cc
 
 pub primary-unless_gone : (form : StrForm) (shell : Shell) → is_some shell.instances.primary ≡ true
-    → Somebody (actives (unless_gone form shell).conns)
-    → is_some (unless_gone form shell).instances.primary ≡ true
-primary-unless_gone form shell stands = go (goes form shell.conns) refl
+    → Somebody (actives shell.conns) → is_some (unless_gone form shell).instances.primary ≡ true
+primary-unless_gone form shell stands somebody = go (goes form shell.conns) refl
   where
     go : (b : Bool) → goes form shell.conns ≡ b
-        → Somebody (actives (if b then deallocated form shell else shell).conns)
-        → is_some (if b then deallocated form shell else shell).instances.primary ≡ true
-    go true gone somebody =
+        → is_some (if b then no_instance else shell.instances).primary ≡ true
+    go true gone =
         absurd (nobody_active shell.conns
         (eqb-true (defined_count shell.conns) 0 ((and_parts _ _ gone).1)) somebody)
-    go false gone somebody = stands
+    go false gone = stands
 
 -- ---- who connects where no primary stands makes one
 

@@ -3,7 +3,6 @@ use Rattle.std.proofs.Common.{◌≡◌, Bool, true, false, List, [], ◌∷◌,
 use Rattle.std.specs.Prelude.{if◌then◌else◌, unwrap_or}
 use Rattle.cf_types.specs.declared.limits.TheConstants.{CALLERS}
 use Rattle.cf_types.specs.declared.events.Event.{Event}
-use Rattle.cf_types.specs.declared.events.Event.TheVariants as event
 use Rattle.cf_types.specs.declared.events.Stage.{Stage}
 use Rattle.cf_types.specs.declared.events.Stage.TheVariants as stage
 use Rattle.cf_types.specs.declared.forms.StrForm.{StrForm}
@@ -14,22 +13,21 @@ use Rattle.cf_types.specs.declared.refusals.Refusal.TheVariants as refusal
 use Rattle.cf_types.specs.declared.shell_commands.ShellCmd.{ShellCmd}
 use Rattle.cf_types.specs.declared.shell_commands.ShellCmd.TheVariants as cmd
 use Rattle.cf_types.specs.declared.shell_commands.ShellReply.TheVariants as shown
-use Rattle.cf_types.specs.Connections.{Connections, actives, state_of, is_active, with_departure, with_forced}
+use Rattle.cf_types.specs.Connections.{Connections, actives, state_of, is_active}
 use Rattle.cf_types.specs.ConnSets.{is_member}
 use Rattle.cf_types.proofs.ConnectionLaws.{is_member-actives, is_active-within}
-use Rattle.cf_types.specs.Mailboxes.{next_event, owed_event, letters_to, with_cleared, with_response}
+use Rattle.cf_types.specs.Mailboxes.{next_event, owed_event, with_cleared, with_response}
 use Rattle.engine_api.specs.declared.asks.Ask.{Ask}
 use Rattle.engine_api.specs.declared.asks.Ask.TheVariants as ask
 use Rattle.engine_api.specs.declared.asks.What.TheVariants as what
 use Rattle.engine_api.specs.Meaning.{Meaning, first_refusal}
 use Rattle.engine_api.specs.Instances.{is_at}
-use Rattle.engine_api.specs.Shell.{call_cause, with_off, if_failed, simplex_again, goes, refusal_when, no_deeds, conns_answered, facility_of, is_kept, Shell, shell_cause, content_cause, switched, shell_onward, shell_without, unless_gone, deallocated, departing_shell, take_event, response_outcome, responded, rebuild_connect_outcome, complete_outcome, stop_outcome, with_posted, ShellOutcome, shell_done, given_outcome, leaver, unless_active, fresh_made, emptied, is_operator, unless_operator, unless_somebody, is_empty}
+use Rattle.engine_api.specs.Shell.{call_cause, with_off, if_failed, simplex_again, refusal_when, no_deeds, conns_answered, facility_of, is_kept, Shell, shell_cause, content_cause, shell_without, departing_shell, take_event, response_outcome, responded, rebuild_connect_outcome, complete_outcome, stop_outcome, with_posted, ShellOutcome, shell_done, given_outcome, leaver, unless_active, fresh_made, emptied, is_operator, unless_operator, unless_somebody, is_empty}
 use Rattle.rebuild_core.specs.declared.rebuild.Rebuild.{Rebuild}
-use Rattle.rebuild_core.specs.Stages.{without_owing, rebuild_without, outcome_of, rebuild_onward, with_place, is_response}
+use Rattle.rebuild_core.specs.Stages.{with_place, is_response}
 use Rattle.shell_laws.specs.Tellings.{Telling, mark_telling, telling, telling_of, is_awaited}
 use Rattle.shell_laws.specs.Tellings.Telling.{Places, Completes, Responds, Departs, Fails, Forces, Nothing}
 use Rattle.shell_laws.specs.Steps.{IsEarly, IsInStage, MayBeTold, rebuild_next, rebuild_given}
-use Rattle.engine_api.specs.Rebuilds.{is_switch, letters_past}
 use Rattle.engine_api.specs.declared.deeds.Room.{Room}
 use Rattle.shell_laws.specs.Members.{HasPlace, IsPlaced, Somebody}
 use Rattle.shell_laws.proofs.LossLaws.{InEachCase, loss-cases, vary-cases}
@@ -41,35 +39,15 @@ nothing_told : (actives : List ConnId) (by : ConnId) (rebuild : Option Rebuild)
 nothing_told actives by None = refl
 nothing_told actives by (Some rebuild) = refl
 
-rebuild-switched : (b : Bool) (rebuild : Rebuild) (shell : Shell) → (switched b rebuild shell).rebuild ≡ shell.rebuild
-rebuild-switched false rebuild shell = refl
-rebuild-switched true rebuild shell = refl
-
-pub rebuild-unless_gone : (form : StrForm) (shell : Shell) → (unless_gone form shell).rebuild ≡ shell.rebuild
-rebuild-unless_gone form shell = go (goes form shell.conns)
-  where
-    go : (b : Bool) → (if b then deallocated form shell else shell).rebuild ≡ shell.rebuild
-    go false = refl
-    go true = refl
-
-pub rebuild-onward : (rebuild : Rebuild) (shell : Shell) → (shell_onward rebuild shell).rebuild ≡ rebuild_onward rebuild
-rebuild-onward rebuild shell =
-    rebuild-switched (is_switch (outcome_of rebuild)) rebuild
-    (with_posted (letters_past rebuild) (record shell { rebuild = rebuild_onward rebuild }))
-
 rebuild-without : (actives : List ConnId) (by : ConnId) (rebuild : Option Rebuild) (shell : Shell)
     → shell.rebuild ≡ rebuild → (shell_without by rebuild shell).rebuild ≡ rebuild_next actives by Departs rebuild
 rebuild-without actives by None shell is = is
-rebuild-without actives by (Some rebuild) shell is = rebuild-onward (rebuild_without by rebuild) shell
+rebuild-without actives by (Some rebuild) shell is = refl
 
 pub rebuild-departing : (active : List ConnId) (form : StrForm) (shell : Shell) (by : ConnId) (keep : Bool)
     → (departing_shell form shell by keep).rebuild ≡ rebuild_next active by Departs shell.rebuild
 rebuild-departing active form shell by keep =
-    let conns = with_departure by keep shell.conns in
-    let cleared : Shell = record shell { mail = with_cleared by shell.mail } in
-    let left : Shell = shell_without by shell.rebuild cleared in
-    let told : Shell = with_posted (letters_to (actives conns) (event.DiscFail by)) (record left { conns = conns }) in
-    rebuild-unless_gone form told ∙ rebuild-without active by shell.rebuild cleared refl
+    rebuild-without active by shell.rebuild (record shell { mail = with_cleared by shell.mail }) refl
 
 -- a response changes the rebuild where its stage waits for it
 rebuild-responded : (active : List ConnId) (by : ConnId) (answered : Event) (rebuild : Option Rebuild) (shell : Shell)
@@ -86,7 +64,7 @@ rebuild-responded active by answered (Some rebuild) shell is =
     kept = record { reply = shown.Responded answered; shell = shell; deeds = no_deeds }
 
     go : (b : Bool) → (if b then given else kept).shell.rebuild ≡ rebuild_given b by rebuild
-    go true = rebuild-onward (without_owing by rebuild) shell
+    go true = refl
     go false = is
 
 rebuild-forced : (active : List ConnId) (by : ConnId) (rebuild : Option Rebuild)
@@ -114,9 +92,7 @@ early_placed : (at : Stage) (members owing : List ConnId) (fresh : Option CfId) 
 early_placed stage.Quiesce members owing fresh cf placed lost = inl refl
 early_placed stage.Connect members owing fresh cf placed lost = inr (inl refl)
 early_placed stage.Copy members owing fresh cf placed lost = inr (inr refl)
-early_placed stage.Cleanup members owing fresh cf placed lost =
-    absurd (let wrong : false ≡ true = rw placed at lost in cc)
-early_placed stage.Stopping members owing fresh cf placed lost =
+early_placed at members owing fresh cf placed lost =
     absurd (let wrong : false ≡ true = rw placed at lost in cc)
 
 -- what becomes of the rebuild is what the reply tells
@@ -186,18 +162,9 @@ somebody_active shell by places fine = go (is_operator by) fine
 module _ (form : StrForm) (room : Room) (shell : Shell) (by : ConnId) where
   pub connect_stage : (rebuild : Rebuild) (at : Stage) → shell.rebuild ≡ Some rebuild → rebuild.stage ≡ at
       → shell_cause form room shell by cmd.RebuildConnect ≡ None → rebuild.stage ≡ stage.Connect
-  connect_stage rebuild stage.Quiesce is in_stage fine =
-      absurd (never (unless_active shell by) (if_failed shell) (refusal.WrongStage stage.Quiesce)
-      _ (rw (is, in_stage) at fine))
   connect_stage rebuild stage.Connect is in_stage fine = in_stage
-  connect_stage rebuild stage.Copy is in_stage fine =
-      absurd (never (unless_active shell by) (if_failed shell) (refusal.WrongStage stage.Copy)
-      _ (rw (is, in_stage) at fine))
-  connect_stage rebuild stage.Cleanup is in_stage fine =
-      absurd (never (unless_active shell by) (if_failed shell) (refusal.WrongStage stage.Cleanup)
-      _ (rw (is, in_stage) at fine))
-  connect_stage rebuild stage.Stopping is in_stage fine =
-      absurd (never (unless_active shell by) (if_failed shell) (refusal.WrongStage stage.Stopping)
+  connect_stage rebuild at is in_stage fine =
+      absurd (never (unless_active shell by) (if_failed shell) (refusal.WrongStage at)
       _ (rw (is, in_stage) at fine))
 
   stop_stage : (rebuild : Rebuild) (at : Stage) → shell.rebuild ≡ Some rebuild → rebuild.stage ≡ at
@@ -214,18 +181,9 @@ module _ (form : StrForm) (room : Room) (shell : Shell) (by : ConnId) where
 
   complete_stage : (rebuild : Rebuild) (at : Stage) → shell.rebuild ≡ Some rebuild → rebuild.stage ≡ at
       → shell_cause form room shell by cmd.RebuildComplete ≡ None → rebuild.stage ≡ stage.Copy
-  complete_stage rebuild stage.Quiesce is in_stage fine =
-      absurd (never (unless_active shell by) (if_failed shell) (refusal.WrongStage stage.Quiesce)
-      _ (rw (is, in_stage) at fine))
-  complete_stage rebuild stage.Connect is in_stage fine =
-      absurd (never (unless_active shell by) (if_failed shell) (refusal.WrongStage stage.Connect)
-      _ (rw (is, in_stage) at fine))
   complete_stage rebuild stage.Copy is in_stage fine = in_stage
-  complete_stage rebuild stage.Cleanup is in_stage fine =
-      absurd (never (unless_active shell by) (if_failed shell) (refusal.WrongStage stage.Cleanup)
-      _ (rw (is, in_stage) at fine))
-  complete_stage rebuild stage.Stopping is in_stage fine =
-      absurd (never (unless_active shell by) (if_failed shell) (refusal.WrongStage stage.Stopping)
+  complete_stage rebuild at is in_stage fine =
+      absurd (never (unless_active shell by) (if_failed shell) (refusal.WrongStage at)
       _ (rw (is, in_stage) at fine))
 
   -- where the command isn't refused, the stage waits for it
@@ -301,8 +259,7 @@ module _ {C R I S : Type 0} (meaning : Meaning C R I S) (form : StrForm) (machin
   tells_connection (Some rebuild) is fine =
       let at : CfId = unwrap_or rebuild.fresh (facility_of (fresh_made form (acting cmd.RebuildConnect) by rebuild)) in
       let placed : Rebuild = with_place at rebuild in
-      rebuild-onward (without_owing by placed) (acting cmd.RebuildConnect)
-      ∙ ap (λ (b : Bool). rebuild_given b by placed)
+      ap (λ (b : Bool). rebuild_given b by placed)
       (sym (connect_awaited form room machine.shell by rebuild at is fine))
 
   tells_completion : (rebuild : Option Rebuild) → machine.shell.rebuild ≡ rebuild
@@ -312,8 +269,7 @@ module _ {C R I S : Type 0} (meaning : Meaning C R I S) (form : StrForm) (machin
       (complete_outcome (acting cmd.RebuildComplete) by rebuild).reply) rebuild
   tells_completion None is fine = is
   tells_completion (Some rebuild) is fine =
-      rebuild-onward (without_owing by rebuild) (acting cmd.RebuildComplete)
-      ∙ ap (λ (b : Bool). rebuild_given b by rebuild)
+      ap (λ (b : Bool). rebuild_given b by rebuild)
       (sym (complete_awaited form room machine.shell by rebuild is fine))
 
   tells_vary : (cf : CfId) (off : Bool) → Tells (cmd.Vary cf off)
@@ -328,7 +284,6 @@ module _ {C R I S : Type 0} (meaning : Meaning C R I S) (form : StrForm) (machin
   tells_simplex (Some cf) = quiet
 
   pub tells_command : (command : ShellCmd) → shell_cause form room machine.shell by command ≡ None → Tells command
-  tells_command (cmd.Connect keep) fine = quiet
   tells_command cmd.Disconnect fine = rebuild-departing active form (acting cmd.Disconnect) by false
   tells_command cmd.Fail fine =
       rebuild-departing active form (acting cmd.Fail) by (is_kept (state_of machine.shell.conns by))
@@ -338,20 +293,11 @@ module _ {C R I S : Type 0} (meaning : Meaning C R I S) (form : StrForm) (machin
   tells_command cmd.RebuildStop fine =
       rebuild-stopped active by machine.shell.rebuild (acting cmd.RebuildStop) refl
   tells_command cmd.RebuildConnect fine = tells_connection machine.shell.rebuild refl fine
-  tells_command (cmd.Copy n) fine = quiet
   tells_command cmd.RebuildComplete fine = tells_completion machine.shell.rebuild refl fine
-  tells_command (cmd.ForceConn other) fine =
-      let shell : Shell = record (acting (cmd.ForceConn other)) {
-        conns = with_forced other machine.shell.conns;
-        rebuild = emptied machine.shell.rebuild;
-      } in
-      rebuild-unless_gone form shell ∙ rebuild-forced active by machine.shell.rebuild
-  tells_command cmd.ForceStr fine = quiet
-  tells_command (cmd.LoseConn other cf) fine = quiet
-  tells_command (cmd.RestoreConn other cf) fine = quiet
+  tells_command (cmd.ForceConn other) fine = rebuild-forced active by machine.shell.rebuild
   tells_command (cmd.Vary cf off) fine = tells_vary cf off
-  tells_command cmd.DuplexStart fine = quiet
   tells_command cmd.DuplexStop fine = tells_simplex machine.shell.instances.secondary
+  tells_command command fine = quiet
 
   -- ---- a call
 
@@ -446,24 +392,16 @@ module _ {C R I S : Type 0} (meaning : Meaning C R I S) (form : StrForm) (machin
   pub may_command : length machine.shell.conns ≡ CALLERS → HasPlace machine.shell.rebuild → (command : ShellCmd)
       → shell_cause form room machine.shell by command ≡ None
       → MayBeTold active (telling command (done command).reply) machine.shell.rebuild
-  may_command places placed (cmd.Connect keep) fine = tt
-  may_command places placed cmd.Disconnect fine = tt
-  may_command places placed cmd.Fail fine = tt
   may_command places placed cmd.Next fine = may_next (next_event (acting cmd.Next).mail by)
   may_command places placed cmd.Respond fine = may_response (owed_event (acting cmd.Respond).mail by)
   may_command places placed (cmd.RebuildStart caps) fine =
       somebody_active machine.shell by places (first_none (unless_somebody machine.shell by) _ fine)
   may_command places placed cmd.RebuildStop fine = may_stop machine.shell.rebuild refl fine
   may_command places placed cmd.RebuildConnect fine = may_connection machine.shell.rebuild refl fine
-  may_command places placed (cmd.Copy n) fine = tt
   may_command places placed cmd.RebuildComplete fine = may_completion machine.shell.rebuild
-  may_command places placed (cmd.ForceConn other) fine = tt
-  may_command places placed cmd.ForceStr fine = tt
-  may_command places placed (cmd.LoseConn other cf) fine = tt
-  may_command places placed (cmd.RestoreConn other cf) fine = tt
   may_command places placed (cmd.Vary cf off) fine = may_vary placed cf off
-  may_command places placed cmd.DuplexStart fine = tt
   may_command places placed cmd.DuplexStop fine = may_simplex machine.shell.instances.secondary
+  may_command places placed command fine = tt
 
   pub may-step : length machine.shell.conns ≡ CALLERS → HasPlace machine.shell.rebuild → (asked : Ask C)
       → MayBeTold active (told asked (step meaning form machine by asked)) machine.shell.rebuild
