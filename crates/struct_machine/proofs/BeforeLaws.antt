@@ -2,36 +2,28 @@
 use Rattle.std.proofs.Common.{◌≡◌, ℕ, ◌+◌, ◌⊎◌, inl, inr, Bool, true, false, List, Option, None, Some, refl, sym, ap, ◌∙◌, arith}
 use Rattle.std.proofs.Math.Nat.{min-le_right}
 use Rattle.std.specs.Prelude.{◌||◌, ◌&&◌, not, if◌then◌else◌, is_some, is_none, min}
-use Rattle.cf_types.specs.declared.events.Event.{Event}
 use Rattle.cf_types.specs.declared.forms.Caps.{Caps}
 use Rattle.cf_types.specs.declared.forms.StrForm.{StrForm}
 use Rattle.cf_types.specs.declared.numbers.CfId.{CfId}
 use Rattle.cf_types.specs.declared.numbers.ConnId.{ConnId}
 use Rattle.cf_types.specs.declared.shell_commands.ShellCmd.{ShellCmd}
 use Rattle.cf_types.specs.declared.shell_commands.ShellCmd.TheVariants as cmd
-use Rattle.cf_types.specs.declared.shell_commands.ShellReply.TheVariants as shown
-use Rattle.cf_types.specs.Mailboxes.{next_event, owed_event}
 use Rattle.engine_api.specs.declared.deeds.Deeds.{Deeds}
 use Rattle.engine_api.specs.declared.deeds.Room.{Room}
 use Rattle.engine_api.specs.Machine.{copied_after}
 use Rattle.engine_api.specs.Meaning.{Meaning, Held}
 use Rattle.cf_types.specs.declared.events.Letter.{Letter}
 use Rattle.engine_api.specs.Rebuilds.{fresh_of}
-use Rattle.engine_api.specs.Shell.{Shell, Leaver, shell_done, leaver, with_posted, caps_made, caps_in, take_event, responded, response_outcome, given_outcome, no_deeds, stop_outcome, rebuild_connect_outcome, complete_outcome, vary_outcome, simplex_again}
+use Rattle.engine_api.specs.Shell.{Shell, Leaver, shell_done, leaver, with_posted, caps_made, caps_in, rebuild_connect_outcome}
 use Rattle.rebuild_copy.specs.Filling.{Fresh, caps_or, emptied, with_copied}
 use Rattle.struct_machine.specs.Content.{lacking_in}
 use Rattle.rebuild_core.specs.declared.rebuild.Rebuild.{Rebuild}
-use Rattle.rebuild_core.specs.Stages.{is_response}
 use Rattle.shell_laws.specs.Capacities.{fresh_caps}
-use Rattle.shell_laws.proofs.LossLaws.{vary-cases}
 use Rattle.struct_machine.specs.Deeds.{fresh_left, fresh_before, makes_empty, makes_second}
 use Rattle.struct_machine.specs.Kept.{copied_in, caps_of}
+use Rattle.struct_machine.proofs.DeedLaws.{barren, emptied_caps}
 
 -- ---- the new instance before a command acts
-
-emptied_caps : (fresh : Option Fresh) → caps_of (emptied fresh) ≡ caps_of fresh
-emptied_caps None = refl
-emptied_caps (Some fresh) = refl
 
 pub copied_caps : (n : ℕ) (fresh : Option Fresh) → caps_of (with_copied n fresh) ≡ caps_of fresh
 copied_caps n None = refl
@@ -81,69 +73,14 @@ module _ {C R I S : Type 0} (meaning : Meaning C R I S) where
 
   pub before_caps : (shell : Shell) (by : ConnId) (command : ShellCmd) (held : Option (Held S)) (fresh : Option Fresh)
       → caps_of (fresh_before meaning shell by command held fresh) ≡ caps_of fresh
-  before_caps shell by (cmd.Connect keep) held fresh = refl
   before_caps shell by cmd.Disconnect held fresh = left_caps shell (leaver shell by cmd.Disconnect) fresh
   before_caps shell by cmd.Fail held fresh = left_caps shell (leaver shell by cmd.Fail) fresh
-  before_caps shell by cmd.Next held fresh = refl
-  before_caps shell by cmd.Respond held fresh = refl
-  before_caps shell by (cmd.RebuildStart caps) held fresh = refl
-  before_caps shell by cmd.RebuildStop held fresh = refl
-  before_caps shell by cmd.RebuildConnect held fresh = refl
   before_caps shell by (cmd.Copy n) held fresh = copied_caps (min n (lacking_in meaning held fresh)) fresh
-  before_caps shell by cmd.RebuildComplete held fresh = refl
   before_caps shell by (cmd.ForceConn other) held fresh =
       left_caps shell (leaver shell by (cmd.ForceConn other)) fresh
-  before_caps shell by cmd.ForceStr held fresh = refl
-  before_caps shell by (cmd.LoseConn other cf) held fresh = refl
-  before_caps shell by (cmd.RestoreConn other cf) held fresh = refl
-  before_caps shell by (cmd.Vary cf off) held fresh = refl
-  before_caps shell by cmd.DuplexStart held fresh = refl
-  before_caps shell by cmd.DuplexStop held fresh = refl
+  before_caps shell by command held fresh = refl
 
 -- ---- which commands make an instance, or put one in the primary's place
-
-taken_makes : (shell : Shell) (by : ConnId) (taken : Option Event) → (take_event shell by taken).deeds.make ≡ None
-taken_makes shell by None = refl
-taken_makes shell by (Some event) = refl
-
-stop_makes : (shell : Shell) (rebuild : Option Rebuild) → (stop_outcome shell rebuild).deeds.make ≡ None
-stop_makes shell None = refl
-stop_makes shell (Some rebuild) = refl
-
-vary_makes : (form : StrForm) (shell : Shell) (cf : CfId) (off : Bool)
-    → (vary_outcome form cf off shell).deeds.make ≡ None
-vary_makes form shell cf off =
-    vary-cases form cf off shell (λ acted. acted.deeds.make ≡ None) refl
-    (record {
-      none = refl;
-      simplex = λ left lost. refl;
-      stops = λ rebuild is lost. refl;
-      fails = refl;
-    })
-
-simplex_makes : (shell : Shell) (second : Option CfId) → (simplex_again second shell).deeds.make ≡ None
-simplex_makes shell None = refl
-simplex_makes shell (Some cf) = refl
-
-responded_makes : (by : ConnId) (answered : Event) (rebuild : Option Rebuild) (shell : Shell)
-    → (responded by answered rebuild shell).deeds.make ≡ None
-responded_makes by answered None shell = refl
-responded_makes by answered (Some rebuild) shell = go (is_response rebuild.stage rebuild.number answered)
-  where
-    go : (b : Bool) → (if b then given_outcome (shown.Responded answered) by rebuild shell
-        else record { reply = shown.Responded answered; shell = shell; deeds = no_deeds }).deeds.make ≡ None
-    go true = refl
-    go false = refl
-
-response_makes : (shell : Shell) (by : ConnId) (owed : Option Event)
-    → (response_outcome shell by owed).deeds.make ≡ None
-response_makes shell by None = refl
-response_makes shell by (Some answered) = responded_makes by answered shell.rebuild _
-
-complete_makes : (shell : Shell) (by : ConnId) (rebuild : Option Rebuild)
-    → (complete_outcome shell by rebuild).deeds.make ≡ None
-complete_makes shell by None = refl
-complete_makes shell by (Some rebuild) = refl
 
 connect_makes : (primary place : Option CfId) → is_some (if is_none primary then place else None) ≡ true
     → not (is_some primary) ≡ true
@@ -155,49 +92,6 @@ connection_makes : (form : StrForm) (shell : Shell) (by : ConnId) (rebuild : Opt
     → not (is_some (fresh_of rebuild)) ≡ true
 connection_makes form shell by None some = absurd (cc)
 connection_makes form shell by (Some rebuild) some = connect_makes rebuild.fresh _ some
-
-taken_adds : (shell : Shell) (by : ConnId) (taken : Option Event) → (take_event shell by taken).deeds.second ≡ None
-taken_adds shell by None = refl
-taken_adds shell by (Some event) = refl
-
-stop_adds : (shell : Shell) (rebuild : Option Rebuild) → (stop_outcome shell rebuild).deeds.second ≡ None
-stop_adds shell None = refl
-stop_adds shell (Some rebuild) = refl
-
-vary_adds : (form : StrForm) (shell : Shell) (cf : CfId) (off : Bool)
-    → (vary_outcome form cf off shell).deeds.second ≡ None
-vary_adds form shell cf off =
-    vary-cases form cf off shell (λ acted. acted.deeds.second ≡ None) refl
-    (record {
-      none = refl;
-      simplex = λ left lost. refl;
-      stops = λ rebuild is lost. refl;
-      fails = refl;
-    })
-
-simplex_adds : (shell : Shell) (second : Option CfId) → (simplex_again second shell).deeds.second ≡ None
-simplex_adds shell None = refl
-simplex_adds shell (Some cf) = refl
-
-responded_adds : (by : ConnId) (answered : Event) (rebuild : Option Rebuild) (shell : Shell)
-    → (responded by answered rebuild shell).deeds.second ≡ None
-responded_adds by answered None shell = refl
-responded_adds by answered (Some rebuild) shell = go (is_response rebuild.stage rebuild.number answered)
-  where
-    go : (b : Bool) → (if b then given_outcome (shown.Responded answered) by rebuild shell
-        else record { reply = shown.Responded answered; shell = shell; deeds = no_deeds }).deeds.second ≡ None
-    go true = refl
-    go false = refl
-
-response_adds : (shell : Shell) (by : ConnId) (owed : Option Event)
-    → (response_outcome shell by owed).deeds.second ≡ None
-response_adds shell by None = refl
-response_adds shell by (Some answered) = responded_adds by answered shell.rebuild _
-
-complete_adds : (shell : Shell) (by : ConnId) (rebuild : Option Rebuild)
-    → (complete_outcome shell by rebuild).deeds.second ≡ None
-complete_adds shell by None = refl
-complete_adds shell by (Some rebuild) = refl
 
 connection_adds : (form : StrForm) (shell : Shell) (by : ConnId) (rebuild : Option Rebuild)
     → (rebuild_connect_outcome form shell by rebuild).deeds.second ≡ None
@@ -215,42 +109,16 @@ module _ (form : StrForm) (room : Room) (shell : Shell) (by : ConnId) where
   -- a command that makes an instance makes an empty engine for it
   pub making : (command : ShellCmd) → is_some (deeds_of command).make ≡ true → makes_empty shell command ≡ true
   making (cmd.Connect keep) some = connect_makes shell.instances.primary _ some
-  making cmd.Disconnect some = absurd (cc)
-  making cmd.Fail some = absurd (cc)
-  making cmd.Next some = absurd (unmade _ (taken_makes shell by (next_event shell.mail by)) some)
-  making cmd.Respond some = absurd (unmade _ (response_makes shell by (owed_event shell.mail by)) some)
-  making (cmd.RebuildStart caps) some = absurd (cc)
-  making cmd.RebuildStop some = absurd (unmade _ (stop_makes shell shell.rebuild) some)
   making cmd.RebuildConnect some = connection_makes form shell by shell.rebuild some
-  making (cmd.Copy n) some = absurd (cc)
-  making cmd.RebuildComplete some = absurd (unmade _ (complete_makes shell by shell.rebuild) some)
-  making (cmd.ForceConn other) some = absurd (cc)
-  making cmd.ForceStr some = absurd (cc)
-  making (cmd.LoseConn other cf) some = absurd (cc)
-  making (cmd.RestoreConn other cf) some = absurd (cc)
-  making (cmd.Vary cf off) some = absurd (unmade _ (vary_makes form shell cf off) some)
   making cmd.DuplexStart some = absurd (cc)
-  making cmd.DuplexStop some = absurd (unmade _ (simplex_makes shell shell.instances.secondary) some)
+  making command some = absurd (unmade _ (barren form room shell by command refl).make some)
 
   -- and one that makes a second instance a copy
   pub seconding : (command : ShellCmd) → is_some (deeds_of command).second ≡ true → makes_second command ≡ true
   seconding (cmd.Connect keep) some = absurd (cc)
-  seconding cmd.Disconnect some = absurd (cc)
-  seconding cmd.Fail some = absurd (cc)
-  seconding cmd.Next some = absurd (unmade _ (taken_adds shell by (next_event shell.mail by)) some)
-  seconding cmd.Respond some = absurd (unmade _ (response_adds shell by (owed_event shell.mail by)) some)
-  seconding (cmd.RebuildStart caps) some = absurd (cc)
-  seconding cmd.RebuildStop some = absurd (unmade _ (stop_adds shell shell.rebuild) some)
   seconding cmd.RebuildConnect some = absurd (unmade _ (connection_adds form shell by shell.rebuild) some)
-  seconding (cmd.Copy n) some = absurd (cc)
-  seconding cmd.RebuildComplete some = absurd (unmade _ (complete_adds shell by shell.rebuild) some)
-  seconding (cmd.ForceConn other) some = absurd (cc)
-  seconding cmd.ForceStr some = absurd (cc)
-  seconding (cmd.LoseConn other cf) some = absurd (cc)
-  seconding (cmd.RestoreConn other cf) some = absurd (cc)
-  seconding (cmd.Vary cf off) some = absurd (unmade _ (vary_adds form shell cf off) some)
   seconding cmd.DuplexStart some = refl
-  seconding cmd.DuplexStop some = absurd (unmade _ (simplex_adds shell shell.instances.secondary) some)
+  seconding command some = absurd (unmade _ (barren form room shell by command refl).second some)
 
 -- nothing comes before the command
 pub record IsSudden {C R I S : Type 0} (meaning : Meaning C R I S) (shell : Shell) (by : ConnId) (command : ShellCmd) :
@@ -266,27 +134,15 @@ module _ {C R I S : Type 0} (meaning : Meaning C R I S) (form : StrForm) (room :
     (by : ConnId) where
   pub sudden : (command : ShellCmd) → MakesOrSwitches (deeds_of form room acting by command)
       → IsSudden meaning shell by command
-  sudden (cmd.Connect keep) either = record { nobody = refl; nothing = λ held fresh. refl }
   sudden cmd.Disconnect (inl some) = absurd (cc)
   sudden cmd.Disconnect (inr does) = absurd (cc)
   sudden cmd.Fail (inl some) = absurd (cc)
   sudden cmd.Fail (inr does) = absurd (cc)
-  sudden cmd.Next either = record { nobody = refl; nothing = λ held fresh. refl }
-  sudden cmd.Respond either = record { nobody = refl; nothing = λ held fresh. refl }
-  sudden (cmd.RebuildStart caps) either = record { nobody = refl; nothing = λ held fresh. refl }
-  sudden cmd.RebuildStop either = record { nobody = refl; nothing = λ held fresh. refl }
-  sudden cmd.RebuildConnect either = record { nobody = refl; nothing = λ held fresh. refl }
   sudden (cmd.Copy n) (inl some) = absurd (cc)
   sudden (cmd.Copy n) (inr does) = absurd (cc)
-  sudden cmd.RebuildComplete either = record { nobody = refl; nothing = λ held fresh. refl }
   sudden (cmd.ForceConn other) (inl some) = absurd (cc)
   sudden (cmd.ForceConn other) (inr does) = absurd (cc)
-  sudden cmd.ForceStr either = record { nobody = refl; nothing = λ held fresh. refl }
-  sudden (cmd.LoseConn other cf) either = record { nobody = refl; nothing = λ held fresh. refl }
-  sudden (cmd.RestoreConn other cf) either = record { nobody = refl; nothing = λ held fresh. refl }
-  sudden (cmd.Vary cf off) either = record { nobody = refl; nothing = λ held fresh. refl }
-  sudden cmd.DuplexStart either = record { nobody = refl; nothing = λ held fresh. refl }
-  sudden cmd.DuplexStop either = record { nobody = refl; nothing = λ held fresh. refl }
+  sudden command either = record { nobody = refl; nothing = λ held fresh. refl }
 
 -- a second instance is made with no departure before
 pub adds_quietly : (shell : Shell) (by : ConnId) (command : ShellCmd) → makes_second command ≡ true

@@ -141,7 +141,6 @@ module _ {C R I S : Type 0} (meaning : Meaning C R I S) (form : StrForm)
           left_copied shelled.shell (Some who) kept.fresh deeds (inr (empties filling))
 
       go : (command : ShellCmd) → Goes command
-      go (cmd.Connect keep) filling = still (cmd.Connect keep)
       go cmd.Disconnect filling =
           parted (record { conn = by; keep = false }) (done meaning form machine by cmd.Disconnect).deeds
           (departure_empties shelled.shell.rebuild (done meaning form machine by cmd.Disconnect).shell.rebuild
@@ -151,27 +150,16 @@ module _ {C R I S : Type 0} (meaning : Meaning C R I S) (form : StrForm)
           (done meaning form machine by cmd.Fail).deeds
           (departure_empties shelled.shell.rebuild (done meaning form machine by cmd.Fail).shell.rebuild
           (done meaning form machine by cmd.Fail).deeds.drop_all) filling
-      go cmd.Next filling = still cmd.Next
-      go cmd.Respond filling = still cmd.Respond
-      go (cmd.RebuildStart caps) filling = still (cmd.RebuildStart caps)
-      go cmd.RebuildStop filling = still cmd.RebuildStop
-      go cmd.RebuildConnect filling = still cmd.RebuildConnect
       go (cmd.Copy n) filling =
           copied_more (min n (lacking_in meaning kept.held kept.fresh)) kept.fresh
           (nothing_lacks meaning n kept.held kept.fresh)
           ∙ ap (λ (left : ℕ). copied_in kept.fresh + min n left)
           (room_left meaning form shelled kept of)
-      go cmd.RebuildComplete filling = still cmd.RebuildComplete
       go (cmd.ForceConn other) filling =
           parted (record { conn = other; keep = false }) (done meaning form machine by (cmd.ForceConn other)).deeds
           (forced_empties shelled.shell.rebuild
           (done meaning form machine by (cmd.ForceConn other)).deeds.drop_all) filling
-      go cmd.ForceStr filling = still cmd.ForceStr
-      go (cmd.LoseConn other cf) filling = still (cmd.LoseConn other cf)
-      go (cmd.RestoreConn other cf) filling = still (cmd.RestoreConn other cf)
-      go (cmd.Vary cf off) filling = still (cmd.Vary cf off)
-      go cmd.DuplexStart filling = still cmd.DuplexStart
-      go cmd.DuplexStop filling = still cmd.DuplexStop
+      go command filling = still command
 
   -- ---- the laws of rebuilds stay
 

@@ -1,7 +1,7 @@
 -- What a command's deeds name, and what they do.
 use Rattle.std.specs.Prelude.{if◌then◌else◌, ◌||◌, ◌&&◌}
 use Rattle.cf_types.specs.declared.forms.Caps.{Caps}
-use Rattle.std.proofs.Common.{◌≡◌, Bool, true, false, Option, None, Some, IfSome, refl, sym, ap, ◌∙◌, subst, arith, is_some, cond}
+use Rattle.std.proofs.Common.{◌≡◌, Bool, true, false, Option, None, Some, IfSome, refl, sym, ap, ◌∙◌, subst, arith, is_some}
 use Rattle.cf_types.specs.declared.forms.StrForm.{StrForm}
 use Rattle.cf_types.specs.declared.numbers.CfId.{CfId}
 use Rattle.cf_types.specs.declared.numbers.ConnId.{ConnId}
@@ -17,7 +17,8 @@ use Rattle.engine_api.specs.Asking.{MayCommand}
 use Rattle.engine_api.specs.Shapes.{shape_of}
 use Rattle.engine_api.specs.Meaning.{Meaning, Held, new_held}
 use Rattle.engine_api.specs.Machine.{content_after, copied_after, with_back_of}
-use Rattle.engine_api.specs.Shell.{Shell, caps_in, caps_made, ShellOutcome, shell_done, take_event, responded, response_outcome, stop_outcome, rebuild_connect_outcome, complete_outcome, vary_outcome, simplex_again}
+use Rattle.cf_types.specs.declared.shell_commands.ShellReply.TheVariants as shown
+use Rattle.engine_api.specs.Shell.{Shell, caps_in, caps_made, given_outcome, no_deeds, shell_done, take_event, responded, response_outcome, stop_outcome, rebuild_connect_outcome, complete_outcome, vary_outcome, simplex_again}
 use Rattle.rebuild_core.specs.declared.rebuild.Rebuild.{Rebuild}
 use Rattle.rebuild_core.specs.Stages.{is_response}
 use Rattle.rebuild_copy.specs.Filling.{Fresh, caps_or, emptied}
@@ -26,84 +27,99 @@ use Rattle.struct_machine.specs.Deeds.{fresh_made, fresh_past, held_back, held_m
 use Rattle.struct_machine.specs.Kept.{copied_in, caps_of, state_in, left_in, IsOf}
 use Rattle.shell_laws.proofs.LossLaws.{vary-cases}
 
-either_back : (b : Bool) (x y : ShellOutcome) → IfSome x.deeds.back IsCaller → IfSome y.deeds.back IsCaller
-    → IfSome (cond b x y).deeds.back IsCaller
-either_back true x y first second = first
-either_back false x y first second = second
+-- ---- commands that make no instance
 
-taken_none : (shell : Shell) (by : ConnId) (event : Option Event) → IfSome (take_event shell by event).deeds.back
-    IsCaller
-taken_none shell by None = tt
-taken_none shell by (Some event) = tt
+-- deeds that make none, and take up no connection
+pub record IsBarren (deeds : Deeds) : Type 0 where
+  pub back : deeds.back ≡ None
+  pub make : deeds.make ≡ None
+  pub second : deeds.second ≡ None
 
--- nobody is taken up again where a rebuild goes on
-responded_none : (by : ConnId) (answered : Event) (rebuild : Option Rebuild) (shell : Shell)
-    → IfSome (responded by answered rebuild shell).deeds.back IsCaller
-responded_none by answered None shell = tt
-responded_none by answered (Some rebuild) shell =
-    either_back (is_response rebuild.stage rebuild.number answered) _ _ tt tt
+barren_so : (deeds : Deeds) → deeds.back ≡ None → deeds.make ≡ None → deeds.second ≡ None → IsBarren deeds
+barren_so deeds back make second = record { back = back; make = make; second = second }
 
-respond_none : (shell : Shell) (by : ConnId) (event : Option Event)
-    → IfSome (response_outcome shell by event).deeds.back
-    IsCaller
-respond_none shell by None = tt
-respond_none shell by (Some event) = responded_none by event shell.rebuild _
+barren_next : (shell : Shell) (by : ConnId) (taken : Option Event) → IsBarren (take_event shell by taken).deeds
+barren_next shell by None = barren_so _ refl refl refl
+barren_next shell by (Some event) = barren_so _ refl refl refl
 
-stopped_none : (shell : Shell) (rebuild : Option Rebuild) → IfSome (stop_outcome shell rebuild).deeds.back IsCaller
-stopped_none shell None = tt
-stopped_none shell (Some rebuild) = tt
+barren_response : (shell : Shell) (by : ConnId) (owed : Option Event) → IsBarren (response_outcome shell by owed).deeds
+barren_response shell by None = barren_so _ refl refl refl
+barren_response shell by (Some answered) = by_rebuild shell.rebuild _
+  where
+    by_rebuild : (rebuild : Option Rebuild) (past : Shell) → IsBarren (responded by answered rebuild past).deeds
+    by_rebuild None past = barren_so _ refl refl refl
+    by_rebuild (Some rebuild) past = go (is_response rebuild.stage rebuild.number answered)
+      where
+        go : (b : Bool) → IsBarren (if b then given_outcome (shown.Responded answered) by rebuild past
+            else record { reply = shown.Responded answered; shell = past; deeds = no_deeds }).deeds
+        go true = barren_so _ refl refl refl
+        go false = barren_so _ refl refl refl
+
+barren_stop : (shell : Shell) (rebuild : Option Rebuild) → IsBarren (stop_outcome shell rebuild).deeds
+barren_stop shell None = barren_so _ refl refl refl
+barren_stop shell (Some rebuild) = barren_so _ refl refl refl
+
+barren_completion : (shell : Shell) (by : ConnId) (rebuild : Option Rebuild)
+    → IsBarren (complete_outcome shell by rebuild).deeds
+barren_completion shell by None = barren_so _ refl refl refl
+barren_completion shell by (Some rebuild) = barren_so _ refl refl refl
+
+barren_vary : (form : StrForm) (shell : Shell) (cf : CfId) (off : Bool)
+    → IsBarren (vary_outcome form cf off shell).deeds
+barren_vary form shell cf off =
+    vary-cases form cf off shell (λ acted. IsBarren acted.deeds) (barren_so _ refl refl refl)
+    (record {
+      none = barren_so _ refl refl refl;
+      simplex = λ left lost. barren_so _ refl refl refl;
+      stops = λ rebuild is lost. barren_so _ refl refl refl;
+      fails = barren_so _ refl refl refl;
+    })
+
+barren_again : (shell : Shell) (second : Option CfId) → IsBarren (simplex_again second shell).deeds
+barren_again shell None = barren_so _ refl refl refl
+barren_again shell (Some cf) = barren_so _ refl refl refl
+
+-- CONNECT, REBUILD CONNECT and DUPLEX START may make one
+abbrev pub is_maker : ShellCmd → Bool
+is_maker (cmd.Connect keep) = true
+is_maker cmd.RebuildConnect = true
+is_maker cmd.DuplexStart = true
+is_maker _ = false
+
+pub barren : (form : StrForm) (room : Room) (shell : Shell) (by : ConnId) (command : ShellCmd)
+    → is_maker command ≡ false → IsBarren (shell_done form room shell by command).deeds
+barren form room shell by (cmd.Connect keep) other = absurd (cc)
+barren form room shell by cmd.RebuildConnect other = absurd (cc)
+barren form room shell by cmd.DuplexStart other = absurd (cc)
+barren form room shell by cmd.Next other = barren_next shell by (next_event shell.mail by)
+barren form room shell by cmd.Respond other = barren_response shell by (owed_event shell.mail by)
+barren form room shell by cmd.RebuildStop other = barren_stop shell shell.rebuild
+barren form room shell by cmd.RebuildComplete other = barren_completion shell by shell.rebuild
+barren form room shell by (cmd.Vary cf off) other = barren_vary form shell cf off
+barren form room shell by cmd.DuplexStop other = barren_again shell shell.instances.secondary
+barren form room shell by command other = barren_so _ refl refl refl
+
+-- ---- whose connection is taken up again
 
 connected_none : (form : StrForm) (shell : Shell) (by : ConnId) (rebuild : Option Rebuild)
     → IfSome (rebuild_connect_outcome form shell by rebuild).deeds.back IsCaller
 connected_none form shell by None = tt
 connected_none form shell by (Some rebuild) = tt
 
-completed_none : (shell : Shell) (by : ConnId) (rebuild : Option Rebuild)
-    → IfSome (complete_outcome shell by rebuild).deeds.back IsCaller
-completed_none shell by None = tt
-completed_none shell by (Some rebuild) = tt
-
-varied_none : (form : StrForm) (shell : Shell) (cf : CfId) (off : Bool)
-    → IfSome (vary_outcome form cf off shell).deeds.back IsCaller
-varied_none form shell cf off =
-    vary-cases form cf off shell (λ acted. IfSome acted.deeds.back IsCaller) tt
-    (record {
-      none = tt;
-      simplex = λ left lost. tt;
-      stops = λ rebuild is lost. tt;
-      fails = tt;
-    })
-
-simplex_none : (shell : Shell) (second : Option CfId) → IfSome (simplex_again second shell).deeds.back IsCaller
-simplex_none shell None = tt
-simplex_none shell (Some cf) = tt
-
 back_if : (failed : Bool) (by : ConnId) → IsCaller by → IfSome (if failed then Some by else None) IsCaller
 back_if true by caller = caller
 back_if false by caller = tt
 
--- whose connection is taken up again is a caller
+-- it is a caller
 pub back_caller : (form : StrForm) (room : Room) (shell : Shell) (by : ConnId) (command : ShellCmd)
     → MayCommand by command
     → IfSome (shell_done form room shell by command).deeds.back IsCaller
 back_caller form room shell by (cmd.Connect keep) may =
     back_if (is_some (state_of shell.conns by)) by (omega (arith, may.1))
-back_caller form room shell by cmd.Disconnect may = tt
-back_caller form room shell by cmd.Fail may = tt
-back_caller form room shell by cmd.Next may = taken_none shell by (next_event shell.mail by)
-back_caller form room shell by cmd.Respond may = respond_none shell by (owed_event shell.mail by)
-back_caller form room shell by (cmd.RebuildStart caps) may = tt
-back_caller form room shell by cmd.RebuildStop may = stopped_none shell shell.rebuild
 back_caller form room shell by cmd.RebuildConnect may = connected_none form shell by shell.rebuild
-back_caller form room shell by (cmd.Copy n) may = tt
-back_caller form room shell by cmd.RebuildComplete may = completed_none shell by shell.rebuild
-back_caller form room shell by (cmd.ForceConn other) may = tt
-back_caller form room shell by cmd.ForceStr may = tt
-back_caller form room shell by (cmd.LoseConn other cf) may = tt
-back_caller form room shell by (cmd.RestoreConn other cf) may = tt
-back_caller form room shell by (cmd.Vary cf off) may = varied_none form shell cf off
 back_caller form room shell by cmd.DuplexStart may = tt
-back_caller form room shell by cmd.DuplexStop may = simplex_none shell shell.instances.secondary
+back_caller form room shell by command may =
+    subst (λ (o : Option ConnId). IfSome o IsCaller) (sym (barren form room shell by command refl).back) tt
 
 -- ---- deeds, all at once
 
@@ -111,7 +127,7 @@ emptied_none : (fresh : Option Fresh) → copied_in (emptied fresh) ≡ 0
 emptied_none None = refl
 emptied_none (Some fresh) = refl
 
-emptied_caps : (fresh : Option Fresh) → caps_of (emptied fresh) ≡ caps_of fresh
+pub emptied_caps : (fresh : Option Fresh) → caps_of (emptied fresh) ≡ caps_of fresh
 emptied_caps None = refl
 emptied_caps (Some fresh) = refl
 

@@ -4,7 +4,7 @@ use Rattle.std.specs.Prelude.{if◌then◌else◌, unwrap_or, nat_le, filter}
 use Rattle.std.proofs.lemmas.List.Elements.{recursion_from_All}
 use Rattle.std.specs.List.{AllByRecursion}
 use Rattle.cf_types.specs.declared.events.Stage.{Stage}
-use Rattle.cf_types.specs.declared.events.Stage.TheVariants.{Quiesce, Connect, Copy, Cleanup, Stopping}
+use Rattle.cf_types.specs.declared.events.Stage.TheVariants.{Connect, Copy}
 use Rattle.cf_types.specs.declared.forms.Pref.{Pref}
 use Rattle.cf_types.specs.declared.forms.StrForm.{StrForm}
 use Rattle.cf_types.specs.declared.numbers.CfId.{CfId}
@@ -14,7 +14,7 @@ use Rattle.engine_api.specs.Instances.{place_for}
 use Rattle.engine_api.specs.Rebuilds.{fresh_of}
 use Rattle.engine_api.specs.Shell.{Shell, candidates, is_candidate}
 use Rattle.rebuild_core.specs.declared.passed.Passed.{Passed}
-use Rattle.rebuild_core.specs.declared.passed.Passed.TheVariants.{No, Into, Ended}
+use Rattle.rebuild_core.specs.declared.passed.Passed.TheVariants.{No, Into}
 use Rattle.rebuild_core.specs.declared.rebuild.Rebuild.{Rebuild}
 use Rattle.rebuild_core.specs.Stages.{outcome_of, rebuild_emptied, rebuild_left, rebuild_without, with_place, without_owing}
 use Rattle.shell_laws.specs.Steps.{rebuild_next, rebuild_given}
@@ -52,12 +52,9 @@ InFacility rebuild = IfSome (fresh_of rebuild) IsFacility
 left_facility : (passed : Passed) (rebuild : Rebuild) → IfSome rebuild.fresh IsFacility
     → InFacility (rebuild_left passed rebuild)
 left_facility No rebuild is = is
-left_facility (Into Quiesce) rebuild is = tt
 left_facility (Into Connect) rebuild is = is
 left_facility (Into Copy) rebuild is = is
-left_facility (Into Cleanup) rebuild is = tt
-left_facility (Into Stopping) rebuild is = tt
-left_facility Ended rebuild is = tt
+left_facility passed rebuild is = tt
 
 given_facility : (b : Bool) (by : ConnId) (rebuild : Rebuild) → IfSome rebuild.fresh IsFacility
     → InFacility (rebuild_given b by rebuild)
@@ -66,11 +63,8 @@ given_facility false by rebuild is = is
 
 emptied_facility : (at : Stage) (rebuild : Rebuild) → IfSome rebuild.fresh IsFacility
     → InFacility (Some (rebuild_emptied at rebuild))
-emptied_facility Quiesce rebuild is = is
-emptied_facility Connect rebuild is = is
 emptied_facility Copy rebuild is = is
-emptied_facility Cleanup rebuild is = is
-emptied_facility Stopping rebuild is = is
+emptied_facility at rebuild is = is
 
 -- the place that is told is a facility, where the new one hasn't one already
 abbrev pub IsPlaceTold : Option Rebuild → Telling → Type 0
@@ -85,24 +79,17 @@ placed_facility (Some at) cf is may = is
 pub facility_next : (active : List ConnId) (by : ConnId) (told : Telling) (rebuild : Option Rebuild)
     → IsPlaceTold rebuild told → InFacility rebuild → InFacility (rebuild_next active by told rebuild)
 facility_next active by (Starts number caps) rebuild may is = tt
-facility_next active by (Places cf) None may is = tt
 facility_next active by (Places cf) (Some rebuild) may is =
     given_facility (is_awaited rebuild.stage rebuild.number (Places cf)) by (with_place cf rebuild)
     (placed_facility rebuild.fresh cf is may)
-facility_next active by Completes None may is = tt
 facility_next active by Completes (Some rebuild) may is =
     given_facility (is_awaited rebuild.stage rebuild.number Completes) by rebuild is
-facility_next active by (Responds answered) None may is = tt
 facility_next active by (Responds answered) (Some rebuild) may is =
     given_facility (is_awaited rebuild.stage rebuild.number (Responds answered)) by rebuild is
-facility_next active by Stops None may is = tt
 facility_next active by Stops (Some rebuild) may is = tt
-facility_next active by Departs None may is = tt
 facility_next active by Departs (Some rebuild) may is =
     left_facility (outcome_of (rebuild_without by rebuild)) (rebuild_without by rebuild) is
-facility_next active by Forces None may is = tt
 facility_next active by Forces (Some rebuild) may is = emptied_facility rebuild.stage rebuild is
-facility_next active by Fails None may is = tt
 facility_next active by Fails (Some rebuild) may is = tt
-facility_next active by Nothing None may is = tt
 facility_next active by Nothing (Some rebuild) may is = is
+facility_next active by told None may is = tt

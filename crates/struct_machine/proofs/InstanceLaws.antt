@@ -3,7 +3,6 @@ use Rattle.std.proofs.Common.{◌≡◌, ◌≢◌, Bool, true, false, ◌==◌,
 use Rattle.std.specs.Prelude.{if◌then◌else◌, is_some, is_none, unwrap_or}
 use Rattle.std.proofs.lemmas.Bool.{eq-eqb, eqb-true, false_from_ne_true}
 use Rattle.cf_types.specs.declared.events.Event.{Event}
-use Rattle.cf_types.specs.declared.events.Event.TheVariants as event
 use Rattle.cf_types.specs.declared.events.Stage.TheVariants.{Connect, Copy}
 use Rattle.cf_types.specs.declared.forms.StrForm.{StrForm}
 use Rattle.cf_types.specs.declared.numbers.CfId.{CfId}
@@ -14,18 +13,17 @@ use Rattle.cf_types.specs.declared.shell_commands.ShellCmd.{ShellCmd}
 use Rattle.cf_types.specs.declared.shell_commands.ShellCmd.TheVariants as cmd
 use Rattle.cf_types.specs.declared.shell_commands.ShellReply.{ShellReply}
 use Rattle.cf_types.specs.declared.shell_commands.ShellReply.TheVariants as shown
-use Rattle.cf_types.specs.Connections.{Connections, actives, state_of, with_departure, with_forced}
+use Rattle.cf_types.specs.Connections.{actives, state_of, with_departure}
 use Rattle.cf_types.specs.Forms.{IsFacility, IsForm}
-use Rattle.cf_types.specs.Mailboxes.{letters_to, next_event, owed_event, with_cleared, with_response}
+use Rattle.cf_types.specs.Mailboxes.{next_event, owed_event, with_cleared, with_response}
 use Rattle.engine_api.specs.declared.deeds.Deeds.{Deeds}
 use Rattle.engine_api.specs.Instances.{Instances, no_instance, is_at, place_for, units_of}
 use Rattle.engine_api.specs.Machine.{Machine, room_of}
 use Rattle.engine_api.specs.Meaning.{Meaning, first_refusal}
-use Rattle.engine_api.specs.Rebuilds.{fresh_of, is_switch, letters_past}
-use Rattle.engine_api.specs.Shell.{Shell, ShellOutcome, candidates, complete_outcome, conns_answered, deallocated, departing_shell, departure_outcome, emptied, facility_of, failed_outcome, fresh_loss, fresh_made, given_outcome, goes, idle_outcome, if_connected, if_duplexed, if_failed, if_too_many, if_no_place, if_rebuilding, if_too_small, is_connect, is_kept, loss_outcome, made_at, no_deeds, primary_loss, rebuild_connect_outcome, refusal_when, responded, response_outcome, shell_cause, shell_without, simplex_again, simplex_outcome, stop_outcome, stopped_outcome, switched, take_event, unless_active, unless_allocated, unless_copied_to, unless_gone, unless_owed, unless_reached, unless_rebuilding, vary_outcome, with_off, with_posted, with_primary}
-use Rattle.engine_api.proofs.ShellLaws.{conns-unless_gone}
+use Rattle.engine_api.specs.Rebuilds.{fresh_of, is_switch}
+use Rattle.engine_api.specs.Shell.{Shell, ShellOutcome, candidates, complete_outcome, conns_answered, departure_outcome, facility_of, failed_outcome, fresh_loss, fresh_made, given_outcome, goes, idle_outcome, if_connected, if_duplexed, if_failed, if_too_many, if_no_place, if_rebuilding, if_too_small, is_connect, is_kept, loss_outcome, made_at, no_deeds, primary_loss, rebuild_connect_outcome, refusal_when, responded, response_outcome, shell_cause, shell_without, simplex_again, simplex_outcome, stop_outcome, stopped_outcome, take_event, unless_active, unless_allocated, unless_copied_to, unless_owed, unless_reached, unless_rebuilding, vary_outcome, with_off, with_primary}
 use Rattle.rebuild_core.specs.declared.rebuild.Rebuild.{Rebuild}
-use Rattle.rebuild_core.specs.Stages.{is_response, outcome_of, rebuild_onward, rebuild_without, with_place, without_owing}
+use Rattle.rebuild_core.specs.Stages.{is_response, outcome_of, with_place, without_owing}
 use Rattle.shell_laws.specs.Members.{IsManned, IsPaired}
 use Rattle.shell_laws.proofs.CauseLaws.{idle_rebuild, past_first, past_second, third_none}
 use Rattle.shell_laws.proofs.PairLaws.{change-command, paired-change}
@@ -100,59 +98,21 @@ given_places : (before : Shell) (answer : ShellReply) (by : ConnId) (rebuild : R
 given_places before answer by rebuild shell is same =
     placing_common before (given_outcome answer by rebuild shell)
     (record { back = refl; make = refl; second = refl; drop_at = refl })
-    (go (is_switch (outcome_of given)))
-  where
-    given : Rebuild
-    given = without_owing by rebuild
-
-    told : Shell
-    told = with_posted (letters_past given) (record shell { rebuild = rebuild_onward given })
-
-    go : (b : Bool) → (switched b given told).instances
-        ≡ at_switched b (fresh_of before.rebuild) before.instances
-    go true = rw (is, same) refl
-    go false = same
+    (λ i. at_switched (is_switch (outcome_of (without_owing by rebuild))) (fresh_of (sym is i)) (same i))
 
 instances_without : (by : ConnId) (rebuild : Option Rebuild) (shell : Shell)
     → (shell_without by rebuild shell).instances ≡ shell.instances
 instances_without by None shell = refl
 instances_without by (Some rebuild) shell =
-    ap (λ (b : Bool). (switched b (rebuild_without by rebuild) told).instances) (no_switch by rebuild)
-  where
-    told : Shell
-    told =
-        with_posted (letters_past (rebuild_without by rebuild))
-        (record shell { rebuild = rebuild_onward (rebuild_without by rebuild) })
-
-instances_unless : (form : StrForm) (shell : Shell) (all : Bool) → all ≡ goes form shell.conns
-    → (unless_gone form shell).instances ≡ (if all then no_instance else shell.instances)
-instances_unless form shell all is =
-    go (goes form shell.conns) ∙ ap (λ (b : Bool). if b then no_instance else shell.instances) (sym is)
-  where
-    go : (b : Bool) → (if b then deallocated form shell else shell).instances
-        ≡ (if b then no_instance else shell.instances)
-    go true = refl
-    go false = refl
+    ap (λ (b : Bool). at_switched b rebuild.fresh shell.instances) (no_switch by rebuild)
 
 departure_places : (form : StrForm) (before shell : Shell) (by : ConnId) (keep : Bool)
     → shell.instances ≡ before.instances → IsPlacing before (departure_outcome form shell by keep)
 departure_places form before shell by keep same =
     placing_common before (departure_outcome form shell by keep)
     (record { back = refl; make = refl; second = refl; drop_at = refl })
-    (instances_unless form told all (ap (goes form) (conns-unless_gone form told))
-    ∙ ap (λ (at : Instances). if all then no_instance else at)
-    (instances_without by shell.rebuild cleared ∙ same))
-  where
-    cleared : Shell
-    cleared = record shell { mail = with_cleared by shell.mail }
-
-    told : Shell
-    told =
-        with_posted (letters_to (actives (with_departure by keep shell.conns)) (event.DiscFail by))
-        (record (shell_without by shell.rebuild cleared) { conns = with_departure by keep shell.conns })
-
-    all : Bool
-    all = goes form (departing_shell form shell by keep).conns
+    (ap (λ (at : Instances). if goes form (with_departure by keep shell.conns) then no_instance else at)
+    (instances_without by shell.rebuild (record shell { mail = with_cleared by shell.mail }) ∙ same))
 
 -- ---- what is lost
 
@@ -443,7 +403,7 @@ module _ {C R I S : Type 0} (meaning : Meaning C R I S) (form : StrForm) (machin
   connection_places None is fine = placing_common machine.shell _ nothing_common refl
   connection_places (Some rebuild) is fine = record {
     places =
-        ap (λ (b : Bool). (switched b given told).instances) stays
+        ap (λ (b : Bool). at_switched b given.fresh machine.shell.instances) stays
         ∙ sym (ap (λ (b : Bool). at_switched b (fresh_of machine.shell.rebuild)
         (at_made (is_some machine.shell.rebuild) made machine.shell.instances)) stays
         ∙ made_places made);
@@ -463,9 +423,6 @@ module _ {C R I S : Type 0} (meaning : Meaning C R I S) (form : StrForm) (machin
 
       given : Rebuild
       given = without_owing by (with_place (unwrap_or rebuild.fresh (facility_of made)) rebuild)
-
-      told : Shell
-      told = with_posted (letters_past given) (record shell { rebuild = rebuild_onward given })
 
       stays : is_switch (outcome_of given) ≡ false
       stays =
@@ -570,32 +527,22 @@ module _ {C R I S : Type 0} (meaning : Meaning C R I S) (form : StrForm) (machin
       departure_places form machine.shell (before_it cmd.Fail) by (is_kept (state_of machine.shell.conns by)) refl
   placing_command cmd.Next fine = next_places (next_event (before_it cmd.Next).mail by)
   placing_command cmd.Respond fine = respond_places (owed_event (before_it cmd.Respond).mail by)
-  placing_command (cmd.RebuildStart caps) fine =
-      placing_common machine.shell (done meaning form machine by (cmd.RebuildStart caps)) nothing_common refl
   placing_command cmd.RebuildStop fine = stop_places machine.shell.rebuild
   placing_command cmd.RebuildConnect fine = connection_places machine.shell.rebuild refl fine
-  placing_command (cmd.Copy n) fine =
-      placing_common machine.shell (done meaning form machine by (cmd.Copy n)) nothing_common refl
   placing_command cmd.RebuildComplete fine = complete_places machine.shell.rebuild refl
   placing_command (cmd.ForceConn other) fine =
-      let shell : Shell = before_it (cmd.ForceConn other) in
-      let conns : Connections = with_forced other machine.shell.conns in
       placing_common machine.shell (done meaning form machine by (cmd.ForceConn other))
-      (record { back = refl; make = refl; second = refl; drop_at = refl })
-      (instances_unless form (record shell { conns = conns; rebuild = emptied machine.shell.rebuild })
-      (goes form conns) refl)
+      (record { back = refl; make = refl; second = refl; drop_at = refl }) refl
   placing_command cmd.ForceStr fine =
       placing_common machine.shell (done meaning form machine by cmd.ForceStr)
       (record { back = refl; make = refl; second = refl; drop_at = refl }) refl
-  placing_command (cmd.LoseConn other cf) fine =
-      placing_common machine.shell (done meaning form machine by (cmd.LoseConn other cf)) nothing_common refl
-  placing_command (cmd.RestoreConn other cf) fine =
-      placing_common machine.shell (done meaning form machine by (cmd.RestoreConn other cf)) nothing_common refl
   placing_command (cmd.Vary cf off) fine =
       vary_places form cf off machine.shell (before_it (cmd.Vary cf off)) manned.paired refl
   placing_command cmd.DuplexStart fine = second_places fine
   placing_command cmd.DuplexStop fine =
       again_places machine.shell (before_it cmd.DuplexStop) manned.paired refl machine.shell.instances.secondary refl
+  placing_command command fine =
+      placing_common machine.shell (done meaning form machine by command) nothing_common refl
 
   -- ---- the new instance stands in a facility
 
@@ -647,26 +594,15 @@ module _ {C R I S : Type 0} (meaning : Meaning C R I S) (form : StrForm) (machin
 
   told_places : (command : ShellCmd) → IsTaken command
       → IsPlaceTold machine.shell.rebuild (telling command (done meaning form machine by command).reply)
-  told_places (cmd.Connect keep) fine = tt
-  told_places cmd.Disconnect fine = tt
-  told_places cmd.Fail fine = tt
-  told_places cmd.Next fine = tt
   told_places cmd.Respond fine = respond_told machine.shell.rebuild (done meaning form machine by cmd.Respond).reply
-  told_places (cmd.RebuildStart caps) fine = tt
-  told_places cmd.RebuildStop fine = stop_told machine.shell.rebuild (done meaning form machine by
-      cmd.RebuildStop).reply
+  told_places cmd.RebuildStop fine =
+      stop_told machine.shell.rebuild (done meaning form machine by cmd.RebuildStop).reply
   told_places cmd.RebuildConnect fine = place_told machine.shell.rebuild refl fine
-  told_places (cmd.Copy n) fine = tt
   told_places cmd.RebuildComplete fine =
       complete_told machine.shell.rebuild (done meaning form machine by cmd.RebuildComplete).reply
-  told_places (cmd.ForceConn other) fine = tt
-  told_places cmd.ForceStr fine = tt
-  told_places (cmd.LoseConn other cf) fine = tt
-  told_places (cmd.RestoreConn other cf) fine = tt
-  told_places (cmd.Vary cf off) fine = mark_told machine.shell.rebuild (done meaning form machine by (cmd.Vary cf
-      off)).reply
-  told_places cmd.DuplexStart fine = tt
-  told_places cmd.DuplexStop fine = tt
+  told_places (cmd.Vary cf off) fine =
+      mark_told machine.shell.rebuild (done meaning form machine by (cmd.Vary cf off)).reply
+  told_places command fine = tt
 
   pub facility_behind : (command : ShellCmd) → IsTaken command → InFacility machine.shell.rebuild
       → InFacility (done meaning form machine by command).shell.rebuild

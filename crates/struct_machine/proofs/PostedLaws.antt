@@ -15,27 +15,13 @@ pub accepted_posted : (form : StrForm) (room : Room) (shell : Shell) (by : ConnI
     (letters : List Letter)
     → (leaver shell by command ≡ None → letters ≡ []) → shell_cause form room shell by command ≡ None
     → shell_cause form room (with_posted letters shell) by command ≡ None
-accepted_posted form room shell by (cmd.Connect keep) letters none accepted = accepted
-accepted_posted form room shell by cmd.Disconnect letters none accepted = accepted
-accepted_posted form room shell by cmd.Fail letters none accepted = accepted
 accepted_posted form room shell by cmd.Next letters none accepted =
     subst (λ (l : List Letter). shell_cause form room (with_posted l shell) by cmd.Next ≡ None) (sym (none refl))
     accepted
 accepted_posted form room shell by cmd.Respond letters none accepted =
     subst (λ (l : List Letter). shell_cause form room (with_posted l shell) by cmd.Respond ≡ None) (sym (none refl))
     accepted
-accepted_posted form room shell by (cmd.RebuildStart caps) letters none accepted = accepted
-accepted_posted form room shell by cmd.RebuildStop letters none accepted = accepted
-accepted_posted form room shell by cmd.RebuildConnect letters none accepted = accepted
-accepted_posted form room shell by (cmd.Copy n) letters none accepted = accepted
-accepted_posted form room shell by cmd.RebuildComplete letters none accepted = accepted
-accepted_posted form room shell by (cmd.ForceConn other) letters none accepted = accepted
-accepted_posted form room shell by cmd.ForceStr letters none accepted = accepted
-accepted_posted form room shell by (cmd.LoseConn other cf) letters none accepted = accepted
-accepted_posted form room shell by (cmd.RestoreConn other cf) letters none accepted = accepted
-accepted_posted form room shell by (cmd.Vary cf off) letters none accepted = accepted
-accepted_posted form room shell by cmd.DuplexStart letters none accepted = accepted
-accepted_posted form room shell by cmd.DuplexStop letters none accepted = accepted
+accepted_posted form room shell by command letters none accepted = accepted
 
 -- a departure's letters come from a departure alone
 pub letters_none : {C R I S : Type 0} (meaning : Meaning C R I S) (form : StrForm) (machine : Machine S)

@@ -15,23 +15,8 @@ use Rattle.plex_shell.specs.declared.verdicts.Verdict.TheVariants.{Refuse, Conte
 
 -- who does a command refuses nothing
 does_something : (command : ShellCmd) (refusal : Refusal) → doer_of command ≡ Refuse refusal → ⊥
-does_something (cmd.Connect keep) refusal e = cc
-does_something cmd.Disconnect refusal e = cc
-does_something cmd.Fail refusal e = cc
-does_something cmd.Next refusal e = cc
-does_something cmd.Respond refusal e = cc
-does_something (cmd.RebuildStart caps) refusal e = cc
-does_something cmd.RebuildStop refusal e = cc
-does_something cmd.RebuildConnect refusal e = cc
 does_something (cmd.Copy n) refusal e = cc
-does_something cmd.RebuildComplete refusal e = cc
-does_something (cmd.ForceConn other) refusal e = cc
-does_something cmd.ForceStr refusal e = cc
-does_something (cmd.LoseConn other cf) refusal e = cc
-does_something (cmd.RestoreConn other cf) refusal e = cc
-does_something (cmd.Vary cf off) refusal e = cc
-does_something cmd.DuplexStart refusal e = cc
-does_something cmd.DuplexStop refusal e = cc
+does_something command refusal e = cc
 
 refused_for : (cause : Option Refusal) (done : Verdict) (refusal : Refusal) → ((r : Refusal) → done ≡ Refuse r → ⊥)
     → refused_or cause done ≡ Refuse refusal

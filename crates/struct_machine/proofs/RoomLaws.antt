@@ -11,41 +11,11 @@ use Rattle.struct_machine.specs.Kept.{command_looks, room_seen}
 pub cause_seen : (form : StrForm) (room : Room) (shell : Shell) (by : ConnId) (command : ShellCmd)
     → shell_cause form (room_seen (command_looks command) room) shell by command
     ≡ shell_cause form room shell by command
-cause_seen form room shell by (cmd.Connect keep) = refl
-cause_seen form room shell by cmd.Disconnect = refl
-cause_seen form room shell by cmd.Fail = refl
-cause_seen form room shell by cmd.Next = refl
-cause_seen form room shell by cmd.Respond = refl
-cause_seen form room shell by (cmd.RebuildStart caps) = refl
-cause_seen form room shell by cmd.RebuildStop = refl
 cause_seen form room shell by cmd.RebuildConnect = refl
-cause_seen form room shell by (cmd.Copy n) = refl
-cause_seen form room shell by cmd.RebuildComplete = refl
-cause_seen form room shell by (cmd.ForceConn other) = refl
-cause_seen form room shell by cmd.ForceStr = refl
-cause_seen form room shell by (cmd.LoseConn other cf) = refl
-cause_seen form room shell by (cmd.RestoreConn other cf) = refl
-cause_seen form room shell by (cmd.Vary cf off) = refl
-cause_seen form room shell by cmd.DuplexStart = refl
-cause_seen form room shell by cmd.DuplexStop = refl
+cause_seen form room shell by command = refl
 
 pub done_seen : (form : StrForm) (room : Room) (shell : Shell) (by : ConnId) (command : ShellCmd)
     → shell_done form (room_seen (command_looks command) room) shell by command
     ≡ shell_done form room shell by command
-done_seen form room shell by (cmd.Connect keep) = refl
-done_seen form room shell by cmd.Disconnect = refl
-done_seen form room shell by cmd.Fail = refl
-done_seen form room shell by cmd.Next = refl
-done_seen form room shell by cmd.Respond = refl
-done_seen form room shell by (cmd.RebuildStart caps) = refl
-done_seen form room shell by cmd.RebuildStop = refl
-done_seen form room shell by cmd.RebuildConnect = refl
 done_seen form room shell by (cmd.Copy n) = refl
-done_seen form room shell by cmd.RebuildComplete = refl
-done_seen form room shell by (cmd.ForceConn other) = refl
-done_seen form room shell by cmd.ForceStr = refl
-done_seen form room shell by (cmd.LoseConn other cf) = refl
-done_seen form room shell by (cmd.RestoreConn other cf) = refl
-done_seen form room shell by (cmd.Vary cf off) = refl
-done_seen form room shell by cmd.DuplexStart = refl
-done_seen form room shell by cmd.DuplexStop = refl
+done_seen form room shell by command = refl

@@ -22,7 +22,7 @@ use Rattle.engine_api.specs.Shell.{Shell, call_cause, content_cause, shell_cause
 use Rattle.plex_shell.specs.Losses.{reply_as}
 use Rattle.struct_machine.specs.declared.marks.Mark.{Mark}
 use Rattle.struct_machine.specs.Kept.{is_copying, items_named, judged}
-use Rattle.struct_machine.specs.Turns.{AreTold, IsJudgedTurn, copy_asks_of, marks_in, behind_marks, lost_at, lost_by}
+use Rattle.struct_machine.specs.Turns.{AreMarked, AreTold, IsJudgedTurn, content_asks_of, copy_asks_of, marks_in, behind_marks, lost_at, lost_by}
 
 module _ {C R I S : Type 0} (meaning : Meaning C R I S) (form : StrForm) where
   -- one mark more
@@ -46,6 +46,14 @@ module _ {C R I S : Type 0} (meaning : Meaning C R I S) (form : StrForm) where
       other ∙ ap (λ (m : Machine S). behind_marks meaning form m (listed second)) is
       ∙ sym (fold-append (lost_at meaning form) machine (listed first) (listed second))
 
+  -- what a command on the content asks
+  pub content_asks : (machine : Machine S) (by : ConnId) (call : Ask C) (command : C)
+      → call ≡ ask.Content command → content_cause machine.shell by ≡ None
+      → content_asks_of machine.shell ≡ links_asked meaning form machine by call
+  content_asks machine by call command is accepted =
+      sym (ap (links_asked meaning form machine by) is
+      ∙ ap (λ (cause : Option Refusal). asked_unless cause (asks_of machine.shell (ask.Content command))) accepted)
+
   -- ---- a whole turn
 
   module _ {L : Type 0} (calls : L → Option ℕ) (downs : L → Option (List ℕ)) (faults : L → ℕ) where
@@ -68,6 +76,50 @@ module _ {C R I S : Type 0} (meaning : Meaning C R I S) (form : StrForm) where
           done = done ∙ ap (λ (cfs : List CfId). judged meaning form (behind_marks meaning form old cfs) by call) same;
           links =
               subst (λ (it : Asks). AreAsked calls downs faults (answers_to down it) before after) asked links;
+        }
+
+    -- the links that a call asks, with the marks that they make
+    pub marks_made : (old new : Machine S) (before after : Links L) (asks wanted : Asks) (lost : Lost)
+        (marks : List Mark) → asks ≡ wanted
+        → marks_in lost ≡ marks_of (has (marks_in lost)) asks
+        → AreAsked calls downs faults (answers_to (has (marks_in lost)) asks) before after
+        → AreTold meaning form old (marks_in lost) marks
+        → new ≡ behind_marks meaning form old (marks_in lost)
+        → AreMarked calls downs faults meaning form old new before after wanted marks
+    marks_made old new before after asks wanted lost marks asked marked links told machine =
+        let down : CfId → Bool = has (marks_in lost) in
+        let same : marks_in lost ≡ marks_of down wanted = marked ∙ ap (λ (it : Asks). marks_of down it) asked in
+        record {
+          down = down;
+          told = subst (λ (cfs : List CfId). AreTold meaning form old cfs marks) same told;
+          machine = machine ∙ ap (λ (cfs : List CfId). behind_marks meaning form old cfs) same;
+          links =
+              subst (λ (it : Asks). AreAsked calls downs faults (answers_to down it) before after) asked links;
+        }
+
+    -- a command on the content that is judged behind them
+    pub turn_behind : (old middle new : Machine S) (before between after : Links L) (by : ConnId) (call : Ask C)
+        (command : C) (marks : List Mark) (reply : Reply R)
+        → AreMarked calls downs faults meaning form old middle before between (content_asks_of old.shell) marks
+        → call ≡ ask.Content command
+        → content_cause old.shell by ≡ None
+        → Path (CallOutcome R S) (record { reply = reply; machine = new }) (judged meaning form middle by call)
+        → after ≡ between
+        → IsJudgedTurn calls downs faults meaning form old new before after by call marks reply
+    turn_behind old middle new before between after by call command marks reply marked is accepted done same =
+        let asked : content_asks_of old.shell ≡ links_asked meaning form old by call =
+        content_asks old by call command is accepted in
+        record {
+          down = marked.down;
+          told =
+              subst (λ (it : Asks). AreTold meaning form old (marks_of marked.down it) marks) asked marked.told;
+          done =
+              done ∙ ap (λ (m : Machine S). judged meaning form m by call) marked.machine
+              ∙ ap (λ (it : Asks). judged meaning form
+              (behind_marks meaning form old (marks_of marked.down it)) by call) asked;
+          links =
+              subst₂ (λ (it : Asks) (left : Links L). AreAsked calls downs faults
+              (answers_to marked.down it) before left) asked (sym same) marked.links;
         }
 
     -- one that asks no link
@@ -121,17 +173,7 @@ module _ {C R I S : Type 0} (meaning : Meaning C R I S) (form : StrForm) where
       go None = ap apart (nothing command other)
       go (Some refusal) = refl
 
-  -- what a command on the content asks, and COPY
-  pub content_asks : (machine : Machine S) (by : ConnId) (call : Ask C) (command : C) (first second : Option CfId)
-      → call ≡ ask.Content command → content_cause machine.shell by ≡ None
-      → first ≡ machine.shell.instances.primary → second ≡ machine.shell.instances.secondary
-      → Path Asks (record { links = apart (listed first ++ listed second); stops = false })
-      (links_asked meaning form machine by call)
-  content_asks machine by call command first second is accepted one two =
-      (λ i. record { links = apart (listed (one i) ++ listed (two i)); stops = false })
-      ∙ sym (ap (links_asked meaning form machine by) is
-      ∙ ap (λ (cause : Option Refusal). asked_unless cause (asks_of machine.shell (ask.Content command))) accepted)
-
+  -- what COPY asks
   pub copy_asks : (machine : Machine S) (by : ConnId) (call : Ask C) (n : ℕ) (shell : Shell)
       → call ≡ ask.Shell (cmd.Copy n)
       → shell_cause form (room_of meaning form machine) machine.shell by (cmd.Copy n) ≡ None → shell ≡ machine.shell
@@ -165,3 +207,10 @@ pub ok_map : {T F : Type 0} (result : Result T F) (P Q : T → Type 0) → ((x :
     → IfOk result Q
 ok_map (Ok x) P Q more is = more x is
 ok_map (Err fault) P Q more is = tt
+
+-- the instances' links, by where they stand
+pub content_places : (shell : Shell) (first second : Option CfId)
+    → first ≡ shell.instances.primary → second ≡ shell.instances.secondary
+    → Path Asks (record { links = apart (listed first ++ listed second); stops = false }) (content_asks_of shell)
+content_places shell first second one two =
+    λ i. record { links = apart (listed (one i) ++ listed (two i)); stops = false }

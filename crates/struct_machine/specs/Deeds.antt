@@ -63,7 +63,7 @@ at_made true (Some cf) at = at
 at_made false (Some cf) at = record at { primary = Some cf }
 
 abbrev pub at_switched : Bool → Option CfId → Instances → Instances
-at_switched switch fresh at = if switch then record at { primary = fresh } else at
+at_switched switch fresh at = record at { primary = if switch then fresh else at.primary }
 
 abbrev pub places_past : (rebuilding : Bool) → Deeds → (fresh : Option CfId) → Instances → Instances
 places_past rebuilding deeds fresh at =

@@ -1,5 +1,5 @@
 -- A call with the links that it asks: what it leaves, and what it tells.
-use Rattle.std.specs.Prelude.{◌≡◌, ℕ, Bool, List, [], ◌∷◌, ◌++◌, fold, Option, true}
+use Rattle.std.specs.Prelude.{◌≡◌, ℕ, Bool, List, [], ◌∷◌, ◌++◌, fold, Option, true, false}
 use Rattle.cf_link.specs.declared.links.Links.{Links}
 use Rattle.cf_link.specs.Links.{AreAsked}
 use Rattle.cf_types.specs.declared.forms.StrForm.{StrForm}
@@ -29,6 +29,14 @@ asks_in asked = record { links = listed asked.first ++ listed asked.second; stop
 
 abbrev pub marks_in : Lost → List CfId
 marks_in lost = listed lost.first ++ listed lost.second
+
+-- a command on the content asks the link of each instance
+abbrev pub content_asks_of : Shell → Asks
+content_asks_of shell =
+    record {
+      links = apart (listed shell.instances.primary ++ listed shell.instances.secondary);
+      stops = false;
+    }
 
 -- COPY asks the link of the old instance, and that of the new one unless the first is down
 abbrev pub copy_asks_of : Shell → Asks
@@ -82,11 +90,24 @@ pub record IsJudgedTurn {C R I S L : Type 0} (calls : L → Option ℕ) (downs :
       ≡ judged meaning form (behind_marks meaning form old (lost_by meaning form down old by call)) by call
   pub links : AreAsked calls downs faults (answers_to down (links_asked meaning form old by call)) before after
 
+-- These links were asked, and those that are down are marked: what a call leaves before it is judged behind the marks.
+pub record AreMarked {C R I S L : Type 0} (calls : L → Option ℕ) (downs : L → Option (List ℕ)) (faults : L → ℕ)
+    (meaning : Meaning C R I S) (form : StrForm) (old new : Machine S) (before after : Links L) (asks : Asks)
+    (marks : List Mark) : Type 0 where
+  pub down : CfId → Bool
+  pub told : AreTold meaning form old (marks_of down asks) marks
+  pub machine : new ≡ behind_marks meaning form old (marks_of down asks)
+  pub links : AreAsked calls downs faults (answers_to down asks) before after
+
 -- a structure in its parts
 abbrev pub structure_of : {C R I S E L : Type 0} → Meaning C R I S → (E → Held S) → StrForm → ShellView
     → ContentView E L → StructureView S L
 structure_of meaning holds form shelled content =
-    record { form = form; machine = machine_of meaning form shelled (kept_of holds content); links = content.pair.links }
+    record {
+      form = form;
+      machine = machine_of meaning form shelled (kept_of holds content);
+      links = content.pair.links;
+    }
 
 -- the same of structures
 abbrev pub IsJudgedCall : {C R I S L : Type 0} → (L → Option ℕ) → (L → Option (List ℕ)) → (L → ℕ) → Meaning C R I S

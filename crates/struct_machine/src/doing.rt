@@ -1,20 +1,22 @@
 //! What a call does to a shell and to a structure's instances.
-ghost use Rattle.std.specs.Prelude.{◌≡◌, ◌≤◌, ◌+◌, ◌++◌, [], is_some, true, false, IfSome, IfOk, OnOk, OnErr, IsTrue, None, Some};
+ghost use Rattle.std.specs.Prelude.{◌≡◌, ◌≤◌, ◌+◌, ◌++◌, ◌||◌, [], is_some, true, false, IfSome, IfOk, OnOk, OnErr, IsTrue, None, Some};
 ghost use Rattle.cf_link.specs.Links.{AreAsked};
 ghost use Rattle.cf_types.specs.Forms.{IsConnector, IsFacility};
+ghost use Rattle.cf_types.specs.declared.effects.Effects.{Effects};
 ghost use Rattle.cf_types.specs.Gains.{Gains};
 ghost use Rattle.duplex_pair.specs.Pairs.{content_of, AreReady};
 ghost use Rattle.engine_api.specs.Asking.{MayAsk, MayCommand};
 ghost use Rattle.engine_api.specs.declared.asks.Ask.TheVariants as asks;
 ghost use Rattle.engine_api.specs.LinkAsks.{answers_to, has, marks_of};
 ghost use Rattle.engine_api.specs.Machine.{content_done, content_reply, command_done, room_of};
+ghost use Rattle.engine_api.specs.Meaning.{Wish};
 ghost use Rattle.engine_api.specs.Meaning.Wish.{ForCmd};
 ghost use Rattle.engine_api.specs.Rebuilds.{fresh_of};
 ghost use Rattle.engine_api.specs.Shell.{call_cause, shell_cause, shell_done, content_cause};
 ghost use Rattle.struct_machine.specs.Changes.{Names, any_failure, deeds_by, may_be_any, may_change_bits};
 ghost use Rattle.struct_machine.specs.Content.{kept_of};
 ghost use Rattle.struct_machine.specs.Kept.{AreOf, answered, machine_of, state_in, judged, command_looks, copy_reply, is_copying, items_named, looks_at_need, room_seen};
-ghost use Rattle.struct_machine.specs.Turns.{IsTurn, IsJudgedCall, copy_asks_of, marks_in, structure_of};
+ghost use Rattle.struct_machine.specs.Turns.{AreMarked, IsTurn, IsJudgedCall, content_asks_of, copy_asks_of, marks_in, structure_of};
 
 use crate::asking::{Asked, ask_links};
 use crate::changed::Changed;
@@ -44,12 +46,21 @@ const NO_ROOM: Room = Room {
     left: 0,
 };
 
-// A call: who asks what, and what the instances know where it is judged.
+// A common command: who gives it, in which ask, and what the instances know where it is judged.
 #[derive(Drop)]
-struct Call<'a, C> {
+struct CommonCall<'a, C> {
     by: ConnId,
     ask: &'a Ask<C>,
+    cmd: &'a ShellCmd,
     room: Room,
+}
+
+// A command on the content: who gives it, and in which ask.
+#[derive(Drop)]
+struct ContentCall<'a, C> {
+    by: ConnId,
+    ask: &'a Ask<C>,
+    cmd: &'a C,
 }
 
 // A call is judged, its links are asked, it is done where the shell doesn't refuse it behind what
@@ -125,16 +136,18 @@ fn answer_judged<E: Engine, L: Link>(
     if let Some(refusal) = cause_of(form, shell, content, by, ask, &room) {
         return Ok(Reply::Refused(refusal));
     }
-    let call = Call { by, ask, room };
     match ask {
         Ask::Shell(cmd) => {
+            let call = CommonCall { by, ask, cmd, room };
             if is_copying(cmd) {
-                do_copy(alloc, form, shell, content, changed, &call, cmd)
+                do_copy(alloc, form, shell, content, changed, &call)
             } else {
-                do_command(alloc, form, shell, content, changed, &call, cmd)
+                do_command(alloc, form, shell, content, changed, &call)
             }
         }
-        Ask::Content(cmd) => do_content(form, shell, content, changed, &call, cmd),
+        Ask::Content(cmd) => {
+            do_content(form, shell, content, changed, &ContentCall { by, ask, cmd })
+        }
     }
 }
 
@@ -237,11 +250,10 @@ fn do_content<E: Engine, L: Link>(
     shell: &mut Shell,
     content: &mut Content<E, L>,
     changed: &mut Changed,
-    call: &Call<'_, E::Cmd>,
-    cmd: &E::Cmd,
+    call: &ContentCall<'_, E::Cmd>,
 ) -> Result<Reply<E::Reply>, NoMemory>
     requires caller { IsConnector call.now.by }
-    requires asked { call.now.ask.now ≡ asks.Content cmd.now }
+    requires asked { call.now.ask.now ≡ asks.Content call.now.cmd.now }
     requires accepted { content_cause shell.old.shell call.now.by ≡ None }
     requires unnamed { changed.old.bits ≡ [] }
     requires unmarked { changed.old.marks ≡ [] }
@@ -261,10 +273,10 @@ fn do_content<E: Engine, L: Link>(
 {
     let out = &mut changed.effects;
     out.mail.clear();
-    content.ready(call.by, cmd, out)?;
+    content.ready(call.by, call.cmd, out)?;
     ready_letters(shell, out)?;
     let marks = &mut changed.marks;
-    let (reply, failed) = ask_and_apply(form, shell, content, out, marks, call, cmd);
+    let (reply, failed) = ask_and_apply(form, shell, content, out, marks, call);
     changed.all = failed;
     Ok(reply)
 }
@@ -284,22 +296,23 @@ fn ready_letters(shell: &mut Shell, out: &Effects) -> Result<(), NoMemory>
 
 // The links of a command on the content are asked, and it is judged again behind what they tell,
 // and done by the instances that are left. Whether the structure failed is told too.
+#[tactic(auto, using(crate::proofs::TurnLaws::turn_behind))]
 fn ask_and_apply<E: Engine, L: Link>(
     form: &StrForm,
     shell: &mut Shell,
     content: &mut Content<E, L>,
     out: &mut Effects,
     marks: &mut Marks,
-    call: &Call<'_, E::Cmd>,
-    cmd: &E::Cmd,
+    call: &ContentCall<'_, E::Cmd>,
 ) -> (Reply<E::Reply>, bool)
     requires caller { IsConnector call.now.by }
-    requires asked { call.now.ask.now ≡ asks.Content cmd.now }
+    requires asked { call.now.ask.now ≡ asks.Content call.now.cmd.now }
     requires accepted { content_cause shell.old.shell call.now.by ≡ None }
     requires unmarked { marks.old ≡ [] }
     requires unnamed { out.old.bits.items ≡ [] }
     requires unsent { out.old.mail.items ≡ [] }
-    requires ready { AreReady E.is_ready content.old.pair (ForCmd call.now.by cmd.now) out.old }
+    requires ready { AreReady E.is_ready content.old.pair
+        (ForCmd call.now.by call.now.cmd.now) out.old }
     requires room { out.old.mail.room + MARK_LETTERS ≤ shell.old.room }
     requires of_form { AreOf E.meaning form.now shell.old (kept_of E.held content.old) }
     ensures turn { IsJudgedCall L.calls L.downs L.faults E.meaning
@@ -313,12 +326,47 @@ fn ask_and_apply<E: Engine, L: Link>(
         [] out.new.bits.items }
     ensures of_form { AreOf E.meaning form.now shell.new (kept_of E.held content.new) }
 {
+    let failed = ask_and_mark(form, shell, content, marks);
+    let reply = apply_judged(form, shell, content, out, call);
+    (reply, failed)
+}
+
+// The links of a command on the content are asked, and what they tell to be lost is marked. Whether
+// the structure failed is told.
+fn ask_and_mark<E: Engine, L: Link>(
+    form: &StrForm,
+    shell: &mut Shell,
+    content: &mut Content<E, L>,
+    marks: &mut Marks,
+) -> bool
+    requires unmarked { marks.old ≡ [] }
+    requires room { MARK_LETTERS ≤ shell.old.room }
+    requires of_form { AreOf E.meaning form.now shell.old (kept_of E.held content.old) }
+    ensures marked { AreMarked L.calls L.downs L.faults E.meaning form.now
+        (machine_of E.meaning form.now shell.old (kept_of E.held content.old))
+        (machine_of E.meaning form.now shell.new (kept_of E.held content.new))
+        content.old.pair.links content.new.pair.links (content_asks_of shell.old.shell) marks.new }
+    ensures failed { result ≡ any_failure marks.new }
+    ensures same { result ≡ false
+        → content_of E.held content.new.pair ≡ content_of E.held content.old.pair }
+    ensures ready { (wish : Wish E.Cmd) (out : Effects)
+        → AreReady E.is_ready content.old.pair wish out
+        → AreReady E.is_ready content.new.pair wish out }
+    ensures room { shell.old.room ≤ shell.new.room + MARK_LETTERS }
+    ensures of_form { AreOf E.meaning form.now shell.new (kept_of E.held content.new) }
+{
     let (first, second) = content.places();
     let lost = ask_links(content, Asked::both(first, second, false));
     let alone = mark(form, shell, content, marks, lost.first);
     let both = mark(form, shell, content, marks, lost.second);
-    let reply = apply_judged(form, shell, content, out, call, cmd);
-    (reply, alone || both)
+    is_either(alone, both)
+}
+
+// Whether one of two is so.
+fn is_either(one: bool, other: bool) -> bool
+    ensures { result ≡ one || other }
+{
+    one || other
 }
 
 // A command on the content is judged, and done where the shell doesn't refuse it.
@@ -327,14 +375,14 @@ fn apply_judged<E: Engine, L: Link>(
     shell: &mut Shell,
     content: &mut Content<E, L>,
     out: &mut Effects,
-    call: &Call<'_, E::Cmd>,
-    cmd: &E::Cmd,
+    call: &ContentCall<'_, E::Cmd>,
 ) -> Reply<E::Reply>
     requires caller { IsConnector call.now.by }
-    requires asked { call.now.ask.now ≡ asks.Content cmd.now }
+    requires asked { call.now.ask.now ≡ asks.Content call.now.cmd.now }
     requires unnamed { out.old.bits.items ≡ [] }
     requires unsent { out.old.mail.items ≡ [] }
-    requires ready { AreReady E.is_ready content.old.pair (ForCmd call.now.by cmd.now) out.old }
+    requires ready { AreReady E.is_ready content.old.pair
+        (ForCmd call.now.by call.now.cmd.now) out.old }
     requires room { out.old.mail.room ≤ shell.old.room }
     requires of_form { AreOf E.meaning form.now shell.old (kept_of E.held content.old) }
     ensures done { record {
@@ -352,7 +400,7 @@ fn apply_judged<E: Engine, L: Link>(
 {
     match refusal_of(shell, call.by, call.ask, &NO_ROOM) {
         Some(refusal) => Reply::Refused(refusal),
-        None => apply(form, shell, content, out, call.by, cmd),
+        None => apply(form, shell, content, out, call.by, call.cmd),
     }
 }
 
@@ -398,17 +446,17 @@ fn do_copy<E: Engine, L: Link>(
     shell: &mut Shell,
     content: &mut Content<E, L>,
     changed: &mut Changed,
-    call: &Call<'_, E::Cmd>,
-    cmd: &ShellCmd,
+    call: &CommonCall<'_, E::Cmd>,
 ) -> Result<Reply<E::Reply>, NoMemory>
-    requires may { MayCommand call.now.by cmd.now }
-    requires asked { call.now.ask.now ≡ asks.Shell cmd.now }
-    requires copying { is_copying cmd.now ≡ true }
-    requires room { call.now.room ≡ room_seen (command_looks cmd.now) (room_of E.meaning form.now
+    requires may { MayCommand call.now.by call.now.cmd.now }
+    requires asked { call.now.ask.now ≡ asks.Shell call.now.cmd.now }
+    requires copying { is_copying call.now.cmd.now ≡ true }
+    requires room { call.now.room ≡ room_seen (command_looks call.now.cmd.now)
+        (room_of E.meaning form.now
         (machine_of E.meaning form.now shell.old (kept_of E.held content.old))) }
     requires accepted { shell_cause form.now (room_of E.meaning form.now
         (machine_of E.meaning form.now shell.old (kept_of E.held content.old))) shell.old.shell
-        call.now.by cmd.now ≡ None }
+        call.now.by call.now.cmd.now ≡ None }
     requires unnamed { changed.old.bits ≡ [] }
     requires unmarked { changed.old.marks ≡ [] }
     requires of_form { AreOf E.meaning form.now shell.old (kept_of E.held content.old) }
@@ -426,12 +474,12 @@ fn do_copy<E: Engine, L: Link>(
     ensures err_links { OnErr result (content.new.pair.links ≡ content.old.pair.links) }
 {
     shell.ready(COPY_LETTERS)?;
-    content.copy(alloc, items_of(cmd))?;
+    content.copy(alloc, items_of(call.cmd))?;
     let lost = ask_copy(form, shell, content);
     let alone = mark(form, shell, content, &mut changed.marks, lost.first);
     let both = mark(form, shell, content, &mut changed.marks, lost.second);
     changed.all = alone || both;
-    Ok(copy_judged(shell, call, cmd))
+    Ok(copy_judged(shell, call))
 }
 
 // How many items COPY names.
@@ -470,21 +518,22 @@ fn ask_copy<E: Engine, L: Link>(form: &StrForm, shell: &Shell, content: &mut Con
 }
 
 // COPY is judged, and told where nothing refuses it.
-fn copy_judged<R: Drop, C>(shell: &mut Shell, call: &Call<'_, C>, cmd: &ShellCmd) -> Reply<R>
-    requires may { MayCommand call.now.by cmd.now }
-    requires asked { call.now.ask.now ≡ asks.Shell cmd.now }
-    requires copying { is_copying cmd.now ≡ true }
+fn copy_judged<R: Drop, C>(shell: &mut Shell, call: &CommonCall<'_, C>) -> Reply<R>
+    requires may { MayCommand call.now.by call.now.cmd.now }
+    requires asked { call.now.ask.now ≡ asks.Shell call.now.cmd.now }
+    requires copying { is_copying call.now.cmd.now ≡ true }
     requires room { ACT_LETTERS ≤ shell.old.room }
     ensures form { shell.new.form ≡ shell.old.form }
     ensures shell { shell.new.shell ≡ shell.old.shell }
     ensures reply { result ≡ copy_reply
-        (shell_cause shell.old.form call.now.room shell.old.shell call.now.by cmd.now)
-        (shell_done shell.old.form call.now.room shell.old.shell call.now.by cmd.now).reply }
+        (shell_cause shell.old.form call.now.room shell.old.shell call.now.by call.now.cmd.now)
+        (shell_done shell.old.form call.now.room shell.old.shell call.now.by
+        call.now.cmd.now).reply }
 {
     match refusal_of(shell, call.by, call.ask, &call.room) {
         Some(refusal) => Reply::Refused(refusal),
         None => {
-            let (reply, _) = shell.act(call.by, cmd, &call.room);
+            let (reply, _) = shell.act(call.by, call.cmd, &call.room);
             Reply::Shell(reply)
         }
     }
@@ -497,37 +546,37 @@ fn do_command<E: Engine, L: Link>(
     shell: &mut Shell,
     content: &mut Content<E, L>,
     changed: &mut Changed,
-    call: &Call<'_, E::Cmd>,
-    cmd: &ShellCmd,
+    call: &CommonCall<'_, E::Cmd>,
 ) -> Result<Reply<E::Reply>, NoMemory>
     requires kind { IsTrue (E.is_kind form.now.kind) }
-    requires may { MayCommand call.now.by cmd.now }
-    requires room { call.now.room ≡ room_seen (command_looks cmd.now) (room_of E.meaning form.now
+    requires may { MayCommand call.now.by call.now.cmd.now }
+    requires room { call.now.room ≡ room_seen (command_looks call.now.cmd.now)
+        (room_of E.meaning form.now
         (machine_of E.meaning form.now shell.old (kept_of E.held content.old))) }
     requires accepted { shell_cause form.now (room_of E.meaning form.now
         (machine_of E.meaning form.now shell.old (kept_of E.held content.old))) shell.old.shell
-        call.now.by cmd.now ≡ None }
+        call.now.by call.now.cmd.now ≡ None }
     requires unnamed { changed.old.bits ≡ [] }
     requires of_form { AreOf E.meaning form.now shell.old (kept_of E.held content.old) }
     ensures ok { IfOk result (λ reply. answered reply
         (machine_of E.meaning form.now shell.new (kept_of E.held content.new))
         ≡ command_done E.meaning form.now
         (machine_of E.meaning form.now shell.old (kept_of E.held content.old)) call.now.by
-        cmd.now) }
+        call.now.cmd.now) }
     ensures bits { OnOk result (Names changed.new
         (E.meaning.stands (state_in E.meaning form.now (content_of E.held content.old.pair)))
         (E.meaning.stands (state_in E.meaning form.now (content_of E.held content.new.pair)))) }
     ensures all { OnOk result (changed.new.all
         ≡ may_change_bits (is_some shell.old.shell.rebuild) (deeds_by E.meaning form.now
         (machine_of E.meaning form.now shell.old (kept_of E.held content.old)) call.now.by
-        cmd.now)) }
+        call.now.cmd.now)) }
     ensures of_form { AreOf E.meaning form.now shell.new (kept_of E.held content.new) }
     ensures links { content.new.pair.links ≡ content.old.pair.links }
     ensures marks { changed.new.marks ≡ changed.old.marks }
     ensures err { OnErr result (machine_of E.meaning form.now shell.new (kept_of E.held content.new)
         ≡ machine_of E.meaning form.now shell.old (kept_of E.held content.old)) }
 {
-    let made = make_engines(alloc, form, shell, content, cmd)?;
+    let made = make_engines(alloc, form, shell, content, call.cmd)?;
     prepare(
         alloc,
         form,
@@ -535,11 +584,11 @@ fn do_command<E: Engine, L: Link>(
         content,
         &mut changed.effects,
         call.by,
-        cmd,
+        call.cmd,
     )?;
     let rebuilding = shell.is_rebuilding();
     let (_, _, fresh) = shell.instances();
-    let (reply, deeds) = shell.act(call.by, cmd, &call.room);
+    let (reply, deeds) = shell.act(call.by, call.cmd, &call.room);
     changed.note(deeds, rebuilding);
     do_deeds(form, content, made, deeds, rebuilding, fresh);
     Ok(Reply::Shell(reply))

@@ -17,32 +17,36 @@ use Rattle.struct_machine.proofs.doing.do_command.Goals as goal
 
 pub act-reply-requires-clause-accepted : goal.act-reply-requires-clause-accepted
 act-reply-requires-clause-accepted g c =
+    let by = c.args.call.now.by in
+    let cmd = c.args.call.now.cmd.now in
     let machine = machine_of g.E.Engine.meaning c.args.form.now c.args.shell.now
     (kept_of g.E.Engine.held c.args.content.now) in
-    let who = leaver c.args.shell.now.shell c.args.call.now.by c.args.cmd.now in
+    let who = leaver c.args.shell.now.shell by cmd in
     let gone = departure_from g.E.Engine.meaning c.args.form.now who machine in
     let posted = c.in_ok-prepare.ensures.ok_shell in
     let form = c.prepare.ensures.form ∙ c.requires.of_form.shell_form in
     let room : Room = room_of g.E.Engine.meaning c.args.form.now machine in
-    let accepted : shell_cause c.args.form.now c.args.call.now.room c.args.shell.now.shell c.args.call.now.by c.args.cmd.now ≡ None =
-    subst (λ (seen : Room). shell_cause c.args.form.now seen c.args.shell.now.shell c.args.call.now.by c.args.cmd.now ≡ None)
+    let accepted : shell_cause c.args.form.now c.args.call.now.room c.args.shell.now.shell by cmd ≡ None =
+    subst (λ (seen : Room). shell_cause c.args.form.now seen c.args.shell.now.shell by cmd ≡ None)
     (sym c.requires.room)
-    (cause_seen c.args.form.now room c.args.shell.now.shell c.args.call.now.by c.args.cmd.now ∙ c.requires.accepted) in
-    subst₂ (λ (form : StrForm) (shell : Shell). shell_cause form c.args.call.now.room shell c.args.call.now.by c.args.cmd.now ≡ None)
+    (cause_seen c.args.form.now room c.args.shell.now.shell by cmd ∙ c.requires.accepted) in
+    subst₂ (λ (form : StrForm) (shell : Shell). shell_cause form c.args.call.now.room shell by cmd ≡ None)
     (sym form) (sym posted)
-    (accepted_posted c.args.form.now c.args.call.now.room c.args.shell.now.shell c.args.call.now.by c.args.cmd.now gone.letters
+    (accepted_posted c.args.form.now c.args.call.now.room c.args.shell.now.shell by cmd gone.letters
     (letters_none g.E.Engine.meaning c.args.form.now machine who) accepted)
 
 pub do_deeds-requires-clause-admitted : goal.do_deeds-requires-clause-admitted
 do_deeds-requires-clause-admitted g c κs within =
+    let by = c.args.call.now.by in
+    let cmd = c.args.call.now.cmd.now in
     let kept = kept_of g.E.Engine.held c.args.content.now in
     let of = c.requires.of_form in
     let machine = machine_of g.E.Engine.meaning c.args.form.now c.args.shell.now kept in
     let room : Room = room_of g.E.Engine.meaning c.args.form.now machine in
-    let accepted : shell_cause c.args.form.now room c.args.shell.now.shell c.args.call.now.by c.args.cmd.now ≡ None =
+    let accepted : shell_cause c.args.form.now room c.args.shell.now.shell by cmd ≡ None =
     c.requires.accepted in
     let gone = departure_from g.E.Engine.meaning c.args.form.now
-    (leaver c.args.shell.now.shell c.args.call.now.by c.args.cmd.now) machine in
+    (leaver c.args.shell.now.shell by cmd) machine in
     let after : ShellOutcome = record {
       reply = c.act-reply.result.0;
       shell = c.act-reply.new.self.shell;
@@ -53,38 +57,40 @@ do_deeds-requires-clause-admitted g c κs within =
       second = option_map g.E.Engine.held c.in_ok-made.made.second;
     } in
     let left = kept_of g.E.Engine.held c.prepare.new.content in
-    let is : law.IsLeft g.E.Engine.meaning c.args.form.now c.args.shell.now kept of c.args.call.now.by c.args.cmd.now accepted
+    let is : law.IsLeft g.E.Engine.meaning c.args.form.now c.args.shell.now kept of by cmd accepted
     spares left = record {
       spared = c.in_ok-made.ensures;
       at = c.prepare.ensures.places;
       held = c.in_ok-prepare.ensures.ok_held;
       fresh = c.in_ok-prepare.ensures.ok_fresh;
     } in
-    let acts : after ≡ law.acted g.E.Engine.meaning c.args.form.now c.args.shell.now kept of c.args.call.now.by c.args.cmd.now
+    let acts : after ≡ law.acted g.E.Engine.meaning c.args.form.now c.args.shell.now kept of by cmd
     accepted =
     (rw (c.prepare.ensures.form, of.shell_form, c.in_ok-prepare.ensures.ok_shell, c.requires.room) at
     c.act-reply.ensures.acts)
-    ∙ done_seen c.args.form.now room (with_posted gone.letters c.args.shell.now.shell) c.args.call.now.by c.args.cmd.now in
+    ∙ done_seen c.args.form.now room (with_posted gone.letters c.args.shell.now.shell) by cmd in
     let under : c.is_rebuilding-rebuilding.result ≡ is_some c.args.shell.now.shell.rebuild =
     c.is_rebuilding-rebuilding.ensures
     ∙ ap (λ (s : Shell). is_some s.rebuild) c.in_ok-prepare.ensures.ok_shell in
     let fresh : c.instances-fresh.result.2 ≡ fresh_of c.args.shell.now.shell.rebuild =
     ap (λ (three : Option CfId × Option CfId × Option CfId). three.2) c.instances-fresh.ensures
     ∙ ap (λ (s : Shell). fresh_of s.rebuild) c.in_ok-prepare.ensures.ok_shell in
-    law.admitted_then g.E.Engine.meaning c.args.form.now c.args.shell.now kept of c.args.call.now.by c.args.cmd.now accepted
+    law.admitted_then g.E.Engine.meaning c.args.form.now c.args.shell.now kept of by cmd accepted
     spares left is c.requires.may after c.is_rebuilding-rebuilding.result c.instances-fresh.result.2 acts under
     fresh
 
 pub returns-clause-ok : goal.returns-clause-ok
 returns-clause-ok g c =
+    let by = c.args.call.now.by in
+    let cmd = c.args.call.now.cmd.now in
     let kept = kept_of g.E.Engine.held c.args.content.now in
     let of = c.requires.of_form in
     let machine = machine_of g.E.Engine.meaning c.args.form.now c.args.shell.now kept in
     let room : Room = room_of g.E.Engine.meaning c.args.form.now machine in
-    let accepted : shell_cause c.args.form.now room c.args.shell.now.shell c.args.call.now.by c.args.cmd.now ≡ None =
+    let accepted : shell_cause c.args.form.now room c.args.shell.now.shell by cmd ≡ None =
     c.requires.accepted in
     let gone = departure_from g.E.Engine.meaning c.args.form.now
-    (leaver c.args.shell.now.shell c.args.call.now.by c.args.cmd.now) machine in
+    (leaver c.args.shell.now.shell by cmd) machine in
     let after : ShellOutcome = record {
       reply = c.act-reply.result.0;
       shell = c.act-reply.new.self.shell;
@@ -95,18 +101,18 @@ returns-clause-ok g c =
       second = option_map g.E.Engine.held c.in_ok-made.made.second;
     } in
     let left = kept_of g.E.Engine.held c.prepare.new.content in
-    let is : law.IsLeft g.E.Engine.meaning c.args.form.now c.args.shell.now kept of c.args.call.now.by c.args.cmd.now accepted
+    let is : law.IsLeft g.E.Engine.meaning c.args.form.now c.args.shell.now kept of by cmd accepted
     spares left = record {
       spared = c.in_ok-made.ensures;
       at = c.prepare.ensures.places;
       held = c.in_ok-prepare.ensures.ok_held;
       fresh = c.in_ok-prepare.ensures.ok_fresh;
     } in
-    let acts : after ≡ law.acted g.E.Engine.meaning c.args.form.now c.args.shell.now kept of c.args.call.now.by c.args.cmd.now
+    let acts : after ≡ law.acted g.E.Engine.meaning c.args.form.now c.args.shell.now kept of by cmd
     accepted =
     (rw (c.prepare.ensures.form, of.shell_form, c.in_ok-prepare.ensures.ok_shell, c.requires.room) at
     c.act-reply.ensures.acts)
-    ∙ done_seen c.args.form.now room (with_posted gone.letters c.args.shell.now.shell) c.args.call.now.by c.args.cmd.now in
+    ∙ done_seen c.args.form.now room (with_posted gone.letters c.args.shell.now.shell) by cmd in
     let under : c.is_rebuilding-rebuilding.result ≡ is_some c.args.shell.now.shell.rebuild =
     c.is_rebuilding-rebuilding.ensures
     ∙ ap (λ (s : Shell). is_some s.rebuild) c.in_ok-prepare.ensures.ok_shell in
@@ -114,22 +120,24 @@ returns-clause-ok g c =
     ap (λ (three : Option CfId × Option CfId × Option CfId). three.2) c.instances-fresh.ensures
     ∙ ap (λ (s : Shell). fresh_of s.rebuild) c.in_ok-prepare.ensures.ok_shell in
     let now = kept_of g.E.Engine.held c.do_deeds.new.content in
-    law.command_same g.E.Engine.meaning c.args.form.now c.args.shell.now kept of c.args.call.now.by c.args.cmd.now accepted
+    law.command_same g.E.Engine.meaning c.args.form.now c.args.shell.now kept of by cmd accepted
     spares left is after now acts
-    (law.past_then g.E.Engine.meaning c.args.form.now c.args.shell.now kept of c.args.call.now.by c.args.cmd.now accepted
+    (law.past_then g.E.Engine.meaning c.args.form.now c.args.shell.now kept of by cmd accepted
     spares left is after c.is_rebuilding-rebuilding.result c.instances-fresh.result.2 now acts under fresh
     c.do_deeds.ensures.kept)
 
 pub returns-clause-bits : goal.returns-clause-bits
 returns-clause-bits g c =
+    let by = c.args.call.now.by in
+    let cmd = c.args.call.now.cmd.now in
     let kept = kept_of g.E.Engine.held c.args.content.now in
     let of = c.requires.of_form in
     let machine = machine_of g.E.Engine.meaning c.args.form.now c.args.shell.now kept in
     let room : Room = room_of g.E.Engine.meaning c.args.form.now machine in
-    let accepted : shell_cause c.args.form.now room c.args.shell.now.shell c.args.call.now.by c.args.cmd.now ≡ None =
+    let accepted : shell_cause c.args.form.now room c.args.shell.now.shell by cmd ≡ None =
     c.requires.accepted in
     let gone = departure_from g.E.Engine.meaning c.args.form.now
-    (leaver c.args.shell.now.shell c.args.call.now.by c.args.cmd.now) machine in
+    (leaver c.args.shell.now.shell by cmd) machine in
     let after : ShellOutcome = record {
       reply = c.act-reply.result.0;
       shell = c.act-reply.new.self.shell;
@@ -140,18 +148,18 @@ returns-clause-bits g c =
       second = option_map g.E.Engine.held c.in_ok-made.made.second;
     } in
     let left = kept_of g.E.Engine.held c.prepare.new.content in
-    let is : law.IsLeft g.E.Engine.meaning c.args.form.now c.args.shell.now kept of c.args.call.now.by c.args.cmd.now accepted
+    let is : law.IsLeft g.E.Engine.meaning c.args.form.now c.args.shell.now kept of by cmd accepted
     spares left = record {
       spared = c.in_ok-made.ensures;
       at = c.prepare.ensures.places;
       held = c.in_ok-prepare.ensures.ok_held;
       fresh = c.in_ok-prepare.ensures.ok_fresh;
     } in
-    let acts : after ≡ law.acted g.E.Engine.meaning c.args.form.now c.args.shell.now kept of c.args.call.now.by c.args.cmd.now
+    let acts : after ≡ law.acted g.E.Engine.meaning c.args.form.now c.args.shell.now kept of by cmd
     accepted =
     (rw (c.prepare.ensures.form, of.shell_form, c.in_ok-prepare.ensures.ok_shell, c.requires.room) at
     c.act-reply.ensures.acts)
-    ∙ done_seen c.args.form.now room (with_posted gone.letters c.args.shell.now.shell) c.args.call.now.by c.args.cmd.now in
+    ∙ done_seen c.args.form.now room (with_posted gone.letters c.args.shell.now.shell) by cmd in
     let under : c.is_rebuilding-rebuilding.result ≡ is_some c.args.shell.now.shell.rebuild =
     c.is_rebuilding-rebuilding.ensures
     ∙ ap (λ (s : Shell). is_some s.rebuild) c.in_ok-prepare.ensures.ok_shell in
@@ -159,9 +167,9 @@ returns-clause-bits g c =
     ap (λ (three : Option CfId × Option CfId × Option CfId). three.2) c.instances-fresh.ensures
     ∙ ap (λ (s : Shell). fresh_of s.rebuild) c.in_ok-prepare.ensures.ok_shell in
     let now = kept_of g.E.Engine.held c.do_deeds.new.content in
-    law.named_then g.E.Engine.meaning c.args.form.now c.args.shell.now kept of c.args.call.now.by c.args.cmd.now accepted
+    law.named_then g.E.Engine.meaning c.args.form.now c.args.shell.now kept of by cmd accepted
     spares left is after now acts
-    (law.past_then g.E.Engine.meaning c.args.form.now c.args.shell.now kept of c.args.call.now.by c.args.cmd.now accepted
+    (law.past_then g.E.Engine.meaning c.args.form.now c.args.shell.now kept of by cmd accepted
     spares left is after c.is_rebuilding-rebuilding.result c.instances-fresh.result.2 now acts under fresh
     c.do_deeds.ensures.kept) c.is_rebuilding-rebuilding.result under
     (record {
@@ -173,14 +181,16 @@ returns-clause-bits g c =
 
 pub returns-clause-all : goal.returns-clause-all
 returns-clause-all g c =
+    let by = c.args.call.now.by in
+    let cmd = c.args.call.now.cmd.now in
     let kept = kept_of g.E.Engine.held c.args.content.now in
     let of = c.requires.of_form in
     let machine = machine_of g.E.Engine.meaning c.args.form.now c.args.shell.now kept in
     let room : Room = room_of g.E.Engine.meaning c.args.form.now machine in
-    let accepted : shell_cause c.args.form.now room c.args.shell.now.shell c.args.call.now.by c.args.cmd.now ≡ None =
+    let accepted : shell_cause c.args.form.now room c.args.shell.now.shell by cmd ≡ None =
     c.requires.accepted in
     let gone = departure_from g.E.Engine.meaning c.args.form.now
-    (leaver c.args.shell.now.shell c.args.call.now.by c.args.cmd.now) machine in
+    (leaver c.args.shell.now.shell by cmd) machine in
     let after : ShellOutcome = record {
       reply = c.act-reply.result.0;
       shell = c.act-reply.new.self.shell;
@@ -191,25 +201,25 @@ returns-clause-all g c =
       second = option_map g.E.Engine.held c.in_ok-made.made.second;
     } in
     let left = kept_of g.E.Engine.held c.prepare.new.content in
-    let is : law.IsLeft g.E.Engine.meaning c.args.form.now c.args.shell.now kept of c.args.call.now.by c.args.cmd.now accepted
+    let is : law.IsLeft g.E.Engine.meaning c.args.form.now c.args.shell.now kept of by cmd accepted
     spares left = record {
       spared = c.in_ok-made.ensures;
       at = c.prepare.ensures.places;
       held = c.in_ok-prepare.ensures.ok_held;
       fresh = c.in_ok-prepare.ensures.ok_fresh;
     } in
-    let acts : after ≡ law.acted g.E.Engine.meaning c.args.form.now c.args.shell.now kept of c.args.call.now.by c.args.cmd.now
+    let acts : after ≡ law.acted g.E.Engine.meaning c.args.form.now c.args.shell.now kept of by cmd
     accepted =
     (rw (c.prepare.ensures.form, of.shell_form, c.in_ok-prepare.ensures.ok_shell, c.requires.room) at
     c.act-reply.ensures.acts)
-    ∙ done_seen c.args.form.now room (with_posted gone.letters c.args.shell.now.shell) c.args.call.now.by c.args.cmd.now in
+    ∙ done_seen c.args.form.now room (with_posted gone.letters c.args.shell.now.shell) by cmd in
     let under : c.is_rebuilding-rebuilding.result ≡ is_some c.args.shell.now.shell.rebuild =
     c.is_rebuilding-rebuilding.ensures
     ∙ ap (λ (s : Shell). is_some s.rebuild) c.in_ok-prepare.ensures.ok_shell in
     let fresh : c.instances-fresh.result.2 ≡ fresh_of c.args.shell.now.shell.rebuild =
     ap (λ (three : Option CfId × Option CfId × Option CfId). three.2) c.instances-fresh.ensures
     ∙ ap (λ (s : Shell). fresh_of s.rebuild) c.in_ok-prepare.ensures.ok_shell in
-    law.all_then g.E.Engine.meaning c.args.form.now c.args.shell.now kept of c.args.call.now.by c.args.cmd.now accepted
+    law.all_then g.E.Engine.meaning c.args.form.now c.args.shell.now kept of by cmd accepted
     spares left is after acts c.is_rebuilding-rebuilding.result under
     (record {
       all = c.changed.inside.all;
@@ -219,14 +229,16 @@ returns-clause-all g c =
 
 pub returns-clause-of_form : goal.returns-clause-of_form
 returns-clause-of_form g c =
+    let by = c.args.call.now.by in
+    let cmd = c.args.call.now.cmd.now in
     let kept = kept_of g.E.Engine.held c.args.content.now in
     let of = c.requires.of_form in
     let machine = machine_of g.E.Engine.meaning c.args.form.now c.args.shell.now kept in
     let room : Room = room_of g.E.Engine.meaning c.args.form.now machine in
-    let accepted : shell_cause c.args.form.now room c.args.shell.now.shell c.args.call.now.by c.args.cmd.now ≡ None =
+    let accepted : shell_cause c.args.form.now room c.args.shell.now.shell by cmd ≡ None =
     c.requires.accepted in
     let gone = departure_from g.E.Engine.meaning c.args.form.now
-    (leaver c.args.shell.now.shell c.args.call.now.by c.args.cmd.now) machine in
+    (leaver c.args.shell.now.shell by cmd) machine in
     let after : ShellOutcome = record {
       reply = c.act-reply.result.0;
       shell = c.act-reply.new.self.shell;
@@ -237,18 +249,18 @@ returns-clause-of_form g c =
       second = option_map g.E.Engine.held c.in_ok-made.made.second;
     } in
     let left = kept_of g.E.Engine.held c.prepare.new.content in
-    let is : law.IsLeft g.E.Engine.meaning c.args.form.now c.args.shell.now kept of c.args.call.now.by c.args.cmd.now accepted
+    let is : law.IsLeft g.E.Engine.meaning c.args.form.now c.args.shell.now kept of by cmd accepted
     spares left = record {
       spared = c.in_ok-made.ensures;
       at = c.prepare.ensures.places;
       held = c.in_ok-prepare.ensures.ok_held;
       fresh = c.in_ok-prepare.ensures.ok_fresh;
     } in
-    let acts : after ≡ law.acted g.E.Engine.meaning c.args.form.now c.args.shell.now kept of c.args.call.now.by c.args.cmd.now
+    let acts : after ≡ law.acted g.E.Engine.meaning c.args.form.now c.args.shell.now kept of by cmd
     accepted =
     (rw (c.prepare.ensures.form, of.shell_form, c.in_ok-prepare.ensures.ok_shell, c.requires.room) at
     c.act-reply.ensures.acts)
-    ∙ done_seen c.args.form.now room (with_posted gone.letters c.args.shell.now.shell) c.args.call.now.by c.args.cmd.now in
+    ∙ done_seen c.args.form.now room (with_posted gone.letters c.args.shell.now.shell) by cmd in
     let under : c.is_rebuilding-rebuilding.result ≡ is_some c.args.shell.now.shell.rebuild =
     c.is_rebuilding-rebuilding.ensures
     ∙ ap (λ (s : Shell). is_some s.rebuild) c.in_ok-prepare.ensures.ok_shell in
@@ -256,9 +268,9 @@ returns-clause-of_form g c =
     ap (λ (three : Option CfId × Option CfId × Option CfId). three.2) c.instances-fresh.ensures
     ∙ ap (λ (s : Shell). fresh_of s.rebuild) c.in_ok-prepare.ensures.ok_shell in
     let now = kept_of g.E.Engine.held c.do_deeds.new.content in
-    law.kept_behind g.E.Engine.meaning c.args.form.now c.args.shell.now kept of c.args.call.now.by c.args.cmd.now accepted
+    law.kept_behind g.E.Engine.meaning c.args.form.now c.args.shell.now kept of by cmd accepted
     spares left is after c.act-reply.new.self now acts
-    (law.past_then g.E.Engine.meaning c.args.form.now c.args.shell.now kept of c.args.call.now.by c.args.cmd.now accepted
+    (law.past_then g.E.Engine.meaning c.args.form.now c.args.shell.now kept of by cmd accepted
     spares left is after c.is_rebuilding-rebuilding.result c.instances-fresh.result.2 now acts under fresh
     c.do_deeds.ensures.kept)
     (kept_stands g.E.Engine.held c.do_deeds.new.content)

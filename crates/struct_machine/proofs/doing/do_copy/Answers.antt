@@ -30,16 +30,17 @@ use Rattle.struct_machine.proofs.doing.do_copy.Goals.{then-alone, else-alone}
 
 pub mark-alone-requires-clause-of_form : goal.mark-alone-requires-clause-of_form
 mark-alone-requires-clause-of_form g c κs within =
+    let by = c.args.call.now.by in
     let meaning = g.E.Engine.meaning in
     let form = c.args.form.now in
     let of = c.requires.of_form in
     let kept = kept_of g.E.Engine.held c.args.content.now in
     let machine = machine_of meaning form c.args.shell.now kept in
-    let n = items_named c.args.cmd.now in
-    let is : c.args.cmd.now ≡ cmd.Copy n = copy_is c.args.cmd.now c.requires.copying in
-    let accepted : shell_cause form (room_of meaning form machine) c.args.shell.now.shell c.args.call.now.by (cmd.Copy n) ≡
+    let n = items_named c.args.call.now.cmd.now in
+    let is : c.args.call.now.cmd.now ≡ cmd.Copy n = copy_is c.args.call.now.cmd.now c.requires.copying in
+    let accepted : shell_cause form (room_of meaning form machine) c.args.shell.now.shell by (cmd.Copy n) ≡
     None =
-    subst (λ (command : ShellCmd). shell_cause form (room_of meaning form machine) c.args.shell.now.shell c.args.call.now.by
+    subst (λ (command : ShellCmd). shell_cause form (room_of meaning form machine) c.args.shell.now.shell by
     command ≡ None) is c.requires.accepted in
     let after = kept_of g.E.Engine.held c.ask_copy-lost.new.content in
     let at : after.at ≡ kept.at =
@@ -52,21 +53,22 @@ mark-alone-requires-clause-of_form g c κs within =
     ap (λ (v : ContentView g.row.E.Denot g.row.L.Denot). v.fresh) c.ask_copy-lost.ensures.same
     ∙ c.in_ok-copy.ensures.ok
     ∙ ap (λ (m : ℕ). with_copied (min m (lacking_in meaning kept.held kept.fresh)) kept.fresh) c.items_of.ensures in
-    kept_copied meaning form c.args.shell.now kept of c.args.call.now.by n accepted c.ready.new.self after c.ready.ensures.form
+    kept_copied meaning form c.args.shell.now kept of by n accepted c.ready.new.self after c.ready.ensures.form
     c.ready.ensures.shell at holds copied
 
 pub returns-clause-turn : goal.returns-clause-turn
 returns-clause-turn g c =
+    let by = c.args.call.now.by in
     let meaning = g.E.Engine.meaning in
     let form = c.args.form.now in
     let of = c.requires.of_form in
     let kept = kept_of g.E.Engine.held c.args.content.now in
     let machine = machine_of meaning form c.args.shell.now kept in
-    let n = items_named c.args.cmd.now in
-    let is : c.args.cmd.now ≡ cmd.Copy n = copy_is c.args.cmd.now c.requires.copying in
-    let accepted : shell_cause form (room_of meaning form machine) c.args.shell.now.shell c.args.call.now.by (cmd.Copy n) ≡
+    let n = items_named c.args.call.now.cmd.now in
+    let is : c.args.call.now.cmd.now ≡ cmd.Copy n = copy_is c.args.call.now.cmd.now c.requires.copying in
+    let accepted : shell_cause form (room_of meaning form machine) c.args.shell.now.shell by (cmd.Copy n) ≡
     None =
-    subst (λ (command : ShellCmd). shell_cause form (room_of meaning form machine) c.args.shell.now.shell c.args.call.now.by
+    subst (λ (command : ShellCmd). shell_cause form (room_of meaning form machine) c.args.shell.now.shell by
     command ≡ None) is c.requires.accepted in
     let after = kept_of g.E.Engine.held c.ask_copy-lost.new.content in
     let at : after.at ≡ kept.at =
@@ -81,9 +83,9 @@ returns-clause-turn g c =
     ∙ ap (λ (m : ℕ). with_copied (min m (lacking_in meaning kept.held kept.fresh)) kept.fresh) c.items_of.ensures in
     let lost = c.ask_copy-lost.result in
     let shell : c.ready.new.self.shell ≡ c.args.shell.now.shell = c.ready.ensures.shell in
-    let items = with_items meaning form machine c.args.call.now.by n of.manned accepted (moved_by (room_of meaning form
+    let items = with_items meaning form machine by n of.manned accepted (moved_by (room_of meaning form
     machine) (cmd.Copy n)) in
-    let copies = copied_machine meaning form c.args.shell.now kept of c.args.call.now.by n accepted c.ready.new.self after
+    let copies = copied_machine meaning form c.args.shell.now kept of by n accepted c.ready.new.self after
     c.ready.ensures.form c.ready.ensures.shell at holds copied in
     let one = c.mark-alone.ensures.machine ∙ ap (λ (m : Machine g.row.E-State.Denot). behind_marks meaning form m
     (listed lost.first)) copies in
@@ -106,17 +108,17 @@ returns-clause-turn g c =
     a)) is in
     let replied = c.copy_judged.ensures.reply in
     turn_made meaning form g.L.Link.calls g.L.Link.downs g.L.Link.faults machine now
-    c.args.content.now.pair.links c.mark-both.new.content.pair.links c.args.call.now.by c.args.call.now.ask.now
+    c.args.content.now.pair.links c.mark-both.new.content.pair.links by c.args.call.now.ask.now
     (copy_asks_of c.ready.new.self.shell) lost c.mark-both.new.marks c.copy_judged.result
-    (copy_asks meaning form machine c.args.call.now.by c.args.call.now.ask.now n c.ready.new.self.shell calls accepted shell)
+    (copy_asks meaning form machine by c.args.call.now.ask.now n c.ready.new.self.shell calls accepted shell)
     c.ask_copy-lost.ensures.marks
     (subst₂ (λ (start after : Links g.row.L.Denot). AreAsked g.L.Link.calls g.L.Link.downs g.L.Link.faults
     (answers_to (has (marks_in lost)) (copy_asks_of c.ready.new.self.shell)) start after)
     (ap (λ (p : PairView g.row.E.Denot g.row.L.Denot). p.links) c.copy.ensures.pair)
     (sym (c.mark-both.ensures.links ∙ c.mark-alone.ensures.links)) c.ask_copy-lost.ensures.asked)
-    (told_before meaning form machine c.args.call.now.by n of.manned accepted lost
+    (told_before meaning form machine by n of.manned accepted lost
     (moved_by (room_of meaning form machine) (cmd.Copy n)) c.mark-both.new.marks c.ask_copy-lost.ensures.stopped told)
-    (copy_done meaning form machine c.args.call.now.by n of.manned accepted lost now c.args.call.now.room c.copy_judged.result
+    (copy_done meaning form machine by n of.manned accepted lost now c.args.call.now.room c.copy_judged.result
     (subst (λ (s : Shell). IfSome lost.first (λ (cf : CfId). s.instances.primary ≡ Some cf)) shell
     c.ask_copy-lost.ensures.first)
     (subst (λ (s : Shell). IfSome lost.second (λ (cf : CfId). fresh_of s.rebuild ≡ Some cf)) shell
@@ -124,13 +126,11 @@ returns-clause-turn g c =
     c.ask_copy-lost.ensures.stopped behind (ap (λ (r : Room). r.left) c.requires.room)
     (replied ∙ (λ i. copy_reply
     (shell_cause (c.mark-both.ensures.of_form.shell_form i) c.args.call.now.room (sym c.copy_judged.ensures.shell i)
-    c.args.call.now.by
-    (is i))
-    (shell_done (c.mark-both.ensures.of_form.shell_form i) c.args.call.now.room (sym c.copy_judged.ensures.shell i) c.args.call.now.by
+    by (is i))
+    (shell_done (c.mark-both.ensures.of_form.shell_form i) c.args.call.now.room (sym c.copy_judged.ensures.shell i) by
     (is i)).reply))
     ∙ ap (λ (a : Ask g.row.E-Cmd.Denot). judged meaning form (behind_marks meaning form machine (marks_in lost))
-    c.args.call.now.by
-    a) (sym calls))
+    by a) (sym calls))
 
 -- a copy changes no bit, unless a loss ends the structure
 

@@ -1,0 +1,48 @@
+-- The links of a command on the content are asked, and each that is down makes a mark.
+use Rattle.std.proofs.Common.{◌≡◌, [], sym, ap, ◌∙◌, subst, List}
+use Rattle.cf_link.specs.declared.links.Links.{Links}
+use Rattle.cf_link.specs.Links.{AreAsked}
+use Rattle.engine_api.specs.Instances.{Instances}
+use Rattle.engine_api.specs.LinkAsks.{answers_to, has, listed}
+use Rattle.engine_api.specs.Machine.{Machine}
+use Rattle.struct_machine.specs.Content.{ContentView, kept_of}
+use Rattle.struct_machine.specs.Kept.{machine_of}
+use Rattle.struct_machine.specs.Turns.{AreTold, asks_in, behind_marks, content_asks_of, marks_in}
+use Rattle.struct_machine.specs.declared.marks.Mark.{Mark}
+use Rattle.struct_machine.proofs.TurnLaws.{behind_both, content_places, marks_made}
+use Rattle.struct_machine.proofs.doing.ask_and_mark.Goals as goal
+
+pub returns-clause-marked : goal.returns-clause-marked
+returns-clause-marked g c =
+    let meaning = g.E.Engine.meaning in
+    let form = c.args.form.now in
+    let places = c.requires.of_form.places in
+    let machine = machine_of meaning form c.args.shell.now (kept_of g.E.Engine.held c.args.content.now) in
+    let lost = c.ask_links-lost.result in
+    let same : machine_of meaning form c.args.shell.now (kept_of g.E.Engine.held c.ask_links-lost.new.content) ≡
+    machine =
+    ap (λ (v : ContentView g.row.E.Denot g.row.L.Denot). machine_of meaning form c.args.shell.now
+    (kept_of g.E.Engine.held v)) c.ask_links-lost.ensures.same in
+    let one = c.mark-alone.ensures.machine ∙ ap (λ (m : Machine g.row.E-State.Denot). behind_marks meaning form m
+    (listed lost.first)) same in
+    let two = behind_both meaning form machine
+    (machine_of meaning form c.mark-alone.new.shell (kept_of g.E.Engine.held c.mark-alone.new.content))
+    (machine_of meaning form c.mark-both.new.shell (kept_of g.E.Engine.held c.mark-both.new.content))
+    lost.first lost.second one c.mark-both.ensures.machine in
+    let unmarked : AreTold meaning form machine [] c.args.marks.now =
+    subst (λ (marks : List Mark). AreTold meaning form machine [] marks) (sym c.requires.unmarked) tt in
+    let first_told = c.mark-alone.ensures.told machine [] (same, unmarked) in
+    let told = c.mark-both.ensures.told machine (listed lost.first) (one, first_told) in
+    marks_made meaning form g.L.Link.calls g.L.Link.downs g.L.Link.faults machine
+    (machine_of meaning form c.mark-both.new.shell (kept_of g.E.Engine.held c.mark-both.new.content))
+    c.args.content.now.pair.links c.mark-both.new.content.pair.links
+    (asks_in c.both.result) (content_asks_of c.args.shell.now.shell) lost c.mark-both.new.marks
+    (c.both.ensures.asks
+    ∙ content_places c.args.shell.now.shell c.places-first.result.0 c.places-first.result.1
+    (c.places-first.ensures.first ∙ ap (λ (at : Instances). at.primary) places)
+    (c.places-first.ensures.second ∙ ap (λ (at : Instances). at.secondary) places))
+    c.ask_links-lost.ensures.marks
+    (subst (λ (links : Links g.row.L.Denot). AreAsked g.L.Link.calls g.L.Link.downs g.L.Link.faults
+    (answers_to (has (marks_in lost)) (asks_in c.both.result)) c.args.content.now.pair.links links)
+    (sym (c.mark-both.ensures.links ∙ c.mark-alone.ensures.links)) c.ask_links-lost.ensures.asked)
+    told two
