@@ -26,7 +26,7 @@ use crate::refused::CallRefused;
 use crate::touched::Touched;
 use crate::words::store_words;
 use cf_link::{Link, Links};
-use cf_turn::KeyLock;
+use cf_turn::{Boxed, KeyLock};
 use cf_types::{NoMemory, StrForm};
 use engine_api::{Ask, Engine, Entry, History, Reply, Told, What};
 use reply_copy::{TryClone, own_reply};
@@ -38,8 +38,16 @@ use vec_words::{EngineSeat, Pass, Vectors};
 
 /// A structure that threads share by `&`. Contracts see what never changes.
 pub struct Cell<E: Engine, L: Link> {
-    lock: KeyLock<CellFact<E, L>>,
+    lock: KeyLock<Boxed<CellFact<E, L>>>,
     vectors: Vectors<(Ask<E::Cmd>, Reply<E::Reply>)>,
+}
+
+// What lies under a lock that ends, once the turn comes.
+fn ended<E: Engine, L: Link>(lock: KeyLock<Boxed<CellFact<E, L>>>, rt: &impl Wait) -> Inside<E, L>
+    ensures { IsCell L.calls L.downs L.faults E.meaning lock.key result.limit
+        result.machine result.touched result.journal.items result.seat }
+{
+    Box::into_inner(lock.end(rt))
 }
 
 // Whether a journal of so many entries has no room below its limit.
@@ -117,7 +125,7 @@ impl<E: Engine, L: Link> Cell<E, L> {
             journal: Vec::new(alloc),
             seat,
         };
-        match KeyLock::new(alloc, inside) {
+        match KeyLock::boxed(alloc, inside) {
             Ok(lock) => Ok((Cell { lock, vectors }, passes)),
             Err(Inside { machine, .. }) => Err(machine.into_parts().links),
         }
@@ -320,7 +328,7 @@ impl<E: Engine, L: Link> Cell<E, L> {
             ≡ fresh_caps (replay E.meaning self.form result.history).shell.rebuild) }
     {
         let Cell { lock, vectors } = self;
-        let mut inside = lock.end(rt);
+        let mut inside = ended(lock, rt);
         let mut passes = passes;
         vectors.learn_all(&mut inside.seat, passes.as_mut_slice());
         let Inside {

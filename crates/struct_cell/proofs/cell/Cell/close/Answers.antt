@@ -10,35 +10,35 @@ learn_all-requires-clause-passes g c =
 pub returns-clause-callers : goal.returns-clause-callers
 returns-clause-callers g c =
     closed_callers g.L.Link.calls g.L.Link.downs g.L.Link.faults g.E.Engine.meaning c.self.inside.lock.key c.args.self _ _ _
-    c.end-inside.result.journal.items c.from_vec.result _
-    c.args.passes.items c.end-inside.ensures c.self.view_is c.from_vec.ensures
+    c.ended-inside.result.journal.items c.from_vec.result _
+    c.args.passes.items c.ended-inside.ensures c.self.view_is c.from_vec.ensures
 
 pub returns-clause-mine : goal.returns-clause-mine
 returns-clause-mine g c =
     closed_mine g.L.Link.calls g.L.Link.downs g.L.Link.faults g.E.Engine.meaning c.self.inside.lock.key c.args.self _ _ _
-    c.end-inside.result.journal.items c.from_vec.result _
-    c.args.passes.items c.end-inside.ensures c.self.view_is c.from_vec.ensures
-    (same_shown c.end-inside.result.seat c.args.passes.items c.as_mut_slice.result.now
+    c.ended-inside.result.journal.items c.from_vec.result _
+    c.args.passes.items c.ended-inside.ensures c.self.view_is c.from_vec.ensures
+    (same_shown c.ended-inside.result.seat c.args.passes.items c.as_mut_slice.result.now
     (search rules) c.learn_all.ensures.shown)
 
 pub returns-clause-known : goal.returns-clause-known
 returns-clause-known g c =
     closed_known g.L.Link.calls g.L.Link.downs g.L.Link.faults g.E.Engine.meaning c.self.inside.lock.key c.args.self _ _ _
-    c.end-inside.result.journal.items c.from_vec.result _
-    c.args.passes.items c.end-inside.ensures c.self.view_is c.from_vec.ensures
-    (same_shown c.end-inside.result.seat c.args.passes.items c.as_mut_slice.result.now
+    c.ended-inside.result.journal.items c.from_vec.result _
+    c.args.passes.items c.ended-inside.ensures c.self.view_is c.from_vec.ensures
+    (same_shown c.ended-inside.result.seat c.args.passes.items c.as_mut_slice.result.now
     (search rules) c.learn_all.ensures.shown)
 
 pub returns-clause-tests : goal.returns-clause-tests
 returns-clause-tests g c =
     closed_tests g.L.Link.calls g.L.Link.downs g.L.Link.faults g.E.Engine.meaning c.self.inside.lock.key c.args.self _ _ _
-    c.end-inside.result.journal.items c.from_vec.result _
-    c.args.passes.items c.end-inside.ensures c.self.view_is c.from_vec.ensures c.requires.passes
-    (same_shown c.end-inside.result.seat c.args.passes.items c.as_mut_slice.result.now
+    c.ended-inside.result.journal.items c.from_vec.result _
+    c.args.passes.items c.ended-inside.ensures c.self.view_is c.from_vec.ensures c.requires.passes
+    (same_shown c.ended-inside.result.seat c.args.passes.items c.as_mut_slice.result.now
     (search rules) c.learn_all.ensures.shown)
 
 pub returns-clause-links : goal.returns-clause-links
 returns-clause-links g c =
     closed_links g.L.Link.calls g.L.Link.downs g.L.Link.faults g.E.Engine.meaning c.self.inside.lock.key c.args.self _ _ _
-    c.end-inside.result.journal.items c.from_vec.result _
-    c.args.passes.items c.end-inside.ensures c.self.view_is c.from_vec.ensures _ c.into_parts-parts.ensures.links
+    c.ended-inside.result.journal.items c.from_vec.result _
+    c.args.passes.items c.ended-inside.ensures c.self.view_is c.from_vec.ensures _ c.into_parts-parts.ensures.links
