@@ -1,1 +1,2 @@
 pub mod RowMap
+pub mod Locks

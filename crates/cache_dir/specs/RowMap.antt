@@ -1,5 +1,5 @@
 -- A directory as a map from names to rows.
-use Rattle.std.specs.Prelude.{◌≡◌, ℕ, nat_eq, List, Option, None, if◌then◌else◌}
+use Rattle.std.specs.Prelude.{◌≡◌, ℕ, nat_eq, min, List, Option, None, if◌then◌else◌}
 use Rattle.std.specs.Map.{lookup}
 use Rattle.std.specs.Cmp.Lexicographic.{pointwise}
 use Rattle.indexmap.specs.IndexMap.{spare}
@@ -10,13 +10,13 @@ use Rattle.cache_model.specs.Rows.{is_held_by}
 use Rattle.cache_dir.specs.declared.row.DirRow.{DirRow}
 use Rattle.cache_dir.specs.declared.dir.Dir.TheInside.{Inside}
 
--- the rows with the bytes of their names, in whatever order, and for how many more there is room
+-- the rows with the bytes of their names, in whatever order, and for how many more there is room, held or not
 pub record RowMap : Type 0 where
   pub entries : List (List ℕ × DirRow)
   pub room : ℕ
 
 abbrev pub row_map : Inside → RowMap
-row_map d = record { entries = d.rows.entries; room = spare d.rows }
+row_map d = record { entries = d.rows.entries; room = min (spare d.rows) (spare d.locks) }
 
 -- a connector's castout lock is released
 abbrev pub let_go : ConnId → DirRow → DirRow

@@ -1,12 +1,15 @@
 ghost use Rattle.std.specs.Prelude.{◌≡◌, ◌+◌, ◌≤◌, ◌++◌, ◌∷◌, [], None, Some, nat_eq, IfOk, OnOk, is_some, length, option_map, if◌then◌else◌};
-ghost use Rattle.std.specs.Map.{lookup};
+ghost use Rattle.std.specs.List.{IsDistinct};
+ghost use Rattle.std.specs.Map.{keys_of, lookup};
 ghost use Rattle.std.specs.Option.{option_copied};
 ghost use Rattle.std.specs.Cmp.Lexicographic.{pointwise};
 ghost use Rattle.indexmap.specs.IndexMap.{spare};
 ghost use Rattle.cf_types.specs.declared.names.Name16.{Name16};
 ghost use Rattle.cache_dir.specs.RowMap.{row_at, let_go, Writes};
+ghost use Rattle.cache_dir.specs.Locks.{conn_of, lock_of, lock_without, AreNoted};
 
 use crate::row::DirRow;
+use cache_model::Holder;
 use cf_pool::Chain;
 use cf_types::limits::NAME_BYTES;
 use cf_types::{ConnId, Name16, NoMemory};
@@ -16,6 +19,9 @@ use std::marker::Model;
 
 /// The rows by the bytes of their names.
 type Rows = IndexMap<[u8; NAME_BYTES], DirRow>;
+
+/// Which connectors hold castout locks, by the bytes of the names of the rows.
+type Locks = IndexMap<[u8; NAME_BYTES], ConnId>;
 
 // Puts in the row of a name that has none, for which there is room.
 fn put(rows: &mut Rows, row: DirRow)
@@ -42,17 +48,81 @@ fn release(row: &mut DirRow, conn: ConnId)
     }
 }
 
-// Releases all castout locks of a connector.
-fn release_all(rows: &mut Rows, conn: ConnId)
+// Releases the castout lock of the row of a name, where it is this connector's.
+fn release_at(rows: &mut Rows, name: &[u8; NAME_BYTES], conn: ConnId)
+    ensures released { (q : Name16) → row_at rows.new.entries q
+        ≡ (if pointwise nat_eq name.now q.0 then option_map (let_go conn) (row_at rows.old.entries q)
+        else row_at rows.old.entries q) }
+    ensures len { length rows.new.entries ≡ length rows.old.entries }
+    ensures spare { spare rows.old ≤ spare rows.new }
+{
+    if let Some(row) = rows.get_mut(name) {
+        release(row, conn);
+    }
+}
+
+// Releases all castout locks of a connector, which are noted.
+fn release_all(rows: &mut Rows, locks: &Locks, conn: ConnId)
+    requires { AreNoted rows.old.entries locks.now.entries }
     ensures released { (q : Name16) → row_at rows.new.entries q
         ≡ option_map (let_go conn) (row_at rows.old.entries q) }
     ensures len { length rows.new.entries ≡ length rows.old.entries }
     ensures spare { spare rows.old ≤ spare rows.new }
 {
-    rows.retain(|_, row| {
-        release(row, conn);
-        true
-    });
+    for (name, holder) in locks.iter() {
+        if *holder == conn {
+            release_at(rows, name, conn);
+        }
+    }
+}
+
+// Whether the castout lock of a row that was taken out is held.
+fn is_held(row: &Option<DirRow>) -> bool
+    ensures { result ≡ is_some (lock_of row.now) }
+{
+    match row {
+        Some(row) => row.holder.is_some(),
+        None => false,
+    }
+}
+
+// Notes who holds the castout lock of a row that comes, if anyone does, where there is room for it.
+fn note(locks: &mut Locks, name: Name16, holder: Option<Holder>)
+    requires unique { IsDistinct (pointwise nat_eq) (keys_of locks.old.entries) }
+    requires alone { row_at locks.old.entries name ≡ None }
+    requires room { 1 ≤ spare locks.old }
+    ensures writes { Writes (row_at locks.old.entries) name (conn_of holder)
+        (row_at locks.new.entries) }
+    ensures unique { IsDistinct (pointwise nat_eq) (keys_of locks.new.entries) }
+    ensures spare { spare locks.old ≤ spare locks.new + 1 }
+{
+    if let Some(holder) = holder {
+        let _ = locks.insert(name.0, holder.conn);
+    }
+}
+
+// The castout lock of a row that was taken out is noted no more.
+fn forget(locks: &mut Locks, name: &Name16, row: &Option<DirRow>)
+    requires unique { IsDistinct (pointwise nat_eq) (keys_of locks.old.entries) }
+    requires noted { row_at locks.old.entries name.now ≡ lock_of row.now }
+    ensures writes { Writes (row_at locks.old.entries) name.now None (row_at locks.new.entries) }
+    ensures unique { IsDistinct (pointwise nat_eq) (keys_of locks.new.entries) }
+    ensures spare { spare locks.old ≤ spare locks.new }
+{
+    if is_held(row) {
+        locks.swap_remove(&name.0);
+    }
+}
+
+// The castout locks of a connector are noted no more.
+fn forget_all(locks: &mut Locks, conn: ConnId)
+    requires { IsDistinct (pointwise nat_eq) (keys_of locks.old.entries) }
+    ensures rest { (q : Name16) → row_at locks.new.entries q
+        ≡ lock_without conn (row_at locks.old.entries q) }
+    ensures unique { IsDistinct (pointwise nat_eq) (keys_of locks.new.entries) }
+    ensures spare { spare locks.old ≤ spare locks.new }
+{
+    locks.retain(|_, holder| *holder != conn);
 }
 
 // Puts in a row under a name that has none.
@@ -62,6 +132,15 @@ fn add(rows: &mut Rows, name: [u8; NAME_BYTES], row: DirRow) -> Result<(), Alloc
 {
     let _adj = row.adj;
     rows.insert(name, row)?;
+    Ok(())
+}
+
+// Notes a castout lock under a name that has none.
+fn add_lock(locks: &mut Locks, name: [u8; NAME_BYTES], conn: ConnId) -> Result<(), AllocError>
+    requires { lookup (pointwise nat_eq name) locks.old.entries ≡ None }
+    ensures { OnOk result (locks.new.entries ≡ locks.old.entries ++ (name, conn) ∷ []) }
+{
+    locks.insert(name, conn)?;
     Ok(())
 }
 
@@ -108,11 +187,25 @@ fn copied(alloc: Global, from: &Rows) -> Result<Rows, NoMemory>
     Ok(copy)
 }
 
+// The same castout locks.
+fn copied_locks(alloc: Global, from: &Locks) -> Result<Locks, NoMemory>
+    ensures { IfOk result (λ copy. copy.entries ≡ from.now.entries) }
+{
+    let mut copy = IndexMap::new(alloc);
+    for (name, holder) in from.iter() {
+        add_lock(&mut copy, *name, *holder)?;
+    }
+    Ok(copy)
+}
+
 /// The rows of a cache's directory by their names. Contracts see them in whatever order, and for
-/// how many more there is room. The chains of their data lie in a pool beside it.
+/// how many more there is room. The chains of their data lie in a pool beside it. The castout locks
+/// that are held are noted apart from the rows, so that those of a connector are found without a
+/// pass over all rows.
 #[derive(Drop)]
 pub struct Dir {
     rows: Rows,
+    locks: Locks,
 }
 
 impl Model for Dir {
@@ -121,6 +214,10 @@ impl Model for Dir {
     ghost Value = { RowMap };
 
     ghost view = { row_map };
+
+    ghost use Rattle.cache_dir.specs.Locks.{AreLocked};
+
+    ghost invariant = { AreLocked };
 }
 
 impl Dir {
@@ -131,7 +228,8 @@ impl Dir {
         ensures room { IfOk result (λ dir. entries ≤ dir.room) }
     {
         let rows = IndexMap::with_capacity(alloc, entries as usize)?;
-        Ok(Dir { rows })
+        let locks = IndexMap::with_capacity(alloc, entries as usize)?;
+        Ok(Dir { rows, locks })
     }
 
     /// The same rows once more, for a copy of the pool. Only want of memory is refused.
@@ -139,7 +237,8 @@ impl Dir {
         ensures { IfOk result (λ copy. copy.entries ≡ self.now.entries) }
     {
         let rows = copied(alloc, &self.rows)?;
-        Ok(Dir { rows })
+        let locks = copied_locks(alloc, &self.locks)?;
+        Ok(Dir { rows, locks })
     }
 
     /// How many rows there are.
@@ -163,6 +262,7 @@ impl Dir {
         ensures kept { self.old.room ≤ self.new.room }
     {
         self.rows.reserve(1)?;
+        self.locks.reserve(1)?;
         Ok(())
     }
 
@@ -175,6 +275,7 @@ impl Dir {
         ensures len { length self.new.entries ≡ length self.old.entries + 1 }
         ensures kept { self.old.room ≤ self.new.room + 1 }
     {
+        note(&mut self.locks, row.name, row.holder);
         put(&mut self.rows, row);
     }
 
@@ -187,7 +288,9 @@ impl Dir {
             ≡ length self.old.entries }
         ensures kept { self.old.room ≤ self.new.room }
     {
-        self.rows.swap_remove(&name.0)
+        let row = self.rows.swap_remove(&name.0);
+        forget(&mut self.locks, name, &row);
+        row
     }
 
     /// Releases all castout locks of a connector; the rows stay otherwise the same.
@@ -197,6 +300,7 @@ impl Dir {
         ensures len { length self.new.entries ≡ length self.old.entries }
         ensures kept { self.old.room ≤ self.new.room }
     {
-        release_all(&mut self.rows, conn);
+        release_all(&mut self.rows, &self.locks, conn);
+        forget_all(&mut self.locks, conn);
     }
 }

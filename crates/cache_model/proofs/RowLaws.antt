@@ -10,14 +10,14 @@ use Rattle.cf_types.specs.declared.numbers.ConnId.{ConnId}
 use Rattle.cf_types.specs.Name.{same_name, name_before}
 use Rattle.list_laws.specs.Pairwise.{pairwise}
 use Rattle.list_laws.specs.Insertions.{insertion}
-use Rattle.list_laws.proofs.FilterLaws.{list_all-filter, list_all_weaker, list_all_always, list_all-filter_same, none_filtered, none-filter, filter_swap, all_from_none, filter_all, all_found, found_passes}
+use Rattle.list_laws.proofs.FilterLaws.{list_all-filter, list_all_weaker, list_all_always, list_all-filter_same, none_filtered, all_from_none, filter_all, all_found, found_passes}
 use Rattle.list_laws.proofs.InsertionLaws.{list_all-insertion, list_any-insertion, length-insertion, sum_by-insertion}
 use Rattle.list_laws.proofs.PairwiseLaws.{FindsPlace, pairwise-filter, pairwise_push, pairwise-insertion, pairwise-insertion_any, pairwise-map}
 use Rattle.list_laws.proofs.KeyLaws.{sum_by_without, length_without}
 use Rattle.cache_regs.proofs.NameLaws.{same_name-eq, same_name-refl, same_name-sym, name_before-trans, name_before-else}
 use Rattle.cache_model.specs.declared.items.CacheItem.{CacheItem}
 use Rattle.cache_model.specs.Rows.{is_row_of, is_changed, is_held_by, elements_of, elements_in, row_of, has_row, rows_without, stands_before, rows_with, rows_replaced, new_row, row_or_new, may_precede, names_apart, is_sound, IsDirectory}
-use Rattle.cache_model.specs.Contents.{without_hold, is_among, rows_spared}
+use Rattle.cache_model.specs.Contents.{without_hold}
 
 abbrev pub name_of : CacheItem → Name16
 name_of row = row.name
@@ -277,17 +277,6 @@ pub apart-with : (row : CacheItem) (rows : List CacheItem) → pairwise names_ap
     → pairwise names_apart (rows_with row rows) ≡ true
 apart-with row rows u h = apart_with (is_changed row) row rows (alone_apart row rows h) u
 
-pub apart-push : (row : CacheItem) (rows : List CacheItem) → pairwise names_apart rows ≡ true
-    → has_row row.name rows ≡ false
-    → pairwise names_apart (rows ++ row ∷ []) ≡ true
-apart-push row rows u h = apart_with false row rows (alone_apart row rows h) u
-
-pub apart-either : (b : Bool) (row : CacheItem) (rows : List CacheItem) → pairwise names_apart rows ≡ true
-    → has_row row.name rows ≡ false
-    → pairwise names_apart (cond b (rows ++ row ∷ []) rows) ≡ true
-apart-either true row rows u h = apart-push row rows u h
-apart-either false row rows u h = u
-
 -- ---- the row of a name is taken out, changed and put back
 
 pub found_named : (name : Name16) (rows : List CacheItem) (row : CacheItem) → row_of name rows ≡ Some row
@@ -297,21 +286,3 @@ found_named name rows row h = same_name-eq row.name name (found_passes (is_row_o
 pub alone-without : (n name : Name16) (rows : List CacheItem) → n ≡ name → has_row n (rows_without name rows) ≡ false
 alone-without n name rows e = subst (λ (m : Name16). has_row m (rows_without name rows) ≡ false) (sym e)
     (none_filtered (is_row_of name) rows)
-
-pub alone-spared : (n name : Name16) (names : List Name16) (rows : List CacheItem) → n ≡ name
-    → has_row n (rows_spared names (rows_without name rows)) ≡ false
-alone-spared n name names rows e =
-    none-filter (is_row_of n) (λ row. not (is_among names row.name)) (rows_without name rows)
-    (alone-without n name rows e)
-
-pub replaced-named : (row : CacheItem) (name : Name16) (rows : List CacheItem) → row.name ≡ name
-    → rows_with row (rows_without name rows) ≡ rows_replaced row rows
-replaced-named row name rows e = ap (λ (n : Name16). rows_with row (rows_without n rows)) (sym e)
-
-pub replaced-spared : (row : CacheItem) (name : Name16) (names : List Name16) (rows : List CacheItem)
-    → row.name ≡ name
-    → rows_with row (rows_spared names (rows_without name rows)) ≡ rows_replaced row (rows_spared names rows)
-replaced-spared row name names rows e =
-    ap (rows_with row) (filter_swap (λ (r : CacheItem). not (is_among names r.name))
-    (λ (r : CacheItem). not (is_row_of name r)) rows)
-    ∙ replaced-named row name (rows_spared names rows) e

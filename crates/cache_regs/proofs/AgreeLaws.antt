@@ -136,15 +136,6 @@ module _ (places after : List ((ℕ × ℕ) × Name16)) (names later : List ((�
             ∙ sym (find-insertion_past (is_at d j) (λ other. stands_before other (registration c i n))
             (registration c i n) (regs_in places) e)
 
--- nothing is taken where nothing is
-pub unchanged_regs : (es : List ((ℕ × ℕ) × Name16)) (conn : ConnId) (index : ℕ) → at_place es conn index ≡ None
-    → WritesPlace es conn index None es
-unchanged_regs es conn index none q = go (place_eq (conn.0, index) q) refl
-  where
-    go : (b : Bool) → place_eq (conn.0, index) q ≡ b → lookup (place_eq q) es ≡ cond b None (lookup (place_eq q) es)
-    go true e = ap (λ k. lookup (place_eq k) es) (sym (same_place (conn.0, index) q e)) ∙ none
-    go false e = refl
-
 -- ---- by name
 
 find_self_step : (b : Bool) (x reg : Registration) (xs : List Registration) → stands_before x reg ≡ true
@@ -247,7 +238,8 @@ module _ (places : List ((ℕ × ℕ) × Name16)) (names : List ((ℕ × List �
   pub index_law : (c : ConnId) (n : Name16) → at_name names c n ≡ index_for (regs_in places) c n
   index_law c n = go (at_name names c n) refl (find (is_for c n) (regs_in places)) refl
     where
-      named_now : (reg : Registration) → find (is_for c n) (regs_in places) ≡ Some reg → at_name names c n ≡ Some reg.index
+      named_now : (reg : Registration) → find (is_for c n) (regs_in places) ≡ Some reg
+          → at_name names c n ≡ Some reg.index
       named_now reg f =
           ap (λ k. lookup (named_eq k) names) (sym (same_named (reg.conn.0, reg.name.0) (c.0, n.0)
           (found_passes (is_for c n) (regs_in places) reg f))) ∙ found_entry (is_for c n) reg f

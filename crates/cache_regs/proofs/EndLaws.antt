@@ -19,7 +19,8 @@ use Rattle.cache_regs.proofs.BitLaws.{falls_filter, gains_taken}
 
 -- ---- filters
 
-both : (q r s : Registration → Bool) (xs : List Registration) → ((x : Registration) → not (q x) && not (r x) ≡ not (s x))
+both : (q r s : Registration → Bool) (xs : List Registration)
+    → ((x : Registration) → not (q x) && not (r x) ≡ not (s x))
     → filter (λ x. not (r x)) (filter (λ x. not (q x)) xs) ≡ filter (λ x. not (s x)) xs
 both q r s xs h =
     filter-filter (λ x. not (r x)) (λ x. not (q x)) xs
@@ -62,22 +63,10 @@ pub fits_same : (q r : Registration → Bool) (xs : List Registration) (room : �
     → filter (λ x. not (q x)) xs ≡ filter (λ x. not (r x)) xs → FitsEnds q xs room → FitsEnds r xs room
 fits_same q r xs room same h = subst (λ (l : List Registration). length xs ≤ room + length l) same h
 
--- what stands and ends takes room
-pub fits_one : (q : Registration → Bool) (xs : List Registration) (room : ℕ) → FitsEnds q xs room
-    → list_any q xs ≡ true → 0 < room
-fits_one q xs room h e =
-    let some = any_counted q xs e in
-    let parts = length-filter_both q (λ x. not (q x)) (λ _. refl) xs in omega (arith, h, some, parts)
-
 -- where one at most ends
 pub fits_few : (q : Registration → Bool) (xs : List Registration) (room : ℕ) → length (filter q xs) ≤ room
     → FitsEnds q xs room
 fits_few q xs room h =
-    let parts = length-filter_both q (λ x. not (q x)) (λ _. refl) xs in omega (arith, h, parts)
-
-pub few_fit : (q : Registration → Bool) (xs : List Registration) (room : ℕ) → FitsEnds q xs room
-    → length (filter q xs) ≤ room
-few_fit q xs room h =
     let parts = length-filter_both q (λ x. not (q x)) (λ _. refl) xs in omega (arith, h, parts)
 
 -- after the first ends there is room for the next, as there was for all

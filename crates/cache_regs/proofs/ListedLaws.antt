@@ -142,8 +142,9 @@ pub count_one : (name : Name16) (spare : Option ConnId) (conn : ConnId) (xs : Li
 count_one name spare conn xs e apart some =
     let most = one_for_name conn name xs apart in
     let least = any_counted (is_for conn name) xs some in
-    let same = ap length (filter_agree (ends_of name spare conn) (is_for conn name) (of_spare name spare conn false e) xs)
-    in omega (arith, most, least, same)
+    let same =
+    ap length (filter_agree (ends_of name spare conn) (is_for conn name) (of_spare name spare conn false e) xs) in
+    omega (arith, most, least, same)
 
 pub count_all : (name : Name16) (spare : Option ConnId) (k : ℕ) (xs : List Registration)
     → list_all (λ x. nat_lt x.conn.0 k) xs ≡ true

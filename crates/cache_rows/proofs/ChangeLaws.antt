@@ -6,7 +6,7 @@ use Rattle.std.proofs.lemmas.List.Elements.{filter_agree}
 use Rattle.cf_types.specs.declared.names.Name16.{Name16}
 use Rattle.cf_types.specs.Name.{same_name}
 use Rattle.list_laws.proofs.FilterLaws.{filter-filter, filter_all, find-filter, find_none, list_all_always}
-use Rattle.cache_regs.proofs.NameLaws.{same_name-eq, same_name-sym}
+use Rattle.cache_regs.proofs.NameLaws.{same_name-eq}
 use Rattle.cache_model.specs.declared.items.CacheItem.{CacheItem}
 use Rattle.cache_model.specs.Rows.{is_row_of, row_of, has_row, rows_without, rows_with, rows_replaced, new_row, row_or_new}
 use Rattle.cache_model.specs.Contents.{is_among, rows_spared}
@@ -71,23 +71,6 @@ but-spared spared name rows e =
 pub not_apart : (b : Bool) → not b ≡ false → b ≡ true
 not_apart true h = refl
 not_apart false h = absurd (false≢true (sym h))
-
--- another goes
-pub but-other : (spared name : Name16) (rows : List CacheItem) → same_name name spared ≡ false
-    → rows_without name rows ≡ rows_but spared (name ∷ []) rows
-but-other spared name rows e =
-    filter_agree (λ (row : CacheItem). not (is_row_of name row))
-    (λ (row : CacheItem). is_row_of spared row || not (is_among (name ∷ []) row.name)) here rows
-  where
-    either : (a b c : Bool) → c ≡ b → (a ≡ true → b ≡ false) → not c ≡ a || not (b || false)
-    either true b c same f = ap not (same ∙ f refl)
-    either false true c same f = ap not same
-    either false false c same f = ap not same
-
-    here : (row : CacheItem) → not (is_row_of name row) ≡ is_row_of spared row || not (is_among (name ∷ []) row.name)
-    here row =
-        either (is_row_of spared row) (same_name name row.name) (is_row_of name row) (same_name-sym row.name name)
-        (λ h. subst (λ (n : Name16). same_name name n ≡ false) (sym (same_name-eq row.name spared h)) e)
 
 -- the row of the name is the same, and the others are those that are spared
 pub but-row : (name : Name16) (names : List Name16) (rows : List CacheItem)

@@ -67,7 +67,8 @@ order-absent name rows h =
 -- ---- a row is put in its place
 
 -- where one is unchanged, so are those behind it
-pub unchanged_behind : (y : CacheItem) (ys : List CacheItem) → is_changed y ≡ false → list_all (changed_first y) ys ≡ true
+pub unchanged_behind : (y : CacheItem) (ys : List CacheItem) → is_changed y ≡ false
+    → list_all (changed_first y) ys ≡ true
     → filter is_changed ys ≡ []
 unchanged_behind y ys e h =
     filter_none is_changed ys

@@ -196,7 +196,8 @@ module _ (rows : List CacheItem) (at : Name16 → Option CacheItem) (names : Lis
       (filter-map (last_use.is_in_part stg true) used_of (filter is_unchanged rows))
       ∙ length-map (filter (has_storage stg) (filter is_unchanged rows)) used_of
       ∙ ap (λ (l : List CacheItem). length l) (filter_swap (has_storage stg) is_unchanged rows) in
-      let others : length (filter (λ row. has_storage stg row && is_changed row) rows) ≡ length (filter is_changed own) =
+      let others : length (filter (λ row. has_storage stg row && is_changed row) rows)
+      ≡ length (filter is_changed own) =
       ap (λ (l : List CacheItem). length l) (sym (filter-filter is_changed (has_storage stg) rows)) in
       omega (arith, ones, others, both_parts own)
 

@@ -230,20 +230,8 @@ same_data : (chains : Chains) (label : Label) (row : Option DirRow)
 same_data chains label None = refl
 same_data chains label (Some row) = refl
 
-module _ (chains : Chains) (rows next : Rows) (label : Label) (is : AreStored chains rows)
+module _ (chains : Chains) (rows next : Rows) (label : Label)
     (writes : Writes rows label.name (Some (row_of_label label (chain_of (rows label.name)))) next) where
-  middle : Rows
-  middle q = cond (same_name label.name q) None (rows q)
-
-  pub set_stored : AreStored chains next
-  unfolding middle
-  set_stored =
-      stored_more chains middle next label.name (row_of_label label (chain_of (rows label.name)))
-      (stored_less chains rows middle label.name is (λ q. refl)) (is.held label.name)
-      (λ at e. unused_less chains rows middle label.name at is (λ q. refl) e)
-      (λ q. writes q ∙ cond_twice (same_name label.name q) (Some (row_of_label label (chain_of (rows label.name)))) None
-      (rows q))
-
   pub set_items : (q : Name16) → option_map (item_in chains) (next q)
       ≡ cond (same_name label.name q)
       (Some (item_with label (body_of (option_map (item_in chains) (rows label.name)))))
@@ -255,29 +243,14 @@ module _ (chains : Chains) (rows next : Rows) (label : Label) (is : AreStored ch
 
 -- ---- castout locks are released
 
-let_go_data : (conn : ConnId) (row : Option DirRow) → chain_of (option_map (let_go conn) row) ≡ chain_of row
-let_go_data conn None = refl
-let_go_data conn (Some row) = refl
-
 let_go_item : (chains : Chains) (conn : ConnId) (row : Option DirRow)
     → option_map (item_in chains) (option_map (let_go conn) row)
     ≡ option_map (without_hold conn) (option_map (item_in chains) row)
 let_go_item chains conn None = refl
 let_go_item chains conn (Some row) = refl
 
-module _ (chains : Chains) (rows next : Rows) (conn : ConnId) (is : AreStored chains rows)
+module _ (chains : Chains) (rows next : Rows) (conn : ConnId)
     (released : (q : Name16) → next q ≡ option_map (let_go conn) (rows q)) where
-  same_chain : (q : Name16) → chain_of (next q) ≡ chain_of (rows q)
-  same_chain q = ap chain_of (released q) ∙ let_go_data conn (rows q)
-
-  pub released_stored : AreStored chains next
-  released_stored =
-      record {
-        held = λ q. subst (λ s. HasData chains s) (sym (same_chain q)) (is.held q);
-        apart = λ q p at h k.
-            is.apart q p at (ap head_of (sym (same_chain q)) ∙ h) (ap head_of (sym (same_chain p)) ∙ k);
-      }
-
   pub released_items : (q : Name16) → option_map (item_in chains) (next q)
       ≡ option_map (without_hold conn) (option_map (item_in chains) (rows q))
   released_items q = ap (option_map (item_in chains)) (released q) ∙ let_go_item chains conn (rows q)

@@ -15,8 +15,8 @@ loop-conn-preserved c =
     c.end_at.ensures.ended in
     record {
       falls = λ conn index h. c.loop-conn.invariant.falls conn index (falls conn index h);
-      bits = gains_falls (stands c.args.maps.now.regs) (stands c.loop-conn.maps.regs) (stands c.end_at.new.maps.regs) _ _ _
-          c.loop-conn.invariant.falls falls c.loop-conn.invariant.bits c.end_at.ensures.ended.bits;
+      bits = gains_falls (stands c.args.maps.now.regs) (stands c.loop-conn.maps.regs) (stands c.end_at.new.maps.regs)
+          _ _ _ c.loop-conn.invariant.falls falls c.loop-conn.invariant.bits c.end_at.ensures.ended.bits;
       room = omega (arith, c.loop-conn.invariant.room, c.end_at.ensures.ended.counted);
       mail = c.end_at.ensures.mail ∙ c.loop-conn.invariant.mail;
       place = omega (arith, c.loop-conn.invariant.place, c.end_at.ensures.place);

@@ -7,7 +7,8 @@ use Rattle.cache_regs.proofs.maps.Maps.index_of.Goals as goal
 pub returns-clause-index : goal.returns-clause-index
 returns-clause-index c =
     c.copied.ensures ∙ c.get.ensures.value
-    ∙ index_law c.self.inside.by_place.entries c.self.inside.by_name.entries c.self.invariant c.args.conn c.args.name.now
+    ∙ index_law c.self.inside.by_place.entries c.self.inside.by_name.entries c.self.invariant c.args.conn
+    c.args.name.now
     ∙ ap (λ (v : RegList). index_for v.regs c.args.conn c.args.name.now) c.self.view_is
 
 pub returns-clause-alone : goal.returns-clause-alone

@@ -13,7 +13,7 @@ returns-clause-writes c =
     rw (← c.self.view_is)
     (shown_writes chains chains c.self.inside.dir.entries c.set_in.new.dir.entries label.name _
     (λ q. set_items chains (row_at c.self.inside.dir.entries) (row_at c.set_in.new.dir.entries) label
-    c.self.invariant c.set_in.ensures q
+    c.set_in.ensures q
     ∙ ap (λ (o : Option CacheItem). cond (same_name label.name q) (Some (item_with label (body_of o)))
     (item_at chains c.self.inside.dir.entries q))
     (sym (shown_at chains c.self.inside.dir.entries label.name))))

@@ -1,0 +1,29 @@
+-- Castout locks that are noted by the names of their rows, and released.
+use Rattle.std.proofs.Common.{◌≡◌, ℕ, Bool, true, false, not, ◌==◌, cond, List, Option, None, Some, option_map, refl}
+use Rattle.std.proofs.lemmas.Map.Entries.{option_filter}
+use Rattle.cf_types.specs.declared.names.Name16.{Name16}
+use Rattle.cf_types.specs.declared.numbers.ConnId.{ConnId}
+use Rattle.cache_dir.specs.declared.row.DirRow.{DirRow}
+use Rattle.cache_dir.specs.RowMap.{row_at, let_go}
+use Rattle.cache_dir.specs.Locks.{lock_without}
+
+-- a lock is this connector's
+abbrev is_of : ConnId → Option ConnId → Bool
+is_of conn None = false
+is_of conn (Some other) = other.0 == conn.0
+
+-- the rows once a connector's locks were released, but for those that are left
+pub record IsReleased (conn : ConnId) (start now : List (List ℕ × DirRow)) (left : List (List ℕ × ConnId))
+    : Type 0 where
+  pub same : (q : Name16) → option_map (let_go conn) (row_at now q) ≡ option_map (let_go conn) (row_at start q)
+  pub done : (q : Name16) → is_of conn (row_at left q) ≡ false → option_map (let_go conn) (row_at now q) ≡ row_at now q
+
+-- the locks of the others are left
+pub filtered : (conn : ConnId) (lock : Option ConnId)
+    → option_filter (λ (other : ConnId). not (other.0 == conn.0)) lock ≡ lock_without conn lock
+filtered conn None = refl
+filtered conn (Some other) = go (other.0 == conn.0)
+  where
+    go : (b : Bool) → cond (not b) (Some other) None ≡ cond b None (Some other)
+    go true = refl
+    go false = refl
