@@ -1,6 +1,7 @@
 ghost use Rattle.std.specs.Prelude.{◌≡◌};
 
-/// The data of one owner in a pool. It can't be copied, so that its elements are given back once.
+/// The data of one owner in a pool. It isn't `Clone`: in its pool there is one of it, so that its
+/// elements are given back once. Only a copy of the pool takes another, by `in_copy`.
 #[derive(Drop)]
 pub struct Chain {
     pub(crate) head: u32,

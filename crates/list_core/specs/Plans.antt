@@ -1,5 +1,5 @@
 -- What is got ready for a command: its reply.
-use Rattle.std.specs.Prelude.{◌≡◌, ℕ, ◌<◌, false, Option, Some, None, Ok, Err, length}
+use Rattle.std.specs.Prelude.{◌≡◌, ◌<◌, false, Option, Some, None, Ok, Err, length}
 use Rattle.std.specs.List.{list_any}
 use Rattle.cf_types.specs.declared.forms.Caps.{Caps}
 use Rattle.cf_types.specs.declared.numbers.ConnId.{ConnId}

@@ -1,5 +1,5 @@
 //! What is got ready for a command, and what is done then.
-ghost use Rattle.std.specs.Prelude.{◌≡◌, ◌+◌, ◌^◌, ◌<◌, ◌≤◌, IfOk, None, false, length};
+ghost use Rattle.std.specs.Prelude.{◌≡◌, ◌^◌, ◌<◌, IfOk, None, false};
 ghost use Rattle.std.specs.Result.{result_err};
 ghost use Rattle.std.specs.List.{list_any};
 ghost use Rattle.cf_types.specs.Gains.{Gains};
@@ -14,11 +14,11 @@ ghost use Rattle.list_core.specs.Plans.{plan_unless, plan_for, IsPossible};
 
 use crate::commands::write::Wanted;
 use crate::commands::{
-    delete, l_controls, lock_reset, lock_set, lock_test, monitor, move_record, read, read_list,
-    set_limit, unmonitor, update, write,
+    Asked, delete, l_controls, lock_reset, lock_set, lock_test, monitor, move_record, read,
+    read_list, set_limit, unmonitor, update, write,
 };
 use crate::refusals::Judged;
-use cf_types::{Caps, ConnId, Effects, ListCmd, ListReply, NoMemory, Refusal};
+use cf_types::{At, Caps, Cond, ConnId, Effects, ListCmd, ListReply, NoMemory, Refusal};
 use engine_api::Shape;
 use list_kept::Kept;
 use std::alloc::Global;
@@ -27,6 +27,17 @@ use std::alloc::Global;
 #[derive(Drop)]
 pub(crate) struct Plan {
     pub reply: Result<ListReply, Refusal>,
+}
+
+// What a command asks of a record.
+fn asked(at: &At, version: &Option<u32>, cond: &Option<Cond>) -> Asked
+    ensures { result ≡ record { at = at.now; version = version.now; cond = cond.now } }
+{
+    Asked {
+        at: *at,
+        version: *version,
+        cond: *cond,
+    }
 }
 
 // Why a command is refused.
@@ -62,7 +73,7 @@ fn refusal(shape: Shape, caps: Caps, kept: &Kept, by: ConnId, cmd: &ListCmd) -> 
             adj: _,
             version,
             cond,
-        } => update::refusal(shape, caps, kept, by, *at, body, *version, *cond),
+        } => update::refusal(shape, caps, kept, by, asked(at, version, cond), body),
         ListCmd::Read { at, cond } => read::refusal(shape, kept, by, *at, *cond),
         ListCmd::Move {
             at,
@@ -71,9 +82,9 @@ fn refusal(shape: Shape, caps: Caps, kept: &Kept, by: ConnId, cmd: &ListCmd) -> 
             key,
             version,
             cond,
-        } => move_record::refusal(shape, kept, by, *at, *header, *key, *version, *cond),
+        } => move_record::refusal(shape, kept, by, asked(at, version, cond), *header, *key),
         ListCmd::Delete { at, version, cond } => {
-            delete::refusal(shape, kept, by, *at, *version, *cond)
+            delete::refusal(shape, kept, by, asked(at, version, cond))
         }
         ListCmd::ReadList { header } => read_list::refusal(shape, *header),
         ListCmd::LockSet { lock } => lock_set::refusal(shape, kept, *lock),

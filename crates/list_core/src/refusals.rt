@@ -1,10 +1,10 @@
 //! Causes of refusals that commands share.
-ghost use Rattle.std.specs.Prelude.{◌≡◌, ◌<◌, ◌^◌, find, get_or};
+ghost use Rattle.std.specs.Prelude.{◌≡◌, ◌<◌, ◌^◌, find};
 ghost use Rattle.std.specs.Result.{result_err};
 ghost use Rattle.list_store.specs.Lists.{all_records, records_without};
 ghost use Rattle.list_model.specs.Records.{elements_in, has_name, is_reference};
 ghost use Rattle.list_model.specs.Lists.{record_at};
-ghost use Rattle.list_model.specs.Contents.{refs_of, locks_of, is_held_by};
+ghost use Rattle.list_model.specs.Contents.{refs_of, is_held_by};
 ghost use Rattle.list_model.specs.Refusals.{lock_refusal, held_refusal, not_held_refusal, cond_lock_refusal, cond_refusal, header_refusal, reference_refusal, has_names, has_keys, new_key_refusal, ref_header_refusal, ref_form_refusal, record_refusal, version_refusal, taken_refusal, name_refusal, full_refusal, entries_refusal, elements_refusal, index_refusal, other_refusal, in_use_refusal};
 
 use cf_types::{At, Caps, Cond, ConnId, EntryId, Key16, Kind, Name16, Refs, Refusal};

@@ -240,7 +240,8 @@ named_found names lists name id apart are e = go (find (has_name name) (all_reco
         let none : id_of name names ≡ None = are name ∙ ap (option_map {T = Record} {U = EntryId} (λ r. r.id)) f in
         absurd (cc)
     go (Some rec) f =
-        let its : id_of name names ≡ Some rec.id = are name ∙ ap (option_map {T = Record} {U = EntryId} (λ r. r.id)) f in
+        let its : id_of name names ≡ Some rec.id =
+        are name ∙ ap (option_map {T = Record} {U = EntryId} (λ r. r.id)) f in
         let same : id ≡ rec.id = ap (λ (o : Option EntryId). unwrap_or o id) (sym e ∙ its) in
         ap (λ (i : EntryId). record_of i lists) same ∙ record_of-at lists (Name name) rec apart f ∙ sym f
 

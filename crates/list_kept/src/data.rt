@@ -1,5 +1,5 @@
 //! Records' data in chains of the pool.
-ghost use Rattle.std.specs.Prelude.{◌≡◌, ◌+◌, ◌<◌, ◌≤◌, ◌↔◌, None, Some, IfOk, OnErr, IsErr, length, slice_get, slice_set};
+ghost use Rattle.std.specs.Prelude.{◌≡◌, ◌+◌, ◌<◌, ◌≤◌, ◌↔◌, None, Some, IfOk, OnErr, IsErr, length};
 ghost use Rattle.std.specs.Option.{option_or};
 ghost use Rattle.list_store.specs.Lists.{all_records};
 ghost use Rattle.list_store.specs.Records.{HasChain, body_in, chains_less};

@@ -1,5 +1,5 @@
 //! The content as it is kept: records, limits, list locks, monitors and the next id.
-ghost use Rattle.std.specs.Prelude.{◌≡◌, ◌+◌, ◌<◌, ◌≤◌, ◌∷◌, ◌++◌, [], false, true, IfOk, OnOk, OnErr, IfErr, None, Some, if◌then◌else◌, length, map, filter, option_map, replicate, get_or, slice_get, slice_set};
+ghost use Rattle.std.specs.Prelude.{◌≡◌, ◌+◌, ◌<◌, ◌≤◌, ◌∷◌, ◌++◌, [], false, true, IfOk, OnOk, OnErr, None, Some, if◌then◌else◌, length, map, filter, option_map, replicate, get_or, slice_get, slice_set};
 ghost use Rattle.std.specs.Prelude.{IsTrue, IfSome, find};
 ghost use Rattle.std.specs.List.{list_any, prefix_len};
 ghost use Rattle.cf_types.specs.Gains.{Gains};
@@ -9,7 +9,7 @@ ghost use Rattle.list_store.specs.Records.{record_in, body_in, HasChain};
 ghost use Rattle.list_model.specs.Records.{may_precede, has_name, elements_in, elements_of};
 ghost use Rattle.list_watch.specs.Monitors.{is_for, monitored_at, monitors_with, monitors_without};
 ghost use Rattle.list_model.specs.Contents.{no_content, headers_of, locks_of, holder_of, holder_without, stands, has_records, content_without};
-ghost use Rattle.list_model.specs.Lists.{header_of, stands_before, with_record};
+ghost use Rattle.list_model.specs.Lists.{header_of, with_record};
 
 use crate::bare::Bare;
 use crate::copies::copy_records;

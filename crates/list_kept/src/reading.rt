@@ -1,5 +1,5 @@
 //! Records that are named, and how much there is.
-ghost use Rattle.std.specs.Prelude.{◌≡◌, ◌<◌, ◌^◌, option_map, find, slice_get, IfSome};
+ghost use Rattle.std.specs.Prelude.{◌≡◌, ◌<◌, ◌^◌, option_map, find, IfSome};
 ghost use Rattle.list_store.specs.Lists.{all_records, records_of, records_without, count_of};
 ghost use Rattle.list_store.specs.Records.{record_in, HasChain};
 ghost use Rattle.list_model.specs.Records.{has_key, elements_in};

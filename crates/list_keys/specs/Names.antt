@@ -1,5 +1,5 @@
 -- Names with the ids of the records that have them.
-use Rattle.std.specs.Prelude.{◌≡◌, ℕ, Bool, false, nat_eq, List, Option, Some, None, cond}
+use Rattle.std.specs.Prelude.{◌≡◌, ℕ, nat_eq, List, Option, cond}
 use Rattle.std.specs.Map.{lookup}
 use Rattle.std.specs.Cmp.Lexicographic.{pointwise}
 use Rattle.cf_types.specs.declared.names.Name16.{Name16}

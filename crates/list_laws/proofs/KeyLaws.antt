@@ -1,13 +1,10 @@
 -- Lists whose elements have keys of their own.
-use Rattle.std.proofs.Common.{◌≡◌, ℕ, ◌+◌, Bool, true, false, not, ◌&&◌, ◌||◌, cond, List, [], ◌∷◌, ◌++◌, map, Some, None, length, filter, find, sum_by, position, get_or, nat_lt, refl, sym, ap, ◌∙◌, subst, arith, suc}
-use Rattle.std.specs.List.{list_any, list_all, position_or_len, slice_get, remove}
+use Rattle.std.proofs.Common.{◌≡◌, ℕ, ◌+◌, Bool, true, false, not, ◌&&◌, ◌||◌, cond, List, [], ◌∷◌, ◌++◌, map, Some, None, length, filter, find, sum_by, position, nat_lt, refl, sym, ap, ◌∙◌, subst, arith, suc}
+use Rattle.std.specs.List.{list_any, list_all, position_or_len, remove}
 use Rattle.std.proofs.lemmas.Bool.{and_parts, not-true, false≢true, lt-ltb}
 use Rattle.std.proofs.lemmas.Bool.Decides.{nat_tests}
-use Rattle.std.proofs.lemmas.List.Quantifiers.{position-Some}
-use Rattle.std.proofs.lemmas.List.Folds.{find_at}
 use Rattle.std.proofs.lemmas.List.Elements.{filter_agree}
 use Rattle.std.proofs.lemmas.List.Sums.{sum_by-cons}
-use Rattle.std.proofs.lemmas.Option.{slice_get-get_or}
 use Rattle.list_laws.specs.Pairwise.{pairwise}
 use Rattle.list_laws.specs.Prefixes.{shortest_prefix}
 use Rattle.list_laws.proofs.PairwiseLaws.{pairwise-filter}
@@ -33,16 +30,6 @@ place_within false k i h = absurd (cc)
 place_past : (b : Bool) (k : ℕ) → cond b (Some k) None ≡ None → b ≡ false
 place_past true k h = absurd (cc)
 place_past false k h = refl
-
--- what stands at the place is what is found
-pub find_placed : {X : Type 0} (p : X → Bool) (xs : List X) (i : ℕ) (x : X) → position p xs ≡ Some i
-    → x ≡ get_or xs i x
-    → Some x ≡ find p xs
-find_placed p xs i x h read =
-    let at = place_within (nat_lt (position_or_len p xs) (length xs)) (position_or_len p xs) i h in
-    let within = position-Some p xs i x h in
-    sym (find_at p xs ∙ ap (λ (k : ℕ). slice_get xs k) at.1 ∙ slice_get-get_or xs i x within.0
-    ∙ ap (λ y. Some y) (sym read))
 
 -- no place, and nothing passes
 pub none_placed : {X : Type 0} (p : X → Bool) (xs : List X) → position p xs ≡ None → list_any p xs ≡ false

@@ -1,5 +1,5 @@
 -- A record of a list structure.
-use Rattle.std.specs.Prelude.{ℕ, ◌+◌, ◌/◌, Bool, false, not, ◌&&◌, nat_lt, if◌then◌else◌, List, length, Option, Some, None, is_some, is_none, sum_by}
+use Rattle.std.specs.Prelude.{ℕ, ◌+◌, Bool, false, not, ◌&&◌, nat_lt, if◌then◌else◌, List, Option, Some, None, is_some, is_none, sum_by}
 use Rattle.cf_types.specs.declared.forms.Refs.{Refs}
 use Rattle.cf_types.specs.declared.forms.Refs.TheVariants as refs
 use Rattle.cf_types.specs.declared.names.Key16.{Key16}

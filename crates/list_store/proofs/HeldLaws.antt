@@ -1,7 +1,7 @@
 -- The chains of records, and those that no record has.
 use Rattle.std.proofs.Common.{◌≡◌, ◌≢◌, ℕ, zero, suc, ◌+◌, List, [], ◌∷◌, ◌++◌, set, get_or, slice_get, sum_by, Option, None, Some, refl, sym, ap, ◌∙◌, subst, arith, get_or-set_other}
 use Rattle.std.proofs.lemmas.Option.{get_or_from_slice_get}
-use Rattle.list_laws.proofs.TableLaws.{get-set_same, get-set_other}
+use Rattle.list_laws.proofs.TableLaws.{get-set_other}
 use Rattle.std.proofs.lemmas.List.Sums.{sum_by-set, sum_by-cons}
 use Rattle.record_lists.proofs.SpotLaws.{get_within}
 use Rattle.record_lists.proofs.SplitLaws.{Every}
@@ -28,14 +28,11 @@ set_twice {X} (z ∷ zs) (suc i) x y = ap (λ (l : List X). z ∷ l) (set_twice 
 some_there : (o : Option (Option (List ℕ))) (bytes : List ℕ) → o ≡ Some (Some bytes) → o ≡ Some None → ⊥
 some_there o bytes e f = cc
 
--- what a place has once nothing is put there
-put_none : (xs : List (Option (List ℕ))) (i : ℕ) (o : Option (List ℕ)) → slice_get xs i ≡ Some o → slice_get (set xs i None) i ≡ Some None
-put_none xs i o e = get-set_same xs i o None e
-
 -- a chain that is there although another went is not that one
 not_gone : (xs : List (Option (List ℕ))) (i j : ℕ) → IsChain (set xs i None) j → j ≢ i
 not_gone xs i j c e =
-    let here : slice_get (set xs i None) i ≡ Some (Some c.0) = subst (λ k. slice_get (set xs i None) k ≡ Some (Some c.0)) e c.1 in
+    let here : slice_get (set xs i None) i ≡ Some (Some c.0) =
+    subst (λ k. slice_get (set xs i None) k ≡ Some (Some c.0)) e c.1 in
     go xs i c.0 here
   where
     go : (ys : List (Option (List ℕ))) (k : ℕ) (b : List ℕ) → slice_get (set ys k None) k ≡ Some (Some b) → ⊥
@@ -55,10 +52,12 @@ pub less_swap : (loose : List (Option (List ℕ))) (a b : Option Chain) → HasC
     → chains_less b (chains_less a loose) ≡ chains_less a (chains_less b loose)
 less_swap loose None b h = refl
 less_swap loose (Some a) None h = refl
-less_swap loose (Some a) (Some b) h = set_swap loose a.head b.head None None (λ e. not_gone loose a.head b.head h (sym e))
+less_swap loose (Some a) (Some b) h =
+    set_swap loose a.head b.head None None (λ e. not_gone loose a.head b.head h (sym e))
 
 -- both are there, where one is and the other still is when that one is gone
-pub has_swap : (loose : List (Option (List ℕ))) (a b : Option Chain) → HasChain loose a → HasChain (chains_less a loose) b
+pub has_swap : (loose : List (Option (List ℕ))) (a b : Option Chain) → HasChain loose a
+    → HasChain (chains_less a loose) b
     → HasChain loose b × HasChain (chains_less b loose) a
 has_swap loose None b h k = (k, tt)
 has_swap loose (Some a) None h k = (tt, h)
@@ -67,19 +66,25 @@ has_swap loose (Some a) (Some b) h k =
     (before loose a.head b.head None ne k, still loose b.head a.head None (λ e. ne (sym e)) h)
 
 -- a record among others, and before them
-pub loose_middle : (chains : List (Option (List ℕ))) (front back : List Rec) (rec : Rec) → AreHeld chains (front ++ rec ∷ back)
+pub loose_middle : (chains : List (Option (List ℕ))) (front back : List Rec) (rec : Rec)
+    → AreHeld chains (front ++ rec ∷ back)
     → (HasChain (loose_in chains (front ++ back)) rec.body × AreHeld chains (front ++ back))
     × (loose_in chains (front ++ rec ∷ back) ≡ chains_less rec.body (loose_in chains (front ++ back)))
 loose_middle chains [] back rec h = (h, refl)
 loose_middle chains (x ∷ front) back rec h =
     let r = loose_middle chains front back rec h.1 in
-    let here : HasChain (chains_less rec.body (loose_in chains (front ++ back))) x.body = subst (λ l. HasChain l x.body) r.1 h.0 in
-    let two = has_swap (loose_in chains (front ++ back)) rec.body x.body r.0.0 here in
-    ((two.1, (two.0, r.0.1)), ap (chains_less x.body) r.1 ∙ less_swap (loose_in chains (front ++ back)) rec.body x.body here)
+    let here : HasChain (chains_less rec.body (loose_in chains (front ++ back))) x.body =
+    subst (λ l. HasChain l x.body) r.1 h.0 in
+    let two = has_swap (loose_in chains (front ++ back)) rec.body x.body r.0.0 here in (
+      (two.1, (two.0, r.0.1)),
+      ap (chains_less x.body) r.1 ∙ less_swap (loose_in chains (front ++ back)) rec.body x.body here,
+    )
 
-pub held_middle : (chains : List (Option (List ℕ))) (front back : List Rec) (rec : Rec) → HasChain (loose_in chains (front ++ back)) rec.body
+pub held_middle : (chains : List (Option (List ℕ))) (front back : List Rec) (rec : Rec)
+    → HasChain (loose_in chains (front ++ back)) rec.body
     → AreHeld chains (front ++ back)
-    → AreHeld chains (front ++ rec ∷ back) × (loose_in chains (front ++ rec ∷ back) ≡ chains_less rec.body (loose_in chains (front ++ back)))
+    → AreHeld chains (front ++ rec ∷ back)
+    × (loose_in chains (front ++ rec ∷ back) ≡ chains_less rec.body (loose_in chains (front ++ back)))
 held_middle chains [] back rec h held = ((h, held), refl)
 held_middle chains (x ∷ front) back rec h held =
     let two = has_swap (loose_in chains (front ++ back)) x.body rec.body held.0 h in
@@ -90,7 +95,8 @@ held_middle chains (x ∷ front) back rec h held =
 
 -- ---- what is loose is a chain
 
-pub less_sub : (loose : List (Option (List ℕ))) (a : Option Chain) (k : ℕ) (bytes : List ℕ) → slice_get (chains_less a loose) k ≡ Some (Some bytes)
+pub less_sub : (loose : List (Option (List ℕ))) (a : Option Chain) (k : ℕ) (bytes : List ℕ)
+    → slice_get (chains_less a loose) k ≡ Some (Some bytes)
     → slice_get loose k ≡ Some (Some bytes)
 less_sub loose None k bytes e = e
 less_sub loose (Some a) k bytes e =
@@ -99,13 +105,16 @@ less_sub loose (Some a) k bytes e =
 pub loose_sub : (chains : List (Option (List ℕ))) (recs : List Rec) (k : ℕ) (bytes : List ℕ)
     → slice_get (loose_in chains recs) k ≡ Some (Some bytes) → slice_get chains k ≡ Some (Some bytes)
 loose_sub chains [] k bytes e = e
-loose_sub chains (rec ∷ recs) k bytes e = loose_sub chains recs k bytes (less_sub (loose_in chains recs) rec.body k bytes e)
+loose_sub chains (rec ∷ recs) k bytes e =
+    loose_sub chains recs k bytes (less_sub (loose_in chains recs) rec.body k bytes e)
 
-pub has_sub : (chains : List (Option (List ℕ))) (recs : List Rec) (a : Option Chain) → HasChain (loose_in chains recs) a → HasChain chains a
+pub has_sub : (chains : List (Option (List ℕ))) (recs : List Rec) (a : Option Chain) → HasChain (loose_in chains recs) a
+    → HasChain chains a
 has_sub chains recs None h = tt
 has_sub chains recs (Some a) h = (h.0, loose_sub chains recs a.head h.0 h.1)
 
-pub each_chain : (chains : List (Option (List ℕ))) (recs : List Rec) → AreHeld chains recs → Every (λ rec. HasChain chains rec.body) recs
+pub each_chain : (chains : List (Option (List ℕ))) (recs : List Rec) → AreHeld chains recs
+    → Every (λ rec. HasChain chains rec.body) recs
 each_chain chains [] h = tt
 each_chain chains (rec ∷ recs) h = (has_sub chains recs rec.body h.0, each_chain chains recs h.1)
 
@@ -115,14 +124,17 @@ abbrev pub IsElsewhere : ℕ → Option Chain → Type 0
 IsElsewhere k None = Unit {0}
 IsElsewhere k (Some chain) = chain.head ≢ k
 
-pub elsewhere_fresh : (chains : List (Option (List ℕ))) (recs : List Rec) (k : ℕ) → slice_get chains k ≡ Some None → AreHeld chains recs
+pub elsewhere_fresh : (chains : List (Option (List ℕ))) (recs : List Rec) (k : ℕ) → slice_get chains k ≡ Some None
+    → AreHeld chains recs
     → Every (λ rec. IsElsewhere k rec.body) recs
 elsewhere_fresh chains [] k e h = tt
-elsewhere_fresh chains (rec ∷ recs) k e h = (go rec.body (has_sub chains recs rec.body h.0), elsewhere_fresh chains recs k e h.1)
+elsewhere_fresh chains (rec ∷ recs) k e h =
+    (go rec.body (has_sub chains recs rec.body h.0), elsewhere_fresh chains recs k e h.1)
   where
     go : (a : Option Chain) → HasChain chains a → IsElsewhere k a
     go None c = tt
-    go (Some a) c = λ same. some_there (slice_get chains k) c.0 (subst (λ j. slice_get chains j ≡ Some (Some c.0)) same c.1) e
+    go (Some a) c =
+        λ same. some_there (slice_get chains k) c.0 (subst (λ j. slice_get chains j ≡ Some (Some c.0)) same c.1) e
 
 pub elsewhere_loose : (chains : List (Option (List ℕ))) (recs : List Rec) (k : ℕ) (bytes : List ℕ)
     → slice_get (loose_in chains recs) k ≡ Some (Some bytes) → Every (λ rec. IsElsewhere k rec.body) recs
@@ -139,22 +151,27 @@ less_change : (loose : List (Option (List ℕ))) (a : Option Chain) (k : ℕ) (o
 less_change loose None k o away = refl
 less_change loose (Some a) k o away = set_swap loose k a.head o None (λ e. away (sym e))
 
-has_change : (loose : List (Option (List ℕ))) (a : Option Chain) (k : ℕ) (o : Option (List ℕ)) → IsElsewhere k a → HasChain loose a
+has_change : (loose : List (Option (List ℕ))) (a : Option Chain) (k : ℕ) (o : Option (List ℕ)) → IsElsewhere k a
+    → HasChain loose a
     → HasChain (set loose k o) a
 has_change loose None k o away h = tt
 has_change loose (Some a) k o away h = still loose k a.head o away h
 
-pub loose_change : (chains : List (Option (List ℕ))) (recs : List Rec) (k : ℕ) (o : Option (List ℕ)) → Every (λ rec. IsElsewhere k rec.body) recs
+pub loose_change : (chains : List (Option (List ℕ))) (recs : List Rec) (k : ℕ) (o : Option (List ℕ))
+    → Every (λ rec. IsElsewhere k rec.body) recs
     → loose_in (set chains k o) recs ≡ set (loose_in chains recs) k o
 loose_change chains [] k o away = refl
 loose_change chains (rec ∷ recs) k o away =
-    ap (chains_less rec.body) (loose_change chains recs k o away.1) ∙ less_change (loose_in chains recs) rec.body k o away.0
+    ap (chains_less rec.body) (loose_change chains recs k o away.1)
+    ∙ less_change (loose_in chains recs) rec.body k o away.0
 
-pub held_change : (chains : List (Option (List ℕ))) (recs : List Rec) (k : ℕ) (o : Option (List ℕ)) → Every (λ rec. IsElsewhere k rec.body) recs
+pub held_change : (chains : List (Option (List ℕ))) (recs : List Rec) (k : ℕ) (o : Option (List ℕ))
+    → Every (λ rec. IsElsewhere k rec.body) recs
     → AreHeld chains recs → AreHeld (set chains k o) recs
 held_change chains [] k o away h = tt
 held_change chains (rec ∷ recs) k o away h = (
-  subst (λ l. HasChain l rec.body) (sym (loose_change chains recs k o away.1)) (has_change (loose_in chains recs) rec.body k o away.0 h.0),
+  subst (λ l. HasChain l rec.body) (sym (loose_change chains recs k o away.1))
+      (has_change (loose_in chains recs) rec.body k o away.0 h.0),
   held_change chains recs k o away.1 h.1,
 )
 
@@ -163,11 +180,14 @@ body_change : (chains : List (Option (List ℕ))) (a : Option Chain) (k : ℕ) (
 body_change chains None k o away = refl
 body_change chains (Some a) k o away = get_or-set_other chains k a.head o None away
 
-pub record_change : (chains : List (Option (List ℕ))) (recs : List Rec) (k : ℕ) (o : Option (List ℕ)) → Every (λ rec. IsElsewhere k rec.body) recs
+pub record_change : (chains : List (Option (List ℕ))) (recs : List Rec) (k : ℕ) (o : Option (List ℕ))
+    → Every (λ rec. IsElsewhere k rec.body) recs
     → Every (λ rec. record_in (set chains k o) rec ≡ record_in chains rec) recs
 record_change chains [] k o away = tt
-record_change chains (rec ∷ recs) k o away =
-    (ap (λ (b : Option (List ℕ)). one rec b) (body_change chains rec.body k o away.0), record_change chains recs k o away.1)
+record_change chains (rec ∷ recs) k o away = (
+  ap (λ (b : Option (List ℕ)). one rec b) (body_change chains rec.body k o away.0),
+  record_change chains recs k o away.1,
+)
   where
     one : Rec → Option (List ℕ) → Record
     one r b = record { id = r.id; version = r.version; name = r.name; key = r.key; body = b; adj = r.adj }
@@ -175,7 +195,8 @@ record_change chains (rec ∷ recs) k o away =
 -- ---- how many elements
 
 pub counted : (chains : List (Option (List ℕ))) (recs : List Rec) → AreHeld chains recs
-    → sum_by need_at chains ≡ sum_by need_at (loose_in chains recs) + sum_by (λ rec. need_at (body_in chains rec.body)) recs
+    → sum_by need_at chains
+    ≡ sum_by need_at (loose_in chains recs) + sum_by (λ rec. need_at (body_in chains rec.body)) recs
 counted chains [] h = omega arith
 counted chains (rec ∷ recs) h =
     let rest = counted chains recs h.1 in
@@ -183,19 +204,26 @@ counted chains (rec ∷ recs) h =
     omega (arith, rest, one, sum_by-cons (λ (r : Rec). need_at (body_in chains r.body)) rec recs)
   where
     go : (a : Option Chain) → HasChain (loose_in chains recs) a
-        → sum_by need_at (loose_in chains recs) ≡ sum_by need_at (chains_less a (loose_in chains recs)) + need_at (body_in chains a)
+        → sum_by need_at (loose_in chains recs)
+        ≡ sum_by need_at (chains_less a (loose_in chains recs)) + need_at (body_in chains a)
     go None c = omega arith
     go (Some a) c =
-        let there : get_or (loose_in chains recs) a.head None ≡ Some c.0 = get_or_from_slice_get (loose_in chains recs) a.head (Some c.0) None c.1 in
-        let also : get_or chains a.head None ≡ Some c.0 = get_or_from_slice_get chains a.head (Some c.0) None (loose_sub chains recs a.head c.0 c.1) in
-        let change = sum_by-set need_at (loose_in chains recs) a.head None None (get_within (loose_in chains recs) a.head (Some c.0) c.1) in
+        let there : get_or (loose_in chains recs) a.head None ≡ Some c.0 =
+        get_or_from_slice_get (loose_in chains recs) a.head (Some c.0) None c.1 in
+        let also : get_or chains a.head None ≡ Some c.0 =
+        get_or_from_slice_get chains a.head (Some c.0) None (loose_sub chains recs a.head c.0 c.1) in
+        let change =
+        sum_by-set need_at (loose_in chains recs) a.head None None
+        (get_within (loose_in chains recs) a.head (Some c.0) c.1) in
         rw also (omega (arith, change, ap need_at there))
 
 -- a place where no chain begins is one where no loose chain begins
-pub loose_fresh : (chains : List (Option (List ℕ))) (recs : List Rec) (k : ℕ) → slice_get chains k ≡ Some None → AreHeld chains recs
+pub loose_fresh : (chains : List (Option (List ℕ))) (recs : List Rec) (k : ℕ) → slice_get chains k ≡ Some None
+    → AreHeld chains recs
     → slice_get (loose_in chains recs) k ≡ Some None
 loose_fresh chains [] k e h = e
-loose_fresh chains (rec ∷ recs) k e h = go rec.body (elsewhere_fresh chains (rec ∷ recs) k e h).0 (loose_fresh chains recs k e h.1)
+loose_fresh chains (rec ∷ recs) k e h =
+    go rec.body (elsewhere_fresh chains (rec ∷ recs) k e h).0 (loose_fresh chains recs k e h.1)
   where
     go : (a : Option Chain) → IsElsewhere k a → slice_get (loose_in chains recs) k ≡ Some None
         → slice_get (chains_less a (loose_in chains recs)) k ≡ Some None

@@ -22,7 +22,8 @@ in_header : (id : EntryId) (lists : Lists) (o : Option ℕ)
 in_header id lists None = refl
 in_header id lists (Some header) = at_header header (position (is_id id) (records_of lists header))
 
-pub spot_is : (id : EntryId) (lists : Lists) → option_map as_spot (generic.spot_of record_id id.0 lists) ≡ spot_of id lists
+pub spot_is : (id : EntryId) (lists : Lists)
+    → option_map as_spot (generic.spot_of record_id id.0 lists) ≡ spot_of id lists
 spot_is id lists = in_header id lists (position (has_id id) lists)
 
 header_in : (o : Option (ℕ × ℕ))

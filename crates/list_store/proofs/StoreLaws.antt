@@ -40,13 +40,16 @@ sum_by-map g f (x ∷ xs) =
 pub record TakenOut (chains : List (Option (List ℕ))) (lists new : List (List Rec)) (o : Option Rec) : Type 0 where
   pub held : AreHeld chains (all_records new)
   pub chain : IfSome o (λ rec. HasChain (loose_in chains (all_records new)) rec.body)
-  pub was : IfSome o (λ rec. loose_in chains (all_records lists) ≡ chains_less rec.body (loose_in chains (all_records new)))
+  pub was : IfSome o (λ rec. loose_in chains (all_records lists)
+      ≡ chains_less rec.body (loose_in chains (all_records new)))
   pub none : IfNone o (loose_in chains (all_records new) ≡ loose_in chains (all_records lists))
 
-pub record PoppedOut (chains : List (Option (List ℕ))) (lists new : List (List Rec)) (o : Option (ℕ × Rec)) : Type 0 where
+pub record PoppedOut (chains : List (Option (List ℕ))) (lists new : List (List Rec))
+    (o : Option (ℕ × Rec)) : Type 0 where
   pub held : AreHeld chains (all_records new)
   pub chain : IfSome o (λ out. HasChain (loose_in chains (all_records new)) out.1.body)
-  pub was : IfSome o (λ out. loose_in chains (all_records lists) ≡ chains_less out.1.body (loose_in chains (all_records new)))
+  pub was : IfSome o (λ out. loose_in chains (all_records lists)
+      ≡ chains_less out.1.body (loose_in chains (all_records new)))
 
 -- what a reference shows is what its record shows
 pub shown_option : (chains : List (Option (List ℕ))) (o : Option (Bor Rec))
@@ -87,8 +90,10 @@ module _ (chains : List (Option (List ℕ))) (lists : List (List Rec)) (held : A
     split : IsSplit rec_id id (all_records lists) rec
     split = split_found rec_id id (all_records lists) rec apart found
 
-    middle : (HasChain (loose_in chains (split.front ++ split.back)) rec.body × AreHeld chains (split.front ++ split.back))
-        × (loose_in chains (split.front ++ rec ∷ split.back) ≡ chains_less rec.body (loose_in chains (split.front ++ split.back)))
+    middle : (HasChain (loose_in chains (split.front ++ split.back)) rec.body
+        × AreHeld chains (split.front ++ split.back))
+        × (loose_in chains (split.front ++ rec ∷ split.back)
+        ≡ chains_less rec.body (loose_in chains (split.front ++ split.back)))
     middle = loose_middle chains split.front split.back rec (subst (λ l. AreHeld chains l) split.whole held)
 
     rest : all_records (lists_without rec_id id lists) ≡ split.front ++ split.back
@@ -126,7 +131,8 @@ module _ (chains : List (Option (List ℕ))) (lists : List (List Rec)) (held : A
     both : HasChain others rec.body × HasChain (chains_less rec.body others) old.body
     both = has_swap others old.body rec.body out.0.0 still
 
-    into : AreHeld chains (place.front ++ rec ∷ place.back) × (loose_in chains (place.front ++ rec ∷ place.back) ≡ chains_less rec.body others)
+    into : AreHeld chains (place.front ++ rec ∷ place.back)
+        × (loose_in chains (place.front ++ rec ∷ place.back) ≡ chains_less rec.body others)
     into = held_middle chains place.front place.back rec both.0 out.0.1
 
     now : all_records (lists_replaced rec_id rec lists) ≡ place.front ++ rec ∷ place.back
@@ -138,25 +144,30 @@ module _ (chains : List (Option (List ℕ))) (lists : List (List Rec)) (held : A
     pub replaced_chain : HasChain (loose_in chains (all_records (lists_replaced rec_id rec lists))) old.body
     replaced_chain = subst (λ l. HasChain l old.body) (sym (ap (loose_in chains) now ∙ into.1)) both.1
 
-    pub replaced_was : chains_less rec.body loose ≡ chains_less old.body (loose_in chains (all_records (lists_replaced rec_id rec lists)))
+    pub replaced_was : chains_less rec.body loose
+        ≡ chains_less old.body (loose_in chains (all_records (lists_replaced rec_id rec lists)))
     replaced_was =
         ap (chains_less rec.body) was ∙ less_swap others old.body rec.body still
         ∙ ap (chains_less old.body) (sym (ap (loose_in chains) now ∙ into.1))
 
   -- ---- a record that was taken out, if it was there
-  pub taken_out : (id : ℕ) (new : List (List Rec)) (o : Option Rec) → pairwise (ids_apart rec_id) (all_records lists) ≡ true
+  pub taken_out : (id : ℕ) (new : List (List Rec)) (o : Option Rec)
+      → pairwise (ids_apart rec_id) (all_records lists) ≡ true
       → o ≡ record_of rec_id id lists → new ≡ lists_without rec_id id lists → TakenOut chains lists new o
   taken_out id new (Some rec) apart found is =
       let f = sym found in
       record {
         held = subst (λ l. AreHeld chains (all_records l)) (sym is) (taken_held id rec apart f);
         chain = subst (λ l. HasChain (loose_in chains (all_records l)) rec.body) (sym is) (taken_chain id rec apart f);
-        was = taken_was id rec apart f ∙ ap (λ (l : List (List Rec)). chains_less rec.body (loose_in chains (all_records l))) (sym is);
+        was =
+            taken_was id rec apart f
+            ∙ ap (λ (l : List (List Rec)). chains_less rec.body (loose_in chains (all_records l))) (sym is);
         none = tt;
       }
   taken_out id new None apart found is =
       let absent : list_any (has_id rec_id id) lists ≡ false =
-      sym (any_all (is_id rec_id id) lists) ∙ any_is_found (is_id rec_id id) (all_records lists) ∙ ap is_some (sym found) in
+      sym (any_all (is_id rec_id id) lists) ∙ any_is_found (is_id rec_id id) (all_records lists)
+      ∙ ap is_some (sym found) in
       let same : new ≡ lists = is ∙ without_absent rec_id id lists absent in
       record {
         held = subst (λ l. AreHeld chains (all_records l)) (sym same) held;
@@ -166,7 +177,8 @@ module _ (chains : List (Option (List ℕ))) (lists : List (List Rec)) (held : A
       }
 
   -- the last record
-  pub popped_out : (new : TableView) (o : Option (ℕ × Rec)) (old : TableView) → old.lists ≡ lists → pairwise (ids_apart rec_id) (all_records lists) ≡ true
+  pub popped_out : (new : TableView) (o : Option (ℕ × Rec)) (old : TableView) → old.lists ≡ lists
+      → pairwise (ids_apart rec_id) (all_records lists) ≡ true
       → IfSome o (λ out. record_of rec_id out.1.id.0 lists ≡ Some out.1)
       → IfSome o (λ out. new.lists ≡ lists_without rec_id out.1.id.0 lists) → IfNone o (new ≡ old)
       → PoppedOut chains lists new.lists o
@@ -191,7 +203,8 @@ module _ (chains : List (Option (List ℕ))) (lists : List (List Rec)) (held : A
       → IfSome o (λ rec. HasChain chains rec.now.body)
   chain_of id None e = tt
   chain_of id (Some rec) e =
-      every_found (λ r. HasChain chains r.body) (is_id rec_id id) (all_records lists) rec.now (each_chain chains (all_records lists) held) (sym e)
+      every_found (λ r. HasChain chains r.body) (is_id rec_id id) (all_records lists) rec.now
+      (each_chain chains (all_records lists) held) (sym e)
 
   -- ---- a change at a place where no record's chain begins
   module _ (k : ℕ) (o : Option (List ℕ)) where
@@ -207,7 +220,8 @@ module _ (chains : List (Option (List ℕ))) (lists : List (List Rec)) (held : A
         (record_change chains (all_records lists) k o (elsewhere_fresh chains (all_records lists) k e held))
 
     pub loose_held : IsChain loose k → AreHeld (set chains k o) (all_records lists)
-    loose_held c = held_change chains (all_records lists) k o (elsewhere_loose chains (all_records lists) k c.0 c.1) held
+    loose_held c =
+        held_change chains (all_records lists) k o (elsewhere_loose chains (all_records lists) k c.0 c.1) held
 
     pub loose_loose : IsChain loose k → loose_in (set chains k o) (all_records lists) ≡ set loose k o
     loose_loose c = loose_change chains (all_records lists) k o (elsewhere_loose chains (all_records lists) k c.0 c.1)
@@ -225,7 +239,13 @@ module _ (chains : List (Option (List ℕ))) (lists : List (List Rec)) (held : A
       → elements_in (all_records (shown chains lists)) + sum_by need_at loose + free ≡ n
   all_elements free n e =
       let recs = all_records lists in
-      omega (arith, e, counted chains recs held, ap elements_in (all-map (record_in chains) lists), sum_by-map (λ (r : Record). need_at r.body) (record_in chains) recs)
+      omega (
+        arith,
+        e,
+        counted chains recs held,
+        ap elements_in (all-map (record_in chains) lists),
+        sum_by-map (λ (r : Record). need_at r.body) (record_in chains) recs,
+      )
 
 -- nothing is shown where there are no records
 pub shown_none : (chains : List (Option (List ℕ))) (n : ℕ) → shown chains (replicate n []) ≡ replicate n []
@@ -237,7 +257,8 @@ pub held_none : (chains : List (Option (List ℕ))) (lists : List (List Rec)) (n
 held_none chains lists n e =
     subst (λ l. AreHeld chains (all_records l) × (loose_in chains (all_records l) ≡ chains)) (sym e) (go n)
   where
-    go : (m : ℕ) → AreHeld chains (all_records (replicate m [])) × (loose_in chains (all_records (replicate m [])) ≡ chains)
+    go : (m : ℕ) → AreHeld chains (all_records (replicate m []))
+        × (loose_in chains (all_records (replicate m [])) ≡ chains)
     go zero = (tt, refl)
     go (suc m) = go m
 
@@ -253,9 +274,11 @@ view_with table pool = record {
 }
 
 abbrev view_of : List (List Record) → List (Option (List ℕ)) → List (Option (List ℕ)) → ℕ → ℕ → StoreView
-view_of lists chains loose free room = record { lists = lists; chains = chains; loose = loose; free = free; room = room }
+view_of lists chains loose free room =
+    record { lists = lists; chains = chains; loose = loose; free = free; room = room }
 
-view_by : (a a' : List (List Record)) (b c c' : List (Option (List ℕ))) (d e : ℕ) → a ≡ a' → c ≡ c' → view_of a b c d e ≡ view_of a' b c' d e
+view_by : (a a' : List (List Record)) (b c c' : List (Option (List ℕ))) (d e : ℕ) → a ≡ a' → c ≡ c'
+    → view_of a b c d e ≡ view_of a' b c' d e
 view_by a a' b c c' d e p q = ap (λ x. view_of x b c d e) p ∙ ap (λ x. view_of a' b x d e) q
 
 module _ (table : TableView) (pool new : Chains) (held : AreHeld pool.chains (all_records table.lists)) where
@@ -263,14 +286,18 @@ module _ (table : TableView) (pool new : Chains) (held : AreHeld pool.chains (al
   old_loose = loose_in pool.chains (all_records table.lists)
 
   -- put
-  pub put_held : (bytes : List ℕ) (r : Result Chain NoElements) → IfOk r (λ chain. slice_get pool.chains chain.head ≡ Some None)
-      → IfOk r (λ chain. new ≡ with_chain pool chain.head bytes) → OnErr r (new ≡ pool) → AreHeld new.chains (all_records table.lists)
+  pub put_held : (bytes : List ℕ) (r : Result Chain NoElements)
+      → IfOk r (λ chain. slice_get pool.chains chain.head ≡ Some None)
+      → IfOk r (λ chain. new ≡ with_chain pool chain.head bytes) → OnErr r (new ≡ pool)
+      → AreHeld new.chains (all_records table.lists)
   put_held bytes (Ok chain) fresh put same =
       subst (λ (p : Chains). AreHeld p.chains (all_records table.lists)) (sym put)
       (fresh_held pool.chains table.lists held chain.head (Some bytes) fresh)
-  put_held bytes (Err e) fresh put same = subst (λ (p : Chains). AreHeld p.chains (all_records table.lists)) (sym same) held
+  put_held bytes (Err e) fresh put same =
+      subst (λ (p : Chains). AreHeld p.chains (all_records table.lists)) (sym same) held
 
-  pub put_view : (bytes : List ℕ) (r : Result Chain NoElements) → IfOk r (λ chain. slice_get pool.chains chain.head ≡ Some None)
+  pub put_view : (bytes : List ℕ) (r : Result Chain NoElements)
+      → IfOk r (λ chain. slice_get pool.chains chain.head ≡ Some None)
       → IfOk r (λ chain. new ≡ with_chain pool chain.head bytes)
       → IfOk r (λ chain. view_with table new ≡ record {
         lists = shown pool.chains table.lists;
@@ -286,9 +313,11 @@ module _ (table : TableView) (pool new : Chains) (held : AreHeld pool.chains (al
   put_view bytes (Err e) fresh put = tt
 
   -- give back
-  pub given_held : (k : ℕ) → IsChain old_loose k → new ≡ without_chain pool k → AreHeld new.chains (all_records table.lists)
+  pub given_held : (k : ℕ) → IsChain old_loose k → new ≡ without_chain pool k
+      → AreHeld new.chains (all_records table.lists)
   given_held k c given =
-      subst (λ (p : Chains). AreHeld p.chains (all_records table.lists)) (sym given) (loose_held pool.chains table.lists held k None c)
+      subst (λ (p : Chains). AreHeld p.chains (all_records table.lists)) (sym given)
+      (loose_held pool.chains table.lists held k None c)
 
   pub given_view : (k : ℕ) → IsChain old_loose k → new ≡ without_chain pool k
       → view_with table new ≡ record {
@@ -300,44 +329,16 @@ module _ (table : TableView) (pool new : Chains) (held : AreHeld pool.chains (al
       }
   given_view k c given =
       ap (view_with table) given
-      ∙ view_by _ _ _ _ _ _ _ (loose_shown pool.chains table.lists held k None c) (loose_loose pool.chains table.lists held k None c)
+      ∙ view_by _ _ _ _ _ _ _ (loose_shown pool.chains table.lists held k None c)
+      (loose_loose pool.chains table.lists held k None c)
 
 -- a new chain is at a place where no loose one was
-pub new_fresh : {E : Type 0} (chains : List (Option (List ℕ))) (recs : List Rec) → AreHeld chains recs → (r : Result Chain E)
-    → IfOk r (λ chain. slice_get chains chain.head ≡ Some None) → IfOk r (λ chain. slice_get (loose_in chains recs) chain.head ≡ Some None)
+pub new_fresh : {E : Type 0} (chains : List (Option (List ℕ))) (recs : List Rec) → AreHeld chains recs
+    → (r : Result Chain E)
+    → IfOk r (λ chain. slice_get chains chain.head ≡ Some None)
+    → IfOk r (λ chain. slice_get (loose_in chains recs) chain.head ≡ Some None)
 new_fresh chains recs held (Ok chain) e = loose_fresh chains recs chain.head e held
 new_fresh chains recs held (Err e) f = tt
-
--- replace: first given back, then put
-module _ (table : TableView) (pool new : Chains) (held : AreHeld pool.chains (all_records table.lists)) (k : ℕ)
-    (c : IsChain (loose_in pool.chains (all_records table.lists)) k) (bytes : List ℕ) where
-  between : AreHeld (set pool.chains k None) (all_records table.lists)
-  between = loose_held pool.chains table.lists held k None c
-
-  pub replace_held : (r : Result Chain (Chain × NoElements)) → IfOk r (λ chain. slice_get (without_chain pool k).chains chain.head ≡ Some None)
-      → IfOk r (λ chain. new ≡ with_chain (without_chain pool k) chain.head bytes) → OnErr r (new ≡ pool) → AreHeld new.chains (all_records table.lists)
-  replace_held (Ok chain) fresh put same =
-      subst (λ (p : Chains). AreHeld p.chains (all_records table.lists)) (sym put)
-      (fresh_held (set pool.chains k None) table.lists between chain.head (Some bytes) fresh)
-  replace_held (Err e) fresh put same = subst (λ (p : Chains). AreHeld p.chains (all_records table.lists)) (sym same) held
-
-  pub replace_view : (r : Result Chain (Chain × NoElements)) → IfOk r (λ chain. slice_get (without_chain pool k).chains chain.head ≡ Some None)
-      → IfOk r (λ chain. new ≡ with_chain (without_chain pool k) chain.head bytes)
-      → IfOk r (λ chain. view_with table new ≡ record {
-        lists = shown pool.chains table.lists;
-        chains = set (set pool.chains k None) chain.head (Some bytes);
-        loose = set (set (loose_in pool.chains (all_records table.lists)) k None) chain.head (Some bytes);
-        free = pool.free + need_in pool.chains k - need_of (length bytes);
-        room = table.room;
-      })
-  replace_view (Ok chain) fresh put =
-      let gone = set pool.chains k None in
-      ap (view_with table) put
-      ∙ view_by _ _ _ _ _ _ _
-      (fresh_shown gone table.lists between chain.head (Some bytes) fresh ∙ loose_shown pool.chains table.lists held k None c)
-      (fresh_loose gone table.lists between chain.head (Some bytes) fresh
-      ∙ ap (λ l. set l chain.head (Some bytes)) (loose_loose pool.chains table.lists held k None c))
-  replace_view (Err e) fresh put = tt
 
 -- ---- each chain has 1 to 4,096 bytes
 
@@ -366,17 +367,6 @@ pub given_whole : (pool new : Chains) (k : ℕ) → list_all is_data pool.chains
     → list_all is_data new.chains ≡ true
 given_whole pool new k whole given =
     ap (λ (p : Chains). list_all is_data p.chains) given ∙ list_all-set is_data pool.chains k None whole refl
-
-pub replace_whole : (pool new : Chains) (k : ℕ) (bytes : List ℕ) → 1 ≤ length bytes → length bytes ≤ 4096
-    → list_all is_data pool.chains ≡ true → (r : Result Chain (Chain × NoElements))
-    → IfOk r (λ chain. new ≡ with_chain (without_chain pool k) chain.head bytes) → OnErr r (new ≡ pool)
-    → list_all is_data new.chains ≡ true
-replace_whole pool new k bytes some few whole (Ok chain) put same =
-    ap (λ (p : Chains). list_all is_data p.chains) put
-    ∙ list_all-set is_data (set pool.chains k None) chain.head (Some bytes)
-    (list_all-set is_data pool.chains k None whole refl) (is_whole bytes some few)
-replace_whole pool new k bytes some few whole (Err e) put same =
-    ap (λ (p : Chains). list_all is_data p.chains) same ∙ whole
 
 pub data_size : (chains : List (Option (List ℕ))) (k : ℕ) (bytes : List ℕ) → list_all is_data chains ≡ true
     → slice_get chains k ≡ Some (Some bytes) → (1 ≤ length bytes) × (length bytes ≤ 4096)

@@ -1,8 +1,8 @@
 //! Records by header and place, and by id. Their data lie elsewhere: a record has a chain.
-ghost use Rattle.std.specs.Prelude.{◌≡◌, ◌-◌, ◌+◌, ◌<◌, ◌≤◌, [], true, false, IsTrue, IfOk, OnOk, IfSome, IfNone, Some, length, take, option_map, slice_get, replicate};
+ghost use Rattle.std.specs.Prelude.{◌≡◌, ◌-◌, ◌<◌, ◌≤◌, [], true, false, IsTrue, IfOk, OnOk, IfSome, IfNone, Some, length, take, option_map, slice_get, replicate};
 ghost use Rattle.std.specs.List.{list_any};
 ghost use Rattle.list_laws.specs.Pairwise.{pairwise};
-ghost use Rattle.record_lists.specs.Lists.{all_records, records_of, with_records, is_id, record_of, spot_of, lists_without, lists_with, lists_replaced, lists_popped, ids_apart, IsLastFull};
+ghost use Rattle.record_lists.specs.Lists.{all_records, records_of, is_id, record_of, spot_of, lists_without, lists_with, lists_replaced, lists_popped, ids_apart, IsLastFull};
 ghost use Rattle.list_store.specs.Tied.{rec_id};
 ghost use Rattle.list_store.specs.Spots.{as_spot};
 
@@ -18,8 +18,8 @@ use slab::Slab;
 use std::alloc::Global;
 use std::marker::Model;
 
-/// Records in a slab, an order of their slab keys for each header, and a map from ids. Contracts see
-/// a list of records for each header, and for how many more there is room.
+/// Records in a slab, an order of their slab keys for each header, and a map from ids. Contracts
+/// see a list of records for each header, and for how many more there is room.
 #[derive(Drop)]
 pub(crate) struct Table {
     slab: Slab<Rec>,

@@ -1,13 +1,11 @@
 //! Records in a slab, with an order of slab keys for each header, and a map from ids to the header
 //! and the slab key.
-ghost use Rattle.std.specs.Prelude.{◌≡◌, ◌-◌, ◌+◌, ◌<◌, ◌≤◌, ◌++◌, ◌∷◌, [], true, false, IsTrue, IfOk, IfErr, OnOk, OnErr, IfSome, IfNone, Some, None, length, take, option_map, nat_eq, slice_get, slice_set, replicate};
+ghost use Rattle.std.specs.Prelude.{◌≡◌, ◌-◌, ◌+◌, ◌<◌, ◌≤◌, [], true, false, IsTrue, OnOk, IfSome, IfNone, Some, None, length, option_map, slice_get};
 ghost use Rattle.std.specs.List.{list_all, list_any, remove};
 ghost use Rattle.std.specs.Vec.{vec_len};
-ghost use Rattle.std.specs.Map.{lookup};
 ghost use Rattle.slab.specs.Slab.{get as slab_get, slab_len, ContainsKey, HasRoomFor, Updates};
 ghost use Rattle.indexmap.specs.IndexMap.{spare};
-ghost use Rattle.list_laws.specs.Pairwise.{pairwise};
-ghost use Rattle.record_lists.specs.Lists.{all_records, records_of, with_records, is_id, record_of, spot_of, lists_without, lists_with, lists_less, lists_popped, lists_replaced, ids_apart, IsLastFull};
+ghost use Rattle.record_lists.specs.Lists.{all_records, records_of, is_id, record_of, spot_of, lists_without, lists_with, lists_less, lists_popped, lists_replaced, IsLastFull};
 ghost use Rattle.list_store.specs.Orders.{orders_in, has_place, is_few};
 ghost use Rattle.list_store.specs.Tied.{rec_id, lists_at, IsTied, Writes, spot_for};
 ghost use Rattle.list_store.specs.Spots.{as_spot};
@@ -24,6 +22,14 @@ fn write(spots: &mut IndexMap<u64, (u32, u32)>, id: u64, header: u32, key: u32)
     ensures { Writes spots.old.entries id (Some (header, key)) spots.new.entries }
 {
     let _ = spots.insert(id, (header, key));
+}
+
+// Takes the entry of an id out of a map, if there is one.
+fn forget(spots: &mut IndexMap<u64, (u32, u32)>, id: u64)
+    ensures writes { Writes spots.old.entries id None spots.new.entries }
+    ensures room { spare spots.old ≤ spare spots.new }
+{
+    let _ = spots.swap_remove(&id);
 }
 
 /// A record more, at a place of a header; no record has its id.
@@ -89,7 +95,7 @@ fn pull(
 {
     let key = take_at(orders, header, place);
     let rec = slab.remove(key as usize);
-    spots.swap_remove(&rec.id.0);
+    forget(spots, rec.id.0);
     rec
 }
 
@@ -275,6 +281,15 @@ pub(crate) fn take_out(
     }
 }
 
+// The place of the last key of a header, which has some.
+fn last_place(orders: &[Vec<u32>], header: usize) -> usize
+    requires header { header < length orders.now }
+    requires full { 0 < length (records_of (orders_in orders.now) header) }
+    ensures { result + 1 ≡ length (records_of (orders_in orders.now) header) }
+{
+    count(orders, header) - 1
+}
+
 /// Takes out the last record of a header, which has some.
 pub(crate) fn pop_out(
     slab: &mut Slab<Rec>,
@@ -295,7 +310,7 @@ pub(crate) fn pop_out(
     ensures few { IsTrue (list_all is_few (orders_in orders.new.items)) }
     ensures len { vec_len orders.new ≡ vec_len orders.old }
 {
-    let last = count(orders.as_slice(), header) - 1;
+    let last = last_place(orders.as_slice(), header);
     pull(slab, orders, spots, header, last)
 }
 

@@ -24,7 +24,7 @@ use Rattle.list_laws.proofs.FilterLaws.{list_all-filter, list_all_weaker, all_fo
 use Rattle.list_laws.proofs.InsertionLaws.{list_all-insertion}
 use Rattle.list_laws.specs.Insertions.{insertion}
 use Rattle.list_store.specs.Record.{Record}
-use Rattle.list_store.specs.Lists.{Lists, records_of, all_records, is_id, record_of, lists_without, replaced_by}
+use Rattle.list_store.specs.Lists.{Lists, records_of, all_records, is_id, lists_without, replaced_by}
 use Rattle.list_model.specs.Contents.{Content, headers_of, no_content, content_without}
 use Rattle.list_model.specs.Lists.{the_record, stands_before, with_record}
 use Rattle.list_model.specs.Meaning.{list_meaning}
@@ -39,7 +39,7 @@ use Rattle.shell_laws.proofs.ReplayLaws.{traced-replay, legal-answered}
 use Rattle.record_laws.specs.Histories.{Told, ListEntry, ListHistory, told_by, told_in, IsLegalList, content_after}
 use Rattle.record_laws.specs.Applied.{Deed, IsHeldAfter, after_deed, opened, told_reply, told_of, told_from, told_then, content_applied}
 use Rattle.record_laws.specs.Applied.Deed.{Calls, Leaves, Returns}
-use Rattle.record_laws.specs.Versions.{is_write, is_update, answers, tells, makes, updates, IsVersioned}
+use Rattle.record_laws.specs.Versions.{is_write, is_update, answers, tells, makes, updates, AreVersioned}
 
 -- ---- counting
 
@@ -477,10 +477,11 @@ made_at id n (entry ∷ history) h =
 -- ---- the version of a record
 
 versioned : (told : List Told) (content : Content) → AreGood told content → length told < 4294967295
-    → (id : EntryId) (rec : Record) → record_of id content.lists ≡ Some rec → IsVersioned told id rec.version
+    → AreVersioned told content.lists
 versioned told content are few id rec found =
     let all = all_records content.lists in
-    let is = good_parts told content.next rec (all_found (is_id id) (is_good told content.next) all rec (are few) found) in
+    let is =
+    good_parts told content.next rec (all_found (is_id id) (is_good told content.next) all rec (are few) found) in
     let named : rec.id.0 ≡ id.0 = eqb-true rec.id.0 id.0 (found_passes (is_id id) all rec found) in
     let same_id : rec.id ≡ id = ap (λ (n : ℕ). (let e : EntryId = record { 0 = n } in e)) named in
     let split = subst (λ (e : EntryId). IsSplit e 0 told) same_id (made_at rec.id 0 told is.made) in
@@ -498,8 +499,7 @@ versioned told content are few id rec found =
 
 pub versions-replay : (form : StrForm) (history : ListHistory) → IsLegalList form history
     → length history < 4294967295
-    → (id : EntryId) (rec : Record) → record_of id (content_after form history).lists ≡ Some rec
-    → IsVersioned (told_in history) id rec.version
+    → AreVersioned (told_in history) (content_after form history).lists
 versions-replay form history legal few =
     versioned (told_in history) (content_after form history)
     (traced-replay list_meaning form refl (λ history content. AreGood (told_in history) content) (traced form) history
@@ -534,8 +534,7 @@ deeds-good held (deed ∷ deeds) told are =
 
 pub versions-applied : (held : Held Content) (deeds : List Deed) (by : ConnId) (cmd : ListCmd)
     → IsHeldAfter deeds held → length (told_then held deeds by cmd) < 4294967295
-    → (id : EntryId) (rec : Record) → record_of id (content_applied held by cmd).lists ≡ Some rec
-    → IsVersioned (told_then held deeds by cmd) id rec.version
+    → AreVersioned (told_then held deeds by cmd) (content_applied held by cmd).lists
 versions-applied held deeds by cmd led =
     let told = told_from (opened held) deeds in
     versioned (told_then held deeds by cmd) (content_applied held by cmd)

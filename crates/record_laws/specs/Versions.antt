@@ -6,6 +6,8 @@ use Rattle.cf_types.specs.declared.list_commands.ListCmd.TheVariants.{Write, Upd
 use Rattle.cf_types.specs.declared.list_commands.ListReply.{ListReply}
 use Rattle.cf_types.specs.declared.list_commands.ListReply.TheVariants as replies
 use Rattle.cf_types.specs.declared.numbers.EntryId.{EntryId}
+use Rattle.list_store.specs.Record.{Record}
+use Rattle.list_store.specs.Lists.{Lists, record_of}
 use Rattle.record_laws.specs.Histories.{Told}
 
 abbrev pub is_write : ListCmd → Bool
@@ -43,3 +45,8 @@ pub record IsVersioned (told : List Told) (id : EntryId) (found : ℕ) : Type 0 
   pub made : IsTrue (makes id write)
   pub last : list_any (makes id) since ≡ false
   pub version : found ≡ 1 + length (filter (updates id) since)
+
+-- the version of each record is the one that was told of it
+abbrev pub AreVersioned : List Told → Lists → Type 0
+AreVersioned told lists =
+    (id : EntryId) (rec : Record) → record_of id lists ≡ Some rec → IsVersioned told id rec.version

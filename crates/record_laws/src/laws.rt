@@ -1,14 +1,11 @@
-ghost use Rattle.std.specs.Prelude.{◌≡◌, ◌<◌, List, Some, length};
+ghost use Rattle.std.specs.Prelude.{◌<◌, List, length};
 ghost use Rattle.cf_types.specs.declared.list_commands.ListCmd.{ListCmd};
 ghost use Rattle.cf_types.specs.declared.numbers.ConnId.{ConnId};
-ghost use Rattle.cf_types.specs.declared.numbers.EntryId.{EntryId};
 ghost use Rattle.engine_api.specs.Meaning.{Held};
-ghost use Rattle.list_store.specs.Record.{Record};
-ghost use Rattle.list_store.specs.Lists.{record_of};
 ghost use Rattle.list_model.specs.Contents.{Content};
 ghost use Rattle.record_laws.specs.Applied.{Deed, IsHeldAfter, content_applied, told_then};
 ghost use Rattle.record_laws.specs.Histories.{IsLegalList, content_after, told_in};
-ghost use Rattle.record_laws.specs.Versions.{IsVersioned};
+ghost use Rattle.record_laws.specs.Versions.{AreVersioned};
 
 use cf_types::{ListCmd, ListReply, StrForm};
 use engine_api::History;
@@ -19,9 +16,7 @@ use engine_api::History;
 pub fn versions(form: &StrForm, history: &History<ListCmd, ListReply>)
     requires legal { IsLegalList form.now history.now }
     requires few { length history.now < 4294967295 }
-    ensures { (id : EntryId) (rec : Record)
-        → record_of id (content_after form.now history.now).lists ≡ Some rec
-        → IsVersioned (told_in history.now) id rec.version }
+    ensures { AreVersioned (told_in history.now) (content_after form.now history.now).lists }
 {}
 
 /// The same of what an engine's `apply` leaves of a list structure that was empty at first,
@@ -29,6 +24,5 @@ pub fn versions(form: &StrForm, history: &History<ListCmd, ListReply>)
 pub fn after_apply()
     ensures { (held : Held Content) (deeds : List Deed) (by : ConnId) (cmd : ListCmd)
         → IsHeldAfter deeds held → length (told_then held deeds by cmd) < 4294967295
-        → (id : EntryId) (rec : Record) → record_of id (content_applied held by cmd).lists ≡ Some rec
-        → IsVersioned (told_then held deeds by cmd) id rec.version }
+        → AreVersioned (told_then held deeds by cmd) (content_applied held by cmd).lists }
 {}

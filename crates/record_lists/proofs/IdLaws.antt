@@ -258,7 +258,8 @@ module _ {X : Type 0} (id_of : X → ℕ) where
       ∙ none_filtered (is_id id_of id) (all_records lists))
 
   -- replaced once and once more
-  replaced_again : (a b : X) → id_of a ≡ id_of b → (xs : List X) → map (replaced_by id_of b) (map (replaced_by id_of a) xs) ≡ map (replaced_by id_of b) xs
+  replaced_again : (a b : X) → id_of a ≡ id_of b → (xs : List X)
+      → map (replaced_by id_of b) (map (replaced_by id_of a) xs) ≡ map (replaced_by id_of b) xs
   replaced_again a b e [] = refl
   replaced_again a b e (x ∷ xs) =
       ap (λ (y : X). y ∷ map (replaced_by id_of b) (map (replaced_by id_of a) xs)) (go (is_id id_of (id_of a) x) refl)
@@ -272,19 +273,24 @@ module _ {X : Type 0} (id_of : X → ℕ) where
           ap (λ t. cond t b a) also ∙ sym (ap (λ t. cond t b x) here)
       go false f = refl
 
-  pub replaced_twice : (a b : X) → id_of a ≡ id_of b → (lists : List (List X)) → lists_replaced id_of b (lists_replaced id_of a lists) ≡ lists_replaced id_of b lists
+  pub replaced_twice : (a b : X) → id_of a ≡ id_of b → (lists : List (List X))
+      → lists_replaced id_of b (lists_replaced id_of a lists) ≡ lists_replaced id_of b lists
   replaced_twice a b e [] = refl
   replaced_twice a b e (l ∷ ls) =
       ap (λ (r : List X). r ∷ lists_replaced id_of b (lists_replaced id_of a ls)) (replaced_again a b e l)
       ∙ ap (λ (r : List (List X)). map (replaced_by id_of b) l ∷ r) (replaced_twice a b e ls)
 
   -- the ids that are there stay
-  same_ids : (a : X) (xs : List X) (id : ℕ) → list_any (is_id id_of id) (map (replaced_by id_of a) xs) ≡ list_any (is_id id_of id) xs
+  same_ids : (a : X) (xs : List X) (id : ℕ)
+      → list_any (is_id id_of id) (map (replaced_by id_of a) xs) ≡ list_any (is_id id_of id) xs
   same_ids a [] id = refl
   same_ids a (x ∷ xs) id =
       ap (λ n. (n == id) || list_any (is_id id_of id) (map (replaced_by id_of a) xs)) (same_id a x)
       ∙ ap (λ b. is_id id_of id x || b) (same_ids a xs id)
 
   pub any-replaced : (a : X) (lists : List (List X)) (id : ℕ)
-      → list_any (is_id id_of id) (all_records (lists_replaced id_of a lists)) ≡ list_any (is_id id_of id) (all_records lists)
-  any-replaced a lists id = ap (λ (l : List X). list_any (is_id id_of id) l) (all-map (replaced_by id_of a) lists) ∙ same_ids a (all_records lists) id
+      → list_any (is_id id_of id) (all_records (lists_replaced id_of a lists))
+      ≡ list_any (is_id id_of id) (all_records lists)
+  any-replaced a lists id =
+      ap (λ (l : List X). list_any (is_id id_of id) l) (all-map (replaced_by id_of a) lists)
+      ∙ same_ids a (all_records lists) id

@@ -48,13 +48,15 @@ module _ {X Y : Type 0} (f : X → Y) where
       ∙ ap (λ (l : List Y). insert l p (f x)) (sym (records_of-map lists h)))
 
   pub removed-map : (h p : ℕ) (lists : List (List X))
-      → map (map f) (set lists h (remove (records_of lists h) p)) ≡ set (map (map f) lists) h (remove (records_of (map (map f) lists) h) p)
+      → map (map f) (set lists h (remove (records_of lists h) p))
+      ≡ set (map (map f) lists) h (remove (records_of (map (map f) lists) h) p)
   removed-map h p lists =
       map-set (map f) lists h (remove (records_of lists h) p)
       ∙ ap (λ (l : List Y). set (map (map f) lists) h l) (remove-map (records_of lists h) p
       ∙ ap (λ (l : List Y). remove l p) (sym (records_of-map lists h)))
 
-  pub length-map_of : (lists : List (List X)) (h : ℕ) → length (records_of (map (map f) lists) h) ≡ length (records_of lists h)
+  pub length-map_of : (lists : List (List X)) (h : ℕ)
+      → length (records_of (map (map f) lists) h) ≡ length (records_of lists h)
   length-map_of lists h = ap (λ (l : List Y). length l) (records_of-map lists h) ∙ length-map (records_of lists h) f
 
   -- the last header that has records
@@ -77,7 +79,8 @@ module _ {X Y : Type 0} (f : X → Y) where
   -- without the last record of a header
   pub popped-map : (h : ℕ) (lists : List (List X))
       → map (map f) (with_records lists h (take (length (records_of lists h) - 1) (records_of lists h)))
-      ≡ with_records (map (map f) lists) h (take (length (records_of (map (map f) lists) h) - 1) (records_of (map (map f) lists) h))
+      ≡ with_records (map (map f) lists) h
+      (take (length (records_of (map (map f) lists) h) - 1) (records_of (map (map f) lists) h))
   popped-map h lists =
       map-set (map f) lists h (take (length (records_of lists h) - 1) (records_of lists h))
       ∙ ap (λ (l : List Y). set (map (map f) lists) h l)
@@ -101,11 +104,13 @@ module _ {X Y : Type 0} (f : X → Y) where
         there : is_id id_at (id_at (f x)) (f y) ≡ is_id id_of (id_of x) y
         there = ap (λ n. n == id_at (f x)) (same y) ∙ ap (λ n. id_of y == n) (same x)
 
-        go : (b : Bool) → is_id id_of (id_of x) y ≡ b → f (cond b x y) ≡ (if is_id id_at (id_at (f x)) (f y) then f x else f y)
+        go : (b : Bool) → is_id id_of (id_of x) y ≡ b
+            → f (cond b x y) ≡ (if is_id id_at (id_at (f x)) (f y) then f x else f y)
         go true t = let k = there ∙ t in rw k refl
         go false t = let k = there ∙ t in rw k refl
 
-    replaced_list : (x : X) (xs : List X) → map f (map (replaced_by id_of x) xs) ≡ map (replaced_by id_at (f x)) (map f xs)
+    replaced_list : (x : X) (xs : List X)
+        → map f (map (replaced_by id_of x) xs) ≡ map (replaced_by id_at (f x)) (map f xs)
     replaced_list x [] = refl
     replaced_list x (y ∷ ys) =
         ap (λ (r : Y). r ∷ map f (map (replaced_by id_of x) ys)) (replaced_one x y)
@@ -122,13 +127,16 @@ module _ {X Y : Type 0} (f : X → Y) where
     find-map id [] = refl
     find-map id (x ∷ xs) = go (is_id id_of id x) refl (find-map id xs)
       where
-        go : (b : Bool) → is_id id_of id x ≡ b → find (is_id id_at id) (map f xs) ≡ option_map f (find (is_id id_of id) xs)
+        go : (b : Bool) → is_id id_of id x ≡ b
+            → find (is_id id_at id) (map f xs) ≡ option_map f (find (is_id id_of id) xs)
             → find (is_id id_at id) (f x ∷ map f xs) ≡ option_map f (cond b (Some x) (find (is_id id_of id) xs))
         go true t r = let k : is_id id_at id (f x) ≡ true = ap (λ n. n == id) (same x) ∙ t in rw k refl
         go false t r = let k : is_id id_at id (f x) ≡ false = ap (λ n. n == id) (same x) ∙ t in rw k r
 
-    pub record-map : (id : ℕ) (lists : List (List X)) → record_of id_at id (map (map f) lists) ≡ option_map f (record_of id_of id lists)
-    record-map id lists = ap (λ (l : List Y). find (is_id id_at id) l) (all-map f lists) ∙ find-map id (all_records lists)
+    pub record-map : (id : ℕ) (lists : List (List X))
+        → record_of id_at id (map (map f) lists) ≡ option_map f (record_of id_of id lists)
+    record-map id lists =
+        ap (λ (l : List Y). find (is_id id_at id) l) (all-map f lists) ∙ find-map id (all_records lists)
 
     any_id-map : (id : ℕ) (xs : List X) → has_id id_at id (map f xs) ≡ has_id id_of id xs
     any_id-map id [] = refl
@@ -137,7 +145,8 @@ module _ {X Y : Type 0} (f : X → Y) where
 
     pub any-map : (id : ℕ) (lists : List (List X))
         → list_any (is_id id_at id) (all_records (map (map f) lists)) ≡ list_any (is_id id_of id) (all_records lists)
-    any-map id lists = ap (λ (l : List Y). list_any (is_id id_at id) l) (all-map f lists) ∙ any_id-map id (all_records lists)
+    any-map id lists =
+        ap (λ (l : List Y). list_any (is_id id_at id) l) (all-map f lists) ∙ any_id-map id (all_records lists)
 
     apart_one : (x : X) (xs : List X)
         → list_all (ids_apart id_at (f x)) (map f xs) ≡ list_all (ids_apart id_of x) xs
@@ -160,13 +169,15 @@ module _ {X Y : Type 0} (f : X → Y) where
     apart-map lists =
         ap (λ (l : List Y). pairwise (ids_apart id_at) l) (all-map f lists) ∙ apart_each (all_records lists)
 
-    position_or_len_agree : {Z : Type 0} (p q : Z → Bool) → ((z : Z) → p z ≡ q z) → (zs : List Z) → position_or_len p zs ≡ position_or_len q zs
+    position_or_len_agree : {Z : Type 0} (p q : Z → Bool) → ((z : Z) → p z ≡ q z) → (zs : List Z)
+        → position_or_len p zs ≡ position_or_len q zs
     position_or_len_agree p q h [] = refl
     position_or_len_agree p q h (z ∷ zs) =
         ap (λ b. cond (not b) (1 + position_or_len p zs) 0) (h z)
         ∙ ap (λ n. cond (not (q z)) (1 + n) 0) (position_or_len_agree p q h zs)
 
-    position_agree : {Z : Type 0} (p q : Z → Bool) → ((z : Z) → p z ≡ q z) → (zs : List Z) → position p zs ≡ position q zs
+    position_agree : {Z : Type 0} (p q : Z → Bool) → ((z : Z) → p z ≡ q z) → (zs : List Z)
+        → position p zs ≡ position q zs
     position_agree p q h zs = ap (λ n. cond (nat_lt n (length zs)) (Some n) None) (position_or_len_agree p q h zs)
 
     pub spot-map : (id : ℕ) (lists : List (List X)) → spot_of id_at id (map (map f) lists) ≡ spot_of id_of id lists
@@ -182,4 +193,5 @@ module _ {X Y : Type 0} (f : X → Y) where
             ap (λ (l : List Y). place_in id_at id h l) (records_of-map lists h)
             ∙ ap (λ (o : Option ℕ). option_map {U = ℕ × ℕ} (λ (place : ℕ). (h, place)) o)
             (position-map (is_id id_at id) f (records_of lists h)
-            ∙ position_agree (λ x. is_id id_at id (f x)) (is_id id_of id) (λ x. ap (λ n. n == id) (same x)) (records_of lists h))
+            ∙ position_agree (λ x. is_id id_at id (f x)) (is_id id_of id) (λ x. ap (λ n. n == id) (same x))
+            (records_of lists h))

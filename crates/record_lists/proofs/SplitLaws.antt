@@ -44,7 +44,8 @@ module _ {X : Type 0} where
 
   -- one record more
   pub all_with : (h p : ℕ) (rec : X) (lists : List (List X)) → h < length lists
-      → (front : List X) × (back : List X) × (all_records lists ≡ front ++ back) × (all_records (lists_with h p rec lists) ≡ front ++ rec ∷ back)
+      → (front : List X) × (back : List X) × (all_records lists ≡ front ++ back)
+      × (all_records (lists_with h p rec lists) ≡ front ++ rec ∷ back)
   all_with h p rec lists lt =
       let recs = records_of lists h in
       let front = all_records (take h lists) in
@@ -66,7 +67,8 @@ module _ {X Y : Type 0} (f g : X → Y) where
   agree_each (x ∷ xs) h = ap (λ (y : Y). y ∷ map f xs) h.0 ∙ ap (λ (l : List Y). g x ∷ l) (agree_each xs h.1)
 
   -- maps that agree on all records
-  pub agree_all : (lists : List (List X)) → Every (λ x. f x ≡ g x) (all_records lists) → map (map f) lists ≡ map (map g) lists
+  pub agree_all : (lists : List (List X)) → Every (λ x. f x ≡ g x) (all_records lists)
+      → map (map f) lists ≡ map (map g) lists
   agree_all [] h = refl
   agree_all (l ∷ ls) h =
       ap (λ (r : List Y). r ∷ map (map f) ls) (agree_each l (every_front (λ x. f x ≡ g x) l (all_records ls) h))
@@ -80,17 +82,20 @@ module _ {X : Type 0} (id_of : X → ℕ) where
     pub less : records_without id_of id xs ≡ front ++ back
     pub other : (new : X) → id_of new ≡ id → map (replaced_by id_of new) xs ≡ front ++ new ∷ back
 
-  pub split_found : (id : ℕ) (xs : List X) (x : X) → pairwise (ids_apart id_of) xs ≡ true → find (is_id id_of id) xs ≡ Some x → IsSplit id xs x
+  pub split_found : (id : ℕ) (xs : List X) (x : X) → pairwise (ids_apart id_of) xs ≡ true
+      → find (is_id id_of id) xs ≡ Some x → IsSplit id xs x
   split_found id [] x h e = absurd (cc)
   split_found id (y ∷ ys) x h e =
       let parts = and_parts (list_all (ids_apart id_of y) ys) (pairwise (ids_apart id_of) ys) h in
       go (is_id id_of id y) refl e parts.0 (split_found id ys x parts.1)
     where
-      go : (b : Bool) → is_id id_of id y ≡ b → cond b (Some y) (find (is_id id_of id) ys) ≡ Some x → list_all (ids_apart id_of y) ys ≡ true
+      go : (b : Bool) → is_id id_of id y ≡ b → cond b (Some y) (find (is_id id_of id) ys) ≡ Some x
+          → list_all (ids_apart id_of y) ys ≡ true
           → (find (is_id id_of id) ys ≡ Some x → IsSplit id ys x) → IsSplit id (y ∷ ys) x
       go true t e apart rest =
           let same : y ≡ x = cc in
-          let others = list_all_weaker (ids_apart id_of y) (λ z. not (is_id id_of id z)) (λ z. once id_of id y z t) ys apart in
+          let others =
+          list_all_weaker (ids_apart id_of y) (λ z. not (is_id id_of id z)) (λ z. once id_of id y z t) ys apart in
           let none = none_from_all (is_id id_of id) ys others in
           record {
             front = [];

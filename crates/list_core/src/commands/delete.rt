@@ -8,26 +8,22 @@ ghost use Rattle.list_model.specs.Commands.Delete as delete;
 ghost use Rattle.list_kept.specs.ContentView.{IsRoomy};
 ghost use Rattle.list_core.specs.Found.{IsFound};
 
+use crate::commands::Asked;
 use crate::refusals::{
     Judged, cond_lock_refusal, cond_refusal, record_refusal, ref_form_refusal, ref_header_refusal,
     refs_of, version_refusal,
 };
-use cf_types::{At, Cond, ConnId, Effects, ListReply};
+use cf_types::{At, ConnId, Effects, ListReply};
 use engine_api::Shape;
 use list_kept::{Kept, headers_of, id_at, locks_of};
 
 /// Why the command is refused.
-pub(crate) fn refusal(
-    shape: Shape,
-    kept: &Kept,
-    by: ConnId,
-    at: At,
-    version: Option<u32>,
-    cond: Option<Cond>,
-) -> Judged
+pub(crate) fn refusal(shape: Shape, kept: &Kept, by: ConnId, asked: Asked) -> Judged
     ensures { result_err result
-        ≡ first_refusal (delete.causes shape kept.now.content by at version cond) }
+        ≡ first_refusal (delete.causes shape kept.now.content by asked.at asked.version
+        asked.cond) }
 {
+    let Asked { at, version, cond } = asked;
     cond_lock_refusal(locks_of(shape.kind), cond)?;
     cond_refusal(kept, by, cond)?;
     ref_header_refusal(headers_of(shape.kind), at)?;

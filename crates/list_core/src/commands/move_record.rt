@@ -10,11 +10,12 @@ ghost use Rattle.list_kept.specs.ContentView.{IsRoomy};
 ghost use Rattle.list_kept.specs.Orderly.{IsOrderly};
 ghost use Rattle.list_core.specs.Found.{IsFound};
 
+use crate::commands::Asked;
 use crate::refusals::{
     Judged, cond_lock_refusal, cond_refusal, full_refusal, header_refusal, new_key_refusal,
     record_refusal, ref_form_refusal, ref_header_refusal, refs_of, version_refusal,
 };
-use cf_types::{At, Cond, ConnId, Effects, Key16};
+use cf_types::{At, ConnId, Effects, Key16};
 use engine_api::Shape;
 use list_kept::{Kept, headers_of, id_at, locks_of};
 
@@ -34,15 +35,15 @@ pub(crate) fn refusal(
     shape: Shape,
     kept: &Kept,
     by: ConnId,
-    at: At,
+    asked: Asked,
     header: u32,
     key: Option<Key16>,
-    version: Option<u32>,
-    cond: Option<Cond>,
 ) -> Judged
     ensures { result_err result
-        ≡ first_refusal (moving.causes shape kept.now.content by at header key version cond) }
+        ≡ first_refusal (moving.causes shape kept.now.content by asked.at header key
+        asked.version asked.cond) }
 {
+    let Asked { at, version, cond } = asked;
     cond_lock_refusal(locks_of(shape.kind), cond)?;
     cond_refusal(kept, by, cond)?;
     ref_header_refusal(headers_of(shape.kind), at)?;

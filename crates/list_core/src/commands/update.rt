@@ -9,11 +9,12 @@ ghost use Rattle.list_model.specs.Lists.{the_record};
 ghost use Rattle.list_model.specs.Commands.Update as update;
 ghost use Rattle.list_core.specs.Found.{IsFound};
 
+use crate::commands::Asked;
 use crate::refusals::{
     Judged, cond_lock_refusal, cond_refusal, elements_refusal, record_refusal, ref_form_refusal,
     ref_header_refusal, refs_of, version_refusal,
 };
-use cf_types::{Adjunct, At, Body, Caps, Cond, ConnId, ListReply, elements_of};
+use cf_types::{Adjunct, At, Body, Caps, ConnId, ListReply, elements_of};
 use engine_api::Shape;
 use list_kept::{Bare, Kept, headers_of, id_at, locks_of, record_at};
 
@@ -23,15 +24,15 @@ pub(crate) fn refusal(
     caps: Caps,
     kept: &Kept,
     by: ConnId,
-    at: At,
+    asked: Asked,
     body: &Option<Body>,
-    version: Option<u32>,
-    cond: Option<Cond>,
 ) -> Judged
     requires { elements_in (all_records kept.now.content.lists) < 2 ^ 32 }
     ensures { result_err result
-        ≡ first_refusal (update.causes shape caps kept.now.content by at body.now version cond) }
+        ≡ first_refusal (update.causes shape caps kept.now.content by asked.at body.now
+        asked.version asked.cond) }
 {
+    let Asked { at, version, cond } = asked;
     cond_lock_refusal(locks_of(shape.kind), cond)?;
     cond_refusal(kept, by, cond)?;
     ref_header_refusal(headers_of(shape.kind), at)?;

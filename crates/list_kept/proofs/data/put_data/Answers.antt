@@ -1,6 +1,4 @@
 use Rattle.std.proofs.Common.{refl}
-use Rattle.list_store.specs.Lists.{all_records}
-use Rattle.list_store.specs.StoreView.{StoreView}
 use Rattle.list_kept.proofs.DataLaws.{wanting}
 use Rattle.list_kept.proofs.data.put_data.Goals as goal
 

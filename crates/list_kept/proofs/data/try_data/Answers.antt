@@ -1,4 +1,4 @@
-use Rattle.std.proofs.Common.{◌∙◌, ℕ, List, Option, None, ap, set}
+use Rattle.std.proofs.Common.{◌∙◌, None, ap, set}
 use Rattle.list_laws.proofs.TableLaws.{set_same}
 use Rattle.list_store.specs.StoreView.{StoreView}
 use Rattle.list_store.proofs.HeldLaws.{set_twice}

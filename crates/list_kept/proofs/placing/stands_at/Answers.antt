@@ -1,7 +1,6 @@
 use Rattle.std.proofs.Common.{◌∙◌, ap, sym, option_map, Bor}
 use Rattle.list_store.specs.declared.records.Rec.{Rec}
 use Rattle.list_store.specs.Lists.{records_of}
-use Rattle.std.proofs.Common.{ℕ, Option, List}
 use Rattle.list_store.specs.Records.{record_in}
 use Rattle.list_store.proofs.TiedLaws.{none_within}
 use Rattle.list_store.proofs.StoreLaws.{none_shown}

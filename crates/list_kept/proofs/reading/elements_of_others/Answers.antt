@@ -9,7 +9,8 @@ pub overflow_sub-result : goal.overflow_sub-result
 overflow_sub-result c =
     let lists = c.args.kept.now.content.lists in
     let there : record_of c.args.id lists ≡ Some (record_in c.args.kept.now.chains c.in-Some.rec.now) =
-    sym c.get.ensures.«record» ∙ ap (option_map (λ (r : Bor Rec). record_in c.args.kept.now.chains r.now)) c.in-Some.is in
+    sym c.get.ensures.«record»
+    ∙ ap (option_map (λ (r : Bor Rec). record_in c.args.kept.now.chains r.now)) c.in-Some.is in
     omega (
       arith,
       c.elements.ensures,
@@ -21,7 +22,8 @@ pub returns-in-Some : goal.returns-in-Some
 returns-in-Some c =
     let lists = c.args.kept.now.content.lists in
     let there : record_of c.args.id lists ≡ Some (record_in c.args.kept.now.chains c.in-Some.rec.now) =
-    sym c.get.ensures.«record» ∙ ap (option_map (λ (r : Bor Rec). record_in c.args.kept.now.chains r.now)) c.in-Some.is in
+    sym c.get.ensures.«record»
+    ∙ ap (option_map (λ (r : Bor Rec). record_in c.args.kept.now.chains r.now)) c.in-Some.is in
     omega (
       arith,
       c.elements.ensures,
@@ -33,5 +35,6 @@ pub returns-in-None : goal.returns-in-None
 returns-in-None c =
     let lists = c.args.kept.now.content.lists in
     let none : record_of c.args.id lists ≡ None =
-    sym c.get.ensures.«record» ∙ ap (option_map (λ (r : Bor Rec). record_in c.args.kept.now.chains r.now)) c.in-None.is in
+    sym c.get.ensures.«record»
+    ∙ ap (option_map (λ (r : Bor Rec). record_in c.args.kept.now.chains r.now)) c.in-None.is in
     c.elements-in-None.ensures ∙ sym (elements_absent c.args.id lists none)

@@ -14,7 +14,8 @@ returns-then-has_key-clause-record c =
     let rec = record_in c.args.kept.now.chains c.in-Some.rec.now in
     let there : slice_get recs (prefix_len (comes_behind true (Some key)) recs) ≡ Some rec =
     sym (ap (λ (n : ℕ). slice_get recs n) c.place_of.ensures.place)
-    ∙ sym c.at.ensures.«record» ∙ ap (option_map (λ (r : Bor Rec). record_in c.args.kept.now.chains r.now)) c.in-Some.is in
+    ∙ sym c.at.ensures.«record»
+    ∙ ap (option_map (λ (r : Bor Rec). record_in c.args.kept.now.chains r.now)) c.in-Some.is in
     sym (ap (λ b. cond b (Some rec) None) (sym c.has_key.ensures ∙ c.if-has_key.true))
     ∙ sym (find_keyed key recs c.place_of.ensures.ordered ∙ ap (keyed key) there)
 
@@ -25,7 +26,8 @@ returns-else-has_key-clause-record c =
     let rec = record_in c.args.kept.now.chains c.in-Some.rec.now in
     let there : slice_get recs (prefix_len (comes_behind true (Some key)) recs) ≡ Some rec =
     sym (ap (λ (n : ℕ). slice_get recs n) c.place_of.ensures.place)
-    ∙ sym c.at.ensures.«record» ∙ ap (option_map (λ (r : Bor Rec). record_in c.args.kept.now.chains r.now)) c.in-Some.is in
+    ∙ sym c.at.ensures.«record»
+    ∙ ap (option_map (λ (r : Bor Rec). record_in c.args.kept.now.chains r.now)) c.in-Some.is in
     sym (ap (λ b. cond b (Some rec) None) (sym c.has_key.ensures ∙ c.if-has_key.false))
     ∙ sym (find_keyed key recs c.place_of.ensures.ordered ∙ ap (keyed key) there)
 
@@ -35,5 +37,6 @@ returns-in-None-clause-record c =
     let key = c.args.key.now in
     let there : slice_get recs (prefix_len (comes_behind true (Some key)) recs) ≡ None =
     sym (ap (λ (n : ℕ). slice_get recs n) c.place_of.ensures.place)
-    ∙ sym c.at.ensures.«record» ∙ ap (option_map (λ (r : Bor Rec). record_in c.args.kept.now.chains r.now)) c.in-None.is in
+    ∙ sym c.at.ensures.«record»
+    ∙ ap (option_map (λ (r : Bor Rec). record_in c.args.kept.now.chains r.now)) c.in-None.is in
     sym (find_keyed key recs c.place_of.ensures.ordered ∙ ap (keyed key) there)

@@ -1,4 +1,4 @@
-use Rattle.std.proofs.Common.{◌∙◌, ◌-◌, ap, ℕ, arith, List, length, set}
+use Rattle.std.proofs.Common.{◌∙◌, ap, ℕ, arith, List, length, set}
 use Rattle.std.specs.declared.vec.Vec.{Vec}
 use Rattle.std.specs.declared.alloc.Global.{Global}
 use Rattle.list_store.specs.declared.records.Rec.{Rec}
@@ -16,5 +16,5 @@ returns-clause-popped c =
     let many = length-at c.args.slab.now (orders_in c.args.orders.now.items) c.args.header in
     c.pull.ensures.removed
     ∙ ap (λ (l : List Rec). set lists c.args.header l)
-    (remove_last (records_of lists c.args.header) (c.count-last.result - 1) c.requires.full.full
-    (omega (arith, keys, many, c.count-last.ensures)))
+    (remove_last (records_of lists c.args.header) c.last_place-last.result c.requires.full.full
+    (omega (arith, keys, many, c.last_place-last.ensures)))

@@ -21,28 +21,28 @@ returns-clause-record c =
 
 pub returns-clause-tied : goal.returns-clause-tied
 returns-clause-tied c =
-    subst (λ (l : List (List ℕ)). IsTied c.remove-rec.new.self l c.swap_remove.new.self.entries)
+    subst (λ (l : List (List ℕ)). IsTied c.remove-rec.new.self l c.forget.new.spots.entries)
     (sym c.take_at-key.ensures.lists)
     (pull_tied c.args.slab.now (orders_in c.args.orders.now.items) c.args.spots.now.entries c.requires.tied
-    c.remove-rec.new.self c.swap_remove.new.self.entries c.args.header c.args.place c.take_at-key.result
+    c.remove-rec.new.self c.forget.new.spots.entries c.args.header c.args.place c.take_at-key.result
     c.remove-rec.result
-    c.take_at-key.ensures.key c.remove-rec.ensures.value c.remove-rec.ensures.updates c.swap_remove.ensures.updates.0)
+    c.take_at-key.ensures.key c.remove-rec.ensures.value c.remove-rec.ensures.updates c.forget.ensures.writes)
 
 pub returns-clause-lists : goal.returns-clause-lists
 returns-clause-lists c =
     ap (λ (l : List (List ℕ)). lists_at c.remove-rec.new.self l) c.take_at-key.ensures.lists
     ∙ pull_lists c.args.slab.now (orders_in c.args.orders.now.items) c.args.spots.now.entries c.requires.tied
-    c.remove-rec.new.self c.swap_remove.new.self.entries c.args.header c.args.place c.take_at-key.result
+    c.remove-rec.new.self c.forget.new.spots.entries c.args.header c.args.place c.take_at-key.result
     c.remove-rec.result
-    c.take_at-key.ensures.key c.remove-rec.ensures.value c.remove-rec.ensures.updates c.swap_remove.ensures.updates.0
+    c.take_at-key.ensures.key c.remove-rec.ensures.value c.remove-rec.ensures.updates c.forget.ensures.writes
 
 pub returns-clause-removed : goal.returns-clause-removed
 returns-clause-removed c =
     ap (λ (l : List (List ℕ)). lists_at c.remove-rec.new.self l) c.take_at-key.ensures.lists
     ∙ pull_removed c.args.slab.now (orders_in c.args.orders.now.items) c.args.spots.now.entries c.requires.tied
-    c.remove-rec.new.self c.swap_remove.new.self.entries c.args.header c.args.place c.take_at-key.result
+    c.remove-rec.new.self c.forget.new.spots.entries c.args.header c.args.place c.take_at-key.result
     c.remove-rec.result
-    c.take_at-key.ensures.key c.remove-rec.ensures.value c.remove-rec.ensures.updates c.swap_remove.ensures.updates.0
+    c.take_at-key.ensures.key c.remove-rec.ensures.value c.remove-rec.ensures.updates c.forget.ensures.writes
 
 pub returns-clause-found : goal.returns-clause-found
 returns-clause-found c =

@@ -2,7 +2,7 @@ use Rattle.std.proofs.Common.{◌≡◌, ◌-◌, ◌==◌, not, List, length, t
 use Rattle.std.specs.List.{list_all}
 use Rattle.list_store.specs.Record.{Record}
 use Rattle.list_store.specs.StoreView.{StoreView}
-use Rattle.list_store.specs.Lists.{Lists, all_records, records_of, with_records, lists_without, count_of}
+use Rattle.list_store.specs.Lists.{Lists, all_records, records_of, lists_without, count_of}
 use Rattle.std.proofs.Common.{Option, ℕ}
 use Rattle.record_lists.specs.Lists.{lists_popped}
 use Rattle.list_store.specs.Records.{record_in}
@@ -47,7 +47,8 @@ invariant_of-self c =
           subst (IsOrderly c.self.inside.elements) (sym (c.give.ensures.lists ∙ c.in-Some.ensures.without))
           (orderly-without c.self.inside.elements c.in-Some.rec.id lists c.self.invariant.orderly);
       named =
-          subst (λ (l : Lists). AreNamed c.drop_name.new.names.names (all_records l)) (sym (c.give.ensures.lists ∙ c.in-Some.ensures.without))
+          subst (λ (l : Lists). AreNamed c.drop_name.new.names.names (all_records l))
+          (sym (c.give.ensures.lists ∙ c.in-Some.ensures.without))
           (named_less c.self.inside.names.names c.drop_name.new.names.names rec (all_records rest)
           (all_records lists) with c.self.invariant.orderly.one_for_name c.self.invariant.named c.drop_name.ensures);
       used = subst AreUsed (sym (c.give.ensures.loose ∙ sym c.in-Some.ensures.was)) c.self.invariant.used;
@@ -76,4 +77,5 @@ returns-in-None-clause-content c =
     let count = ap (λ (l : List Record). length l) c.in-None.ensures.none in
     rw (← c.self.view_is)
     (ap (λ (l : Lists). content_at l k.limits.items k.locks.items (monitors_of k.watch.rows) k.next)
-    (ap (λ (v : StoreView). v.lists) c.in-None.ensures.same ∙ sym (first-all (count_of k.store.lists - 1) k.store.lists (omega (arith, count)))))
+    (ap (λ (v : StoreView). v.lists) c.in-None.ensures.same
+    ∙ sym (first-all (count_of k.store.lists - 1) k.store.lists (omega (arith, count)))))

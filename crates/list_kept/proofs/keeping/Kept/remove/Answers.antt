@@ -1,4 +1,4 @@
-use Rattle.std.proofs.Common.{◌≡◌, ℕ, ◌==◌, true, List, sym, ap, ◌∙◌, subst, arith}
+use Rattle.std.proofs.Common.{◌≡◌, ℕ, ◌==◌, true, List, sym, ap, ◌∙◌, subst}
 use Rattle.std.specs.List.{list_any, list_all}
 use Rattle.std.proofs.lemmas.Bool.{false≢true}
 use Rattle.list_store.specs.Lists.{Lists, all_records, is_id, lists_without}
@@ -51,7 +51,8 @@ invariant_of-self c =
           subst (IsOrderly c.self.inside.elements) (sym (c.give.ensures.lists ∙ c.take-rec.ensures.lists))
           (orderly-without c.self.inside.elements c.args.id c.self.inside.store.lists c.self.invariant.orderly);
       named =
-          subst (λ (l : Lists). AreNamed c.drop_name.new.names.names (all_records l)) (sym (c.give.ensures.lists ∙ c.take-rec.ensures.lists))
+          subst (λ (l : Lists). AreNamed c.drop_name.new.names.names (all_records l))
+          (sym (c.give.ensures.lists ∙ c.take-rec.ensures.lists))
           (named_less c.self.inside.names.names c.drop_name.new.names.names rec (all_records rest)
           (all_records lists) with c.self.invariant.orderly.one_for_name c.self.invariant.named c.drop_name.ensures);
       used = subst AreUsed (sym (c.give.ensures.loose ∙ sym c.take-rec.ensures.was)) c.self.invariant.used;

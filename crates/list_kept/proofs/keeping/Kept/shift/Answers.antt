@@ -1,4 +1,4 @@
-use Rattle.std.proofs.Common.{◌≡◌, ℕ, ◌<◌, ◌==◌, true, List, length, refl, sym, ap, ◌∙◌, subst, arith}
+use Rattle.std.proofs.Common.{◌≡◌, ℕ, ◌<◌, ◌==◌, true, List, length, refl, sym, ap, ◌∙◌, subst}
 use Rattle.std.specs.List.{list_any, list_all}
 use Rattle.std.proofs.lemmas.Bool.{false≢true, eqb-true}
 use Rattle.list_store.specs.Lists.{Lists, all_records, is_id, record_of, lists_without}
@@ -10,13 +10,12 @@ use Rattle.list_watch.specs.Rows.{monitors_of, rows_turned}
 use Rattle.list_watch.proofs.BitLaws.{monitors-turned, gains_two}
 use Rattle.list_model.specs.Contents.{has_records}
 use Rattle.list_kept.specs.ContentView.{ContentView, put_back}
-use Rattle.list_model.specs.Records.{elements_in}
 use Rattle.list_model.specs.Commands.Move.{with_new_key}
 use Rattle.std.proofs.Common.{Option}
 use Rattle.list_kept.specs.Data.{AreUsed}
 use Rattle.list_kept.specs.Named.{AreNamed}
 use Rattle.list_kept.specs.Orderly.{IsOrderly}
-use Rattle.list_kept.proofs.NamedLaws.{named_other, taken, came_back, some_found, elements_with}
+use Rattle.list_kept.proofs.NamedLaws.{named_other, taken, came_back, some_found}
 use Rattle.list_kept.specs.Told.{is_told}
 use Rattle.list_kept.proofs.ToldLaws.{told-two, gains-told, content_at, full-put_back}
 use Rattle.list_kept.proofs.keeping.Kept.shift.Goals as goal

@@ -28,7 +28,8 @@ still_told c =
     ∙ ap (λ b. list_all (is_told later) (rows_turned c.args.header b rows)) c.has_records-full.ensures
     ∙ told-one c.args.header lists later rows
     (λ other e. ap (λ (l : Lists). has_records l other) c.put.ensures.lists
-    ∙ full-elsewhere c.args.head c.args.header other (with_data c.args.bare c.args.body.now) lists (sym_test other c.args.header e))
+    ∙ full-elsewhere c.args.head c.args.header other (with_data c.args.bare c.args.body.now) lists
+    (sym_test other c.args.header e))
     c.self.invariant.told
 
 stays : (head : Bool) (header : ℕ) (rec : Record) (k : Inside) (view : ContentView) → content_view k ≡ view
@@ -45,7 +46,8 @@ add_name-requires-clause-new c =
     named_new c.self.inside.names.names (with_data c.args.bare c.args.body.now) (all_records lists)
     (all_records (with_record c.args.head c.args.header (with_data c.args.bare c.args.body.now) lists))
     (came c.args.head c.args.header (with_data c.args.bare c.args.body.now) lists lt)
-    (stays c.args.head c.args.header (with_data c.args.bare c.args.body.now) c.self.inside c.args.self.now c.self.view_is
+    (stays c.args.head c.args.header
+    (with_data c.args.bare c.args.body.now) c.self.inside c.args.self.now c.self.view_is
     c.requires.orderly).one_for_name
     c.self.invariant.named
 
@@ -70,14 +72,17 @@ invariant_of-self c =
     (sym c.self.view_is) c.requires.header in
     let with = came c.args.head c.args.header (with_data c.args.bare c.args.body.now) lists lt in
     let after = with_record c.args.head c.args.header (with_data c.args.bare c.args.body.now) lists in
-    let is = stays c.args.head c.args.header (with_data c.args.bare c.args.body.now) c.self.inside c.args.self.now c.self.view_is
+    let is =
+    stays c.args.head c.args.header
+    (with_data c.args.bare c.args.body.now) c.self.inside c.args.self.now c.self.view_is
     c.requires.orderly in
     record {
       told = still_told c;
       orderly = subst (IsOrderly c.self.inside.elements) (sym c.put.ensures.lists) is;
       named =
           subst (λ (l : Lists). AreNamed c.add_name.new.names.names (all_records l)) (sym c.put.ensures.lists)
-          (named_more c.self.inside.names.names c.add_name.new.names.names (with_data c.args.bare c.args.body.now) (all_records lists)
+          (named_more c.self.inside.names.names c.add_name.new.names.names (with_data c.args.bare c.args.body.now)
+          (all_records lists)
           (all_records after) with is.one_for_name c.self.invariant.named c.add_name.ensures);
       used = subst AreUsed (sym c.put.ensures.loose) c.self.invariant.used;
       whole = c.put.ensures.size ∙ c.self.invariant.whole;
