@@ -57,15 +57,6 @@ pub contention_few : (w : Waiter) (manager : Option ConnId) → length (requests
 contention_few w None = omega arith
 contention_few w (Some conn) = omega arith
 
-obtain_step : (b : Bool) (w : Waiter) (content : Content)
-    → length (if b then settlement_of (requests.content_asked true w content)
-    else requests.wait_settlement w content).letters ≤ 1
-obtain_step true w content = omega arith
-obtain_step false w content = contention_few w (manager_of w.r content.interests)
-
-pub obtain_few : (w : Waiter) (content : Content) → length (obtain.after w content).letters ≤ 1
-obtain_few w content = obtain_step (obtain.at_once w content) w content
-
 alter_step : (b : Bool) (w : Waiter) (content : Content)
     → length (if b then grant w.r (requests.content_asked true w content)
     else requests.wait_settlement w content).letters ≤ length (waiters_of w.r content.waiters) + 1

@@ -1,7 +1,6 @@
 //! The resources of a connector, for which the grant rule runs when it departs.
-ghost use Rattle.std.specs.Prelude.{◌≡◌, ◌≤◌, ◌==◌, [], IfOk, OnOk, fold};
+ghost use Rattle.std.specs.Prelude.{◌≡◌, ◌==◌, IfOk, OnOk, fold};
 ghost use Rattle.std.specs.List.{list_any, prefix_len, insert};
-ghost use Rattle.std.specs.Vec.{vec_len, vec_capacity};
 ghost use Rattle.cf_types.specs.Resources.{same_resource, resource_before};
 ghost use Rattle.lock_model.specs.Departures.{resources_with, resources_of};
 

@@ -1,8 +1,8 @@
 //! Interests and waiters, and what changes both.
 ghost use Rattle.std.specs.Prelude.{◌≡◌, ◌+◌, ◌<◌, ◌≤◌, ◌++◌, ◌∷◌, [], IfOk, OnOk, length};
-ghost use Rattle.lock_queue.specs.Waiters.{is_on, waits, waiter_of, waiters_with, waiters_without, place_of, IsQueue};
-ghost use Rattle.lock_model.specs.Contents.{records_of, records_owned, records_waiting, records_in};
-ghost use Rattle.lock_model.specs.Grants.{held_by, interests_granted, content_granted, granted_letter};
+ghost use Rattle.lock_queue.specs.Waiters.{waits, waiter_of, waiters_with, IsQueue};
+ghost use Rattle.lock_model.specs.Contents.{records_of, records_waiting, records_in};
+ghost use Rattle.lock_model.specs.Grants.{held_by, content_granted, granted_letter};
 ghost use Rattle.lock_model.specs.Requests as requests;
 ghost use Rattle.lock_core.specs.Stock.{HasRoom, next_of};
 ghost use Rattle.lock_core.specs.Orders.{order_of};
@@ -62,7 +62,7 @@ fn where_grantable(interests: &Interests, first: Option<&Waiter>) -> Option<Wait
     }
 }
 
-ghost use Rattle.std.specs.Prelude.{◌&&◌, Option, Some, None, true, false, not, filter, is_some, option_map};
+ghost use Rattle.std.specs.Prelude.{Option, Some, None, true, false, is_some, option_map};
 ghost use Rattle.lock_queue.specs.Waiters.{recorded_of, waiters_without_conn};
 ghost use Rattle.lock_model.specs.Interests.{interests_without};
 ghost use Rattle.lock_model.specs.Departures.{interests_left, with_returned};

@@ -1,12 +1,11 @@
 //! Causes of refusals that commands share.
-ghost use Rattle.std.specs.Prelude.{◌≡◌, ◌<◌, Option, Some, None, IsTrue, if◌then◌else◌, option_map, is_some};
+ghost use Rattle.std.specs.Prelude.{◌≡◌, ◌<◌, Option, Some, None, if◌then◌else◌, option_map, is_some};
 ghost use Rattle.std.specs.Result.{result_err};
 ghost use Rattle.cf_types.specs.declared.refusals.Refusal.{Refusal};
 ghost use Rattle.cf_types.specs.declared.refusals.Refusal.TheVariants.{AlreadyInterested, NotInterested, NoRecord};
 ghost use Rattle.lock_table.specs.declared.holdings.Held.{Held};
 ghost use Rattle.lock_queue.specs.Waiters.{waits};
 ghost use Rattle.lock_model.specs.Interests.{interest_of, manager_of};
-ghost use Rattle.lock_model.specs.Contents.{records_in};
 ghost use Rattle.lock_model.specs.Refusals.{pending_refusal, interested_refusal, interest_refusal, records_refusal, is_manager, manager_refusal, waiter_refusal};
 ghost use Rattle.lock_model.specs.Requests as requests;
 

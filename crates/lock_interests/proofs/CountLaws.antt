@@ -305,7 +305,8 @@ length_put : (r : Resource) (conn : ConnId) (rec : Option (List ℕ)) (records :
     → length (records_put r conn rec records) ≡ length (records_without r conn records) + records_of rec
 length_put r conn None records = omega arith
 length_put r conn (Some rec) records =
-    length-insertion (λ (other : Record). stands_before other (record { r = r; conn = conn; rec = rec })) (record { r = r; conn = conn; rec = rec })
+    length-insertion (λ (other : Record). stands_before other (record { r = r; conn = conn; rec = rec }))
+    (record { r = r; conn = conn; rec = rec })
     (records_without r conn records)
 
 records_put-kept : (r : Resource) (conn : ConnId) (rec : Option (List ℕ)) (records : List Record)
@@ -364,7 +365,8 @@ length_given : (r : Resource) (conn : ConnId) (rec : Option (List ℕ)) (records
     → length (records_given r conn rec records) ≡ length (records_without r conn records) + 1
 length_given r conn None records given = absurd (false≢true given)
 length_given r conn (Some rec) records given =
-    length-insertion (λ (other : Record). stands_before other (record { r = r; conn = conn; rec = rec })) (record { r = r; conn = conn; rec = rec })
+    length-insertion (λ (other : Record). stands_before other (record { r = r; conn = conn; rec = rec }))
+    (record { r = r; conn = conn; rec = rec })
     (records_without r conn records)
 
 none_given : (r : Resource) (conn : ConnId) (rec : Option (List ℕ)) (records : List Record) → is_some rec ≡ false

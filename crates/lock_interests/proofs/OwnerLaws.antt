@@ -266,7 +266,8 @@ read_own conn records owners (v ∷ vs) by h =
     let found : find (λ held. held.conn.0 == conn.0) (filter (is_on v.r) owners) ≡ Some v =
     find_both v.r conn owners ∙ subst (λ (c : ConnId). find (is_interest v.r c) owners ≡ Some v) same h.0 in
     ap (λ o. cons_option (held_read records o) (filter_map (read_in conn records owners) (map resource_of vs))) found
-    ∙ ap (λ l. cons_option (record_read v (record_of v.r v.conn records)) l) (read_own conn records owners vs parts.1 h.1)
+    ∙ ap (λ l. cons_option (record_read v (record_of v.r v.conn records)) l)
+    (read_own conn records owners vs parts.1 h.1)
 
 all_by : (conn : ConnId) (owners : List Held) → list_all (is_by conn) (filter (is_by conn) owners) ≡ true
 all_by conn [] = refl
@@ -303,7 +304,8 @@ left_marked : (conn : ConnId) (s : Held → Bool) (owners : List Held)
     ≡ map (in_retention_of conn true) (filter (λ held. not (is_by conn held) || s held) owners)
 left_marked conn s [] = refl
 left_marked conn s (x ∷ xs) =
-    left_step conn s (is_by conn x) (s x) x (map (marked conn s) xs) (filter (λ held. not (is_by conn held) || s held) xs)
+    left_step conn s (is_by conn x) (s x) x (map (marked conn s) xs)
+    (filter (λ held. not (is_by conn held) || s held) xs)
     refl refl (left_marked conn s xs)
 
 pub left_all : (conn : ConnId) (owners : List Held) (records : List Record)
@@ -430,7 +432,8 @@ next_read : (f : Resource → Option (Resource × Bool × List ℕ)) (rs : List 
 next_read f [] i d h = absurd (omega (arith, h))
 next_read f (r ∷ rs) zero d h = one (f r)
   where
-    one : (o : Option (Resource × Bool × List ℕ)) → cons_option o (filter_map f rs) ≡ option_to_list o ++ filter_map f rs
+    one : (o : Option (Resource × Bool × List ℕ))
+        → cons_option o (filter_map f rs) ≡ option_to_list o ++ filter_map f rs
     one None = refl
     one (Some x) = refl
 next_read f (r ∷ rs) (suc i) d h =

@@ -22,7 +22,8 @@ use Rattle.lock_model.specs.Commands.RtDelete as rt_delete
 use Rattle.lock_model.specs.Commands.Decide as decide
 use Rattle.cf_types.specs.declared.events.Event.TheVariants as events
 use Rattle.cf_types.specs.declared.events.Letter.{Letter}
-use Rattle.lock_interests.specs.InterestsView.{with_record, interests_of, letters_told, record_read, records_read}
+use Rattle.lock_interests.specs.declared.interests.Interests.TheInside.{Inside}
+use Rattle.lock_interests.specs.InterestsView.{InterestsView, interests_view, with_record, interests_of, letters_told, record_read, records_read}
 
 all_step : (p : Held → Bool) (b : Bool) (x : Held) (xs : List Held) (c : Bool) → list_all p xs ≡ c
     → list_all p (cond b (x ∷ xs) xs) ≡ (not b || p x) && c
@@ -39,6 +40,16 @@ may_own-joined held (x ∷ xs) records =
     (may_own-joined held xs records)
     ∙ ap (λ b. (not b || are_compatible held x) && may_own held (interests_of xs records))
     (same_resource_comm x.r held.r)
+
+-- and with those that are left to ask of what is seen of all
+pub may_own_beside : (held : Held) (i : Inside) (view : InterestsView) (left : List Held) (all : Bool)
+    → interests_view i ≡ view → left ≡ owners_of held.r i.owners.owners
+    → all ≡ list_all (are_compatible held) left
+    → all ≡ may_own held view.interests
+may_own_beside held i view left all seen is each =
+    each ∙ ap (λ (l : List Held). list_all (are_compatible held) l) is
+    ∙ may_own-joined held i.owners.owners i.records.records
+    ∙ ap (λ (v : InterestsView). may_own held v.interests) seen
 
 manager_step : (a b : Bool) (x : Held) (xs : List Held) (o : Option ConnId) (i : Interest) (is : Option Interest)
     → x.retained ≡ b

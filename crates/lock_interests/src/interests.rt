@@ -7,7 +7,7 @@ ghost use Rattle.cf_types.specs.declared.resources.Resource.{Resource};
 ghost use Rattle.lock_record.specs.declared.recorded.Record.{Record};
 ghost use Rattle.list_laws.specs.Pairwise.{pairwise};
 ghost use Rattle.lock_table.specs.Holdings.{are_apart};
-ghost use Rattle.lock_model.specs.Interests.{Interest, are_compatible, may_own, manager_of, interest_of, has_interest, interests_with, interests_without, interests_changed};
+ghost use Rattle.lock_model.specs.Interests.{are_compatible, may_own, manager_of, interest_of, has_interest, interests_with, interests_without, interests_changed};
 ghost use Rattle.lock_model.specs.Contents.{records_of, records_owned};
 ghost use Rattle.lock_model.specs.Commands.RtRead as rt_read;
 ghost use Rattle.lock_model.specs.Commands.RtDelete as rt_delete;
@@ -109,6 +109,7 @@ impl Interests {
 
     /// Whether a connector may own a resource in a state beside all its owners: each of those is
     /// the connector itself, or both share the resource.
+    #[tactic(auto, using(crate::proofs::ReadLaws::may_own_beside))]
     pub fn may_own(&self, held: &Held) -> bool
         ensures { result ≡ may_own held.now self.now.interests }
     {
@@ -572,8 +573,8 @@ fn notify(owners: Owners<'_>, r: &Resource, conn: ConnId, out: &mut Effects)
     requires { length (letters_told r.now conn (owners_left owners)) ≤ out.old.mail.room }
     ensures mail { out.new.mail.items
         ≡ out.old.mail.items ++ letters_told r.now conn (owners_left owners.entry) }
-    ensures letters { out.new.mail.room + length (letters_told r.now conn (owners_left owners.entry))
-        ≡ out.old.mail.room }
+    ensures letters { out.new.mail.room
+        + length (letters_told r.now conn (owners_left owners.entry)) ≡ out.old.mail.room }
     ensures bits { out.new.bits ≡ out.old.bits }
 {
     for held in owners {

@@ -12,9 +12,8 @@ use Rattle.cf_types.specs.declared.lock_commands.Decision.{Decision}
 use Rattle.cf_types.specs.declared.lock_commands.Decision.TheVariants.{Keep, Deny, Notify}
 use Rattle.cf_types.specs.declared.lock_commands.LockCmd.{LockCmd}
 use Rattle.cf_types.specs.declared.lock_commands.LockCmd.TheVariants.{Obtain, Alter, Release, Decide, RtRead, RtDelete}
-use Rattle.cf_types.specs.declared.lock_commands.LockReply.{LockReply}
 use Rattle.cf_types.specs.Resources.{same_part}
-use Rattle.engine_api.specs.Meaning.{Outcome, first_refusal, unless_refused}
+use Rattle.engine_api.specs.Meaning.{first_refusal}
 use Rattle.list_laws.proofs.FilterLaws.{list_all-filter, list_all-filter_same, list_all_always, all_from_none, any_is_found, length-filter-le, sum_by-filter-le}
 use Rattle.list_laws.proofs.InsertionLaws.{list_all-insertion, length-insertion}
 use Rattle.lock_queue.specs.declared.waiters.Waiter.{Waiter}
@@ -284,18 +283,6 @@ content-done caps content by (Release r) is h = content-release caps content by 
 content-done caps content by (Decide r conn how) is h = content-decide caps content r conn how is
 content-done caps content by (RtRead conn) is h = is
 content-done caps content by (RtDelete conn r) is h = content-rt_delete caps content r conn is
-
-unless_step : (caps : Caps) (refusal : Option Refusal) (content : Content) (outcome : Outcome LockReply Content)
-    → IsContent caps content
-    → (refusal ≡ None → IsContent caps outcome.state) → IsContent caps (unless_refused refusal content outcome).state
-unless_step caps None content outcome is h = h refl
-unless_step caps (Some refusal) content outcome is h = is
-
-pub content-step : (caps : Caps) (content : Content) (by : ConnId) (cmd : LockCmd) → IsContent caps content
-    → IsContent caps (unless_refused (cause caps content by cmd) content (done content by cmd)).state
-content-step caps content by cmd is =
-    unless_step caps (cause caps content by cmd) content (done content by cmd) is
-    (content-done caps content by cmd is)
 
 -- ---- a command makes one item more at most
 

@@ -23,7 +23,8 @@ pub less_one : (r : Resource) (conn : ConnId) (waiters : List Waiter) (b : Bool)
     → pairwise are_apart waiters ≡ true → length (waiters_without r conn waiters) + one_where b ≡ length waiters
 less_one r conn waiters true h u = one_less part_of (r, conn) waiters u (sym h)
 less_one r conn waiters false h u =
-    let same : length waiters ≡ length (waiters_without r conn waiters) = ap length (none_out part_of (r, conn) waiters (sym h))
+    let same : length waiters ≡ length (waiters_without r conn waiters) =
+    ap length (none_out part_of (r, conn) waiters (sym h))
     in
     let none : length (waiters_without r conn waiters) + 0 ≡ length waiters = omega (arith, same) in none
 
@@ -47,7 +48,8 @@ joined_next (x ∷ xs) (suc i) d h =
     let next : suc i + 1 ≡ suc (i + 1) = omega arith in
     rw next (joined_next xs i d (omega (arith, h)))
 
-pub keys_more : (entries : List (List Waiter)) (keys new : List Resource) (i : ℕ) (entry : List Waiter) (all : List Resource)
+pub keys_more : (entries : List (List Waiter)) (keys new : List Resource) (i : ℕ) (entry : List Waiter)
+    (all : List Resource)
     → i < length entries → entry ≡ get_or entries i entry → new ≡ keys ++ map resource_of entry
     → keys ++ map resource_of (joined (drop i entries)) ≡ all
     → new ++ map resource_of (joined (drop (i + 1) entries)) ≡ all
@@ -66,7 +68,8 @@ keys_end entries keys i all past h =
 
 -- ---- the resources of a connector's waiters
 
-pub keys_more_by : (q : Waiter → Bool) (entries : List (List Waiter)) (keys new : List Resource) (i : ℕ) (entry : List Waiter)
+pub keys_more_by : (q : Waiter → Bool) (entries : List (List Waiter)) (keys new : List Resource) (i : ℕ)
+    (entry : List Waiter)
     (all : List Resource) → i < length entries → entry ≡ get_or entries i entry
     → new ≡ keys ++ map resource_of (filter q entry)
     → keys ++ map resource_of (filter q (joined (drop i entries))) ≡ all
@@ -79,7 +82,8 @@ keys_more_by q entries keys new i entry all within is put h =
     ∙ ap (λ l. keys ++ map resource_of (filter q (l ++ joined (drop (i + 1) entries)))) is
     ∙ ap (λ l. keys ++ map resource_of (filter q l)) (sym (joined_next entries i entry within)) ∙ h
 
-pub keys_end_by : (q : Waiter → Bool) (entries : List (List Waiter)) (keys : List Resource) (i : ℕ) (all : List Resource)
+pub keys_end_by : (q : Waiter → Bool) (entries : List (List Waiter)) (keys : List Resource) (i : ℕ)
+    (all : List Resource)
     → length entries ≤ i → keys ++ map resource_of (filter q (joined (drop i entries))) ≡ all → keys ≡ all
 unfolding joined
 keys_end_by q entries keys i all past h =

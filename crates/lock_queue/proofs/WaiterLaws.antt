@@ -1,5 +1,5 @@
 -- Waiters stay in order, with one of a connector for a resource.
-use Rattle.std.proofs.Common.{◌≡◌, ◌+◌, ◌≤◌, Bool, true, false, not, ◌&&◌, ◌||◌, List, filter, length, refl, sym, ap, ◌∙◌, arith}
+use Rattle.std.proofs.Common.{◌≡◌, Bool, true, false, not, ◌&&◌, ◌||◌, List, filter, refl, sym, ap, ◌∙◌}
 use Rattle.std.specs.declared.cmp.Ordering.{Ordering}
 use Rattle.std.specs.declared.cmp.Ordering.TheVariants.{Less, Equal, Greater}
 use Rattle.std.specs.Ordering.{is_lt, ordering_reverse}
@@ -7,12 +7,12 @@ use Rattle.std.proofs.lemmas.Bool.{and_from, and_parts, not-true, false≢true}
 use Rattle.cf_types.specs.declared.resources.Resource.{Resource}
 use Rattle.cf_types.specs.Resources.{resource_cmp, same_resource, resource_before, resource_up_to}
 use Rattle.cf_types.proofs.ResourceLaws.{resource_cmp_total, same_part_comm, same_resource-eq}
-use Rattle.list_laws.proofs.FilterLaws.{list_all_weaker, list_all-filter_same, list_all_always, length-filter-le}
+use Rattle.list_laws.proofs.FilterLaws.{list_all_weaker, list_all-filter_same, list_all_always}
 use Rattle.list_laws.proofs.PairwiseLaws.{FindsPlace, pairwise-filter, pairwise-insertion, pairwise-insertion_any}
 use Rattle.table_entries.proofs.KeyLaws.{resource_order}
 use Rattle.lock_queue.specs.Tables.{is_ahead}
 use Rattle.lock_queue.specs.declared.waiters.Waiter.{Waiter}
-use Rattle.lock_queue.specs.Waiters.{is_on, is_waiter, waiters_with, waiters_without, stands_before, place_of, are_apart, IsQueue}
+use Rattle.lock_queue.specs.Waiters.{is_on, is_waiter, waiters_with, waiters_without, stands_before, are_apart, IsQueue}
 
 pub queue-filter : (q : Waiter → Bool) (waiters : List Waiter) → IsQueue waiters → IsQueue (filter q waiters)
 queue-filter q waiters is =
@@ -111,16 +111,6 @@ queue-with waiter waiters is =
           (apart_both waiter) others (list_all-filter_same (λ other. not (is_waiter waiter.r waiter.conn other))
           waiters));
     }
-
--- a place is at most one past all
-pub place_within : (waiter : Waiter) (waiters : List Waiter) → place_of waiter waiters ≤ length waiters + 1
-place_within waiter waiters =
-    let others = waiters_without waiter.r waiter.conn waiters in
-    omega (
-      arith,
-      length-filter-le (λ other. is_on waiter.r other && (other.alter || not waiter.alter)) others,
-      length-filter-le (λ other. not (is_waiter waiter.r waiter.conn other)) waiters,
-    )
 
 -- ---- where a waiter is put, among all and in its entry
 

@@ -1,11 +1,10 @@
 ghost use Rattle.std.specs.Prelude.{◌≡◌, ◌+◌, ◌≤◌, ◌<◌, ◌&&◌, ◌||◌, ◌++◌, ◌^◌, [], map, IfOk, OnOk, IsTrue, not, false, length, filter, position, option_map, slice_get, slice_index_or, replicate};
 ghost use Rattle.std.specs.List.{prefix_len};
 ghost use Rattle.std.specs.LinkedList.{linked_list_len};
-ghost use Rattle.std.specs.Vec.{vec_len, vec_capacity};
 ghost use Rattle.list_laws.specs.Pairwise.{pairwise};
 ghost use Rattle.list_laws.specs.Insertions.{insertion};
 ghost use Rattle.table_entries.specs.Bins.{joined};
-ghost use Rattle.std.specs.Prelude.{◌∷◌, ◌-◌, Some, None, MatchOption, is_some, sum_by, drop, cond};
+ghost use Rattle.std.specs.Prelude.{◌∷◌, ◌-◌, Some, None, MatchOption, is_some, drop, cond};
 ghost use Rattle.std.specs.List.{list_all};
 ghost use Rattle.cf_types.specs.Resources.{resource_before};
 ghost use Rattle.table_entries.specs.Tables.{slot_in, placed_on, later_of, last_of};
@@ -26,8 +25,8 @@ type Waiting = LinkedList<Waiter>;
 /// resource, in the order in which they are granted, with how many more there is room for.
 ///
 /// They lie in table entries: a resource's hash value modulo the number of entries picks the entry
-/// of its waiters. That number plays no part in what contracts see. No order is kept: what goes over
-/// all waiters makes it once.
+/// of its waiters. That number plays no part in what contracts see. No order is kept: what goes
+/// over all waiters makes it once.
 #[derive(Drop)]
 pub struct Queue {
     entries: Vec<LinkedList<Waiter>>,

@@ -4,8 +4,8 @@ use Rattle.std.specs.Prelude.{nat_eq, option_to_list}
 use Rattle.std.specs.List.{IsDistinct}
 use Rattle.std.specs.Map.{keys_of, lookup}
 use Rattle.std.specs.Cmp.{IsEquivalence, nat_eq_equiv, and_equiv, on_equiv}
-use Rattle.std.specs.Cmp.Lexicographic.{nat_list_eq_equiv, pointwise, bytes_decides}
-use Rattle.std.proofs.lemmas.Bool.{and_parts, eqb-true, false≢true}
+use Rattle.std.specs.Cmp.Lexicographic.{nat_list_eq_equiv, pointwise}
+use Rattle.std.proofs.lemmas.Bool.{false≢true}
 use Rattle.std.proofs.lemmas.List.{length-map}
 use Rattle.std.proofs.lemmas.Map.{lookup-none}
 use Rattle.std.proofs.lemmas.Map.Entries.{none_past_head}
@@ -36,15 +36,6 @@ pub key_laws : IsEquivalence key_eq
 key_laws =
     and_equiv (and_equiv (on_equiv (λ (x : Key). x.0.0) nat_eq_equiv) (on_equiv (λ (x : Key). x.0.1) nat_eq_equiv))
     (on_equiv (λ (x : Key). x.1) nat_list_eq_equiv)
-
-same_key : (j k : Key) → key_eq j k ≡ true → j ≡ k
-same_key j k e =
-    let parts = and_parts (nat_eq j.0.0 k.0.0 && nat_eq j.0.1 k.0.1) (pointwise nat_eq j.1 k.1) e in
-    let numbers = and_parts (nat_eq j.0.0 k.0.0) (nat_eq j.0.1 k.0.1) parts.0 in
-    let first : j.0.0 ≡ k.0.0 = eqb-true j.0.0 k.0.0 numbers.0 in
-    let second : j.0.1 ≡ k.0.1 = eqb-true j.0.1 k.0.1 numbers.1 in
-    let third : j.1 ≡ k.1 = (bytes_decides j.1 k.1).0 parts.1 in
-    λ n. ((first n, second n), third n)
 
 swapped : (x y z : Bool) → (x && y) && z ≡ (z && y) && x
 swapped true true true = refl
@@ -173,7 +164,8 @@ put_records es fs p rec u v writes =
     rest = filter (λ x. not (is_at p x)) (records_in es)
 
     by_part : (k : Part) (b : Bool) → key_eq (key_of p) (key_of k) ≡ b
-        → filter (is_at k) (records_in fs) ≡ filter (is_at k) (insertion (λ y. part_before (part_of y) p) (made p rec) rest)
+        → filter (is_at k) (records_in fs)
+        ≡ filter (is_at k) (insertion (λ y. part_before (part_of y) p) (made p rec) rest)
     by_part k true e =
         let same : p ≡ k = same_part-eq p k (parts_same p k ∙ e) in
         let left = records_at fs v k
@@ -303,7 +295,8 @@ pub fewer_by_one : (p : Part) (records : List Record) → AreRecords records →
     → length (records_without p.0 p.1 records) + 1 ≡ length records
 fewer_by_one p records are there = go (find (is_at p) records) refl
   where
-    go : (o : Option Record) → find (is_at p) records ≡ o → length (records_without p.0 p.1 records) + 1 ≡ length records
+    go : (o : Option Record) → find (is_at p) records ≡ o
+        → length (records_without p.0 p.1 records) + 1 ≡ length records
     go None e = absurd (false≢true (sym (any_is_found (is_at p) records ∙ ap is_some e) ∙ there))
     go (Some y) e =
         length_without part_of same_part same_part-eq same_part-refl p records y are.one_each e

@@ -1,8 +1,7 @@
-ghost use Rattle.std.specs.Prelude.{Bool, ◌≡◌, ◌+◌, ◌≤◌, ◌<◌, ◌++◌, ◌∷◌, [], IfOk, OnOk, IfSome, None, Some, is_some, filter, not, length, map, option_map, slice_get, if◌then◌else◌};
+ghost use Rattle.std.specs.Prelude.{Bool, ◌≡◌, ◌+◌, ◌≤◌, ◌<◌, ◌++◌, ◌∷◌, [], IfOk, OnOk, None, Some, is_some, length, map, option_map, slice_get, if◌then◌else◌};
 ghost use Rattle.std.specs.List.{IsDistinct, list_any};
 ghost use Rattle.std.specs.Map.{keys_of};
 ghost use Rattle.indexmap.specs.IndexMap.{spare};
-ghost use Rattle.cf_types.specs.Resources.{Part};
 ghost use Rattle.table_entries.specs.Bins.{arranged};
 ghost use Rattle.lock_record.specs.declared.recorded.Record.{Record};
 ghost use Rattle.lock_record.specs.Book.{Writes, key_eq, part_at, records_in};

@@ -17,7 +17,8 @@ pub less_one : (r : Resource) (conn : ConnId) (owners : List Held) (b : Bool) �
     → pairwise are_apart owners ≡ true → length (owners_without r conn owners) + one_where b ≡ length owners
 less_one r conn owners true h u = one_less part_of (r, conn) owners u (sym h)
 less_one r conn owners false h u =
-    let same : length owners ≡ length (owners_without r conn owners) = ap length (none_out part_of (r, conn) owners (sym h))
+    let same : length owners ≡ length (owners_without r conn owners) =
+    ap length (none_out part_of (r, conn) owners (sym h))
     in
     let none : length (owners_without r conn owners) + 0 ≡ length owners = omega (arith, same) in none
 
@@ -41,7 +42,8 @@ joined_next (x ∷ xs) (suc i) d h =
     let next : suc i + 1 ≡ suc (i + 1) = omega arith in
     rw next (joined_next xs i d (omega (arith, h)))
 
-pub keys_more : (entries : List (List Held)) (keys new : List Resource) (i : ℕ) (entry : List Held) (all : List Resource)
+pub keys_more : (entries : List (List Held)) (keys new : List Resource) (i : ℕ) (entry : List Held)
+    (all : List Resource)
     → i < length entries → entry ≡ get_or entries i entry → new ≡ keys ++ map resource_of entry
     → keys ++ map resource_of (joined (drop i entries)) ≡ all
     → new ++ map resource_of (joined (drop (i + 1) entries)) ≡ all

@@ -41,7 +41,8 @@ same_conn a c e = let of : ℕ → ConnId = λ n. record { 0 = n } in ap of e
 pub masked_more : (mask : List ConnId) (owners : List Held) (held : Held) → IsMasked mask owners
     → IsMasked (if nat_lt held.conn.0 SET_NUMBERS then with_member held.conn mask else mask) (owners ++ held ∷ [])
 masked_more mask owners held h c within =
-    go (held.conn.0 == c.0) (nat_lt held.conn.0 SET_NUMBERS) refl refl ∙ sym (list_any-append (is_by c) owners (held ∷ []))
+    go (held.conn.0 == c.0) (nat_lt held.conn.0 SET_NUMBERS) refl refl
+    ∙ sym (list_any-append (is_by c) owners (held ∷ []))
   where
     go : (s t : Bool) → (held.conn.0 == c.0) ≡ s → nat_lt held.conn.0 SET_NUMBERS ≡ t
         → is_member c (cond t (with_member held.conn mask) mask)
@@ -227,7 +228,8 @@ not_by mask owners conn h e =
 pub none_retained : (mask : List ConnId) (owners : List Held) (conn : ConnId) (retained : Bool) → IsMasked mask owners
     → nat_lt conn.0 SET_NUMBERS && not (is_member conn mask) ≡ true
     → owners ≡ map (in_retention_of conn retained) owners
-none_retained mask owners conn retained h e = unchanged owners (all_from_none (is_by conn) owners (not_by mask owners conn h e))
+none_retained mask owners conn retained h e =
+    unchanged owners (all_from_none (is_by conn) owners (not_by mask owners conn h e))
   where
     unchanged : (xs : List Held) → list_all (λ x. not (is_by conn x)) xs ≡ true
         → xs ≡ map (in_retention_of conn retained) xs

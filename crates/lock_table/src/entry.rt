@@ -1,5 +1,5 @@
 //! A table entry.
-ghost use Rattle.std.specs.Prelude.{◌≡◌, ◌+◌, ◌≤◌, ◌<◌, ◌++◌, ◌∷◌, ◌^◌, [], IsTrue, IfOk, MatchOption, not, filter, map, length, position};
+ghost use Rattle.std.specs.Prelude.{◌≡◌, ◌+◌, ◌≤◌, ◌<◌, ◌++◌, ◌∷◌, ◌^◌, [], IsTrue, IfOk, MatchOption, not, filter, length, position};
 ghost use Rattle.std.specs.Prelude.{Some, ◌&&◌, nat_lt, slice_set, slice_index_or, if◌then◌else◌, cond, drop, option_map};
 ghost use Rattle.std.specs.List.{list_any};
 ghost use Rattle.std.specs.LinkedList.{linked_list_len};
@@ -7,7 +7,7 @@ ghost use Rattle.cf_types.specs.ConnSets.{is_member, with_member, without_member
 ghost use Rattle.std.specs.Iterator.{YieldsFirstRef, item_count};
 ghost use Rattle.list_laws.specs.Pairwise.{pairwise};
 ghost use Rattle.lock_table.specs.declared.holdings.Held.{Held};
-ghost use Rattle.lock_table.specs.Holdings.{is_by, is_on, is_interest, are_apart, owners_of, owners_without, owners_without_active, owners_in_state, owners_retained, owners_retained_of, in_retention_of, has_interest};
+ghost use Rattle.lock_table.specs.Holdings.{is_by, is_interest, are_apart, owners_of, owners_without, owners_without_active, owners_in_state, owners_retained, owners_retained_of, in_retention_of, has_interest};
 ghost use Rattle.cf_types.specs.Resources.{resource_before};
 ghost use Rattle.cf_types.specs.declared.limits.TheConstants.{SET_NUMBERS};
 ghost use Rattle.lock_table.specs.Tables.{part_of};

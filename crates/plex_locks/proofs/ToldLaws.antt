@@ -65,7 +65,9 @@ pub dealt-more : (connectors : List Name16) (lines : List Line) (dealt : List Ha
     → IsDealt connectors lines dealt place left old → IsDealt connectors lines dealt (place + 1) rest more
 dealt-more connectors lines dealt place left rest old more w name hand by made is names hands number before = record {
   count = omega (arith, ap length is, length-append old (w ∷ []), before.count);
-  names = left-more name_of old more w (drop place connectors) (drop (place + 1) connectors) connectors is names before.names;
+  names =
+      left-more name_of old more w (drop place connectors)
+      (drop (place + 1) connectors) connectors is names before.names;
   hands = left-more hand_of old more w left rest dealt is
       (hands ∙ ap (λ h. h ∷ rest) (sym (ap hand_of made))) before.hands;
   numbers = mapped-more by_of old more w is
@@ -127,7 +129,8 @@ granted-in : (n : ℕ) (holds : List Hold) (word : ℕ) (excl : Bool)
 granted-in n holds word excl has =
     let f : Hold → Grant = λ x. grant n x.word x.excl in
     let k = has.0 in
-    let is : f (get_or holds k (hold word excl)) ≡ grant n word excl = sym (get_or-map f holds k (hold word excl)) ∙ has.2 in (
+    let is : f (get_or holds k (hold word excl)) ≡ grant n word excl =
+    sym (get_or-map f holds k (hold word excl)) ∙ has.2 in (
       k,
       omega (arith, has.1, length-map holds f),
       λ i. hold ((ap (λ (g : Grant). g.word) is) i) ((ap (λ (g : Grant). g.excl) is) i),
@@ -147,7 +150,8 @@ numbers-from first (suc n) (w ∷ ws) long own =
 tables-of : (locks : LocksSeen) (workers : List AtLocks) → ((c : ℕ) (w : AtLocks) → slice_get workers c ≡ Some w
     → w.hand.table ≡ locks.table) → All (λ (h : HandSeen). h.table ≡ locks.table) (map hand_of workers)
 tables-of locks workers own k d lt =
-    let t = unmapped hand_of workers k (get_or (map hand_of workers) k d) (slice_get-get_or (map hand_of workers) k d lt) in
+    let t =
+    unmapped hand_of workers k (get_or (map hand_of workers) k d) (slice_get-get_or (map hand_of workers) k d lt) in
     subst (λ (h : HandSeen). h.table ≡ locks.table) t.2 (own k t.0 t.1)
 
 all-left : (n : ℕ) (workers : List AtLocks) → ((c : ℕ) (w : AtLocks) → slice_get workers c ≡ Some w
@@ -180,7 +184,8 @@ module _ (script : Script) (locks : LocksSeen) (callers : ℕ) (idle : List AtLo
       let there = slice_get-get_or idle k d lt in
       let done = idles.done k d lt in
       let hand = hand-at k w there in
-      subst (λ (x : HandSeen × List Done). IsReady locks (record w { hand = x.0; done = x.1 })) (λ i. (sym hand i, sym done i)) record {
+      subst (λ (x : HandSeen × List Done). IsReady locks (record w { hand = x.0; done = x.1 }))
+      (λ i. (sym hand i, sym done i)) record {
         table = refl;
         words = refl;
         worked = record { own = tt; held = refl; ever = refl; read = All-nil (ReadsDone (new_hand locks (1 + k))) };
@@ -223,7 +228,8 @@ module _ (script : Script) (locks : LocksSeen) (callers : ℕ) (idle workers : L
   }
 
   module _ (words : List ℕ) (counted : length words ≡ locks.words)
-      (values : (word : ℕ) → word < locks.words → HasValue (all_held (map hand_of workers)) word (slice_index words word))
+      (values : (word : ℕ) → word < locks.words
+      → HasValue (all_held (map hand_of workers)) word (slice_index words word))
       (compatible : AllPairs AreCompatible (all_held (map hand_of workers)))
       (read : All (λ (h : HandSeen). All (IsOthers (map hand_of workers) h.number) h.read) (map hand_of workers)) where
     abbrev n : ℕ
@@ -237,7 +243,9 @@ module _ (script : Script) (locks : LocksSeen) (callers : ℕ) (idle workers : L
         → Contains w.hand.read (reading w.hand.number word value) → HasOther n dones c word (says_excl value)
     other c w word value there some_value has =
         let all = map hand_of workers in
-        let reads = at (λ (h : HandSeen). All (IsOthers all h.number) h.read) all c w.hand read (mapped-at hand_of workers all c w refl there) in
+        let reads =
+        at (λ (h : HandSeen). All (IsOthers all h.number) h.read) all c w.hand read
+        (mapped-at hand_of workers all c w refl there) in
         let r = reading w.hand.number word value in
         let o = All-contains (IsOthers all w.hand.number) w.hand.read r reads has some_value in
         let h = o.0 in
@@ -279,14 +287,19 @@ module _ (script : Script) (locks : LocksSeen) (callers : ℕ) (idle workers : L
         go d r = of (word_of n (resource_of d.request)) d.outcome r
 
     left : all_held (map hand_of workers) ≡ all_left n dones
-    left = all-left n workers (λ c w there. (ready-at c w there).worked.held ∙ ap (λ m. left_by m [] w.done) (words-at c w there))
+    left =
+        all-left n workers (λ c w there. (ready-at c w there).worked.held
+        ∙ ap (λ m. left_by m [] w.done) (words-at c w there))
 
-    told-at : (place : ℕ) (told : HandTold) → slice_get (map told_of workers) place ≡ Some told → IsHandTold script dones place told
+    told-at : (place : ℕ) (told : HandTold) → slice_get (map told_of workers) place ≡ Some told
+        → IsHandTold script dones place told
     told-at place told there =
         let t = unmapped told_of workers place told there in
         let idler = worked.each place t.0 t.1 in
         subst (IsHandTold script dones place) t.2 record {
-          name = mapped-at name_of idle script.connectors place idler.0 idles.names idler.1 ∙ ap Some (sym idler.2.still.name);
+          name =
+              mapped-at name_of idle script.connectors place idler.0 idles.names idler.1
+              ∙ ap Some (sym idler.2.still.name);
           asked = asked-at place t.0 t.1;
           own = subst (λ m. FollowsOwn m [] t.0.done) (words-at place t.0 t.1) (ready-at place t.0 t.1).worked.own;
           others = others place t.0 t.1;
@@ -312,15 +325,18 @@ no-lines script formed none = lines script.structures script.lines formed.forms 
     lines structures [] forms none all same = refl
     lines [] (x ∷ xs) forms none all same =
         let line = All-head (IsLineOf script) x xs all in
-        absurd (none-some line.form (subst (λ (l : List StrForm). slice_get l x.on.0 ≡ Some line.form) (sym same) line.known))
+        absurd (none-some line.form
+        (subst (λ (l : List StrForm). slice_get l x.on.0 ≡ Some line.form) (sym same) line.known))
     lines (form ∷ more) (x ∷ xs) forms none all same =
-        let some_entries = (All-head IsForm form more forms).caps.some_entries in absurd (omega (arith, some_entries, none))
+        let some_entries = (All-head IsForm form more forms).caps.some_entries in
+        absurd (omega (arith, some_entries, none))
 
 none-left : (n : ℕ) (connectors : List Name16) → all_left n (dones_of (map none_told connectors)) ≡ []
 none-left n [] = refl
 none-left n (x ∷ xs) = none-left n xs
 
-pub none-right : (script : Script) (told : Locked) (entries : ℕ) → IsWellFormed script → entries ≡ entries_of script.structures
+pub none-right : (script : Script) (told : Locked) (entries : ℕ) → IsWellFormed script
+    → entries ≡ entries_of script.structures
     → (script.connectors ≡ []) ⊎ (entries ≡ 0) → told.hands ≡ map none_told script.connectors
     → told.words ≡ replicate entries 0 → IsLocked script told
 none-right script told entries formed same nobody hands words =
@@ -337,7 +353,12 @@ none-right script told entries formed same nobody hands words =
       count = length-replicate {A = ℕ} entries 0 ∙ same;
       words = λ word below. subst (λ l. HasValue l word (slice_index (replicate entries 0) word))
           (sym (none-left n script.connectors))
-          (inl (refl, All-replicate (λ v. v ≡ 0) entries 0 refl word 0 (omega (arith, below, same, length-replicate {A = ℕ} entries 0)), omega arith));
+          (inl (
+            refl,
+            All-replicate (λ v. v ≡ 0) entries 0 refl word 0
+                (omega (arith, below, same, length-replicate {A = ℕ} entries 0)),
+            omega arith,
+          ));
       compatible = subst (AllPairs AreCompatible) (sym (none-left n script.connectors))
           (λ i j d lt within. absurd (omega (arith, within)));
     }
@@ -348,8 +369,10 @@ none-right script told entries formed same nobody hands words =
     asked : (place : ℕ) (name : Name16) → slice_get script.connectors place ≡ Some name
         → [] ≡ asked_in (tasks_by (record { 0 = 1 + place }) script.lines)
     asked place name there = ⊎_elim
-        (λ (e : script.connectors ≡ []). absurd (none-some name (subst (λ (l : List Name16). slice_get l place ≡ Some name) e there)))
-        (λ (e : entries ≡ 0). ap (λ l. asked_in (tasks_by (record { 0 = 1 + place }) l)) (sym (no-lines script formed (sym same ∙ e))))
+        (λ (e : script.connectors ≡ []).
+        absurd (none-some name (subst (λ (l : List Name16). slice_get l place ≡ Some name) e there)))
+        (λ (e : entries ≡ 0). ap (λ l. asked_in (tasks_by (record { 0 = 1 + place }) l))
+        (sym (no-lines script formed (sym same ∙ e))))
         nobody
 
 pub none-told : {E : Type 0} (result : Result Locked E) (script : Script) (entries : ℕ) (connectors : List Name16)

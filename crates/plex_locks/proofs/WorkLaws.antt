@@ -34,7 +34,8 @@ left-more n held (x ∷ xs) d = left-more n (then_holds n held x.request x.outco
 follows-more : (n : ℕ) (held : List Hold) (dones : List Done) (d : Done) → FollowsOwn n held dones
     → IsOutcome n (left_by n held dones) d.request d.outcome → FollowsOwn n held (dones ++ d ∷ [])
 follows-more n held [] d own here = (here, tt)
-follows-more n held (x ∷ xs) d own here = (own.0, follows-more n (then_holds n held x.request x.outcome) xs d own.1 here)
+follows-more n held (x ∷ xs) d own here =
+    (own.0, follows-more n (then_holds n held x.request x.outcome) xs d own.1 here)
 
 granted-more : (n : ℕ) (dones : List Done) (d : Done)
     → granted_by n (dones ++ d ∷ []) ≡ granted_by n dones ++ grant_in n d.request d.outcome
@@ -74,11 +75,13 @@ module _ (hand : HandSeen) (dones : List Done) (worked : IsWorked hand dones) wh
         own = follows-more n [] dones d worked.own (subst (λ h. IsOutcome n h request outcome) worked.held is);
         held = ap (λ h. then_holds n h request outcome) worked.held ∙ sym (left-more n [] dones d);
         ever = ap (λ l. l ++ grants hand.number (grant_in n request outcome)) worked.ever
-            ∙ (sym (map-append (λ (x : Hold). grant hand.number x.word x.excl) (granted_by n dones) (grant_in n request outcome))
+            ∙ (sym (map-append (λ (x : Hold). grant hand.number x.word x.excl) (granted_by n dones)
+            (grant_in n request outcome))
             ∙ ap (grants hand.number) (sym (granted-more n dones d)));
         read = All-push (ReadsDone after) dones d
             (All-weaker (ReadsDone hand) (ReadsDone after)
-            (λ (x : Done). still-read after.held after.ever more (word_of n (resource_of x.request)) x.outcome) dones worked.read)
+            (λ (x : Done). still-read after.held after.ever more (word_of n (resource_of x.request)) x.outcome) dones
+            worked.read)
             reads;
       }
 
@@ -137,7 +140,8 @@ module _ (hand : HandSeen) (dones : List Done) (worked : IsWorked hand dones) wh
         refl refl (some_value excl value t.0, Contains-push hand.read a))
       where
         some_value : (excl : Bool) (value : ℕ) → ¬ Admits value excl → 0 < value
-        some_value true value full = ⊎_elim (λ (z : value ≡ 0). absurd (full z)) (λ (p : 0 < value). p) (eq-zero-or-pos value)
+        some_value true value full =
+            ⊎_elim (λ (z : value ≡ 0). absurd (full z)) (λ (p : 0 < value). p) (eq-zero-or-pos value)
         some_value false value full =
             ⊎_elim (λ (z : value ≡ 0). absurd (full (omega arith))) (λ (p : 0 < value). p) (eq-zero-or-pos value)
     tried-more excl none Raced t =
@@ -176,7 +180,8 @@ module _ (hand : HandSeen) (dones : List Done) (worked : IsWorked hand dones) wh
         go : (o : Option Bool) → held_as hand.held word ≡ o → Next (Obtain r excl) outcome
         go (Some e) is =
             let t = held e is in
-            subst (λ (x : HandSeen × Outcome). IsWorked x.0 (dones ++ done_as (Obtain r excl) x.1 ∷ [])) (λ i. (sym t.1 i, sym t.0 i))
+            subst (λ (x : HandSeen × Outcome). IsWorked x.0 (dones ++ done_as (Obtain r excl) x.1 ∷ []))
+            (λ i. (sym t.1 i, sym t.0 i))
             (same-hand (Obtain r excl) (Held e)
             (some-outcome (Obtain r excl) (Some e) (IsTry excl (Held e)) (λ d. Held e ≡ Held d) is refl) refl refl tt)
         go None is = tried-more excl is outcome (tried is)
@@ -199,7 +204,8 @@ module _ (hand : HandSeen) (dones : List Done) (worked : IsWorked hand dones) wh
             (some-outcome (Release r) (Some e) (Freed ≡ NotHeld) (λ d. Freed ≡ Freed) is refl) tt)
         go None is =
             let t = free is in
-            subst (λ (x : HandSeen × Outcome). IsWorked x.0 (dones ++ done_as (Release r) x.1 ∷ [])) (λ i. (sym t.1 i, sym t.0 i))
+            subst (λ (x : HandSeen × Outcome). IsWorked x.0 (dones ++ done_as (Release r) x.1 ∷ []))
+            (λ i. (sym t.1 i, sym t.0 i))
             (same-hand (Release r) NotHeld
             (some-outcome (Release r) None (NotHeld ≡ NotHeld) (λ d. NotHeld ≡ Freed) is refl) refl refl tt)
 
@@ -213,7 +219,8 @@ module _ (hand : HandSeen) (dones : List Done) (worked : IsWorked hand dones) wh
           → (held_as hand.held w ≡ None → IsTried w excl hand after outcome) → Next (Obtain r excl) outcome)
           (sym is) (obtained-here excl outcome)
 
-      pub released : ((e : Bool) → held_as hand.held place ≡ Some e → (outcome ≡ Freed) × (after ≡ hand_released hand place))
+      pub released : ((e : Bool) → held_as hand.held place ≡ Some e
+          → (outcome ≡ Freed) × (after ≡ hand_released hand place))
           → (held_as hand.held place ≡ None → (outcome ≡ NotHeld) × (after ≡ hand)) → Next (Release r) outcome
       released =
           subst (λ w. ((e : Bool) → held_as hand.held w ≡ Some e → (outcome ≡ Freed) × (after ≡ hand_released hand w))

@@ -1,9 +1,7 @@
 use Rattle.std.proofs.Common.{◌≡◌, true, not, is_some, sym, refl, ◌∙◌}
-use Rattle.std.specs.List.{list_all}
 use Rattle.table_entries.specs.Tables.{placed_on}
 use Rattle.table_entries.proofs.TableLaws.{in_order}
 use Rattle.table_entries.proofs.RankLaws.{placed_here}
-use Rattle.lock_queue.specs.declared.waiters.Waiter.{Waiter}
 use Rattle.lock_queue.specs.Tables.{part_of, waiters_in}
 use Rattle.lock_queue.proofs.queue.at_in.Goals as goal
 
@@ -14,7 +12,8 @@ returns-in-Some-at_on c =
 
 pub loop-waiter-preserved : goal.loop-waiter-preserved
 loop-waiter-preserved c =
-    let none : not (is_some (placed_on part_of c.in-Some.waiter.now.r c.args.k (waiters_in c.args.entries.now))) ≡ true =
+    let none : not (is_some (placed_on part_of c.in-Some.waiter.now.r c.args.k (waiters_in c.args.entries.now)))
+    ≡ true =
     rw (← c.at_on.ensures, c.in_default.is) refl in
     rw (c.in-Some.ensures.steps, none) at c.loop-waiter.invariant
 

@@ -1,4 +1,4 @@
-use Rattle.std.proofs.Common.{◌≡◌, true, not, is_some}
+use Rattle.std.proofs.Common.{◌≡◌, not, is_some}
 use Rattle.std.specs.List.{list_all}
 use Rattle.table_entries.specs.Tables.{placed_on}
 use Rattle.lock_queue.specs.declared.waiters.Waiter.{Waiter}
@@ -7,5 +7,6 @@ use Rattle.lock_queue.proofs.queue.at_in.Given as goal
 
 abbrev pub invariant-loop-waiter : goal.invariant-loop-waiter
 invariant-loop-waiter l =
-    list_all (λ (waiter : Waiter). not (is_some (placed_on part_of waiter.r l.k (waiters_in l.entries)))) l.waiter-iterator
+    list_all (λ (waiter : Waiter). not (is_some (placed_on part_of waiter.r l.k (waiters_in l.entries))))
+    l.waiter-iterator
     ≡ list_all (λ (waiter : Waiter). not (is_some (placed_on part_of waiter.r l.k (waiters_in l.entries)))) l.fn.waiters

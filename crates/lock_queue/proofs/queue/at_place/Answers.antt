@@ -5,7 +5,8 @@ use Rattle.lock_queue.specs.Tables.{part_of}
 use Rattle.lock_queue.proofs.queue.at_place.Goals as goal
 
 pub start_of-before-requires : goal.start_of-before-requires
-start_of-before-requires c = ordered part_of c.args.entries.now c.args.order.now (rw c.requires.order c.requires.entries)
+start_of-before-requires c =
+    ordered part_of c.args.entries.now c.args.order.now (rw c.requires.order c.requires.entries)
 
 pub returns-in-Some : goal.returns-in-Some
 returns-in-Some c =
@@ -18,8 +19,10 @@ returns-in-Some c =
       c.slot_of-slot.ensures.slot,
     )
     (at_is part_of c.args.entries.now c.args.order.now c.args.k c.start_of-before.result
-    c.in-Some.r (rw c.requires.order c.requires.entries) (sym c.key_at.ensures ∙ c.in-Some.is) c.start_of-before.ensures)
+    c.in-Some.r (rw c.requires.order c.requires.entries)
+    (sym c.key_at.ensures ∙ c.in-Some.is) c.start_of-before.ensures)
 
 pub returns-in-None : goal.returns-in-None
 returns-in-None c =
-    none_past part_of c.args.entries.now c.args.order.now c.args.k (rw c.requires.order c.requires.entries) (sym c.key_at.ensures ∙ c.in-None.is)
+    none_past part_of c.args.entries.now c.args.order.now c.args.k (rw c.requires.order c.requires.entries)
+    (sym c.key_at.ensures ∙ c.in-None.is)

@@ -1,23 +1,27 @@
-use Rattle.std.proofs.Common.{length, filter, refl, arith, List}
+use Rattle.std.proofs.Common.{length, refl, arith, List}
 use Rattle.std.proofs.lemmas.List.{length-append}
-use Rattle.table_entries.proofs.PassLaws.{counted_next, counted_past, length-kept_append}
+use Rattle.table_entries.proofs.PassLaws.{counted_next, counted_past}
 use Rattle.lock_queue.specs.declared.waiters.Waiter.{Waiter}
 use Rattle.lock_queue.proofs.queue.count_all.Goals as goal
 
 pub overflow_add-count : goal.overflow_add-count
 overflow_add-count c =
-    let next = counted_next (λ (l : List Waiter). length l) length-append c.args.entries.now c.loop-waiters.waiters-index c.loop-waiters.count
+    let next =
+    counted_next (λ (l : List Waiter). length l) length-append c.args.entries.now c.loop-waiters.waiters-index
+    c.loop-waiters.count
     c.len-count.result _ c.waiters-item.result c.loop-waiters-test.true c.waiters-item.is c.len-count.ensures.value
     c.loop-waiters.invariant in
     omega (arith, next, c.requires)
 
 pub loop-waiters-preserved : goal.loop-waiters-preserved
 loop-waiters-preserved c =
-    counted_next (λ (l : List Waiter). length l) length-append c.args.entries.now c.loop-waiters.waiters-index c.loop-waiters.count
+    counted_next (λ (l : List Waiter). length l) length-append c.args.entries.now c.loop-waiters.waiters-index
+    c.loop-waiters.count
     c.len-count.result _ c.waiters-item.result c.loop-waiters-test.true c.waiters-item.is c.len-count.ensures.value
     c.loop-waiters.invariant
 
 pub returns : goal.returns
 returns c =
-    counted_past (λ (l : List Waiter). length l) length-append c.args.entries.now c.loop-waiters.waiters-index c.loop-waiters.count _
+    counted_past (λ (l : List Waiter). length l) length-append c.args.entries.now c.loop-waiters.waiters-index
+    c.loop-waiters.count _
     c.loop-waiters-test.false refl c.loop-waiters.invariant

@@ -1,5 +1,4 @@
 use Rattle.std.proofs.Common.{length, filter, refl, arith, List}
-use Rattle.std.proofs.lemmas.List.{length-append}
 use Rattle.table_entries.proofs.PassLaws.{counted_next, counted_past, length-kept_append}
 use Rattle.cf_types.specs.Resources.{resource_before}
 use Rattle.list_laws.proofs.FilterLaws.{length-filter-le}
@@ -9,18 +8,34 @@ use Rattle.lock_queue.proofs.queue.count_all_ahead.Goals as goal
 
 pub overflow_add-count : goal.overflow_add-count
 overflow_add-count c =
-    let next = counted_next (λ (l : List Waiter). length (filter (λ (waiter : Waiter). resource_before waiter.r c.args.r.now) l)) (length-kept_append (λ (waiter : Waiter). resource_before waiter.r c.args.r.now)) c.args.entries.now c.loop-waiters.waiters-index c.loop-waiters.count
-    c.count_ahead-count.result _ c.waiters-item.result c.loop-waiters-test.true c.waiters-item.is c.count_ahead-count.ensures
+    let next =
+    counted_next (λ (l : List Waiter). length
+    (filter (λ (waiter : Waiter). resource_before waiter.r c.args.r.now) l))
+    (length-kept_append (λ (waiter : Waiter). resource_before waiter.r c.args.r.now)) c.args.entries.now
+    c.loop-waiters.waiters-index c.loop-waiters.count
+    c.count_ahead-count.result _ c.waiters-item.result c.loop-waiters-test.true c.waiters-item.is
+    c.count_ahead-count.ensures
     c.loop-waiters.invariant in
-    omega (arith, next, length-filter-le (λ (waiter : Waiter). resource_before waiter.r c.args.r.now) (joined c.args.entries.now), c.requires)
+    omega (
+      arith,
+      next,
+      length-filter-le (λ (waiter : Waiter). resource_before waiter.r c.args.r.now)
+          (joined c.args.entries.now),
+      c.requires,
+    )
 
 pub loop-waiters-preserved : goal.loop-waiters-preserved
 loop-waiters-preserved c =
-    counted_next (λ (l : List Waiter). length (filter (λ (waiter : Waiter). resource_before waiter.r c.args.r.now) l)) (length-kept_append (λ (waiter : Waiter). resource_before waiter.r c.args.r.now)) c.args.entries.now c.loop-waiters.waiters-index c.loop-waiters.count
-    c.count_ahead-count.result _ c.waiters-item.result c.loop-waiters-test.true c.waiters-item.is c.count_ahead-count.ensures
+    counted_next (λ (l : List Waiter). length (filter (λ (waiter : Waiter). resource_before waiter.r c.args.r.now) l))
+    (length-kept_append (λ (waiter : Waiter). resource_before waiter.r c.args.r.now)) c.args.entries.now
+    c.loop-waiters.waiters-index c.loop-waiters.count
+    c.count_ahead-count.result _ c.waiters-item.result c.loop-waiters-test.true c.waiters-item.is
+    c.count_ahead-count.ensures
     c.loop-waiters.invariant
 
 pub returns : goal.returns
 returns c =
-    counted_past (λ (l : List Waiter). length (filter (λ (waiter : Waiter). resource_before waiter.r c.args.r.now) l)) (length-kept_append (λ (waiter : Waiter). resource_before waiter.r c.args.r.now)) c.args.entries.now c.loop-waiters.waiters-index c.loop-waiters.count _
+    counted_past (λ (l : List Waiter). length (filter (λ (waiter : Waiter). resource_before waiter.r c.args.r.now) l))
+    (length-kept_append (λ (waiter : Waiter). resource_before waiter.r c.args.r.now)) c.args.entries.now
+    c.loop-waiters.waiters-index c.loop-waiters.count _
     c.loop-waiters-test.false refl c.loop-waiters.invariant

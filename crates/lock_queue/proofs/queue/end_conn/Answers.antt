@@ -12,7 +12,8 @@ use Rattle.lock_queue.proofs.CountLaws.{recorded_few, recorded_seen}
 use Rattle.lock_queue.proofs.WaiterLaws.{queue-filter}
 use Rattle.lock_queue.proofs.queue.end_conn.Goals as goal
 
-left : (conn : ConnId) (entries new : List (List Waiter)) → AreEntries entries → new ≡ map (waiters_without_conn conn) entries
+left : (conn : ConnId) (entries new : List (List Waiter)) → AreEntries entries
+    → new ≡ map (waiters_without_conn conn) entries
     → waiters_in new ≡ waiters_without_conn conn (waiters_in entries)
 left conn entries new is e =
     ap waiters_in e ∙ left_seen part_of entries (map (resource_by part_of) (waiters_in entries)) is

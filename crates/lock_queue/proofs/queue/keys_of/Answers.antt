@@ -4,7 +4,8 @@ use Rattle.lock_queue.proofs.queue.keys_of.Goals as goal
 pub loop-waiters-preserved : goal.loop-waiters-preserved
 loop-waiters-preserved c =
     keys_more c.args.entries.now c.loop-waiters.keys.items c.push_keys.new.keys.items c.loop-waiters.waiters-index
-    c.waiters-item.result _ c.loop-waiters-test.true c.waiters-item.is c.in_ok-push_keys.ensures c.loop-waiters.invariant
+    c.waiters-item.result _ c.loop-waiters-test.true c.waiters-item.is c.in_ok-push_keys.ensures
+    c.loop-waiters.invariant
 
 pub returns : goal.returns
 returns c =

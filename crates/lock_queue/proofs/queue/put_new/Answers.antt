@@ -13,7 +13,8 @@ counted : (c : goal.After-put_in-before) → c.put_in-before.result ≡ length (
     is_on c.args.waiter.r other && (other.alter || not c.args.waiter.alter)) (waiters_in c.args.entries.now))
 counted c =
     c.put_in-before.ensures.before
-    ∙ ap length (kept_in part_of c.args.entries.now (map (resource_by part_of) (waiters_in c.args.entries.now)) c.requires.kept c.slot_of-slot.result
+    ∙ ap length (kept_in part_of c.args.entries.now
+    (map (resource_by part_of) (waiters_in c.args.entries.now)) c.requires.kept c.slot_of-slot.result
     c.index-entries-slot.result c.slot_of-slot.ensures.within (c.args.waiter.r, c.args.waiter.conn)
     c.slot_of-slot.ensures.slot (λ (other : Waiter). is_on c.args.waiter.r other
     && (other.alter || not c.args.waiter.alter)) (counts_on c.args.waiter))
@@ -31,7 +32,8 @@ pub put_in-before-requires-clause-few : goal.put_in-before-requires-clause-few
 put_in-before-requires-clause-few c =
     omega (
       arith,
-      few_in part_of c.args.entries.now (map (resource_by part_of) (waiters_in c.args.entries.now)) c.requires.kept c.slot_of-slot.result c.index-entries-slot.result c.slot_of-slot.ensures.within,
+      few_in part_of c.args.entries.now (map (resource_by part_of) (waiters_in c.args.entries.now)) c.requires.kept
+          c.slot_of-slot.result c.index-entries-slot.result c.slot_of-slot.ensures.within,
       length-map (waiters_in c.args.entries.now) (resource_by part_of),
       c.requires.few,
     )
@@ -41,7 +43,9 @@ overflow_add-result c = omega (arith, within c, c.requires.few)
 
 pub returns-clause-kept : goal.returns-clause-kept
 returns-clause-kept c =
-    of_seen part_of _ _ (put_table part_of c.args.entries.now (map (resource_by part_of) (waiters_in c.args.entries.now)) c.requires.kept c.slot_of-slot.result c.index-entries-slot.result
+    of_seen part_of _ _ (put_table part_of c.args.entries.now
+    (map (resource_by part_of) (waiters_in c.args.entries.now)) c.requires.kept c.slot_of-slot.result
+    c.index-entries-slot.result
     c.slot_of-slot.ensures.within (λ y. stands_before y c.args.waiter) (λ y. is_ahead y c.args.waiter) c.args.waiter
     c.slot_of-slot.ensures.slot (ahead_front c.args.waiter) (ahead_stop c.args.waiter) (ahead_agree c.args.waiter)
     (ahead_others c.args.waiter) c.put_in-before.new.waiters c.put_in-before.ensures.waiters c.requires.none)
@@ -54,7 +58,8 @@ returns-clause-within c = omega (arith, within c, c.requires.few)
 
 pub returns-clause-waiters : goal.returns-clause-waiters
 returns-clause-waiters c =
-    put_seen part_of c.args.entries.now (map (resource_by part_of) (waiters_in c.args.entries.now)) c.requires.kept c.slot_of-slot.result c.index-entries-slot.result
+    put_seen part_of c.args.entries.now (map (resource_by part_of) (waiters_in c.args.entries.now)) c.requires.kept
+    c.slot_of-slot.result c.index-entries-slot.result
     c.slot_of-slot.ensures.within (λ y. stands_before y c.args.waiter) (λ y. is_ahead y c.args.waiter) c.args.waiter
     c.slot_of-slot.ensures.slot (ahead_front c.args.waiter) (ahead_stop c.args.waiter) (ahead_agree c.args.waiter)
     (ahead_others c.args.waiter) c.put_in-before.new.waiters c.put_in-before.ensures.waiters

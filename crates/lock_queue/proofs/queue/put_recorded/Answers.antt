@@ -1,8 +1,5 @@
-use Rattle.std.proofs.Common.{◌≡◌, ◌≤◌, ap, ◌∙◌, arith}
-use Rattle.list_laws.proofs.FilterLaws.{length-filter-le}
-use Rattle.list_laws.proofs.InsertionLaws.{length-insertion}
-use Rattle.lock_queue.specs.declared.waiters.Waiter.{Waiter}
-use Rattle.lock_queue.specs.Waiters.{is_waiter, recorded_of, stands_before, waiter_of, waiters_with, waiters_without}
+use Rattle.std.proofs.Common.{ap, ◌∙◌, arith}
+use Rattle.lock_queue.specs.Waiters.{recorded_of, waiters_with}
 use Rattle.lock_queue.specs.Tables.{waiters_in}
 use Rattle.lock_queue.proofs.CountLaws.{recorded_less, recorded_more, recorded_few, few_with}
 use Rattle.lock_queue.proofs.queue.put_recorded.Goals as goal

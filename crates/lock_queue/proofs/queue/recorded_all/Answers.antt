@@ -1,21 +1,23 @@
-use Rattle.std.proofs.Common.{length, filter, refl, arith, List}
+use Rattle.std.proofs.Common.{refl, arith}
 use Rattle.lock_queue.specs.Waiters.{recorded_in}
 use Rattle.lock_queue.proofs.CountLaws.{recorded_parts}
-use Rattle.table_entries.proofs.PassLaws.{counted_next, counted_past, length-kept_append}
-use Rattle.lock_queue.specs.declared.waiters.Waiter.{Waiter}
+use Rattle.table_entries.proofs.PassLaws.{counted_next, counted_past}
 use Rattle.lock_queue.proofs.queue.recorded_all.Goals as goal
 
 pub overflow_add-count : goal.overflow_add-count
 overflow_add-count c =
-    let next = counted_next recorded_in recorded_parts c.args.entries.now c.loop-waiters.waiters-index c.loop-waiters.count
-    c.recorded_in-count.result _ c.waiters-item.result c.loop-waiters-test.true c.waiters-item.is c.recorded_in-count.ensures
+    let next =
+    counted_next recorded_in recorded_parts c.args.entries.now c.loop-waiters.waiters-index c.loop-waiters.count
+    c.recorded_in-count.result _ c.waiters-item.result c.loop-waiters-test.true c.waiters-item.is
+    c.recorded_in-count.ensures
     c.loop-waiters.invariant in
     omega (arith, next, c.requires)
 
 pub loop-waiters-preserved : goal.loop-waiters-preserved
 loop-waiters-preserved c =
     counted_next recorded_in recorded_parts c.args.entries.now c.loop-waiters.waiters-index c.loop-waiters.count
-    c.recorded_in-count.result _ c.waiters-item.result c.loop-waiters-test.true c.waiters-item.is c.recorded_in-count.ensures
+    c.recorded_in-count.result _ c.waiters-item.result c.loop-waiters-test.true c.waiters-item.is
+    c.recorded_in-count.ensures
     c.loop-waiters.invariant
 
 pub returns : goal.returns

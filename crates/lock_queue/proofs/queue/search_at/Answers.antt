@@ -15,5 +15,6 @@ loop-waiters-preserved c =
 pub returns : goal.returns
 returns c =
     none_placed_on part_of c.args.entries.now c.args.k
-    (sym c.loop-waiters.invariant ∙ rw (joined_past c.args.entries.now c.loop-waiters.waiters-index c.loop-waiters-test.false)
+    (sym c.loop-waiters.invariant
+    ∙ rw (joined_past c.args.entries.now c.loop-waiters.waiters-index c.loop-waiters-test.false)
     refl)

@@ -1,4 +1,4 @@
-use Rattle.std.proofs.Common.{◌≡◌, true, not, is_some, drop}
+use Rattle.std.proofs.Common.{◌≡◌, not, is_some, drop}
 use Rattle.std.specs.List.{list_all}
 use Rattle.table_entries.specs.Bins.{joined}
 use Rattle.table_entries.specs.Tables.{placed_on}
@@ -10,4 +10,5 @@ abbrev pub invariant-loop-waiters : goal.invariant-loop-waiters
 invariant-loop-waiters l =
     list_all (λ (waiter : Waiter). not (is_some (placed_on part_of waiter.r l.k (waiters_in l.entries))))
     (joined (drop l.waiters-index l.entries))
-    ≡ list_all (λ (waiter : Waiter). not (is_some (placed_on part_of waiter.r l.k (waiters_in l.entries)))) (joined l.entries)
+    ≡ list_all (λ (waiter : Waiter). not (is_some (placed_on part_of waiter.r l.k (waiters_in l.entries))))
+    (joined l.entries)

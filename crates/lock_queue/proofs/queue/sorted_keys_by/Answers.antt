@@ -11,7 +11,8 @@ use Rattle.lock_queue.proofs.queue.sorted_keys_by.Goals as goal
 
 pub returns : goal.returns
 returns c =
-    sorted_is same_resource resource_before resource_order resource_of (filter (is_by c.args.conn) (joined c.args.entries.now)) c.sort.new.self.items
+    sorted_is same_resource resource_before resource_order resource_of
+    (filter (is_by c.args.conn) (joined c.args.entries.now)) c.sort.new.self.items
     (subst (λ (l : List Resource). IsPermutation l c.sort.new.self.items) c.in_ok-keys.ensures
     c.in_ok-sort.ensures.permutation)
     (neighbours same_resource resource_before resource_order c.sort.new.self.items

@@ -1,4 +1,4 @@
-use Rattle.std.proofs.Common.{◌≡◌, ap, ◌∙◌, arith}
+use Rattle.std.proofs.Common.{ap, ◌∙◌, arith}
 use Rattle.lock_queue.specs.Waiters.{recorded_of}
 use Rattle.lock_queue.specs.Tables.{waiters_in}
 use Rattle.lock_queue.proofs.CountLaws.{recorded_less}

@@ -7,16 +7,21 @@ use Rattle.lock_table.proofs.entry.take_from.Goals as goal
 
 pub returns-in-Some-clause-mask : goal.returns-in-Some-clause-mask
 returns-in-Some-clause-mask c =
-    let out = c.cut.ensures.list ∙ cut_out c.args.r.now c.args.conn c.args.owners.now c.in-Some.at c.requires.one_each (sym c.place_of.ensures ∙ c.in-Some.is) in
-    rw (c.unmarked.ensures, out) (masked_less c.args.mask.now c.args.owners.now c.args.r.now c.args.conn c.requires.mask)
+    let out =
+    c.cut.ensures.list ∙ cut_out c.args.r.now c.args.conn c.args.owners.now c.in-Some.at c.requires.one_each
+    (sym c.place_of.ensures ∙ c.in-Some.is) in
+    rw (c.unmarked.ensures, out)
+    (masked_less c.args.mask.now c.args.owners.now c.args.r.now c.args.conn c.requires.mask)
 
 pub returns-in-Some-clause-there : goal.returns-in-Some-clause-there
 returns-in-Some-clause-there c =
-    some_place (is_interest c.args.r.now c.args.conn) c.args.owners.now c.in-Some.at (sym c.place_of.ensures ∙ c.in-Some.is)
+    some_place (is_interest c.args.r.now c.args.conn) c.args.owners.now c.in-Some.at
+    (sym c.place_of.ensures ∙ c.in-Some.is)
 
 pub returns-in-Some-clause-owners : goal.returns-in-Some-clause-owners
 returns-in-Some-clause-owners c =
-    c.cut.ensures.list ∙ cut_out c.args.r.now c.args.conn c.args.owners.now c.in-Some.at c.requires.one_each (sym c.place_of.ensures ∙ c.in-Some.is)
+    c.cut.ensures.list ∙ cut_out c.args.r.now c.args.conn c.args.owners.now c.in-Some.at c.requires.one_each
+    (sym c.place_of.ensures ∙ c.in-Some.is)
 
 pub returns-in-None-clause-there : goal.returns-in-None-clause-there
 returns-in-None-clause-there c =

@@ -1,5 +1,4 @@
 use Rattle.std.proofs.Common.{length, filter, refl, arith, List}
-use Rattle.std.proofs.lemmas.List.{length-append}
 use Rattle.table_entries.proofs.PassLaws.{counted_next, counted_past, length-kept_append}
 use Rattle.cf_types.specs.Resources.{resource_before}
 use Rattle.list_laws.proofs.FilterLaws.{length-filter-le}
@@ -9,18 +8,33 @@ use Rattle.lock_table.proofs.table.count_before.Goals as goal
 
 pub overflow_add-count : goal.overflow_add-count
 overflow_add-count c =
-    let next = counted_next (λ (l : List Held). length (filter (λ (held : Held). resource_before held.r c.args.r.now) l)) (length-kept_append (λ (held : Held). resource_before held.r c.args.r.now)) c.args.entries.now c.loop-entry.entry-index c.loop-entry.count
-    c.count_before-count.result _ c.entry-item.result c.loop-entry-test.true c.entry-item.is c.count_before-count.ensures
+    let next =
+    counted_next (λ (l : List Held). length (filter (λ (held : Held). resource_before held.r c.args.r.now) l))
+    (length-kept_append (λ (held : Held). resource_before held.r c.args.r.now)) c.args.entries.now
+    c.loop-entry.entry-index c.loop-entry.count
+    c.count_before-count.result _ c.entry-item.result c.loop-entry-test.true c.entry-item.is
+    c.count_before-count.ensures
     c.loop-entry.invariant in
-    omega (arith, next, length-filter-le (λ (held : Held). resource_before held.r c.args.r.now) (joined c.args.entries.now), c.requires)
+    omega (
+      arith,
+      next,
+      length-filter-le (λ (held : Held). resource_before held.r c.args.r.now)
+          (joined c.args.entries.now),
+      c.requires,
+    )
 
 pub loop-entry-preserved : goal.loop-entry-preserved
 loop-entry-preserved c =
-    counted_next (λ (l : List Held). length (filter (λ (held : Held). resource_before held.r c.args.r.now) l)) (length-kept_append (λ (held : Held). resource_before held.r c.args.r.now)) c.args.entries.now c.loop-entry.entry-index c.loop-entry.count
-    c.count_before-count.result _ c.entry-item.result c.loop-entry-test.true c.entry-item.is c.count_before-count.ensures
+    counted_next (λ (l : List Held). length (filter (λ (held : Held). resource_before held.r c.args.r.now) l))
+    (length-kept_append (λ (held : Held). resource_before held.r c.args.r.now)) c.args.entries.now
+    c.loop-entry.entry-index c.loop-entry.count
+    c.count_before-count.result _ c.entry-item.result c.loop-entry-test.true c.entry-item.is
+    c.count_before-count.ensures
     c.loop-entry.invariant
 
 pub returns : goal.returns
 returns c =
-    counted_past (λ (l : List Held). length (filter (λ (held : Held). resource_before held.r c.args.r.now) l)) (length-kept_append (λ (held : Held). resource_before held.r c.args.r.now)) c.args.entries.now c.loop-entry.entry-index c.loop-entry.count _
+    counted_past (λ (l : List Held). length (filter (λ (held : Held). resource_before held.r c.args.r.now) l))
+    (length-kept_append (λ (held : Held). resource_before held.r c.args.r.now)) c.args.entries.now
+    c.loop-entry.entry-index c.loop-entry.count _
     c.loop-entry-test.false refl c.loop-entry.invariant

@@ -10,7 +10,8 @@ use Rattle.lock_table.specs.Holdings.{is_by, owners_without_active}
 use Rattle.lock_table.specs.Tables.{part_of, owners_in, AreEntries}
 use Rattle.lock_table.proofs.table.end_active.Goals as goal
 
-left : (conn : ConnId) (entries new : List (List Held)) → AreEntries entries → new ≡ map (owners_without_active conn) entries
+left : (conn : ConnId) (entries new : List (List Held)) → AreEntries entries
+    → new ≡ map (owners_without_active conn) entries
     → owners_in new ≡ owners_without_active conn (owners_in entries)
 left conn entries new is e =
     ap owners_in e ∙ left_seen part_of entries (map (resource_by part_of) (owners_in entries)) is

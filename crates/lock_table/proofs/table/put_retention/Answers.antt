@@ -8,27 +8,35 @@ use Rattle.lock_table.proofs.EntryLaws.{retention_else}
 use Rattle.lock_table.proofs.table.put_retention.Goals as goal
 
 pub set_retained-requires : goal.set_retained-requires
-set_retained-requires c = entry_apart part_of c.args.entries.now (map (resource_by part_of) (owners_in c.args.entries.now))
+set_retained-requires c =
+    entry_apart part_of c.args.entries.now (map (resource_by part_of) (owners_in c.args.entries.now))
     c.requires c.slot_of-slot.result c.index-entries-slot.result c.slot_of-slot.ensures.within
 
 pub returns-clause-kept : goal.returns-clause-kept
 returns-clause-kept c =
-    of_seen part_of _ _ (changed_table part_of c.args.entries.now (map (resource_by part_of) (owners_in c.args.entries.now))
-    c.requires c.slot_of-slot.result c.index-entries-slot.result c.slot_of-slot.ensures.within (in_retention c.args.r.now c.args.conn c.args.retained) (λ x. refl)
-    (λ x off. retention_else c.args.r.now c.args.conn c.args.retained x (not_here part_of c.args.entries.now c.slot_of-slot.result
+    of_seen part_of _ _ (changed_table part_of c.args.entries.now
+    (map (resource_by part_of) (owners_in c.args.entries.now))
+    c.requires c.slot_of-slot.result c.index-entries-slot.result c.slot_of-slot.ensures.within
+    (in_retention c.args.r.now c.args.conn c.args.retained) (λ x. refl)
+    (λ x off. retention_else c.args.r.now c.args.conn c.args.retained x
+    (not_here part_of c.args.entries.now c.slot_of-slot.result
     (c.args.r.now, c.args.conn) c.slot_of-slot.ensures.slot x off)) c.set_retained.new.self c.set_retained.ensures)
 
 pub returns-clause-len : goal.returns-clause-len
 returns-clause-len c =
     ap length (changed_seen part_of c.args.entries.now (map (resource_by part_of) (owners_in c.args.entries.now))
-    c.requires c.slot_of-slot.result c.index-entries-slot.result c.slot_of-slot.ensures.within (in_retention c.args.r.now c.args.conn c.args.retained) (λ x. refl)
-    (λ x off. retention_else c.args.r.now c.args.conn c.args.retained x (not_here part_of c.args.entries.now c.slot_of-slot.result
+    c.requires c.slot_of-slot.result c.index-entries-slot.result c.slot_of-slot.ensures.within
+    (in_retention c.args.r.now c.args.conn c.args.retained) (λ x. refl)
+    (λ x off. retention_else c.args.r.now c.args.conn c.args.retained x
+    (not_here part_of c.args.entries.now c.slot_of-slot.result
     (c.args.r.now, c.args.conn) c.slot_of-slot.ensures.slot x off)) c.set_retained.new.self c.set_retained.ensures)
     ∙ length-map (owners_in c.args.entries.now) (in_retention c.args.r.now c.args.conn c.args.retained)
 
 pub returns-clause-owners : goal.returns-clause-owners
 returns-clause-owners c =
     changed_seen part_of c.args.entries.now (map (resource_by part_of) (owners_in c.args.entries.now))
-    c.requires c.slot_of-slot.result c.index-entries-slot.result c.slot_of-slot.ensures.within (in_retention c.args.r.now c.args.conn c.args.retained) (λ x. refl)
-    (λ x off. retention_else c.args.r.now c.args.conn c.args.retained x (not_here part_of c.args.entries.now c.slot_of-slot.result
+    c.requires c.slot_of-slot.result c.index-entries-slot.result c.slot_of-slot.ensures.within
+    (in_retention c.args.r.now c.args.conn c.args.retained) (λ x. refl)
+    (λ x off. retention_else c.args.r.now c.args.conn c.args.retained x
+    (not_here part_of c.args.entries.now c.slot_of-slot.result
     (c.args.r.now, c.args.conn) c.slot_of-slot.ensures.slot x off)) c.set_retained.new.self c.set_retained.ensures

@@ -1,4 +1,4 @@
-use Rattle.std.proofs.Common.{◌≡◌, ◌≤◌, length, map, take, drop}
+use Rattle.std.proofs.Common.{◌≡◌, map, take, drop}
 use Rattle.lock_table.specs.Holdings.{owners_retained_of}
 use Rattle.lock_table.proofs.table.put_retentions.Given as goal
 

@@ -13,22 +13,29 @@ set-requires c = entry_apart part_of c.args.entries.now (map (resource_by part_o
 
 pub returns-clause-kept : goal.returns-clause-kept
 returns-clause-kept c =
-    of_seen part_of _ _ (changed_table part_of c.args.entries.now (map (resource_by part_of) (owners_in c.args.entries.now))
-    c.requires c.slot_of-slot.result c.index-entries-slot.result c.slot_of-slot.ensures.within (in_state c.args.r.now c.args.conn c.args.excl) (λ x. refl)
-    (λ x off. state_else c.args.r.now c.args.conn c.args.excl x (not_here part_of c.args.entries.now c.slot_of-slot.result
+    of_seen part_of _ _ (changed_table part_of c.args.entries.now
+    (map (resource_by part_of) (owners_in c.args.entries.now))
+    c.requires c.slot_of-slot.result c.index-entries-slot.result c.slot_of-slot.ensures.within
+    (in_state c.args.r.now c.args.conn c.args.excl) (λ x. refl)
+    (λ x off. state_else c.args.r.now c.args.conn c.args.excl x
+    (not_here part_of c.args.entries.now c.slot_of-slot.result
     (c.args.r.now, c.args.conn) c.slot_of-slot.ensures.slot x off)) c.set.new.self c.set.ensures)
 
 pub returns-clause-len : goal.returns-clause-len
 returns-clause-len c =
     ap length (changed_seen part_of c.args.entries.now (map (resource_by part_of) (owners_in c.args.entries.now))
-    c.requires c.slot_of-slot.result c.index-entries-slot.result c.slot_of-slot.ensures.within (in_state c.args.r.now c.args.conn c.args.excl) (λ x. refl)
-    (λ x off. state_else c.args.r.now c.args.conn c.args.excl x (not_here part_of c.args.entries.now c.slot_of-slot.result
+    c.requires c.slot_of-slot.result c.index-entries-slot.result c.slot_of-slot.ensures.within
+    (in_state c.args.r.now c.args.conn c.args.excl) (λ x. refl)
+    (λ x off. state_else c.args.r.now c.args.conn c.args.excl x
+    (not_here part_of c.args.entries.now c.slot_of-slot.result
     (c.args.r.now, c.args.conn) c.slot_of-slot.ensures.slot x off)) c.set.new.self c.set.ensures)
     ∙ length-map (owners_in c.args.entries.now) (in_state c.args.r.now c.args.conn c.args.excl)
 
 pub returns-clause-owners : goal.returns-clause-owners
 returns-clause-owners c =
     changed_seen part_of c.args.entries.now (map (resource_by part_of) (owners_in c.args.entries.now))
-    c.requires c.slot_of-slot.result c.index-entries-slot.result c.slot_of-slot.ensures.within (in_state c.args.r.now c.args.conn c.args.excl) (λ x. refl)
-    (λ x off. state_else c.args.r.now c.args.conn c.args.excl x (not_here part_of c.args.entries.now c.slot_of-slot.result
+    c.requires c.slot_of-slot.result c.index-entries-slot.result c.slot_of-slot.ensures.within
+    (in_state c.args.r.now c.args.conn c.args.excl) (λ x. refl)
+    (λ x off. state_else c.args.r.now c.args.conn c.args.excl x
+    (not_here part_of c.args.entries.now c.slot_of-slot.result
     (c.args.r.now, c.args.conn) c.slot_of-slot.ensures.slot x off)) c.set.new.self c.set.ensures

@@ -1,4 +1,4 @@
-use Rattle.std.proofs.Common.{◌≡◌, true, not, is_some, drop}
+use Rattle.std.proofs.Common.{◌≡◌, not, is_some, drop}
 use Rattle.std.specs.List.{list_all}
 use Rattle.table_entries.specs.Bins.{joined}
 use Rattle.table_entries.specs.Tables.{placed_on}

@@ -20,10 +20,12 @@ workers_of-requires-clause-count g c =
 pub work_each-requires-clause-callers : goal.work_each-requires-clause-callers
 work_each-requires-clause-callers g c κs within =
     let some_callers = c.requires.callers.0 in
-    let long = length-idle c.args.script.now c.in-Ok.locks c.args.callers c.in_ok-workers.workers.items c.in-Ok.hands.items
+    let long =
+    length-idle c.args.script.now c.in-Ok.locks c.args.callers c.in_ok-workers.workers.items c.in-Ok.hands.items
     c.requires.callers.2 c.in-Ok.ensures.hands
     (subst (λ (x : List Name16 × List Line). AreIdle x.0 x.1 c.in-Ok.hands.items c.in_ok-workers.workers.items)
-    (λ i. (c.items-connectors.ensures i, c.items.ensures i)) c.in_ok-workers.ensures) in omega (arith, long, some_callers)
+    (λ i. (c.items-connectors.ensures i, c.items.ensures i)) c.in_ok-workers.ensures) in
+    omega (arith, long, some_callers)
 
 pub work_each-requires-clause-ready : goal.work_each-requires-clause-ready
 work_each-requires-clause-ready g c κs within =
@@ -70,7 +72,9 @@ returns g c =
     (form.0 ∙ c.requires.entries.1) c.requires.callers.2 c.in-Ok.ensures.hands idles
     c.work_each.ensures
     words c.close-words.ensures.count
-    (subst (λ (l : List HandSeen). (word : ℕ) → word < locks.words → HasValue (all_held l) word (slice_index words word)) hands
+    (subst (λ (l : List HandSeen). (word : ℕ) → word < locks.words
+    → HasValue (all_held l) word (slice_index words word)) hands
     c.close-words.ensures.words)
     (subst (λ (l : List HandSeen). AllPairs AreCompatible (all_held l)) hands c.close-words.ensures.compatible)
-    (subst (λ (l : List HandSeen). All (λ (h : HandSeen). All (IsOthers l h.number) h.read) l) hands c.close-words.ensures.read))
+    (subst (λ (l : List HandSeen). All (λ (h : HandSeen). All (IsOthers l h.number) h.read) l) hands
+    c.close-words.ensures.read))

@@ -1,4 +1,4 @@
-use Rattle.std.proofs.Common.{◌≡◌, ◌+◌, ◌++◌, ◌≤◌, List, length, ap, subst, ◌∙◌, arith}
+use Rattle.std.proofs.Common.{◌≡◌, ◌+◌, ◌++◌, List, length, ap, subst, ◌∙◌, arith}
 use Rattle.cf_types.specs.declared.events.Letter.{Letter}
 use Rattle.lock_model.specs.Commands.Decide as decide
 use Rattle.lock_interests.specs.InterestsView.{InterestsView}
@@ -10,7 +10,8 @@ notify-requires c =
     omega (
       arith,
       ap (λ (l : List Letter). length l)
-          (told_left c.args.r.now c.args.conn c.self.inside.owners.owners c.self.inside.records.records _ c.owners.ensures),
+          (told_left c.args.r.now c.args.conn c.self.inside.owners.owners c.self.inside.records.records _
+          c.owners.ensures),
       ap (λ (v : InterestsView). length (decide.notify_letters c.args.r.now c.args.conn v.interests)) c.self.view_is,
       c.requires,
     )

@@ -5,7 +5,8 @@ use Rattle.lock_table.specs.Holdings.{is_interest, in_state}
 use Rattle.lock_table.proofs.EntryLaws.{masked_same, state_put, state_none}
 use Rattle.lock_table.proofs.entry.Entry.set.Goals as goal
 
-put : (c : goal.After-put_state) → c.put_state.new.owners ≡ map (in_state c.args.r.now c.args.conn c.args.excl) c.self.inside.owners
+put : (c : goal.After-put_state)
+    → c.put_state.new.owners ≡ map (in_state c.args.r.now c.args.conn c.args.excl) c.self.inside.owners
 put c =
     let d : Held = record { r = c.args.r.now; conn = c.args.conn; excl = false; retained = false } in
     state_put c.args.r.now c.args.conn c.args.excl c.self.inside.owners c.put_state.new.owners c.in-Some.at d
@@ -22,4 +23,5 @@ returns-in-Some c = rw (← c.self.view_is) (put c)
 pub returns-in_default : goal.returns-in_default
 returns-in_default c =
     rw (← c.self.view_is) (state_none c.args.r.now c.args.conn c.args.excl c.self.inside.owners
-    (none_placed (is_interest c.args.r.now c.args.conn) c.self.inside.owners (sym c.place_of.ensures ∙ c.in_default.is)))
+    (none_placed (is_interest c.args.r.now c.args.conn) c.self.inside.owners
+    (sym c.place_of.ensures ∙ c.in_default.is)))
