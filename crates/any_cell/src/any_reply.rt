@@ -6,11 +6,18 @@ use cf_types::{CacheReply, ListReply, LockReply};
 use engine_api::Reply;
 
 /// What was answered to a call of a structure, of whatever type.
-#[derive(Drop)]
 pub enum AnyReply {
     Cache(Reply<CacheReply>),
     List(Reply<ListReply>),
     Lock(Reply<LockReply>),
+}
+
+impl Drop for AnyReply {
+    fn drop(self) {
+        match self {
+            AnyReply::Cache(_) | AnyReply::List(_) | AnyReply::Lock(_) => {}
+        }
+    }
 }
 
 // A reply of a cache structure, if there is one.

@@ -12,6 +12,7 @@ use engine_api::History;
 use plex_board::{Board, Desk};
 use plex_script::{AnyHistory, Script, read, well_formed};
 use std::alloc::Global;
+use std::mem::replace;
 use std::sync::Wait;
 
 /// One cache, whose vectors have 64 bits, and two connectors.
@@ -133,7 +134,9 @@ pub fn close(
     let desks = desks_of(alloc, operator, first, second)?;
     let (mut histories, _) = board.close(rt, desks);
     match histories.pop() {
-        Some(AnyHistory::Cache(history)) => Ok(history),
+        Some(AnyHistory::Cache(ref mut history)) => {
+            Ok(replace(history, History::from_vec(Vec::new(alloc))))
+        }
         _ => Err(Halt::OtherPolicy),
     }
 }

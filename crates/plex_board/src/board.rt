@@ -35,7 +35,6 @@ use vec_words::{Tested, TestedWord};
 
 /// The structures of a script, which threads share by `&`. Contracts see what of them never
 /// changes.
-#[derive(Drop)]
 pub struct Board<L: Link> {
     stations: Vec<Station<L>>,
     callers: u8,
@@ -55,6 +54,16 @@ impl<L: Link> Model for Board<L> {
     } };
 
     ghost invariant = { λ b. IsReady b.stations.items b.callers b.rest.key };
+}
+
+impl<L: Link> Drop for Board<L> {
+    fn drop(self) {
+        let Board {
+            stations: _,
+            callers: _,
+            rest: _,
+        } = self;
+    }
 }
 
 impl<L: Link> Board<L> {
@@ -341,7 +350,11 @@ impl<L: Link> Board<L> {
         ensures histories { AreClosed self desks.items result.0.items }
         ensures links { AreLinksAsked L.calls L.downs L.faults self result.0.items result.1.items }
     {
-        let Board { stations, rest, .. } = self;
+        let Board {
+            stations,
+            callers: _,
+            rest,
+        } = self;
         let mut rest = rest.end(rt);
         gather(&mut rest.homes, desks);
         end(rt, stations, rest)

@@ -9,7 +9,6 @@ use std::marker::Model;
 
 /// What a caller has to use the structures of a board: a place at each. It may go to another
 /// thread.
-#[derive(Drop)]
 pub struct Desk {
     pub(crate) owner: ConnId,
     pub(crate) places: Vec<Place>,
@@ -26,6 +25,15 @@ impl Model for Desk {
 
     // a place at each structure that a board may have
     ghost invariant = { λ desk. 16 ≤ vec_capacity desk.places };
+}
+
+impl Drop for Desk {
+    fn drop(self) {
+        let Desk {
+            owner: _,
+            places: _,
+        } = self;
+    }
 }
 
 impl Desk {
@@ -50,5 +58,13 @@ impl Desk {
         ensures { (pass_at self.now on).sure ≤ (pass_at self.now on).known }
     {
         self.places[usize::from(on.0)].ordered();
+    }
+
+    /// The places.
+    pub(crate) fn into_places(self) -> Vec<Place>
+        ensures { result.items ≡ self.passes }
+    {
+        let Desk { owner: _, places } = self;
+        places
     }
 }

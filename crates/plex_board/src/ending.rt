@@ -36,8 +36,7 @@ pub(crate) fn gather(homes: &mut Vec<AnyPasses>, desks: Vec<Desk>)
         ≡ homes_gathered desks.items (homes_shown homes.old.items) }
 {
     for desk in desks {
-        let Desk { places, .. } = desk;
-        bring_home(homes, places);
+        bring_home(homes, desk.into_places());
     }
 }
 

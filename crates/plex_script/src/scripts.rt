@@ -41,11 +41,21 @@ pub struct Line {
 }
 
 /// A script: the policy in the order in which it is declared, and the lines that do something.
-#[derive(Drop)]
 pub struct Script {
     /// The facilities and their units.
     pub facilities: Listing<Pref>,
     pub structures: Listing<StrForm>,
     pub connectors: Listing<Name16>,
     pub lines: Listing<Line>,
+}
+
+impl Drop for Script {
+    fn drop(self) {
+        let Script {
+            facilities: _,
+            structures: _,
+            connectors: _,
+            lines: _,
+        } = self;
+    }
 }

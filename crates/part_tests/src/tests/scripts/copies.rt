@@ -1,7 +1,8 @@
 use super::printing::PLAIN;
 use cf_types::{Listing, NoMemory};
-use plex_script::{Act, Line, Script, copy_ask, print, read};
+use plex_script::{Act, Line, copy_ask, print, read};
 use std::alloc::Global;
+use std::mem::replace;
 use std::test::Fail;
 
 // The line, with a copy of its call.
@@ -29,22 +30,13 @@ fn with_copy(alloc: Global, line: Line) -> Result<Line, NoMemory> {
 #[test]
 fn each_call_is_copied(rt: HostRuntime) -> Result<(), Fail> {
     let alloc = rt.alloc();
-    let Script {
-        facilities,
-        structures,
-        connectors,
-        lines,
-    } = read(alloc, PLAIN)?;
+    let mut script = read(alloc, PLAIN)?;
+    let lines = replace(&mut script.lines, Listing::new(alloc));
     let mut copies = Vec::new(alloc);
     for line in lines.into_vec() {
         copies.push(with_copy(alloc, line)?)?;
     }
-    let copy = Script {
-        facilities,
-        structures,
-        connectors,
-        lines: Listing::from_vec(copies),
-    };
-    assert!(rt; print(alloc, &copy)?.as_slice() == PLAIN);
+    script.lines = Listing::from_vec(copies);
+    assert!(rt; print(alloc, &script)?.as_slice() == PLAIN);
     Ok(())
 }
