@@ -123,6 +123,18 @@ pub record TestsWord (on : StrNo) (word : ℕ) (before after : AtWork) : Type 0 
 abbrev pub ShowsOnly : Shown → AtWork → AtWork → Type 0
 ShowsOnly item before after = (after.desk ≡ before.desk) × (after.shown ≡ with_item item before.shown)
 
+-- a look at a bit of the caller's own vector, by its index: a test, or the answer that the vector ends before it
+abbrev pub Looks : ℕ → StrNo → ℕ → AtWork → AtWork → Type 0
+Looks vector on index before after =
+    MatchBool (nat_lt index vector) (Tests on index before after)
+    (ShowsOnly (shown.BadIndex on index false vector) before after)
+
+-- the same for a word of 32 bits
+abbrev pub LooksAtWord : ℕ → StrNo → ℕ → AtWork → AtWork → Type 0
+LooksAtWord vector on word before after =
+    MatchBool (nat_lt (32 * word) vector) (TestsWord on word before after)
+    (ShowsOnly (shown.BadIndex on word true vector) before after)
+
 -- the number of a call that the caller has seen complete is posted; it knows no less
 pub record Posts (on : StrNo) (before after : AtWork) : Type 0 where
   pub known : (pass_at before.desk on).sure ≤ (pass_at before.desk on).known
@@ -146,11 +158,9 @@ Acts limit form on retry (act.Call asked) before after =
 Acts limit form on retry act.Events before after =
     Asks limit form.kind None on (first_step act.Events retry) before after
 Acts limit form on retry (act.Test index) before after =
-    MatchBool (nat_lt index form.vector) (Tests on index before after)
-    (ShowsOnly (shown.BadIndex on index false form.vector) before after) ⊎ RunsOut before after
+    Looks form.vector on index before after ⊎ RunsOut before after
 Acts limit form on retry (act.TestWord word) before after =
-    MatchBool (nat_lt (32 * word) form.vector) (TestsWord on word before after)
-    (ShowsOnly (shown.BadIndex on word true form.vector) before after) ⊎ RunsOut before after
+    LooksAtWord form.vector on word before after ⊎ RunsOut before after
 Acts limit form on retry act.Post before after = Posts on before after ⊎ RunsOut before after
 Acts limit form on retry act.Take before after = Takes on before after ⊎ RunsOut before after
 

@@ -1,9 +1,8 @@
 //! What a caller does without a call: tests of its own vector, and notes for others.
-ghost use Rattle.std.specs.Prelude.{◌≡◌, ◌<◌, ◌*◌, nat_lt, MatchBool, OnOk, OnErr, IfSome, true, false, length};
+ghost use Rattle.std.specs.Prelude.{◌≡◌, ◌<◌, OnOk, OnErr, IfSome, length};
 ghost use Rattle.plex_script.specs.declared.transcripts.AgentEnd.TheVariants as ended;
-ghost use Rattle.plex_script.specs.declared.transcripts.Shown.TheVariants as shown;
 ghost use Rattle.desk_model.specs.Boards.{IsDeskOf, cell_on};
-ghost use Rattle.desk_model.specs.Turns.{ShowsOnly, Tests, TestsWord, Posts, Takes};
+ghost use Rattle.desk_model.specs.Turns.{Looks, LooksAtWord, Posts, Takes};
 ghost use Rattle.plex_agent.specs.Calls.{at_work};
 
 use crate::items::reserve_item;
@@ -26,12 +25,9 @@ pub(crate) fn test<L: Link>(
     requires place { on.0 < length board.now.cells }
     requires caller { 0 < desk.old.owner.0 }
     ensures tested { OnOk result (IfSome (cell_on board.now on)
-        (λ cell. MatchBool (nat_lt index cell.form.vector)
-        (Tests on index (at_work desk.old items.old.items ended.Done)
-        (at_work desk.new items.new.items ended.Done))
-        (ShowsOnly (shown.BadIndex on index false cell.form.vector)
+        (λ cell. Looks cell.form.vector on index
         (at_work desk.old items.old.items ended.Done)
-        (at_work desk.new items.new.items ended.Done)))) }
+        (at_work desk.new items.new.items ended.Done))) }
     ensures nothing { OnErr result ((desk.new ≡ desk.old) × (items.new.items ≡ items.old.items)) }
     ensures of_board { IsDeskOf board.now desk.new }
     ensures owner { desk.new.owner ≡ desk.old.owner }
@@ -70,12 +66,9 @@ pub(crate) fn test_word<L: Link>(
     requires place { on.0 < length board.now.cells }
     requires caller { 0 < desk.old.owner.0 }
     ensures tested { OnOk result (IfSome (cell_on board.now on)
-        (λ cell. MatchBool (nat_lt (32 * word) cell.form.vector)
-        (TestsWord on word (at_work desk.old items.old.items ended.Done)
-        (at_work desk.new items.new.items ended.Done))
-        (ShowsOnly (shown.BadIndex on word true cell.form.vector)
+        (λ cell. LooksAtWord cell.form.vector on word
         (at_work desk.old items.old.items ended.Done)
-        (at_work desk.new items.new.items ended.Done)))) }
+        (at_work desk.new items.new.items ended.Done))) }
     ensures nothing { OnErr result ((desk.new ≡ desk.old) × (items.new.items ≡ items.old.items)) }
     ensures of_board { IsDeskOf board.now desk.new }
     ensures owner { desk.new.owner ≡ desk.old.owner }

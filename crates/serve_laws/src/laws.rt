@@ -1,4 +1,4 @@
-ghost use Rattle.std.specs.Prelude.{◌≡◌, ℕ, List, slice_get, Some};
+ghost use Rattle.std.specs.Prelude.{ℕ, List};
 ghost use Rattle.plex_script.specs.declared.asks.AnyHistory.{AnyHistory};
 ghost use Rattle.plex_script.specs.declared.scripts.Line.{Line};
 ghost use Rattle.plex_script.specs.declared.scripts.Script.{Script};
@@ -6,7 +6,7 @@ ghost use Rattle.desk_model.specs.Boards.{BoardShown};
 ghost use Rattle.desk_model.specs.Callers as alone;
 ghost use Rattle.desk_model.specs.Turns.{AtWork};
 ghost use Rattle.serve_laws.specs.Chains.{Serves};
-ghost use Rattle.serve_laws.specs.Ends.{ShowsWork, IsLeft, beginner};
+ghost use Rattle.serve_laws.specs.Ends.{ShowsWhoServed};
 
 use cf_link::Link;
 
@@ -16,10 +16,8 @@ use cf_link::Link;
 /// one. A caller that has a thread to itself works so, and hears of nobody.
 pub fn serve_right<L: Link>()
     ensures shows { (limit : ℕ) (script : Script) (board : BoardShown L)
-        (histories : List AnyHistory) (workers : List AtWork) (c : ℕ) (worker : AtWork)
-        → IsLeft limit script board histories workers → slice_get workers c ≡ Some worker
-        → Serves board script.lines (beginner board (record { 0 = c })) worker
-        → ShowsWork limit script histories (record { 0 = c }) worker.shown }
+        (histories : List AnyHistory) (workers : List AtWork)
+        → ShowsWhoServed limit script board histories workers }
     ensures alone { (board : BoardShown L) (lines : List Line) (before after : AtWork)
         → alone.Serves board lines before after → Serves board lines before after }
 {}
