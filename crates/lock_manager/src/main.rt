@@ -3,7 +3,6 @@
 //! reads what the failed one had recorded, and frees the lock.
 #![tactic(auto)]
 
-mod fault;
 mod roles;
 
 ghost use Rattle.std.specs.Prelude.{◌≡◌, IfOk};
@@ -12,9 +11,9 @@ ghost use Rattle.plex_seat.specs.Answers.{HasHeard};
 ghost use Rattle.plex_seat.specs.Seats.{IsSame};
 ghost use Rattle.lock_manager.specs.Members.{IsOutcome};
 
-use fault::Fault;
 use plex_seat::{
-    Answer, AnyHistory, ConnId, NoMemory, Plex, Script, Seat, StrNo, policy, put_reply, render,
+    Answer, AnyHistory, ConnId, Fault, NoMemory, Plex, Script, Seat, StrNo, policy, put_reply,
+    render,
 };
 use roles::{fail, recover};
 use std::alloc::Global;

@@ -3,10 +3,9 @@ ghost use Rattle.std.specs.Prelude.{◌≡◌, IfOk};
 ghost use Rattle.plex_seat.specs.Seats.{IsSame};
 ghost use Rattle.plex_seat.specs.Answers.{HasHeard};
 
-use crate::fault::Fault;
 use plex_seat::{
-    Answer, AnyReply, ConnId, Event, LockCmd, LockReply, Reply, Resource, Seat, ShellReply,
-    parse_adjunct, parse_name,
+    Adjunct, Answer, AnyReply, ConnId, Event, Fault, LockCmd, LockReply, Name16, Reply, Resource,
+    Seat, parse_adjunct,
 };
 use std::alloc::Global;
 use std::sync::Wait;
@@ -14,23 +13,17 @@ use std::sync::Wait;
 // The member that fails.
 const A: ConnId = ConnId(1);
 
+// The page that both want, by its name and hash value.
+const PAGE: Resource = Resource {
+    name: Name16(*b"PAGE7           "),
+    hash: 7,
+};
+
 // How often a member looks for what the other does before it gives up.
 const LOOKS: u32 = 10_000_000;
 
 // How many events a member takes before it gives up.
 const EVENTS: u32 = 8;
-
-// What a reply says, as far as the members go by it: the lock is the member's, or it waits; another
-// waits for a lock of this member's, or is gone; there are record data.
-#[derive(Clone, Copy, PartialEq, Eq)]
-enum Says {
-    Granted,
-    Pending,
-    Contention,
-    Departed,
-    Records,
-    Other,
-}
 
 /// Member A: waits for the lock that B has, with a record of what it is about to do, and fails once
 /// the lock is its own.
@@ -38,8 +31,12 @@ pub fn fail(rt: &impl Wait, alloc: Global, seat: &mut Seat<'_>) -> Result<(), Fa
     ensures { IsSame seat.old seat.new }
 {
     let no = queue(rt, alloc, seat)?;
-    wait_past(rt, seat, no)?;
-    await_event(rt, alloc, seat, Says::Granted)?;
+    seat.await_past(rt, no, LOOKS)?;
+    let granted = Event::Granted {
+        r: PAGE,
+        excl: true,
+    };
+    seat.await_event(rt, alloc, granted, EVENTS)?;
     seat.fail(rt, alloc)?;
     seat.post(rt);
     Ok(())
@@ -52,17 +49,14 @@ fn queue(rt: &impl Wait, alloc: Global, seat: &mut Seat<'_>) -> Result<u32, Faul
 {
     let connected = seat.connect(rt, alloc, true)?;
     seat.post(rt);
-    wait_past(rt, seat, connected.no)?;
-    let page = page()?;
+    seat.await_past(rt, connected.no, LOOKS)?;
     let record = parse_adjunct(b"upd7").map_err(|_| Fault::Unforeseen)?;
-    let obtain = LockCmd::Obtain {
-        r: page,
-        excl: true,
-        rec: Some(record),
-    };
-    let no = ask(rt, alloc, seat, obtain, Says::Pending)?;
+    let asked = seat.lock(rt, alloc, obtain(true, Some(record)))?;
     seat.post(rt);
-    Ok(no)
+    match &asked.reply {
+        AnyReply::Lock(Reply::Content(LockReply::Pending { .. })) => Ok(asked.no),
+        _ => Err(Fault::Unforeseen),
+    }
 }
 
 /// Member B: has the lock at once, releases it when A waits for it, and recovers once A has failed.
@@ -71,15 +65,10 @@ pub fn recover(rt: &impl Wait, alloc: Global, seat: &mut Seat<'_>) -> Result<Ans
     ensures same { IsSame seat.old seat.new }
     ensures read { IfOk result (HasHeard seat.new) }
 {
-    wait_past(rt, seat, 0)?;
+    seat.await_past(rt, 0, LOOKS)?;
     lend(rt, alloc, seat)?;
     let no = free(rt, alloc, seat)?;
-    let obtain = LockCmd::Obtain {
-        r: page()?,
-        excl: false,
-        rec: None,
-    };
-    ask(rt, alloc, seat, obtain, Says::Granted)?;
+    granted(rt, alloc, seat, false)?;
     // The reply that the history has under that number, looked up once more.
     match seat.reply(rt, alloc, no)? {
         Some(reply) => Ok(Answer { no, reply }),
@@ -92,19 +81,14 @@ fn lend(rt: &impl Wait, alloc: Global, seat: &mut Seat<'_>) -> Result<(), Fault>
     ensures { IsSame seat.old seat.new }
 {
     seat.connect(rt, alloc, true)?;
-    let page = page()?;
-    let obtain = LockCmd::Obtain {
-        r: page,
-        excl: true,
-        rec: None,
-    };
-    let no = ask(rt, alloc, seat, obtain, Says::Granted)?;
+    let no = granted(rt, alloc, seat, true)?;
     seat.post(rt);
-    wait_past(rt, seat, no)?;
-    await_event(rt, alloc, seat, Says::Contention)?;
-    let released = seat.lock(rt, alloc, LockCmd::Release { r: page })?;
+    seat.await_past(rt, no, LOOKS)?;
+    let contention = Event::Contention { r: PAGE, conn: A };
+    seat.await_event(rt, alloc, contention, EVENTS)?;
+    let released = seat.lock(rt, alloc, LockCmd::Release { r: PAGE })?;
     seat.post(rt);
-    wait_past(rt, seat, released.no)
+    seat.await_past(rt, released.no, LOOKS)
 }
 
 // B hears that A is gone, reads what A was about to do, and frees A's lock. It answers the number
@@ -112,90 +96,29 @@ fn lend(rt: &impl Wait, alloc: Global, seat: &mut Seat<'_>) -> Result<(), Fault>
 fn free(rt: &impl Wait, alloc: Global, seat: &mut Seat<'_>) -> Result<u32, Fault>
     ensures { IsSame seat.old seat.new }
 {
-    await_event(rt, alloc, seat, Says::Departed)?;
+    seat.await_event(rt, alloc, Event::DiscFail { conn: A }, EVENTS)?;
     seat.respond(rt, alloc)?;
-    let no = ask(rt, alloc, seat, LockCmd::RtRead { conn: A }, Says::Records)?;
-    // Here the page would be brought to what A had recorded.
-    let page = page()?;
-    seat.lock(rt, alloc, LockCmd::RtDelete { conn: A, r: page })?;
-    Ok(no)
-}
-
-// The page that both want, by its name and hash value.
-fn page() -> Result<Resource, Fault> {
-    match parse_name(b"PAGE7") {
-        Ok(name) => Ok(Resource { name, hash: 7 }),
-        Err(_) => Err(Fault::Unforeseen),
-    }
-}
-
-// A request whose reply has to say this. It answers the call's number.
-fn ask(
-    rt: &impl Wait,
-    alloc: Global,
-    seat: &mut Seat<'_>,
-    cmd: LockCmd,
-    wanted: Says,
-) -> Result<u32, Fault>
-    ensures { IsSame seat.old seat.new }
-{
-    let answer = seat.lock(rt, alloc, cmd)?;
-    if said(&answer.reply) == wanted {
-        Ok(answer.no)
-    } else {
-        Err(Fault::Unforeseen)
-    }
-}
-
-// Takes events till one says this.
-fn await_event(
-    rt: &impl Wait,
-    alloc: Global,
-    seat: &mut Seat<'_>,
-    wanted: Says,
-) -> Result<(), Fault>
-    ensures { IsSame seat.old seat.new }
-{
-    for _ in 0..EVENTS {
-        let answer = seat.next_event(rt, alloc)?;
-        if said(&answer.reply) == wanted {
-            return Ok(());
-        }
-    }
-    Err(Fault::Alone)
-}
-
-// Waits till a note tells of a call past this one.
-fn wait_past(rt: &impl Wait, seat: &mut Seat<'_>, call: u32) -> Result<(), Fault>
-    ensures { IsSame seat.old seat.new }
-{
-    if seat.wait_past(rt, call, LOOKS) {
-        Ok(())
-    } else {
-        Err(Fault::Alone)
-    }
-}
-
-// What a reply says.
-fn said(reply: &AnyReply) -> Says {
-    let AnyReply::Lock(reply) = reply else {
-        return Says::Other;
+    let read = seat.lock(rt, alloc, LockCmd::RtRead { conn: A })?;
+    let AnyReply::Lock(Reply::Content(LockReply::Records(_))) = &read.reply else {
+        return Err(Fault::Unforeseen);
     };
-    match reply {
-        Reply::Content(LockReply::Granted) => Says::Granted,
-        Reply::Content(LockReply::Pending { .. }) => Says::Pending,
-        Reply::Content(LockReply::Records(_)) => Says::Records,
-        Reply::Shell(ShellReply::Event { event }) => told(event),
-        _ => Says::Other,
+    // Here the page would be brought to what A had recorded.
+    seat.lock(rt, alloc, LockCmd::RtDelete { conn: A, r: PAGE })?;
+    Ok(read.no)
+}
+
+// B has the page's lock at once. It answers the call's number.
+fn granted(rt: &impl Wait, alloc: Global, seat: &mut Seat<'_>, excl: bool) -> Result<u32, Fault>
+    ensures { IsSame seat.old seat.new }
+{
+    let asked = seat.lock(rt, alloc, obtain(excl, None))?;
+    match &asked.reply {
+        AnyReply::Lock(Reply::Content(LockReply::Granted)) => Ok(asked.no),
+        _ => Err(Fault::Unforeseen),
     }
 }
 
-// What an event says.
-fn told(event: &Event) -> Says {
-    match event {
-        Event::Granted { .. } => Says::Granted,
-        Event::Contention { .. } => Says::Contention,
-        Event::DiscFail { .. } => Says::Departed,
-        _ => Says::Other,
-    }
+// A request for the page's lock.
+fn obtain(excl: bool, rec: Option<Adjunct>) -> LockCmd {
+    LockCmd::Obtain { r: PAGE, excl, rec }
 }

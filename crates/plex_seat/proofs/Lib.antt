@@ -1,3 +1,4 @@
+pub mod DeskLaws
 pub mod SeatLaws
 pub mod PlexLaws
 pub mod OutcomeLaws

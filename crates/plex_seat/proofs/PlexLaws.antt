@@ -1,10 +1,10 @@
 -- The desks of a board as it begins, and desks that are one for each caller.
-use Rattle.std.proofs.Common.{◌≡◌, ℕ, ◌<◌, ◌+◌, ◌-◌, ◌==◌, suc, true, List, [], ◌∷◌, length, map, get_or, drop, sym, ap, ◌∙◌, arith}
-use Rattle.std.specs.Prelude.{All}
+use Rattle.std.proofs.Common.{◌≡◌, ℕ, ◌<◌, ◌+◌, ◌-◌, ◌==◌, ◌↔◌, suc, true, List, ◌∷◌, length, map, get_or, drop, sym, ap, ◌∙◌, arith}
+use Rattle.std.specs.Prelude.{IsTrue, All}
 use Rattle.std.specs.List.{range_with_len}
 use Rattle.std.proofs.lemmas.Bool.Decides.{nat_tests}
-use Rattle.std.proofs.lemmas.List.{drop_more, drop_all}
-use Rattle.std.proofs.lemmas.List.FromFn.{length-map-range_with_len}
+use Rattle.std.proofs.lemmas.List.{length-map, get_or-map, drop_more, drop_all}
+use Rattle.std.proofs.lemmas.List.FromFn.{length-range_with_len, length-map-range_with_len, get_or-range_with_len}
 use Rattle.std.proofs.lemmas.List.Elements.{All-map, All-same}
 use Rattle.desk_model.specs.Desks.{DeskShown}
 use Rattle.desk_model.specs.Boards.{BoardShown, IsDeskOf, new_desk}
@@ -38,10 +38,34 @@ from_next desks i d below there own rest =
     ∙ sym (ap (range_with_len i) left)
 
 -- behind the last desk nothing is left, so they are all the callers'
-pub all_of : (desks : List DeskShown) (next i count : ℕ) → next ≡ i → i ≡ length desks
+all_of : (desks : List DeskShown) (next i count : ℕ) → next ≡ i → i ≡ length desks
     → (AreFrom i desks → AreFrom 0 desks) → (next == count) ≡ true → map owner_of desks ≡ range_with_len 0 count
 all_of desks next i count at end all counted =
     let none : length desks - i ≡ 0 = omega (arith, end) in
     let whole : length desks - 0 ≡ count = grind (arith, nat_tests) in
     all (ap (map owner_of) (drop_all i desks (omega (arith, end))) ∙ sym (ap (range_with_len i) none))
     ∙ ap (range_with_len 0) whole
+
+-- where they are all the callers', none is left out, and each has the number of its place
+pub counted : (desks : List DeskShown) (count : ℕ) → map owner_of desks ≡ range_with_len 0 count
+    → length desks ≡ count
+counted desks count all =
+    sym (length-map desks owner_of) ∙ ap length all ∙ length-range_with_len 0 count
+
+pub owner_at : (desks : List DeskShown) (i count : ℕ) (d : DeskShown) → i < length desks → get_or desks i d ≡ d
+    → map owner_of desks ≡ range_with_len 0 count → owner_of d ≡ i
+owner_at desks i count d below there all =
+    let long : length desks ≡ count = counted desks count all in
+    let place : owner_of d ≡ 0 + i =
+    ap owner_of (sym there) ∙ sym (get_or-map owner_of desks i d 0 below)
+    ∙ ap (λ l. get_or l i 0) all ∙ get_or-range_with_len 0 count i 0 (omega (arith, below, long)) in
+    omega (arith, place)
+
+same_count : (n m : ℕ) → n ≡ m → (n == m) ≡ true
+same_count n m same = grind (arith, nat_tests)
+
+-- so the count says whether they are all
+pub all_exactly : (desks : List DeskShown) (next i count : ℕ) → next ≡ i → i ≡ length desks
+    → (AreFrom i desks → AreFrom 0 desks) → IsTrue (next == count) ↔ (map owner_of desks ≡ range_with_len 0 count)
+all_exactly desks next i count at end all =
+    (all_of desks next i count at end all, λ are. same_count next count (at ∙ end ∙ counted desks count are))

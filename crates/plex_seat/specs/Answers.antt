@@ -13,8 +13,8 @@ use Rattle.struct_cell.specs.declared.refused.CallRefused.TheVariants.{JournalFu
 use Rattle.run_model.specs.Types.{StrType, OfCache, OfList, OfLock, type_of_ask}
 use Rattle.any_cell.specs.declared.any_reply.AnyReply.{AnyReply}
 use Rattle.any_cell.specs.declared.any_reply.AnyReply.TheVariants as reply
-use Rattle.any_cell.specs.Passes.{reply_numbered}
-use Rattle.desk_model.specs.Desks.{IsLaterOn, pass_at}
+use Rattle.any_cell.specs.Passes.{with_call, reply_numbered}
+use Rattle.desk_model.specs.Desks.{DeskShown, IsLaterOn, pass_at, with_pass}
 use Rattle.desk_model.specs.Boards.{cell_on}
 use Rattle.plex_seat.specs.declared.answers.Answer.{Answer}
 use Rattle.plex_seat.specs.declared.answers.Unanswered.{Unanswered}
@@ -40,11 +40,19 @@ any_reply_words script (reply.List answer) = reply_words list_reply_words script
 any_reply_words script (reply.Lock answer) = reply_words lock_reply_words script false answer
 
 module _ {L : Type 0} where
-  -- the member's call was made: its pass has one call more, with a number above all that it knew
+  -- the desk once its owner's call was answered
+  abbrev pub desk_called : AnyAsk → Told → AnyReply → SeatShown L → DeskShown
+  desk_called asked told kept seat =
+      with_pass seat.on (with_call asked told kept (pass_of seat)) seat.desk
+
+  -- The member's call was made: its pass has one call more, with a number above all that it knew, and the reply to it.
+  -- Since then it may have seen more of the structure complete; nothing else of the desk is different.
   pub record HasCalled (asked : AnyAsk) (number : ℕ) (before after : SeatShown L) : Type 0 where
     pub told : Told
+    pub kept : AnyReply
     pub number_is : number ≡ told.no
     pub newer : (pass_of before).known < number
+    pub desk : IsLaterOn before.on (desk_called asked told kept before) after.desk
     pub calls : (pass_of after).calls
         ≡ (pass_of before).calls ++ record { no = told.no; by = (pass_of before).owner; ask = asked; told = told } ∷ []
     pub tests : (pass_of after).tests ≡ (pass_of before).tests

@@ -1,4 +1,5 @@
 pub mod Seats
+pub mod Events
 pub mod Answers
 pub mod Outcomes
 pub mod Names

@@ -1,5 +1,5 @@
 -- A member's seat at a structure, as contracts see it.
-use Rattle.std.specs.Prelude.{◌≡◌, ℕ, ◌<◌, ◌≤◌, ◌++◌, ◌∷◌, [], length, IfSome}
+use Rattle.std.specs.Prelude.{◌≡◌, ℕ, ◌<◌, ◌≤◌, ◌++◌, ◌∷◌, [], List, length, IfSome}
 use Rattle.std.specs.Option.{option_map_or}
 use Rattle.cf_types.specs.declared.numbers.StrNo.{StrNo}
 use Rattle.cf_types.specs.Forms.{IsConnector}
@@ -21,6 +21,14 @@ pub record IsSeat {L : Type 0} (board : BoardShown L) (desk : DeskShown) (on : S
   pub there : on.0 < length board.cells
   pub of_board : IsDeskOf board desk
   pub connector : IsConnector desk.owner
+
+-- the last of these desks may be used at the structure
+pub record MaySit {L : Type 0} (board : BoardShown L) (desks : List DeskShown) (on : StrNo) : Type 0 where
+  pub front : List DeskShown
+  pub last : DeskShown
+  pub are : desks ≡ front ++ last ∷ []
+  pub there : on.0 < length board.cells
+  pub connector : IsConnector last.owner
 
 -- the member's pass to the structure
 abbrev pub pass_of : {L : Type 0} → SeatShown L → PassShown

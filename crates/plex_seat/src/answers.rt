@@ -1,13 +1,48 @@
 //! What a member is answered.
+ghost use Rattle.std.specs.Prelude.{◌≡◌};
+ghost use Rattle.plex_seat.specs.Events.{event_in};
+
 use any_cell::AnyReply;
+use cf_types::{Event, ShellReply};
+use engine_api::Reply;
 use struct_cell::CallRefused;
 use thiserror::Error;
 
 /// A call that was made: its number in the structure's history, and the reply.
-#[derive(Drop)]
 pub struct Answer {
     pub no: u32,
     pub reply: AnyReply,
+}
+
+impl Drop for Answer {
+    fn drop(self) {
+        let Answer { no: _, reply: _ } = self;
+    }
+}
+
+impl Answer {
+    ghost use Rattle.plex_seat.specs.Events.{event_of};
+
+    /// The event that the reply tells, if it tells one.
+    pub fn event(&self) -> Option<Event>
+        ensures { result ≡ event_of self.now.reply }
+    {
+        match &self.reply {
+            AnyReply::Cache(reply) => event_in(reply),
+            AnyReply::List(reply) => event_in(reply),
+            AnyReply::Lock(reply) => event_in(reply),
+        }
+    }
+}
+
+// The event that a reply of a structure of one kind tells.
+fn event_in<R>(reply: &Reply<R>) -> Option<Event>
+    ensures { result ≡ event_in reply.now }
+{
+    match reply {
+        Reply::Shell(ShellReply::Event { event }) => Some(*event),
+        _ => None,
+    }
 }
 
 /// Why a member has no answer.

@@ -4,6 +4,7 @@
 
 mod answers;
 mod asks;
+mod faults;
 mod plex;
 mod seat;
 mod words;
@@ -11,10 +12,11 @@ mod words;
 pub use answers::{Answer, Unanswered};
 pub use any_cell::AnyReply;
 pub use cf_types::{
-    CacheCmd, CacheReply, ConnId, Event, ListCmd, ListReply, LockCmd, LockReply, NoMemory, Refusal,
-    Resource, ShellReply, StrNo, parse_adjunct, parse_body, parse_name,
+    Adjunct, CacheCmd, CacheReply, ConnId, Event, ListCmd, ListReply, LockCmd, LockReply, Name16,
+    NoMemory, Refusal, Resource, ShellReply, StrNo, parse_adjunct, parse_body, parse_name,
 };
 pub use engine_api::Reply;
+pub use faults::Fault;
 pub use plex::{Plex, policy};
 pub use plex_report::render;
 pub use plex_script::{AnyHistory, ReadFault, Script};

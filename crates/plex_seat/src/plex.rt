@@ -1,7 +1,9 @@
 //! The structures of a policy.
-ghost use Rattle.std.specs.Prelude.{◌≡◌, ◌≤◌, IfOk, IfSome, IsTrue, All, map};
+ghost use Rattle.std.specs.Prelude.{◌≡◌, ◌↔◌, ◌+◌, ◌≤◌, IfOk, IfErr, IfSome, IsSome, IsTrue, All, length, map};
 ghost use Rattle.std.specs.List.{range_with_len};
-ghost use Rattle.desk_model.specs.Boards.{IsPolicy, IsDeskOf, AreClosed};
+ghost use Rattle.plex_script.specs.Scripts.{IsScript};
+ghost use Rattle.plex_script.specs.Reading.{TellsFault};
+ghost use Rattle.desk_model.specs.Boards.{IsPolicy, IsStarted, IsDeskOf, AreClosed, new_desk};
 
 use cf_link::Steady;
 use cf_types::NoMemory;
@@ -14,18 +16,24 @@ use std::sync::Wait;
 /// How many links there are to the facilities: four for each of 16 structures.
 const LINKS: usize = 64;
 
-/// The script that a text is, which states a policy.
+/// The script that a text is, which states a policy. The fault is the first line that is wrong, or
+/// want of memory.
 pub fn policy(alloc: Global, text: &[u8]) -> Result<Script, ReadFault>
-    ensures { IfOk result (λ script. IsPolicy script) }
+    ensures script { IfOk result (IsScript text.now) }
+    ensures policy { IfOk result (λ script. IsPolicy script) }
+    ensures fault { IfErr result (TellsFault text.now) }
 {
-    let script = read(alloc, text)?;
-    well_formed(text, &script);
-    Ok(script)
+    match read(alloc, text) {
+        Ok(script) => {
+            well_formed(text, &script);
+            Ok(script)
+        }
+        Err(fault) => Err(fault),
+    }
 }
 
 /// The structures of a policy, which members share by `&`, over links that are never down.
 /// Contracts see the board.
-#[derive(Drop)]
 pub struct Plex {
     pub(crate) board: Board<Steady>,
     count: usize,
@@ -43,6 +51,12 @@ impl Model for Plex {
     ghost invariant = { λ plex. plex.board.callers + 1 ≡ plex.count };
 }
 
+impl Drop for Plex {
+    fn drop(self) {
+        let Plex { board: _, count: _ } = self;
+    }
+}
+
 impl Plex {
     /// The structures of a policy, and a desk for each caller: the operator's, and then the
     /// connectors' in their order. A call is made where its structure's journal has fewer than
@@ -57,7 +71,12 @@ impl Plex {
         requires calls { (1 ≤ calls) × (calls ≤ 4294967000) }
         ensures forms { IfOk result (λ r. map (λ cell. cell.form) r.0.cells
             ≡ script.now.structures) }
+        ensures cells { IfOk result (λ r. All
+            (IsStarted (length script.now.connectors) calls) r.0.cells) }
+        ensures callers { IfOk result (λ r. r.0.callers ≡ length script.now.connectors) }
         ensures desks { IfOk result (λ r. All (IsDeskOf r.0) r.1.items) }
+        ensures new { IfOk result (λ r. r.1.items
+            ≡ map (new_desk r.0) (range_with_len 0 (length script.now.connectors + 1))) }
     {
         let Ok(links) = vec![in alloc; Steady; LINKS] else {
             return Err(NoMemory);
@@ -71,11 +90,14 @@ impl Plex {
         }
     }
 
-    /// Ends the structures: the history of each. There is none where the desks aren't one for each
-    /// caller, in order from the operator's.
+    /// Ends the structures: the history of each. There is none exactly where the desks aren't one
+    /// for each caller, in order from the operator's.
     pub fn close(self, rt: &impl Wait, desks: Vec<Desk>) -> Option<Vec<AnyHistory>>
         requires { All (IsDeskOf self) desks.items }
-        ensures { IfSome result (λ histories. AreClosed self desks.items histories.items) }
+        ensures exactly { IsSome result
+            ↔ (map (λ desk. desk.owner.0) desks.items ≡ range_with_len 0 (self.callers + 1)) }
+        ensures closed { IfSome result
+            (λ histories. AreClosed self desks.items histories.items) }
     {
         let Plex { board, count } = self;
         if are_all(count, desks.as_slice()) {
@@ -90,7 +112,7 @@ impl Plex {
 // Whether these are so many desks, those of the callers in order, from the operator on.
 fn are_all(count: usize, desks: &[Desk]) -> bool
     ensures { IsTrue result
-        → map (λ desk. desk.owner.0) desks.now ≡ range_with_len 0 count }
+        ↔ (map (λ desk. desk.owner.0) desks.now ≡ range_with_len 0 count) }
 {
     let mut next = 0usize;
     for desk in desks {

@@ -1,5 +1,5 @@
 //! A member's seat at a structure.
-ghost use Rattle.std.specs.Prelude.{◌≡◌, ◌+◌, ◌<◌, ◌≤◌, ◌++◌, ◌∷◌, [], IfOk, IfErr, IfSome, IfNone, IsTrue, All, length};
+ghost use Rattle.std.specs.Prelude.{◌≡◌, ◌↔◌, ◌+◌, ◌<◌, ◌≤◌, ◌++◌, ◌∷◌, [], IfOk, IfErr, IfSome, IfNone, IsSome, IsTrue, All, Some, is_some, length};
 ghost use Rattle.std.specs.Vec.{vec_len, vec_capacity};
 ghost use Rattle.run_model.specs.Kinds.{MayAskAny};
 ghost use Rattle.run_model.specs.Types.{type_of_ask};
@@ -8,19 +8,23 @@ ghost use Rattle.engine_api.specs.declared.asks.Ask.TheVariants as ask;
 ghost use Rattle.engine_api.specs.Asking.{MayCommand};
 ghost use Rattle.cf_types.specs.Forms.{IsConnector};
 ghost use Rattle.cf_types.specs.declared.shell_commands.ShellCmd.TheVariants as cmd;
+ghost use Rattle.plex_script.specs.Heard.{call_numbered};
 ghost use Rattle.any_cell.specs.Passes.{reply_numbered};
 ghost use Rattle.desk_model.specs.Desks.{IsLaterOn};
 ghost use Rattle.desk_model.specs.Boards.{IsDeskOf, cell_on};
-ghost use Rattle.plex_seat.specs.Seats.{IsSame, HasType, HasBit, pass_of, type_at, HasTested};
-ghost use Rattle.plex_seat.specs.Answers.{HasAnswer, HasFault, common_ask};
+ghost use Rattle.plex_seat.specs.Seats.{IsSame, HasType, HasBit, MaySit, pass_of, type_at, HasTested};
+ghost use Rattle.plex_seat.specs.Answers.{HasAnswer, HasFault, HasHeard, common_ask};
+ghost use Rattle.plex_seat.specs.declared.faults.Fault.TheVariants.{Alone};
+ghost use Rattle.plex_seat.specs.Events.{event_of};
 
 use crate::answers::{Answer, Unanswered};
 use crate::asks::{common_ask, is_of_kind};
+use crate::faults::Fault;
 use crate::plex::Plex;
 use any_cell::AnyReply;
 use cf_link::Steady;
 use cf_types::limits::CONNECTORS;
-use cf_types::{CacheCmd, ConnId, ListCmd, LockCmd, NoMemory, ShellCmd, StrNo};
+use cf_types::{CacheCmd, ConnId, Event, ListCmd, LockCmd, NoMemory, ShellCmd, StrNo};
 use engine_api::Ask;
 use plex_board::{Board, Desk};
 use plex_script::AnyAsk;
@@ -32,7 +36,6 @@ use vec_words::Tested;
 
 /// A connector's desk at one structure. It may go to another thread. Contracts see the board, the
 /// desk, and which structure it is.
-#[derive(Drop)]
 pub struct Seat<'p> {
     board: &'p Board<Steady>,
     desk: Desk,
@@ -50,9 +53,19 @@ impl<'p> Model for Seat<'p> {
     ghost invariant = { λ seat. IsSeat seat.board.now seat.desk seat.on };
 }
 
+impl<'p> Drop for Seat<'p> {
+    fn drop(self) {
+        let Seat {
+            board: _,
+            desk: _,
+            on: _,
+        } = self;
+    }
+}
+
 impl<'p> Seat<'p> {
-    /// The last of these desks, at a structure. There is no seat where that is the operator's desk
-    /// or the structure isn't there.
+    /// The last of these desks, at a structure. There is no seat exactly where that is no
+    /// connector's desk, where there is no desk, and where the structure isn't there.
     pub fn take(plex: &'p Plex, desks: &mut Vec<Desk>, on: StrNo) -> Option<Seat<'p>>
         requires { All (IsDeskOf plex.now) desks.old.items }
         ensures desks { All (IsDeskOf plex.now) desks.new.items }
@@ -61,11 +74,11 @@ impl<'p> Seat<'p> {
         ensures left { IfSome result
             (λ seat. desks.old.items ≡ desks.new.items ++ seat.desk ∷ []) }
         ensures none { IfNone result (desks.new.items ≡ desks.old.items) }
+        ensures exactly { IsSome result ↔ MaySit plex.now desks.old.items on }
         ensures room { vec_capacity desks.new ≡ vec_capacity desks.old }
     {
         let desk = desks.pop()?;
-        let owner = desk.owner().0;
-        if owner == 0 || owner > CONNECTORS || on.0 >= plex.board.structures() {
+        if !is_connector(desk.owner()) || on.0 >= plex.board.structures() {
             desks.push_reserved(desk);
             return None;
         }
@@ -85,7 +98,11 @@ impl<'p> Seat<'p> {
         ensures room { vec_capacity desks.new ≡ vec_capacity desks.old }
         ensures own { IsDeskOf self.entry.board self.entry.desk }
     {
-        let Seat { desk, .. } = self;
+        let Seat {
+            board: _,
+            desk,
+            on: _,
+        } = self;
         desks.push_reserved(desk);
     }
 
@@ -243,7 +260,7 @@ impl<'p> Seat<'p> {
             Ok(told) => told.no,
             Err(refusal) => return Err(Unanswered::NotMade(refusal)),
         };
-        match self.board.reply(rt, alloc, &mut self.desk, self.on, no) {
+        match self.reply(rt, alloc, no) {
             Ok(Some(reply)) => Ok(Answer { no, reply }),
             Ok(None) => unreachable!(),
             Err(_) => Err(Unanswered::Unread { no }),
@@ -262,13 +279,19 @@ impl<'p> Seat<'p> {
         ensures later { IsLaterOn self.old.on self.old.desk self.new.desk }
         ensures reply { IfOk result
             (λ reply. reply ≡ reply_numbered no (pass_of self.new).replies) }
+        ensures own { IfOk result (λ reply. is_some reply
+            ≡ is_some (call_numbered no (pass_of self.old).calls)) }
+        ensures no_memory { IfErr result (λ _. self.new ≡ self.old) }
     {
         self.board.reply(rt, alloc, &mut self.desk, self.on, no)
     }
 
     /// How many bits the member's vector has.
     pub fn vector(&self) -> u32
-        ensures { IfSome (cell_on self.now.board self.now.on) (λ cell. cell.words.len ≡ result) }
+        ensures form { IfSome (cell_on self.now.board self.now.on)
+            (λ cell. result ≡ cell.form.vector) }
+        ensures len { IfSome (cell_on self.now.board self.now.on)
+            (λ cell. cell.words.len ≡ result) }
     {
         self.board.vector(self.on)
     }
@@ -288,6 +311,7 @@ impl<'p> Seat<'p> {
     pub fn post(&mut self, rt: &impl Wait) -> u32
         ensures seat { self.new ≡ self.old }
         ensures sure { result ≡ (pass_of self.old).sure }
+        ensures ordered { result ≤ (pass_of self.old).known }
     {
         self.board.post(rt, &mut self.desk, self.on)
     }
@@ -298,15 +322,18 @@ impl<'p> Seat<'p> {
         ensures same { IsSame self.old self.new }
         ensures later { IsLaterOn self.old.on self.old.desk self.new.desk }
         ensures sure { result ≡ (pass_of self.new).sure }
+        ensures ordered { result ≤ (pass_of self.new).known }
     {
         self.board.take(rt, &mut self.desk, self.on)
     }
 
     /// Takes notes, at most so many, till one tells of a call past this one, and says whether one
-    /// did.
+    /// did: where it took any, exactly where the member has now seen a call past this one complete.
     pub fn wait_past(&mut self, rt: &impl Wait, call: u32, looks: u32) -> bool
         ensures same { IsSame self.old self.new }
+        ensures later { IsLaterOn self.old.on self.old.desk self.new.desk }
         ensures past { IsTrue result → call < (pass_of self.new).sure }
+        ensures exactly { 0 < looks → (IsTrue result ↔ (call < (pass_of self.new).sure)) }
     {
         for _ in 0..looks {
             if self.take_note(rt) > call {
@@ -316,4 +343,60 @@ impl<'p> Seat<'p> {
         }
         false
     }
+
+    /// The same, with a fault where none did.
+    pub fn await_past(&mut self, rt: &impl Wait, call: u32, looks: u32) -> Result<(), Fault>
+        ensures same { IsSame self.old self.new }
+        ensures later { IsLaterOn self.old.on self.old.desk self.new.desk }
+        ensures past { IfOk result (λ _. call < (pass_of self.new).sure) }
+        ensures alone { IfErr result (λ fault. (fault ≡ Alone)
+            × (0 < looks → (pass_of self.new).sure ≤ call)) }
+    {
+        if self.wait_past(rt, call, looks) {
+            Ok(())
+        } else {
+            Err(Fault::Alone)
+        }
+    }
+
+    /// Takes events, at most so many, till this one comes.
+    pub fn await_event(
+        &mut self,
+        rt: &impl Wait,
+        alloc: Global,
+        event: Event,
+        most: u32,
+    ) -> Result<Answer, Fault>
+        ensures same { IsSame self.old self.new }
+        ensures event { IfOk result (λ answer. event_of answer.reply ≡ Some event) }
+        ensures heard { IfOk result (HasHeard self.new) }
+        ensures alone { IfErr result (λ fault. fault ≡ Alone → length (pass_of self.new).calls
+            ≡ length (pass_of self.old).calls + most) }
+    {
+        for _ in 0..most {
+            let answer = match self.next_event(rt, alloc) {
+                Ok(answer) => answer,
+                Err(fault) => return Err(Fault::Unanswered(fault)),
+            };
+            match answer.event() {
+                Some(told) if is_same(told, event) => return Ok(answer),
+                _ => {}
+            }
+        }
+        Err(Fault::Alone)
+    }
+}
+
+// Whether a desk with this owner is a connector's.
+fn is_connector(owner: ConnId) -> bool
+    ensures { IsTrue result ↔ IsConnector owner }
+{
+    1 <= owner.0 && owner.0 <= CONNECTORS
+}
+
+// Whether an event is the other.
+fn is_same(told: Event, event: Event) -> bool
+    ensures { IsTrue result → told ≡ event }
+{
+    told == event
 }

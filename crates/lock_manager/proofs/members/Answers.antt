@@ -13,5 +13,5 @@ returns g c =
       outcome = seat_answer c.in_ok-plex.plex c.args.script.now c.in-Some-close.histories.items locks recoverer
           c.in-Some.b c.work-failed.new.b c.in_ok-read.field-0 c.in-Some.ensures.seat.0 c.in-Some.ensures.seat.1 owner
           c.work-failed.ensures.same.1 c.in_ok-plex.ensures.forms c.leave.new.desks.items c.leave-2.new.desks.items
-          c.in-Some-close.ensures c.leave-2.ensures.desks c.leave-2.ensures.own heard c.in-Some.ensures.there;
+          c.in-Some-close.ensures.closed c.leave-2.ensures.desks c.leave-2.ensures.own heard c.in-Some.ensures.there;
     }

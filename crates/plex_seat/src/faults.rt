@@ -1,16 +1,18 @@
-//! Faults of the program.
-use plex_seat::{NoMemory, ReadFault, Unanswered};
+//! Why a member's work ends before it is done.
+use crate::answers::Unanswered;
+use cf_types::NoMemory;
+use plex_script::ReadFault;
 use std::io;
 use thiserror::Error;
 
-/// Why there is nothing to show.
+/// Why there is nothing to show of members at work.
 #[derive(Debug, Drop, Error)]
 pub enum Fault {
-    /// The text is no policy of two members.
-    #[error("no policy of two members")]
+    /// The text is no policy of these members.
+    #[error("no policy of these members")]
     Policy,
 
-    /// A member waited for the other, or for an event, as long as it may.
+    /// A member waited for another, or for an event, as long as it may.
     #[error("a member waited in vain")]
     Alone,
 

@@ -1,0 +1,67 @@
+-- A desk whose owner has seen more, and a desk that may be used at a structure.
+use Rattle.std.proofs.Common.{◌≡◌, ℕ, ◌<◌, ◌++◌, List, [], ◌∷◌, length, get_or, refl, sym, ap, subst, ◌∙◌, arith}
+use Rattle.std.proofs.Math.Seq.{get_or-append_seam}
+use Rattle.std.proofs.lemmas.List.{length-append, set-set}
+use Rattle.cf_types.specs.declared.numbers.StrNo.{StrNo}
+use Rattle.cf_types.specs.Forms.{IsConnector}
+use Rattle.any_cell.specs.Passes.{PassShown, IsLater}
+use Rattle.desk_model.specs.Desks.{DeskShown, pass_at, with_pass, IsLaterOn}
+use Rattle.desk_model.specs.Boards.{BoardShown}
+use Rattle.desk_model.proofs.DeskLaws.{with_pass-pass_at}
+use Rattle.plex_seat.specs.Seats.{SeatShown, IsSame, MaySit}
+
+-- ---- more was seen
+
+pub later_same : (on : StrNo) (desk : DeskShown) → IsLaterOn on desk desk
+later_same on desk = record {
+  later = record { known = omega arith; sure = omega arith; same = refl };
+  rest = sym (with_pass-pass_at desk on);
+}
+
+later_pass : (first second third : PassShown) → IsLater first second → IsLater second third → IsLater first third
+later_pass first second third one two =
+    let at : PassShown → PassShown = λ (p : PassShown). record p { known = third.known; sure = third.sure } in
+    record {
+      known = omega (arith, one.known, two.known);
+      sure = omega (arith, one.sure, two.sure);
+      same = two.same ∙ ap at one.same;
+    }
+
+pub later_later : (on : StrNo) (first second third : DeskShown) → IsLaterOn on first second
+    → IsLaterOn on second third → IsLaterOn on first third
+later_later on first second third one two =
+    let last : PassShown = pass_at third on in
+    record {
+      later = later_pass (pass_at first on) (pass_at second on) last one.later two.later;
+      rest = two.rest ∙ ap (with_pass on last) one.rest
+          ∙ ap (λ (passes : List PassShown). let d : DeskShown = record first { passes = passes } in d)
+          (set-set first.passes on.0 (pass_at second on) last);
+    }
+
+-- the same at a member's seat
+pub seen_more : {L : Type 0} (before between after : SeatShown L) → IsSame before between
+    → IsLaterOn before.on before.desk between.desk → IsLaterOn between.on between.desk after.desk
+    → IsLaterOn before.on before.desk after.desk
+seen_more before between after same one two =
+    later_later before.on before.desk between.desk after.desk one
+    (subst (λ (on : StrNo). IsLaterOn on between.desk after.desk) same.on two)
+
+-- ---- which desks may be used
+
+last_same : {A : Type 0} (front other : List A) (x y : A) → front ++ x ∷ [] ≡ other ++ y ∷ [] → x ≡ y
+last_same front other x y same =
+    let long : length front ≡ length other =
+    omega (arith, ap length same, length-append front (x ∷ []), length-append other (y ∷ [])) in
+    sym (get_or-append_seam front x [] x) ∙ ap (λ l. get_or l (length front) x) same
+    ∙ ap (λ (n : ℕ). get_or (other ++ y ∷ []) n x) long ∙ get_or-append_seam other y [] x
+
+module _ {L : Type 0} (board : BoardShown L) (on : StrNo) where
+  pub none_sits : (desks : List DeskShown) → desks ≡ [] → MaySit board desks on → ⊥
+  none_sits desks none sits =
+      omega (arith, ap length none, ap length sits.are, length-append sits.front (sits.last ∷ []))
+
+  pub last_sits : (desks front : List DeskShown) (last : DeskShown) → desks ≡ front ++ last ∷ []
+      → (sits : MaySit board desks on) → (on.0 < length board.cells) × IsConnector last.owner
+  last_sits desks front last are sits =
+      let same : sits.last ≡ last = last_same sits.front front sits.last last (sym sits.are ∙ are) in
+      (sits.there, subst (λ (desk : DeskShown). IsConnector desk.owner) same sits.connector)

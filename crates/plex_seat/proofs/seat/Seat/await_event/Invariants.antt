@@ -1,0 +1,9 @@
+use Rattle.std.proofs.Common.{◌≡◌, ◌+◌, length}
+use Rattle.plex_seat.specs.Seats.{IsSame, pass_of}
+use Rattle.plex_seat.proofs.seat.Seat.await_event.Given as goal
+
+abbrev pub invariant-loop : goal.invariant-loop
+invariant-loop g l = record {
+  same : IsSame l.fn.self l.self;
+  calls : length (pass_of l.self).calls ≡ length (pass_of l.fn.self).calls + l.counter;
+}

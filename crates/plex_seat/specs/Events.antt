@@ -1,0 +1,23 @@
+-- The event that a reply tells.
+use Rattle.std.specs.Prelude.{Option, None, Some}
+use Rattle.cf_types.specs.declared.events.Event.{Event}
+use Rattle.cf_types.specs.declared.shell_commands.ShellReply.{ShellReply}
+use Rattle.cf_types.specs.declared.shell_commands.ShellReply.TheVariants as shell
+use Rattle.engine_api.specs.declared.asks.Reply.{Reply}
+use Rattle.engine_api.specs.declared.asks.Reply.TheVariants as replied
+use Rattle.any_cell.specs.declared.any_reply.AnyReply.{AnyReply}
+use Rattle.any_cell.specs.declared.any_reply.AnyReply.TheVariants as any
+
+abbrev pub event_told : ShellReply → Option Event
+event_told (shell.Event event) = Some event
+event_told _ = None
+
+abbrev pub event_in : {R : Type 0} → Reply R → Option Event
+event_in (replied.Shell told) = event_told told
+event_in (replied.Content content) = None
+event_in (replied.Refused refusal) = None
+
+abbrev pub event_of : AnyReply → Option Event
+event_of (any.Cache reply) = event_in reply
+event_of (any.List reply) = event_in reply
+event_of (any.Lock reply) = event_in reply
