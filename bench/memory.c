@@ -6,7 +6,6 @@
 //
 // Build: cc -O2 -shared -fPIC -o memory.so memory.c -ldl     Use: LD_PRELOAD=./memory.so MEMORY_COUNT=file program
 #define _GNU_SOURCE
-#include <dlfcn.h>
 #include <fcntl.h>
 #include <malloc.h>
 #include <stdatomic.h>
@@ -15,18 +14,11 @@
 #include <sys/syscall.h>
 #include <unistd.h>
 
-static void *(*real_malloc)(size_t);
-static void *(*real_calloc)(size_t, size_t);
-static void *(*real_realloc)(void *, size_t);
-static int (*real_posix_memalign)(void **, size_t, size_t);
-static void *(*real_aligned_alloc)(size_t, size_t);
+#include "real.h"
+
 static void (*real_free)(void *);
 
 static atomic_long had, most;
-
-// What dlsym itself may ask for.
-static _Alignas(16) char first[4096];
-static size_t used;
 
 static int is_first(void *place) { return (char *)place >= first && (char *)place < first + sizeof first; }
 
@@ -47,11 +39,7 @@ static void *counted(void *place) {
 
 __attribute__((constructor)) static void start(void) {
     if (real_free) return;
-    real_malloc = dlsym(RTLD_NEXT, "malloc");
-    real_calloc = dlsym(RTLD_NEXT, "calloc");
-    real_realloc = dlsym(RTLD_NEXT, "realloc");
-    real_posix_memalign = dlsym(RTLD_NEXT, "posix_memalign");
-    real_aligned_alloc = dlsym(RTLD_NEXT, "aligned_alloc");
+    look_up();
     real_free = dlsym(RTLD_NEXT, "free");
 }
 
@@ -61,11 +49,7 @@ void *malloc(size_t size) {
 }
 
 void *calloc(size_t number, size_t size) {
-    if (!real_calloc) {
-        void *place = first + used;
-        used += (number * size + 15) & ~(size_t)15;
-        return used <= sizeof first ? place : 0;
-    }
+    if (!real_calloc) return first_calloc(number, size);
     return counted(real_calloc(number, size));
 }
 

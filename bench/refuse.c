@@ -13,7 +13,6 @@
 //
 // Build: cc -O2 -shared -fPIC -o refuse.so refuse.c -ldl     Use: LD_PRELOAD=./refuse.so REFUSE_WHAT=memory REFUSE_AT=7 program
 #define _GNU_SOURCE
-#include <dlfcn.h>
 #include <errno.h>
 #include <fcntl.h>
 #include <pthread.h>
@@ -24,6 +23,8 @@
 #include <sys/syscall.h>
 #include <sys/uio.h>
 #include <unistd.h>
+
+#include "real.h"
 
 enum kind { MEMORY, THREAD, READ, WRITE, KINDS };
 enum how { FAIL, INTERRUPT, SHORT };
@@ -36,26 +37,13 @@ static unsigned long at;
 static int on;
 static atomic_int ready;
 
-static void *(*real_malloc)(size_t);
-static void *(*real_calloc)(size_t, size_t);
-static void *(*real_realloc)(void *, size_t);
-static int (*real_posix_memalign)(void **, size_t, size_t);
-static void *(*real_aligned_alloc)(size_t, size_t);
 static int (*real_pthread_create)(pthread_t *, const pthread_attr_t *, void *(*)(void *), void *);
-
-// What dlsym itself may ask for.
-static _Alignas(16) char first[4096];
-static size_t used;
 
 static int is(const char *value, const char *word) { return value && strcmp(value, word) == 0; }
 
 __attribute__((constructor)) static void start(void) {
     if (ready) return;
-    real_malloc = dlsym(RTLD_NEXT, "malloc");
-    real_calloc = dlsym(RTLD_NEXT, "calloc");
-    real_realloc = dlsym(RTLD_NEXT, "realloc");
-    real_posix_memalign = dlsym(RTLD_NEXT, "posix_memalign");
-    real_aligned_alloc = dlsym(RTLD_NEXT, "aligned_alloc");
+    look_up();
     real_pthread_create = dlsym(RTLD_NEXT, "pthread_create");
     for (int kind = 0; kind < KINDS; kind++)
         if (is(getenv("REFUSE_WHAT"), names[kind])) what = kind;
@@ -85,11 +73,7 @@ void *malloc(size_t size) {
 }
 
 void *calloc(size_t count, size_t size) {
-    if (!real_calloc) {
-        void *place = first + used;
-        used += (count * size + 15) & ~(size_t)15;
-        return used <= sizeof first ? place : 0;
-    }
+    if (!real_calloc) return first_calloc(count, size);
     return no_memory() ? 0 : real_calloc(count, size);
 }
 
