@@ -1,7 +1,7 @@
 -- One element more at the front of those that follow each other.
-use Rattle.std.proofs.Common.{◌≡◌, ℕ, zero, suc, ◌<◌, ◌≤◌, List, [], ◌++◌, take, drop, length, get_or, set, subst, sym, refl, ap, append_assoc, ◌∙◌, arith}
+use Rattle.std.proofs.Common.{◌≡◌, ℕ, zero, suc, ◌+◌, ◌-◌, ◌<◌, ◌≤◌, min, List, [], ◌∷◌, ◌++◌, take, drop, length, get_or, set, subst, sym, refl, ap, append_assoc, ◌∙◌, arith}
 use Rattle.std.specs.Prelude.{if◌then◌else◌, is_ok, Result, Ok, Err, OnOk}
-use Rattle.std.proofs.lemmas.List.{take_all, drop_all}
+use Rattle.std.proofs.lemmas.List.{take_all, drop_all, length-take, length-append}
 use Rattle.cf_pool.specs.declared.elements.TheConstants.{SIZE}
 use Rattle.cf_pool.specs.Chains.{behind, IsWithin, walked, written, stored}
 
@@ -21,13 +21,43 @@ pub stored-step : (next : List ℕ) (n m at : ℕ) (bytes : List ℕ) (cells : L
     ≡ stored next m (get_or next at 0) (drop SIZE bytes) (set cells at (written (take SIZE bytes) (get_or cells at [])))
 stored-step next n m at bytes cells e = rw e refl
 
--- a walk goes on behind its first part
-pub walked_more : (cells : List (List ℕ)) (next : List ℕ) (done now whole : List ℕ) (n m at : ℕ)
-    → done ++ walked cells next n at ≡ whole → n ≡ suc m → now ≡ done ++ take SIZE (get_or cells at [])
-    → now ++ walked cells next m (get_or next at 0) ≡ whole
-walked_more cells next done now whole n m at h e f =
-    rw f (append_assoc done (take SIZE (get_or cells at [])) (walked cells next m (get_or next at 0))
-    ∙ ap (λ w. done ++ w) (sym (walked-step cells next n m at e)) ∙ h)
+-- the first elements of two lists, one behind the other
+pub take_both : (n : ℕ) (xs ys : List ℕ) → take n (xs ++ ys) ≡ take n xs ++ take (n - length xs) ys
+take_both zero xs ys =
+    let none : zero - length xs ≡ zero = omega arith in
+    sym (ap (λ k. take k ys) none)
+take_both (suc n) [] ys =
+    let all : suc n - zero ≡ suc n = omega arith in
+    sym (ap (λ k. take k ys) all)
+take_both (suc n) (x ∷ xs) ys =
+    let one : suc n - suc (length xs) ≡ n - length xs = omega arith in
+    ap (λ w. x ∷ w) (take_both n xs ys ∙ ap (λ k. take n xs ++ take k ys) (sym one))
+
+-- a walk goes on behind the first part of so many bytes
+pub walked_more : (cells : List (List ℕ)) (next : List ℕ) (done now whole : List ℕ) (n m at len wanted : ℕ)
+    → length done ≤ len → wanted ≡ len - length done
+    → done ++ take (len - length done) (walked cells next n at) ≡ whole → n ≡ suc m
+    → length (get_or cells at []) ≡ SIZE
+    → now ≡ done ++ take wanted (get_or cells at [])
+    → (length now ≤ len) × (now ++ take (len - length now) (walked cells next m (get_or next at 0)) ≡ whole)
+walked_more cells next done now whole n m at len wanted few left_is h e size given =
+    let cell : List ℕ = get_or cells at [] in
+    let later : List ℕ = walked cells next m (get_or next at 0) in
+    let left : ℕ = len - length done in
+    let f : now ≡ done ++ take left cell = given ∙ ap (λ k. done ++ take k cell) left_is in
+    let part : length (take left cell) ≡ min left (length cell) = length-take left cell in
+    let all : length now ≡ length done + min left (length cell)
+    = ap length f ∙ length-append done (take left cell) ∙ ap (λ k. length done + k) part in
+    let rest : len - length now ≡ left - length cell = omega (arith, all, few) in
+    let walk : take left (walked cells next n at) ≡ take left cell ++ take (left - length cell) later
+    = ap (take left) (walked-step cells next n m at e ∙ ap (λ w. w ++ later) (take_all SIZE cell (omega (arith, size))))
+    ∙ take_both left cell later in (
+      omega (arith, all, few),
+      ap (λ w. w ++ take (len - length now) later) f
+          ∙ ap (λ k. (done ++ take left cell) ++ take k later) rest
+          ∙ append_assoc done (take left cell) (take (left - length cell) later)
+          ∙ ap (λ w. done ++ w) (sym walk) ∙ h,
+    )
 
 -- fewer of them are within too
 pub within_fewer : (next : List ℕ) (n m at : ℕ) → m ≤ n → IsWithin next n at → IsWithin next m at

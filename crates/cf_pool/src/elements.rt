@@ -77,31 +77,34 @@ pub(crate) fn last_of(next: &[u32], count: u32, head: u32) -> u32
     at
 }
 
-// Puts the bytes of an element behind others.
-fn append(bytes: &mut Vec<u8>, cell: &[u8; SIZE]) -> Result<(), AllocError>
-    ensures { OnOk result (bytes.new.items ≡ bytes.old.items ++ take SIZE cell.now) }
+// Puts the bytes of an element behind others, or the first ones where no more are wanted.
+fn append(bytes: &mut Vec<u8>, cell: &[u8; SIZE], wanted: usize) -> Result<(), AllocError>
+    ensures put { OnOk result (bytes.new.items ≡ bytes.old.items ++ take wanted cell.now) }
+    ensures whole { length cell.now ≡ SIZE }
 {
-    bytes.extend_from_slice(&cell[..SIZE])
+    bytes.extend_from_slice(&cell[..wanted.min(SIZE)])
 }
 
-/// The bytes of elements that follow each other.
+/// The first bytes of elements that follow each other. It takes memory for these alone.
 pub(crate) fn gather(
     alloc: Global,
     cells: &[[u8; SIZE]],
     next: &[u32],
     count: u32,
     head: u32,
+    len: usize,
 ) -> Result<Vec<u8>, AllocError>
     requires within { IsWithin next.now count head }
     requires cells { length cells.now ≡ length next.now }
     ensures { IfOk result (λ bytes. bytes.items
-        ≡ walked cells.now next.now count head) }
+        ≡ take len (walked cells.now next.now count head)) }
 {
-    let mut bytes = Vec::with_capacity(alloc, count as usize * SIZE)?;
+    let mut bytes = Vec::with_capacity(alloc, len)?;
     let mut at = head;
     let mut left = count;
     while left > 0 {
-        append(&mut bytes, &cells[at as usize])?;
+        let wanted = len - bytes.len();
+        append(&mut bytes, &cells[at as usize], wanted)?;
         at = next[at as usize];
         left -= 1;
     }

@@ -159,14 +159,14 @@ impl Pool {
             self.free,
             chain.head,
         );
-        let mut bytes = gather(
+        let bytes = gather(
             alloc,
             &self.cells,
             &self.next,
             need_of(len as usize),
             chain.head,
+            len as usize,
         )?;
-        bytes.truncate(len as usize);
         Ok(bytes)
     }
 

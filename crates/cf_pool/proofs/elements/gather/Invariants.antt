@@ -1,10 +1,12 @@
-use Rattle.std.proofs.Common.{◌≡◌, ◌++◌}
+use Rattle.std.proofs.Common.{◌≡◌, ◌-◌, ◌≤◌, ◌++◌, take, length}
 use Rattle.cf_pool.specs.Chains.{IsWithin, walked}
 use Rattle.cf_pool.proofs.elements.gather.Given as goal
 
 abbrev pub invariant-loop-left : goal.invariant-loop-left
 invariant-loop-left l = record {
-  bytes : l.bytes.items ++ walked l.cells l.next l.left l.at ≡ walked l.cells l.next l.count l.head;
+  few : length l.bytes.items ≤ l.len;
+  bytes : l.bytes.items ++ take (l.len - length l.bytes.items) (walked l.cells l.next l.left l.at)
+      ≡ take l.len (walked l.cells l.next l.count l.head);
   within : IsWithin l.next l.left l.at;
 }
 
