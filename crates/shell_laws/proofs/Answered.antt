@@ -1,14 +1,15 @@
--- Entries that have the replies of the machine.
-use Rattle.std.specs.Prelude.{◌≡◌, List, [], ◌∷◌}
+-- Entries that have the replies of the machine, as those of a legal history do.
+use Rattle.std.proofs.Common.{◌≡◌, List, [], ◌∷◌, ◌++◌, ap, subst}
 use Rattle.cf_types.specs.declared.forms.StrForm.{StrForm}
 use Rattle.cf_types.specs.declared.numbers.ConnId.{ConnId}
 use Rattle.engine_api.specs.declared.asks.Reply.{Reply}
 use Rattle.engine_api.specs.declared.asks.What.{What}
 use Rattle.engine_api.specs.declared.asks.What.TheVariants as what
 use Rattle.engine_api.specs.declared.histories.Entry.{Entry}
-use Rattle.engine_api.specs.History.{machine_after}
+use Rattle.engine_api.specs.History.{machine_after, replay, IsNextAs, Continues}
 use Rattle.engine_api.specs.Machine.{Machine, step, loss_step}
 use Rattle.engine_api.specs.Meaning.{Meaning}
+use Rattle.engine_api.proofs.HistoryLaws.{replay-push}
 
 module _ {C R I S : Type 0} (meaning : Meaning C R I S) (form : StrForm) where
   -- the machine's reply to a call, or for the mark of a lost facility
@@ -22,3 +23,20 @@ module _ {C R I S : Type 0} (meaning : Meaning C R I S) (form : StrForm) where
   AreAnswered machine (entry ∷ entries) =
       (entry.reply ≡ reply_for machine entry.by entry.what)
       × AreAnswered (machine_after meaning form machine entry) entries
+
+  -- the next entry of a history has the machine's reply
+  answered_next : (history : List (Entry C R)) (entry : Entry C R) (told : What C)
+      → IsNextAs meaning form history entry told
+      → entry.reply ≡ reply_for (replay meaning form history) entry.by told
+  answered_next history entry (what.Call asked) next = ap (λ (e : Entry C R). e.reply) next
+  answered_next history entry (what.Lost cf) next = ap (λ (e : Entry C R). e.reply) next
+
+  -- and so has each entry that follows one
+  pub continues-answered : (history entries : List (Entry C R)) → Continues meaning form history entries
+      → AreAnswered (replay meaning form history) entries
+  continues-answered history [] goes = tt
+  continues-answered history (entry ∷ entries) goes = (
+    answered_next history entry entry.what goes.0,
+    subst (λ (m : Machine S). AreAnswered m entries) (replay-push meaning form history entry)
+        (continues-answered (history ++ entry ∷ []) entries goes.1),
+  )

@@ -1,7 +1,6 @@
 -- The rebuild that the machine keeps is the one that its history tells of.
 use Rattle.std.proofs.Common.{◌≡◌, List, [], ◌∷◌, ◌++◌, length, refl, sym, ap, ◌∙◌, subst}
 use Rattle.std.specs.Prelude.{fold}
-use Rattle.std.proofs.lemmas.List.Sums.{fold_push}
 use Rattle.cf_types.specs.declared.limits.TheConstants.{CALLERS}
 use Rattle.cf_types.specs.declared.forms.StrForm.{StrForm}
 use Rattle.cf_types.specs.declared.numbers.ConnId.{ConnId}
@@ -15,9 +14,11 @@ use Rattle.shell_laws.specs.Tellings.{telling_of, telling_entry}
 use Rattle.shell_laws.specs.Readings.{rebuild_told}
 use Rattle.shell_laws.specs.Steps.{rebuild_next, rebuild_kept, MayBeTold, MayAllBeTold}
 use Rattle.shell_laws.proofs.ReadingLaws.{kept-is-told}
-use Rattle.engine_api.specs.Machine.{Machine, opening}
-use Rattle.engine_api.specs.History.{after_what, machine_after, replay}
-use Rattle.shell_laws.specs.History.{actives_after, reply_for, AreAnswered}
+use Rattle.engine_api.specs.Machine.{Machine}
+use Rattle.engine_api.specs.History.{after_what, machine_after, replay, IsLegal}
+use Rattle.shell_laws.specs.History.{actives_after}
+use Rattle.shell_laws.proofs.Answered.{reply_for, AreAnswered, continues-answered}
+use Rattle.engine_api.proofs.HistoryLaws.{replay-push, continues_legal}
 use Rattle.engine_api.proofs.ShellLaws.{length-conns-replay}
 use Rattle.shell_laws.specs.Members.{HasPlace}
 use Rattle.shell_laws.proofs.MemberLaws.{manned-replay}
@@ -43,10 +44,6 @@ module _ {C R I S : Type 0} (meaning : Meaning C R I S) (form : StrForm) where
   may_next machine by (what.Lost cf) answer places placed answered =
       rw answered (may-loss meaning form machine by placed cf)
 
-  replay-more : (before : List (Entry C R)) (entry : Entry C R)
-      → replay meaning form (before ++ entry ∷ []) ≡ machine_after meaning form (replay meaning form before) entry
-  replay-more before entry = fold_push (machine_after meaning form) (opening meaning form) before entry
-
   kept : (before entries : List (Entry C R)) → AreAnswered meaning form (replay meaning form before) entries
       → (rebuild_kept (actives_after meaning form) before entries (replay meaning form before).shell.rebuild
       ≡ (fold (machine_after meaning form) (replay meaning form before) entries).shell.rebuild)
@@ -58,7 +55,7 @@ module _ {C R I S : Type 0} (meaning : Meaning C R I S) (form : StrForm) where
       let places = length-conns-replay meaning form before in
       let placed = (manned-replay meaning form before).placed in
       let may = may_next machine entry.by entry.what entry.reply places placed answered.0 in
-      let more = replay-more before entry in
+      let more = replay-push meaning form before entry in
       let behind = kept (before ++ entry ∷ []) entries
       (subst (λ (m : Machine S). AreAnswered meaning form m entries) (sym more) answered.1) in
       let same : (replay meaning form (before ++ entry ∷ [])).shell.rebuild
@@ -70,8 +67,9 @@ module _ {C R I S : Type 0} (meaning : Meaning C R I S) (form : StrForm) where
         (may, subst (MayAllBeTold (actives_after meaning form) (before ++ entry ∷ []) entries) same behind.1),
       )
 
-  pub rebuild-told : (history : List (Entry C R)) → AreAnswered meaning form (opening meaning form) history
+  pub rebuild-legal : (history : List (Entry C R)) → IsLegal meaning form history
       → (replay meaning form history).shell.rebuild ≡ rebuild_told (actives_after meaning form) history
-  rebuild-told history answered =
-      let all = kept [] history answered in
+  rebuild-legal history legal =
+      let goes = continues_legal meaning form history legal in
+      let all = kept [] history (continues-answered meaning form [] history goes) in
       sym all.0 ∙ kept-is-told (actives_after meaning form) history all.1

@@ -1,18 +1,17 @@
 -- What each entry keeps holds after every history.
-use Rattle.std.proofs.Common.{◌≡◌, false, ◌&&◌, List, [], ◌∷◌, ◌++◌, refl, sym, ap, subst, append_assoc, append-nil}
+use Rattle.std.proofs.Common.{◌≡◌, false, ◌&&◌, List, [], ◌∷◌, ◌++◌, sym, subst, append_assoc, append-nil}
 use Rattle.std.specs.Prelude.{fold}
 use Rattle.cf_types.specs.declared.forms.StrForm.{StrForm}
 use Rattle.cf_types.specs.declared.numbers.ConnId.{ConnId}
 use Rattle.engine_api.specs.declared.asks.Reply.{Reply}
 use Rattle.engine_api.specs.declared.asks.What.{What}
-use Rattle.engine_api.specs.declared.asks.What.TheVariants as what
 use Rattle.engine_api.specs.declared.histories.Entry.{Entry}
-use Rattle.engine_api.specs.History.{after_what, machine_after, replay, IsNextAs, Continues}
+use Rattle.engine_api.specs.History.{after_what, machine_after, replay, Continues}
 use Rattle.engine_api.specs.Machine.{Machine, opening}
 use Rattle.engine_api.specs.Meaning.{Meaning}
 use Rattle.engine_api.specs.Shapes.{shape_of}
 use Rattle.engine_api.proofs.HistoryLaws.{replay-push}
-use Rattle.shell_laws.proofs.Answered.{reply_for, AreAnswered}
+use Rattle.shell_laws.proofs.Answered.{reply_for, AreAnswered, continues-answered}
 use Rattle.shell_laws.proofs.Moves.{stands_in, Move, Change}
 use Rattle.shell_laws.proofs.Moves.Move.{Same, Left, Returned, Forgotten, Cleared}
 use Rattle.shell_laws.proofs.Moves.Change.{Done, Quiet}
@@ -109,21 +108,6 @@ module _ {C R I S : Type 0} (meaning : Meaning C R I S) (form : StrForm)
 
   -- ---- a legal history is answered
 
-  answered_next : (history : List (Entry C R)) (entry : Entry C R) (told : What C) → entry.what ≡ told
-      → IsNextAs meaning form history entry told
-      → entry.reply ≡ reply_for meaning form (replay meaning form history) entry.by told
-  answered_next history entry (what.Call asked) is next = ap (λ (e : Entry C R). e.reply) next
-  answered_next history entry (what.Lost cf) is next = ap (λ (e : Entry C R). e.reply) next
-
-  answered_each : (history entries : List (Entry C R)) → Continues meaning form history entries
-      → AreAnswered meaning form (replay meaning form history) entries
-  answered_each history [] goes = tt
-  answered_each history (entry ∷ entries) goes = (
-    answered_next history entry entry.what refl goes.0,
-    subst (λ (m : Machine S). AreAnswered meaning form m entries) (replay-push meaning form history entry)
-        (answered_each (history ++ entry ∷ []) entries goes.1),
-  )
-
   pub legal-answered : (history : List (Entry C R)) → Continues meaning form [] history
       → AreAnswered meaning form (opening meaning form) history
-  legal-answered history goes = answered_each [] history goes
+  legal-answered history goes = continues-answered meaning form [] history goes

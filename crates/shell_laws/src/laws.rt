@@ -13,19 +13,19 @@ ghost use Rattle.engine_api.specs.Shell.{content_cause};
 ghost use Rattle.shell_laws.specs.Members.{HasMembers};
 ghost use Rattle.shell_laws.specs.Capacities.{IsHeld};
 ghost use Rattle.shell_laws.specs.Filling.{IsFilled};
-ghost use Rattle.engine_api.specs.Machine.{Machine, loss_step, opening, step};
-ghost use Rattle.engine_api.specs.History.{replay};
-ghost use Rattle.shell_laws.specs.History.{AreAnswered, actives_after};
+ghost use Rattle.engine_api.specs.Machine.{Machine, loss_step, step};
+ghost use Rattle.engine_api.specs.History.{replay, IsLegal};
+ghost use Rattle.shell_laws.specs.History.{actives_after};
 ghost use Rattle.shell_laws.specs.Stops.{KeepsTheOld};
 
 use cf_types::StrForm;
 use engine_api::{Engine, History};
 
-/// After calls and marks, one after another, the rebuild that the machine keeps is the one that the
-/// history tells of: its number, its stage, its members, who of them owes what the stage waits for,
+/// After every legal history the rebuild that the machine keeps is the one that the history tells
+/// of: its number, its stage, its members, who of them owes what the stage waits for,
 /// its capacity, and where the new instance is.
 pub fn keeps_what_is_told<E: Engine>(form: &StrForm, history: &History<E::Cmd, E::Reply>)
-    requires answered { AreAnswered E.meaning form.now (opening E.meaning form.now) history.now }
+    requires legal { IsLegal E.meaning form.now history.now }
     ensures told { (replay E.meaning form.now history.now).shell.rebuild
         ≡ rebuild_told (actives_after E.meaning form.now) history.now }
 {}
