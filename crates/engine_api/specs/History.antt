@@ -11,7 +11,7 @@ use Rattle.engine_api.specs.declared.asks.What.TheVariants as what
 use Rattle.engine_api.specs.declared.histories.Entry.{Entry}
 use Rattle.engine_api.specs.Meaning.{Meaning}
 use Rattle.engine_api.specs.LinkAsks.{operator, links_asked, marks_of}
-use Rattle.engine_api.specs.Machine.{Machine, opening, step, loss_step}
+use Rattle.engine_api.specs.Machine.{Machine, opening, step, loss_step, entered_machine}
 
 -- ---- calls
 
@@ -107,6 +107,10 @@ module _ {C R I S : Type 0} (meaning : Meaning C R I S) (form : StrForm) where
   -- a call before which no mark stands
   abbrev pub with_call : List (Entry C R) → ConnId → Ask C → List (Entry C R)
   with_call history by ask = history ++ next_entry history by ask ∷ []
+
+  -- such a call leaves the machine as it was, but for that a call has come
+  abbrev pub OnlyEnters : List (Entry C R) → ConnId → Ask C → Type 0
+  OnlyEnters history by ask = replay (with_call history by ask) ≡ entered_machine (replay history)
 
   -- ---- one call more, behind the marks of the links that are down
 

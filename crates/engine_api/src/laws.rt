@@ -3,8 +3,7 @@ ghost use Rattle.cf_types.specs.declared.numbers.ConnId.{ConnId};
 ghost use Rattle.cf_types.specs.declared.refusals.Refusal.{Refusal};
 ghost use Rattle.engine_api.specs.declared.asks.Ask.{Ask};
 ghost use Rattle.engine_api.specs.declared.asks.Reply.TheVariants as reply;
-ghost use Rattle.engine_api.specs.History.{next_reply, replay, with_call, IsLegal};
-ghost use Rattle.engine_api.specs.Machine.{entered_machine};
+ghost use Rattle.engine_api.specs.History.{next_reply, IsLegal, OnlyEnters};
 ghost use Rattle.engine_api.specs.Points.{IsByPoints};
 
 use crate::engine::Engine;
@@ -16,8 +15,7 @@ use cf_types::StrForm;
 pub fn refused_changes_nothing<E: Engine>(form: &StrForm, history: &History<E::Cmd, E::Reply>)
     ensures { (by : ConnId) (asked : Ask E.Cmd) (refusal : Refusal)
         → next_reply E.meaning form.now history.now by asked ≡ reply.Refused refusal
-        → replay E.meaning form.now (with_call E.meaning form.now history.now by asked)
-        ≡ entered_machine (replay E.meaning form.now history.now) }
+        → OnlyEnters E.meaning form.now history.now by asked }
 {}
 
 /// A history that some calls and some answers of links make, turn by turn, is one that is right
