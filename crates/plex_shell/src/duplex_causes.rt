@@ -14,10 +14,10 @@ impl Shell {
     /// Why DUPLEX START is refused, if it is.
     pub(crate) fn judge_duplex(&self, by: ConnId) -> Judged
         requires { IsCaller by }
-        ensures { result_err result ≡ first_refusal (if_failed self.now.shell
-            ∷ if_rebuilding self.now.shell.rebuild ∷ if_duplexed self.now.shell
-            ∷ unless_allocated self.now.shell ∷ if_no_place (units_of self.now.shell.caps)
-            (candidates self.now.form self.now.shell by) ∷ []) }
+        ensures { let shell = self.now.shell in
+            result_err result ≡ first_refusal (if_failed shell ∷ if_rebuilding shell.rebuild
+            ∷ if_duplexed shell ∷ unless_allocated shell
+            ∷ if_no_place (units_of shell.caps) (candidates self.now.form shell by) ∷ []) }
     {
         self.if_failed()?;
         self.if_rebuilding()?;
