@@ -2,6 +2,7 @@
 use Rattle.std.proofs.Common.{◌≡◌, ℕ, ◌<◌, ◌^◌, ◌&&◌, Bool, true, false, not, List, [], ◌∷◌, ◌++◌, Option, Some, None, option_map, codes, refl, sym, ap, ◌∙◌}
 use Rattle.std.specs.List.{list_any}
 use Rattle.std.proofs.lemmas.Bool.{and_parts}
+use Rattle.cf_types.specs.declared.limits.TheConstants.{ADJUNCT_BYTES}
 use Rattle.cf_types.specs.declared.list_commands.Cond.TheVariants.{NotHeld, HeldBy}
 use Rattle.plex_spell.specs.declared.labels.Label.TheVariants as label
 use Rattle.plex_spell.specs.declared.rigour.Rigour.{Rigour}
@@ -144,7 +145,8 @@ value-sound rigour declared (Amount low high) ws rest v is h =
 value-sound rigour declared AName ws rest v is h = name_at-sound rigour declared ws rest v h
 value-sound rigour declared AKey ws rest v is h = key_word-sound rigour declared ws rest v h
 value-sound rigour declared AShort ws rest v is h =
-    single-sound rigour declared (text_of rigour 64) Short (λ w x e. text-sound rigour 64 w x e) ws rest v h
+    single-sound rigour declared (text_of rigour ADJUNCT_BYTES) Short
+    (λ w x e. text-sound rigour ADJUNCT_BYTES w x e) ws rest v h
 value-sound rigour declared AData ws rest v is h = single-sound rigour declared (data_of rigour) Data
     (λ w x e. data-sound rigour w x e) ws rest v h
 value-sound rigour declared AResource ws rest v is h =
@@ -218,7 +220,8 @@ value-complete rigour declared (Amount low high) ws rest v is fixed free h =
 value-complete rigour declared AName ws rest v is fixed free h = name_at-complete rigour declared ws rest v h
 value-complete rigour declared AKey ws rest v is fixed free h = key_word-complete rigour declared ws rest v h
 value-complete rigour declared AShort ws rest v is fixed free h =
-    single-complete rigour declared (text_of rigour 64) Short v (λ w e. text-complete rigour 64 w v e) ws rest h
+    single-complete rigour declared (text_of rigour ADJUNCT_BYTES) Short v
+    (λ w e. text-complete rigour ADJUNCT_BYTES w v e) ws rest h
 value-complete rigour declared AData ws rest v is fixed free h =
     single-complete rigour declared (data_of rigour) Data v (λ w e. data-complete rigour w v e) ws rest h
 value-complete rigour declared AResource ws rest v is fixed free h =

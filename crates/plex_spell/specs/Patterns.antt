@@ -1,5 +1,6 @@
 -- Lines as rows of places, one value at each: the shape in which commands are read.
 use Rattle.std.specs.Prelude.{ℕ, Bool, true, false, List, [], ◌∷◌, ◌++◌, Option, None, Some, option_map, codes, if◌then◌else◌}
+use Rattle.cf_types.specs.declared.limits.TheConstants.{ADJUNCT_BYTES}
 use Rattle.cf_types.specs.declared.names.Name16.{Name16}
 use Rattle.cf_types.specs.declared.names.Key16.{Key16}
 use Rattle.cf_types.specs.declared.numbers.CfId.{CfId}
@@ -176,7 +177,7 @@ abbrev pub value_at : Rigour → Declared → (place : Place) → List (List ℕ
 value_at rigour declared (Amount low high) words = on_first (number_of rigour low high) words
 value_at rigour declared AName words = on_first (name_of rigour) words
 value_at rigour declared AKey words = on_first (key_of rigour) words
-value_at rigour declared AShort words = on_first (text_of rigour 64) words
+value_at rigour declared AShort words = on_first (text_of rigour ADJUNCT_BYTES) words
 value_at rigour declared AData words = on_first (data_of rigour) words
 value_at rigour declared AResource words = on_first (resource_of rigour) words
 value_at rigour declared AFacility words = on_first (facility_in rigour declared) words
