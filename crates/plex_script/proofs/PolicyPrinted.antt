@@ -9,7 +9,7 @@ use Rattle.std.proofs.lemmas.List.{get_or_append_left, get_or-map, length-map}
 use Rattle.std.proofs.lemmas.List.Folds.{list_any_none}
 use Rattle.std.proofs.lemmas.List.Sums.{sum_by-append, sum_by-cons}
 use Rattle.std.proofs.lemmas.Option.{slice_get-get_or}
-use Rattle.cf_types.specs.declared.limits.TheConstants.{CONNECTORS, VECTOR_BITS}
+use Rattle.cf_types.specs.declared.limits.TheConstants.{CAPACITY, CONNECTORS, VECTOR_BITS, HEADERS, LIST_LOCKS}
 use Rattle.cf_types.specs.declared.names.Name16.{Name16}
 use Rattle.cf_types.specs.declared.numbers.CfId.{CfId}
 use Rattle.cf_types.specs.declared.numbers.StrNo.{StrNo}
@@ -189,19 +189,23 @@ references-row refs.Nothing = record { plain = refl; short = omega arith }
 form-row : (k : Kind) (form : StrForm) → IsRow 1000 (form_tokens k form)
 form-row kind.Cache form =
     row-wider 390 1000 _ (omega arith)
-    (row-append 325 65 (Literal (codes "CACHE") ∷ Number 1 4096 form.caps.entries ∷ Number 1 4096 form.caps.elements
+    (row-append 325 65 (Literal (codes "CACHE")
+    ∷ Number 1 CAPACITY form.caps.entries ∷ Number 1 CAPACITY form.caps.elements
     ∷ Number 1 CONNECTORS form.conns ∷ Number 1 VECTOR_BITS form.vector ∷ []) _ (record { plain = refl; short = omega arith })
     (disposition-row form.keep))
 form-row (kind.List headers locks how) form =
     row-wider 585 1000 _ (omega arith)
-    (row-append 325 260 (Literal (codes "LIST") ∷ Number 1 4096 form.caps.entries ∷ Number 1 4096 form.caps.elements
+    (row-append 325 260 (Literal (codes "LIST")
+    ∷ Number 1 CAPACITY form.caps.entries ∷ Number 1 CAPACITY form.caps.elements
     ∷ Number 1 CONNECTORS form.conns ∷ Number 1 VECTOR_BITS form.vector ∷ []) _ (record { plain = refl; short = omega arith })
     (row-append 65 195 _ _ (disposition-row form.keep)
-    (row-append 130 65 (Number 1 64 headers ∷ Number 0 64 locks ∷ []) _ (record { plain = refl; short = omega arith })
+    (row-append 130 65 (Number 1 HEADERS headers ∷ Number 0 LIST_LOCKS locks ∷ []) _
+    (record { plain = refl; short = omega arith })
     (references-row how))))
 form-row kind.Lock form =
     row-wider 325 1000 _ (omega arith)
-    (row-append 260 65 (Literal (codes "LOCK") ∷ Number 1 4096 form.caps.entries ∷ Number 1 4096 form.caps.elements
+    (row-append 260 65 (Literal (codes "LOCK")
+    ∷ Number 1 CAPACITY form.caps.entries ∷ Number 1 CAPACITY form.caps.elements
     ∷ Number 1 CONNECTORS form.conns ∷ []) _ (record { plain = refl; short = omega arith })
     (disposition-row form.keep))
 
