@@ -1,3 +1,2 @@
-pub mod DownLaws
 pub mod SeatLaws
 pub mod OutcomeLaws

@@ -1,17 +1,16 @@
 //! The links to the facilities.
 ghost use Rattle.std.specs.Prelude.{◌≡◌, ◌∷◌, [], IfOk, length};
+ghost use Rattle.cf_types.specs.declared.limits.TheConstants.{LINKS};
 ghost use Rattle.failover.specs.Failing.{AreDownOnce, IsDownAt};
 
 use cf_link::ListLink;
+use cf_types::limits::LINKS;
 use std::alloc::{AllocError, Global};
-
-/// How many links there are to the facilities: four for each of 16 structures.
-const LINKS: usize = 64;
 
 /// Of the first structure's links the one to CF1 is down at its third call, and the one to CF2 at
 /// its fifth. The others are never down.
 pub fn links(alloc: Global) -> Result<Vec<ListLink>, AllocError>
-    ensures count { IfOk result (λ links. length links.items ≡ 64) }
+    ensures count { IfOk result (λ links. length links.items ≡ LINKS) }
     ensures down { IfOk result (λ links. AreDownOnce links.items) }
 {
     let mut links = Vec::new(alloc);
