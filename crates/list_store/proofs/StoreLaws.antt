@@ -340,6 +340,42 @@ pub new_fresh : {E : Type 0} (chains : List (Option (List ℕ))) (recs : List Re
 new_fresh chains recs held (Ok chain) e = loose_fresh chains recs chain.head e held
 new_fresh chains recs held (Err e) f = tt
 
+-- replace: first given back, then put
+module _ (table : TableView) (pool new : Chains) (held : AreHeld pool.chains (all_records table.lists)) (k : ℕ)
+    (c : IsChain (loose_in pool.chains (all_records table.lists)) k) (bytes : List ℕ) where
+  between : AreHeld (set pool.chains k None) (all_records table.lists)
+  between = loose_held pool.chains table.lists held k None c
+
+  pub replace_held : (r : Result Chain (Chain × NoElements))
+      → IfOk r (λ chain. slice_get (without_chain pool k).chains chain.head ≡ Some None)
+      → IfOk r (λ chain. new ≡ with_chain (without_chain pool k) chain.head bytes) → OnErr r (new ≡ pool)
+      → AreHeld new.chains (all_records table.lists)
+  replace_held (Ok chain) fresh put same =
+      subst (λ (p : Chains). AreHeld p.chains (all_records table.lists)) (sym put)
+      (fresh_held (set pool.chains k None) table.lists between chain.head (Some bytes) fresh)
+  replace_held (Err e) fresh put same =
+      subst (λ (p : Chains). AreHeld p.chains (all_records table.lists)) (sym same) held
+
+  pub replace_view : (r : Result Chain (Chain × NoElements))
+      → IfOk r (λ chain. slice_get (without_chain pool k).chains chain.head ≡ Some None)
+      → IfOk r (λ chain. new ≡ with_chain (without_chain pool k) chain.head bytes)
+      → IfOk r (λ chain. view_with table new ≡ record {
+        lists = shown pool.chains table.lists;
+        chains = set (set pool.chains k None) chain.head (Some bytes);
+        loose = set (set (loose_in pool.chains (all_records table.lists)) k None) chain.head (Some bytes);
+        free = pool.free + need_in pool.chains k - need_of (length bytes);
+        room = table.room;
+      })
+  replace_view (Ok chain) fresh put =
+      let gone = set pool.chains k None in
+      ap (view_with table) put
+      ∙ view_by _ _ _ _ _ _ _
+      (fresh_shown gone table.lists between chain.head (Some bytes) fresh
+      ∙ loose_shown pool.chains table.lists held k None c)
+      (fresh_loose gone table.lists between chain.head (Some bytes) fresh
+      ∙ ap (λ l. set l chain.head (Some bytes)) (loose_loose pool.chains table.lists held k None c))
+  replace_view (Err e) fresh put = tt
+
 -- ---- each chain has 1 to 4,096 bytes
 
 is_whole : (bytes : List ℕ) → 1 ≤ length bytes → length bytes ≤ 4096 → is_data (Some bytes) ≡ true
@@ -367,6 +403,17 @@ pub given_whole : (pool new : Chains) (k : ℕ) → list_all is_data pool.chains
     → list_all is_data new.chains ≡ true
 given_whole pool new k whole given =
     ap (λ (p : Chains). list_all is_data p.chains) given ∙ list_all-set is_data pool.chains k None whole refl
+
+pub replace_whole : (pool new : Chains) (k : ℕ) (bytes : List ℕ) → 1 ≤ length bytes → length bytes ≤ 4096
+    → list_all is_data pool.chains ≡ true → (r : Result Chain (Chain × NoElements))
+    → IfOk r (λ chain. new ≡ with_chain (without_chain pool k) chain.head bytes) → OnErr r (new ≡ pool)
+    → list_all is_data new.chains ≡ true
+replace_whole pool new k bytes some few whole (Ok chain) put same =
+    ap (λ (p : Chains). list_all is_data p.chains) put
+    ∙ list_all-set is_data (set pool.chains k None) chain.head (Some bytes)
+    (list_all-set is_data pool.chains k None whole refl) (is_whole bytes some few)
+replace_whole pool new k bytes some few whole (Err e) put same =
+    ap (λ (p : Chains). list_all is_data p.chains) same ∙ whole
 
 pub data_size : (chains : List (Option (List ℕ))) (k : ℕ) (bytes : List ℕ) → list_all is_data chains ≡ true
     → slice_get chains k ≡ Some (Some bytes) → (1 ≤ length bytes) × (length bytes ≤ 4096)

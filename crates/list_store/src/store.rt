@@ -160,6 +160,24 @@ impl Store {
         self.table.take(id)
     }
 
+    /// Takes the record with an id, which is there, to a place of a header.
+    pub fn shift(&mut self, id: EntryId, header: u32, place: u32)
+        requires room { 1 ≤ self.old.room }
+        requires there { list_any (is_id id) (all_records self.old.lists) ≡ true }
+        requires header { header < length self.old.lists }
+        requires place { place ≤ length (records_of (lists_without id self.old.lists) header) }
+        ensures lists { IfSome (record_of id self.old.lists) (λ rec. self.new.lists
+            ≡ lists_with header place rec (lists_without id self.old.lists)) }
+        ensures chains { self.new.chains ≡ self.old.chains }
+        ensures loose { self.new.loose ≡ self.old.loose }
+        ensures free { self.new.free ≡ self.old.free }
+    {
+        match self.take(id) {
+            Some(rec) => self.add(header, place, rec),
+            None => unreachable!(),
+        }
+    }
+
     /// The last header that has records.
     pub fn last_header(&self) -> Option<u32>
         ensures found { IfSome result (λ header. IsLastFull header self.now.lists) }
@@ -242,6 +260,32 @@ impl Store {
         } }
     {
         self.pool.give_back(chain);
+    }
+
+    /// Puts bytes into a chain, which no record has, in place of its own. It takes no memory.
+    pub fn replace_body(&mut self, chain: Chain, bytes: &[u8]) -> Result<Chain, (Chain, NoElements)>
+        requires chain { IsChain self.old.loose chain.head }
+        requires some { 1 ≤ length bytes.now }
+        requires few { length bytes.now ≤ 4096 }
+        ensures refused { IsErr result
+            ↔ self.old.free + need_in self.old.chains chain.head < need_of (length bytes.now) }
+        ensures err { IfErr result (λ e. e ≡ (
+          chain,
+          record {
+            need = need_of (length bytes.now);
+            free = self.old.free + need_in self.old.chains chain.head;
+          },
+        )) }
+        ensures same { OnErr result (self.new ≡ self.old) }
+        ensures put { IfOk result (λ new. self.new ≡ record self.old {
+          chains = slice_set (slice_set self.old.chains chain.head None) new.head (Some bytes.now);
+          loose = slice_set (slice_set self.old.loose chain.head None) new.head (Some bytes.now);
+          free = self.old.free + need_in self.old.chains chain.head - need_of (length bytes.now);
+        }) }
+        ensures fresh { IfOk result (λ new. slice_get (slice_set self.old.chains chain.head None)
+            new.head ≡ Some None) }
+    {
+        self.pool.replace(chain, bytes)
     }
 
     /// How many elements are free: those that are in no record's data, nor in a chain that no

@@ -1,0 +1,23 @@
+use Rattle.std.proofs.Common.{◌∙◌, ap, sym, is_some, option_map}
+use Rattle.std.specs.List.{list_any}
+use Rattle.std.proofs.lemmas.Bool.{false≢true}
+use Rattle.list_laws.proofs.FilterLaws.{found_passes, any_is_found}
+use Rattle.record_lists.proofs.IdLaws.{gone}
+use Rattle.list_store.specs.Lists.{Lists, record_id, is_id, all_records}
+use Rattle.list_store.specs.Records.{record_in}
+use Rattle.list_store.proofs.store.Store.shift.Goals as goal
+
+pub add-requires-clause-alone : goal.add-requires-clause-alone
+add-requires-clause-alone c =
+    let rec = record_in c.args.self.now.chains c.in-Some.rec in
+    ap (λ (l : Lists). list_any (is_id c.in-Some.rec.id) (all_records l)) c.take.ensures.lists
+    ∙ gone record_id c.args.id.0 c.args.self.now.lists rec
+    (found_passes (is_id c.args.id) (all_records c.args.self.now.lists) rec
+    (sym c.take.ensures.«record» ∙ ap (option_map (record_in c.args.self.now.chains)) c.in-Some.is))
+
+pub unreachable-requires : goal.unreachable-requires
+unreachable-requires c =
+    let none = ap is_some (sym c.take.ensures.«record»
+    ∙ ap (option_map (record_in c.args.self.now.chains)) c.in-None.is) in
+    false≢true (sym none ∙ sym (any_is_found (is_id c.args.id) (all_records c.args.self.now.lists))
+    ∙ c.requires.there)
