@@ -98,15 +98,13 @@ impl Keys {
     }
 
     /// Where a key comes to stand among keys in ascending order: before its equals at the head, and
-    /// behind them at the tail.
+    /// behind them at the tail. It is found by a binary search.
     pub fn place(&self, keys: &[Key16], key: &Key16, head: bool) -> u32
         requires ascending { IsTrue (pairwise keys_up_to keys.now) }
         requires few { length keys.now ≤ 4096 }
         ensures place { result ≡ prefix_len (stands_before head key.now) keys.now }
         ensures bound { result ≤ length keys.now }
     {
-        keys.iter()
-            .take_while(|other| stands_before(head, key, other))
-            .count() as u32
+        keys.partition_point(|other| stands_before(head, key, other)) as u32
     }
 }

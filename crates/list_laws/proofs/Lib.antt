@@ -7,3 +7,4 @@ pub mod MapLaws
 pub mod ImageLaws
 pub mod TableLaws
 pub mod TakeLaws
+pub mod PlaceLaws

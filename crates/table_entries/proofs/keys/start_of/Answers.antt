@@ -2,7 +2,8 @@ use Rattle.std.proofs.Common.{rules, Bool}
 use Rattle.std.proofs.lemmas.List.Sorted.{IsPartitionPoint-from_clause}
 use Rattle.cf_types.specs.declared.resources.Resource.{Resource}
 use Rattle.cf_types.specs.Resources.{resource_before, resource_up_to}
-use Rattle.table_entries.proofs.KeyLaws.{partitioned, partition_is, before_front}
+use Rattle.list_laws.proofs.PlaceLaws.{partitioned, partition_is}
+use Rattle.table_entries.proofs.KeyLaws.{before_front}
 use Rattle.table_entries.proofs.keys.start_of.Goals as goal
 
 pub returns : goal.returns
