@@ -1,4 +1,4 @@
-ghost use Rattle.std.specs.Prelude.{◌≡◌, ◌+◌, ◌≤◌, ◌++◌, ◌∷◌, [], None, Some, nat_eq, IfOk, OnOk, is_some, length, option_map, if◌then◌else◌};
+ghost use Rattle.std.specs.Prelude.{◌≡◌, ◌+◌, ◌≤◌, ◌++◌, ◌∷◌, [], None, Some, true, nat_eq, IfOk, OnOk, is_some, length, option_map, if◌then◌else◌};
 ghost use Rattle.std.specs.List.{IsDistinct};
 ghost use Rattle.std.specs.Map.{keys_of, lookup};
 ghost use Rattle.std.specs.Option.{option_copied};
@@ -16,6 +16,7 @@ use cf_types::{ConnId, Name16, NoMemory};
 use indexmap::IndexMap;
 use std::alloc::{AllocError, Global};
 use std::marker::Model;
+use std::mem;
 
 /// The rows by the bytes of their names.
 type Rows = IndexMap<[u8; NAME_BYTES], DirRow>;
@@ -35,6 +36,23 @@ fn put(rows: &mut Rows, row: DirRow)
     let name = row.name;
     let _adj = row.adj;
     let _ = rows.insert(name.0, row);
+}
+
+// Puts a row in the place of the one of its name, and answers that one.
+fn replace(rows: &mut Rows, row: DirRow) -> DirRow
+    requires { is_some (row_at rows.old.entries row.name) ≡ true }
+    ensures row { Some result ≡ row_at rows.old.entries row.name }
+    ensures writes { Writes (row_at rows.old.entries) row.name (Some row)
+        (row_at rows.new.entries) }
+    ensures len { length rows.new.entries ≡ length rows.old.entries }
+    ensures spare { spare rows.old ≤ spare rows.new }
+{
+    let name = row.name;
+    let _adj = row.adj;
+    match rows.get_mut(&name.0) {
+        Some(place) => mem::replace(place, row),
+        None => row,
+    }
 }
 
 // Releases the castout lock of a row, where it is this connector's.
@@ -98,6 +116,27 @@ fn note(locks: &mut Locks, name: Name16, holder: Option<Holder>)
 {
     if let Some(holder) = holder {
         let _ = locks.insert(name.0, holder.conn);
+    }
+}
+
+// Notes who holds the castout lock of a row that takes another's place, if anyone does. A lock that
+// wasn't noted takes room.
+fn note_anew(locks: &mut Locks, name: Name16, holder: Option<Holder>)
+    requires unique { IsDistinct (pointwise nat_eq) (keys_of locks.old.entries) }
+    requires room { is_some holder ≡ true → row_at locks.old.entries name ≡ None
+        → 1 ≤ spare locks.old }
+    ensures writes { Writes (row_at locks.old.entries) name (conn_of holder)
+        (row_at locks.new.entries) }
+    ensures unique { IsDistinct (pointwise nat_eq) (keys_of locks.new.entries) }
+    ensures spare { spare locks.old ≤ spare locks.new + 1 }
+{
+    match holder {
+        Some(holder) => {
+            let _ = locks.insert(name.0, holder.conn);
+        }
+        None => {
+            let _ = locks.swap_remove(&name.0);
+        }
     }
 }
 
@@ -277,6 +316,22 @@ impl Dir {
     {
         note(&mut self.locks, row.name, row.holder);
         put(&mut self.rows, row);
+    }
+
+    /// Puts a row in the place of the one of its name, which there must be, and hands that one out.
+    /// A castout lock that nobody held before takes room. It takes no memory.
+    pub fn set(&mut self, row: DirRow) -> DirRow
+        requires there { is_some (row_at self.old.entries row.name) ≡ true }
+        requires room { is_some row.holder ≡ true
+            → lock_of (row_at self.old.entries row.name) ≡ None → 1 ≤ self.old.room }
+        ensures row { Some result ≡ row_at self.old.entries row.name }
+        ensures writes { Writes (row_at self.old.entries) row.name (Some row)
+            (row_at self.new.entries) }
+        ensures len { length self.new.entries ≡ length self.old.entries }
+        ensures kept { self.old.room ≤ self.new.room + 1 }
+    {
+        note_anew(&mut self.locks, row.name, row.holder);
+        replace(&mut self.rows, row)
     }
 
     /// Takes out the row of a name, if there is one. There is as much room as before at least.

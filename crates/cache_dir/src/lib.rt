@@ -5,5 +5,6 @@
 mod dir;
 mod row;
 
+pub use cf_pool::{Chain, NoElements, Pool};
 pub use dir::Dir;
 pub use row::DirRow;
