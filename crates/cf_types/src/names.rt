@@ -6,12 +6,12 @@ use crate::limits::NAME_BYTES;
 
 /// A name of 1 to 16 term characters, padded with blanks to 16 bytes. Names stand in the order of
 /// their bytes.
-#[derive(Clone, Copy, Debug, PartialEq, Eq, PartialOrd, Ord)]
+#[derive(Clone, Copy, Debug, PartialEq, Eq, PartialOrd, Ord, Hash)]
 pub struct Name16(pub [u8; NAME_BYTES]);
 
 /// A list key of 1 to 16 term characters, padded with blanks to 16 bytes. Keys stand in the order
 /// of their bytes.
-#[derive(Clone, Copy, Debug, PartialEq, Eq, PartialOrd, Ord)]
+#[derive(Clone, Copy, Debug, PartialEq, Eq, PartialOrd, Ord, Hash)]
 pub struct Key16(pub [u8; NAME_BYTES]);
 
 /// What is wrong with a text that should be a name, a key or an adjunct.
