@@ -1,5 +1,6 @@
 use Rattle.std.proofs.Common.{◌≡◌, ◌+◌, true, nat_lt, not, sym, ◌∙◌, subst, refl, arith}
 use Rattle.std.specs.List.{list_all}
+use Rattle.cf_types.specs.declared.limits.TheConstants.{CALLERS}
 use Rattle.cache_regs.specs.declared.registrations.Registration.{Registration}
 use Rattle.cache_regs.specs.Registrations.{ends_with_name}
 use Rattle.cache_regs.specs.Ends.{ends_of, ends_below}
@@ -37,7 +38,7 @@ loop-conn-preserved c =
 
 pub returns-clause-ended : goal.returns-clause-ended
 returns-clause-ended c =
-    let end : c.loop-conn.conn ≡ 65 = omega arith in
+    let end : c.loop-conn.conn ≡ CALLERS = omega arith in
     ended_same (ends_below c.args.name.now c.args.spare c.loop-conn.conn) (ends_with_name c.args.name.now c.args.spare)
     _ _ _ _ _ _
     (filter_within (λ (reg : Registration). nat_lt reg.conn.0 c.loop-conn.conn)

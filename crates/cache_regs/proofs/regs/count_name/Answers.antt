@@ -1,5 +1,6 @@
 use Rattle.std.proofs.Common.{◌≡◌, true, nat_lt, length, sym, ap, ◌∙◌, subst, arith}
 use Rattle.std.specs.List.{list_all}
+use Rattle.cf_types.specs.declared.limits.TheConstants.{CALLERS}
 use Rattle.cache_regs.specs.declared.registrations.Registration.{Registration}
 use Rattle.cache_regs.proofs.ListedLaws.{count_first, count_more, count_all}
 use Rattle.cache_regs.proofs.regs.count_name.Goals as goal
@@ -16,7 +17,7 @@ loop-conn-preserved c =
 
 pub returns : goal.returns
 returns c =
-    let end : c.loop-conn.conn ≡ 65 = omega arith in
+    let end : c.loop-conn.conn ≡ CALLERS = omega arith in
     c.loop-conn.invariant.0
     ∙ ap length (count_all c.args.name.now c.args.spare c.loop-conn.conn c.args.maps.now.regs
     (subst (λ k. list_all (λ (reg : Registration). nat_lt reg.conn.0 k) c.args.maps.now.regs ≡ true) (sym end)

@@ -1,5 +1,6 @@
 use Rattle.std.proofs.Common.{◌≡◌, ◌≤◌, ◌<◌, ◌+◌, ◌-◌, min, length, ap, sym, subst, arith}
 use Rattle.std.proofs.lemmas.Bool.{lt-ltb}
+use Rattle.cf_types.specs.declared.limits.TheConstants.{CALLERS}
 use Rattle.list_laws.specs.Insertions.{insertion}
 use Rattle.list_laws.proofs.FilterLaws.{none_filtered}
 use Rattle.cache_regs.specs.declared.registrations.Registration.{Registration}
@@ -59,7 +60,7 @@ invariant_of-self c =
       registry = rw (set_there c) (registry-with c.args.conn c.args.index c.args.name c.self.inside.maps.regs
           c.self.invariant.registry);
       callers = rw (set_there c) (all_with is_callers c.args.conn c.args.index c.args.name c.self.inside.maps.regs
-          (lt-ltb c.args.conn.0 65 (omega (arith, c.requires.caller))) c.self.invariant.callers);
+          (lt-ltb c.args.conn.0 CALLERS (omega (arith, c.requires.caller))) c.self.invariant.callers);
       within = rw (set_there c) (all_with (is_within c.self.inside.len) c.args.conn c.args.index c.args.name
           c.self.inside.maps.regs (lt-ltb c.args.index c.self.inside.len (subst (λ (r : Registry). c.args.index < r.len)
           (sym c.self.view_is) c.requires.index)) c.self.invariant.within);
