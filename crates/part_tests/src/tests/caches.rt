@@ -1,4 +1,7 @@
+ghost use Rattle.std.specs.Prelude.{◌≡◌, None};
+
 use cache_classes::Classes;
+use cache_dir::{Dir, DirRow};
 use cache_reclaim::Order;
 use cache_regs::Regs;
 use cf_types::{ConnId, Effects, Name16, NoMemory};
@@ -58,5 +61,41 @@ fn reclaims_the_least_recently_used(rt: HostRuntime) -> Result<(), Fail> {
     assert!(rt; copy.victim(1, 0) == Some(FIRST));
     copy.remove(&SECOND);
     assert!(rt; copy.victim(1, 1).is_none());
+    Ok(())
+}
+
+// A row without data, which nobody holds.
+fn row(name: Name16, stg: u32) -> DirRow
+    ensures { result ≡ record {
+      name = name;
+      stored = None;
+      adj = None;
+      class = None;
+      holder = None;
+      stg = stg;
+    } }
+{
+    DirRow {
+        name,
+        stored: None,
+        adj: None,
+        class: None,
+        holder: None,
+        stg,
+    }
+}
+
+#[test]
+fn a_row_takes_the_place_of_another(rt: HostRuntime) -> Result<(), Fail> {
+    let mut dir = Dir::new(rt.alloc(), 1)?;
+    dir.put(row(FIRST, 1));
+    let old = dir.set(row(FIRST, 2));
+    assert!(rt; old.stg == 1);
+    assert!(rt; dir.len() == 1);
+    let Some(new) = dir.find(&FIRST) else {
+        assert!(rt; false);
+        return Ok(());
+    };
+    assert!(rt; new.stg == 2);
     Ok(())
 }
