@@ -13,10 +13,14 @@ ghost use Rattle.struct_machine.specs.Kept.{AreOf, gone_by, state_in, left_in};
 
 use crate::content::Content;
 use cf_link::Link;
-use cf_types::{ConnId, Effects, Letter, NoMemory, ShellCmd, StrForm};
+use cf_types::{Batch, ConnId, Effects, Letter, NoMemory, ShellCmd, StrForm};
 use engine_api::Engine;
 use plex_shell::{ACT_LETTERS, Shell};
 use std::alloc::Global;
+
+/// Room for the letters of a command, and for those of another one: a call that may post leaves
+/// room for `ACT_LETTERS` behind.
+pub(crate) const READY_LETTERS: u32 = 2 * ACT_LETTERS;
 
 // Who departs leaves the content first, where an instance stands, and COPY's items are copied; room
 // for the command's own letters is taken in any case. The effects name the bits that the departure
@@ -56,7 +60,7 @@ pub(crate) fn prepare<E: Engine, L: Link>(
 {
     match cmd {
         ShellCmd::Copy { n } => copy_items(alloc, shell, content, *n),
-        _ => depart_first(form, shell, content, out, by, cmd),
+        _ => depart_first(alloc, form, shell, content, out, by, cmd),
     }
 }
 
@@ -82,6 +86,7 @@ fn copy_items<E: Engine, L: Link>(
 // Who departs leaves the content first, where an instance stands; room for the command's own
 // letters is taken in any case. The effects name the bits that the departure changed.
 fn depart_first<E: Engine, L: Link>(
+    alloc: Global,
     form: &StrForm,
     shell: &mut Shell,
     content: &mut Content<E, L>,
@@ -116,14 +121,28 @@ fn depart_first<E: Engine, L: Link>(
     let _ = form;
     let (primary, _, _) = shell.instances();
     match shell.leaving(by, cmd) {
-        Some((conn, keep)) if primary.is_some() => leave_content(shell, content, out, conn, keep),
-        _ => shell.ready(ACT_LETTERS),
+        Some((conn, keep)) if primary.is_some() => {
+            leave_content(alloc, shell, content, out, conn, keep)
+        }
+        _ => shell.ready(letters_for(cmd)),
+    }
+}
+
+// Room for the letters of a command. One that may post leaves as much room behind, so that NEXT,
+// which posts nothing, finds it and takes none.
+fn letters_for(cmd: &ShellCmd) -> u32
+    ensures { ACT_LETTERS ≤ result }
+{
+    match cmd {
+        ShellCmd::Next => ACT_LETTERS,
+        _ => READY_LETTERS,
     }
 }
 
 // A connector departs from the content, and the letters that this brings are posted. The effects
 // name the bits that it changed. Room for the letters of the command itself is left.
 fn leave_content<E: Engine, L: Link>(
+    alloc: Global,
     shell: &mut Shell,
     content: &mut Content<E, L>,
     out: &mut Effects,
@@ -151,10 +170,10 @@ fn leave_content<E: Engine, L: Link>(
     ensures err_fresh { OnErr result (content.new.fresh ≡ content.old.fresh) }
     ensures err_shell { OnErr result (shell.new.shell ≡ shell.old.shell) }
 {
-    out.mail.clear();
+    fresh_mail(alloc, out);
     content.leave_ready(conn, out)?;
     let letters = letter_count(out)?;
-    let Some(all) = letters.checked_add(ACT_LETTERS) else {
+    let Some(all) = letters.checked_add(READY_LETTERS) else {
         return Err(NoMemory);
     };
     shell.ready(all)?;
@@ -172,6 +191,19 @@ pub(crate) fn post_all(shell: &mut Shell, letters: &[Letter])
 {
     for letter in letters {
         shell.post(*letter);
+    }
+}
+
+// Ends the letters. Room for more than a command of the shell posts is given back, so that one
+// departure with many letters makes no later call take room for as many.
+pub(crate) fn fresh_mail(alloc: Global, out: &mut Effects)
+    ensures bits { out.new.bits ≡ out.old.bits }
+    ensures mail { out.new.mail.items ≡ [] }
+{
+    if out.mail.room() > ACT_LETTERS as usize {
+        out.mail = Batch::new(alloc);
+    } else {
+        out.mail.clear();
     }
 }
 

@@ -22,7 +22,7 @@ use crate::asking::{Asked, ask_links};
 use crate::changed::Changed;
 use crate::content::Content;
 use crate::deeds::{do_deeds, make_engines};
-use crate::departing::{letter_count, post_all, prepare};
+use crate::departing::{READY_LETTERS, fresh_mail, letter_count, post_all, prepare};
 use crate::losing::mark;
 use crate::marks::Marks;
 use cf_link::Link;
@@ -32,10 +32,13 @@ use engine_api::{Ask, Engine, Reply, Room};
 use plex_shell::{ACT_LETTERS, Shell, Verdict};
 use std::alloc::Global;
 
-// The most letters that two marks post; and those with the letters of a command.
+// The most letters that two marks post. Room for them is taken with that for a command's own, or
+// for those that an engine sends, and with the room that stays behind.
 const MARK_LETTERS: u32 = 2 * ACT_LETTERS;
 
-const COPY_LETTERS: u32 = 3 * ACT_LETTERS;
+const COPY_LETTERS: u32 = MARK_LETTERS + READY_LETTERS;
+
+const CONTENT_LETTERS: u32 = MARK_LETTERS + ACT_LETTERS;
 
 // What commands on the content are judged by.
 const NO_ROOM: Room = Room {
@@ -146,7 +149,8 @@ fn answer_judged<E: Engine, L: Link>(
             }
         }
         Ask::Content(cmd) => {
-            do_content(form, shell, content, changed, &ContentCall { by, ask, cmd })
+            let call = ContentCall { by, ask, cmd };
+            do_content(alloc, form, shell, content, changed, &call)
         }
     }
 }
@@ -246,6 +250,7 @@ pub(crate) fn cause_of<E: Engine, L: Link>(
 // A command on the content that the shell doesn't refuse: all memory is taken, and then its links
 // are asked. The bits that changed are named.
 fn do_content<E: Engine, L: Link>(
+    alloc: Global,
     form: &StrForm,
     shell: &mut Shell,
     content: &mut Content<E, L>,
@@ -272,7 +277,7 @@ fn do_content<E: Engine, L: Link>(
     ensures err_links { OnErr result (content.new.pair.links ≡ content.old.pair.links) }
 {
     let out = &mut changed.effects;
-    out.mail.clear();
+    fresh_mail(alloc, out);
     content.ready(call.by, call.cmd, out)?;
     ready_letters(shell, out)?;
     let marks = &mut changed.marks;
@@ -281,14 +286,15 @@ fn do_content<E: Engine, L: Link>(
     Ok(reply)
 }
 
-// Takes room for the letters that an engine may send, and for those of two marks.
+// Takes room for the letters that an engine may send, and for those of two marks; room for those of
+// a command stays behind.
 fn ready_letters(shell: &mut Shell, out: &Effects) -> Result<(), NoMemory>
     ensures form { shell.new.form ≡ shell.old.form }
     ensures shell { shell.new.shell ≡ shell.old.shell }
     ensures room { OnOk result (out.now.mail.room + MARK_LETTERS ≤ shell.new.room) }
 {
     let letters = letter_count(out)?;
-    let Some(all) = letters.checked_add(MARK_LETTERS) else {
+    let Some(all) = letters.checked_add(CONTENT_LETTERS) else {
         return Err(NoMemory);
     };
     shell.ready(all)

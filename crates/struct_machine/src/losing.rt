@@ -19,6 +19,7 @@ ghost use Rattle.struct_machine.specs.Losses.{IsEnding, kept_without};
 ghost use Rattle.struct_machine.specs.declared.marks.TheConstants.{MARKS};
 
 use crate::content::Content;
+use crate::departing::READY_LETTERS;
 use crate::marks::{Marks, is_failure};
 use cf_link::Link;
 use cf_types::{CfId, NoMemory, StrForm};
@@ -86,7 +87,7 @@ pub(crate) fn lose_marked<E: Engine, L: Link>(
     ensures err { OnErr result (machine_of E.meaning form.now shell.new (kept_of E.held content.new)
         ≡ machine_of E.meaning form.now shell.old (kept_of E.held content.old)) }
 {
-    shell.ready(ACT_LETTERS)?;
+    shell.ready(READY_LETTERS)?;
     Ok(lose(form, shell, content, cf))
 }
 
