@@ -19,19 +19,41 @@ crates() {
     ' "$top/crates.txt"
 }
 
+# The sources of the program, given to what find is to do with them.
+find_sources() {
+    find crates.txt $(crates crates/) \( -name out -o -name must-fail \) -prune -o -type f \( -name '*.rt' -o -name '*.antt' -o -name crates.txt \) "$@"
+}
+
 # One line that changes with the name, the length or the bytes of any source of the program, whatever its time is.
 sum() {
     (
         cd "$top" || exit
-        find crates.txt $(crates crates/) -name out -prune -o \
-            -type f \( -name '*.rt' -o -name '*.antt' -o -name crates.txt \) -exec cksum {} + | LC_ALL=C sort | cksum
+        find_sources -exec cksum {} + | LC_ALL=C sort | cksum
     )
 }
 
-# Whether ./build made the program of the sources as they are now.
-is_current() {
-    [ -x "$program" ] && [ -r "$sources" ] && read -r built <"$sources" && [ "$built" = "$(sum)" ]
+# One line that changes where any source is written, or another file comes in its place, whatever its bytes are. It is sooner made than the sum,
+# since no source is read. (In whatever order find comes upon them: where that is another one, the sum decides.)
+stamp() {
+    (
+        cd "$top" || exit
+        find_sources -printf '%p %s %i %C@\n' 2>/dev/null | cksum
+    )
 }
+
+# Whether ./build made the program of the sources as they are now: they weren't touched since, or have the same bytes.
+is_current() {
+    [ -x "$program" ] && [ -r "$sources" ] || return
+    { read -r built; read -r stamped; } <"$sources"
+    case $stamped in
+    '' | *' 0') ;; # (there is none, or find told nothing)
+    *) [ "$stamped" != "$(stamp)" ] || return 0 ;;
+    esac
+    [ "$built" = "$(sum)" ]
+}
+
+# Keeps of which sources the program is: a sum and a stamp, both of before the build.
+keep_sources() { printf '%s\n' "$1" "$2" >"$sources"; }
 
 # Waits for a child, and stops it where this script is stopped. Sets `status`, and `stopped` where it was.
 await() {

@@ -1,8 +1,19 @@
 # What ./plexrun says of a script that the program refused.
 
+carriage_return=$(printf '\r')
+
+# Whether a structure is declared as a lock structure in so many lines of the script.
+is_lock() {
+    head -n "$1" /proc/self/fd/0 | awk -v name="$2" '$1 == "STRUCTURE" && $2 == name && $3 == "LOCK" { found = 1 } END { exit !found }'
+}
+
 # What may be wrong with a line that has none of the forms.
 form_hint() {
     set -f
+    case $2 in
+    *"$carriage_return"*) echo 'a carriage return stands within the line, or lines end in one alone; a line ends at a line feed'; return ;;
+    esac
+    set -- "$1" "$(printf '%s\n' "$2" | cat -v)"
     case $2 in
     'M-oM-;M-?'*) echo 'the text begins with a byte order mark; it has to be saved without one'; return ;;
     '#'* | ';'* | //* | --*) echo 'a comment begins with *, on a line of its own'; return ;;
@@ -13,7 +24,16 @@ form_hint() {
     FACILITY | STRUCTURE | PREF | CONNECTOR) echo 'it has none of the forms of the policy'; return ;;
     FAC* | STR* | PRE* | CON*) echo 'the policy has FACILITY, STRUCTURE, PREF and CONNECTOR lines'; return ;;
     esac
-    case $4 in TEST | TESTWORD) echo 'a test has one number behind it, and no RETRY'; return ;; esac
+    case $4 in
+    TEST | TESTWORD)
+        if is_lock "$1" "$3"; then
+            echo 'a lock structure has no vectors, so there is nothing to test'
+        else
+            echo 'a test has one number behind it, and no RETRY'
+        fi
+        return
+        ;;
+    esac
     case $2 in OP) echo 'it has none of the forms, or is a command that the operator (OP) does not give'; return ;; esac
     if head -n "$1" /proc/self/fd/0 | grep -q "^[[:blank:]]*CONNECTOR[[:blank:]]"; then
         echo 'it has none of the forms'
@@ -38,7 +58,7 @@ hint() {
 explain() {
     set -- $1
     [ -f /proc/self/fd/0 ] && [ "$1" = SCRIPT ] || return 0
-    line=$(sed -n "$2{p;q;}" /proc/self/fd/0 | sed 's/\r$//' | cut -b 1-160 | cat -v)
-    say "line $2 is: $line"
+    line=$(sed -n "$2{p;q;}" /proc/self/fd/0 | sed 's/\r$//' | cut -b 1-160)
+    say "line $2 is: $(printf '%s\n' "$line" | cat -v)"
     say "$3: $(hint "$2" "$3" "$line") (docs/SCRIPT.md, \"What is wrong with a text\")"
 }
