@@ -260,5 +260,6 @@ impl Engine for CacheEngine {
 
     ghost need_first = { need-front };
 
-    ghost need_leave = { λ shape caps content conn keep is. need-leave shape.kind content conn };
+    ghost need_leave = { λ shape caps content conn keep kind is. need-leave shape.kind content
+        conn };
 }

@@ -25,7 +25,7 @@ promised =
       content_back = λ shape caps content conn is. is;
       content_moved = content-moved;
       need_first = need-front;
-      need_leave = λ shape caps content conn keep is. need-leave shape.kind content conn;
+      need_leave = λ shape caps content conn keep kind is. need-leave shape.kind content conn;
     }
 
 pub content-within : (form : StrForm) (history : CacheHistory) → IsWithin form history

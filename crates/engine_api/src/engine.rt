@@ -237,10 +237,10 @@ pub trait Engine: Sized + Send + Drop {
     ghost need_first: { (items others : List Self.Item) → IsNoMore (meaning.need items)
         (meaning.need (items ++ others)) };
 
-    /// A departure never raises the need.
+    /// A departure never raises the need, but for the entries of a lock structure.
     ghost need_leave: { (shape : Shape) (caps : Caps) (state : Self.State)
         (conn : ConnId) (keep : Bool)
-        → is_content shape caps state
+        → IsTrue (is_kind shape.kind) → is_content shape caps state
         → IsNoMoreOf shape.kind (meaning.need
         (meaning.items shape (meaning.leave shape state conn keep).state))
         (meaning.need (meaning.items shape state)) };

@@ -226,5 +226,6 @@ impl Engine for ListEngine {
 
     ghost need_first = { need-front };
 
-    ghost need_leave = { λ shape caps content conn keep is. need-leave shape content conn keep };
+    ghost need_leave = { λ shape caps content conn keep kind is. need-leave shape content conn
+        keep };
 }

@@ -19,10 +19,9 @@ use Rattle.lock_model.proofs.ItemLaws.{owner-next, waiter-next}
 use Rattle.lock_core.specs.Stock.{content_placed}
 use Rattle.lock_core.specs.EngineView.{IsCounted}
 
--- the need of a content is the number of its items, and of its record data
+-- the need of a content is the number of its interests, and of its record data
 pub need-content : (content : Content)
-    → record { entries = length content.interests + length content.waiters; elements = records_in content } ≡ need_of
-    (items content)
+    → record { entries = length content.interests; elements = records_in content } ≡ need_of (items content)
 need-content content =
     let caps : ℕ → ℕ → Caps = λ (entries elements : ℕ). record { entries = entries; elements = elements } in
     ap (λ (n : ℕ). caps n (records_in content)) (sym (entries-items content))

@@ -249,6 +249,6 @@ impl Engine for LockEngine {
 
     ghost need_first = { need-front };
 
-    ghost need_leave = { λ shape caps content conn keep is. need-leave shape caps content conn keep
-        is };
+    ghost need_leave = { λ shape caps content conn keep kind is. need-leave shape caps content conn
+        keep kind is };
 }

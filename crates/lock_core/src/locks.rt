@@ -306,20 +306,17 @@ impl Locks {
         self.interests.len() + self.queue.len()
     }
 
-    /// How many own and wait, and how many of them have record data.
+    /// How many own, and how many that own or wait have record data.
     pub(crate) fn need(&self) -> Caps
-        requires few { length self.now.content.interests + length self.now.content.waiters <
-            4294967296 }
-        requires records { records_in self.now.content < 4294967296 }
+        requires { records_in self.now.content < 4294967296 }
         ensures { result ≡ record {
-          entries = length self.now.content.interests + length
-              self.now.content.waiters;
+          entries = length self.now.content.interests;
           elements = records_in self.now.content;
         } }
     {
         let records = self.interests.count_records() + count_waiting(&self.queue);
         Caps {
-            entries: self.count(),
+            entries: self.interests.len(),
             elements: records as u32,
         }
     }

@@ -2,23 +2,23 @@
 use Rattle.std.proofs.Common.{◌≡◌, ◌-◌, ◌≤◌, Bool, true, false, List, [], ◌∷◌, ◌++◌, append-nil, append_assoc, length, length-append, fold, map, sum_by, refl, sym, ap, ◌∙◌, arith}
 use Rattle.std.specs.List.{list_any}
 use Rattle.std.proofs.lemmas.Bool.{or_right, false≢true}
-use Rattle.std.proofs.lemmas.List.{length-map, map-append, take_at}
+use Rattle.std.proofs.lemmas.List.{map-append, take_at}
 use Rattle.std.proofs.lemmas.List.Folds.{list_any-append}
 use Rattle.std.proofs.lemmas.List.Sums.{sum_by-append, sum_by-cons}
 use Rattle.cf_types.specs.declared.forms.Caps.{Caps}
 use Rattle.cf_types.specs.declared.forms.Kind.{Kind}
 use Rattle.cf_types.specs.declared.forms.Kind.TheVariants as kind
 use Rattle.cf_types.specs.declared.numbers.ConnId.{ConnId}
+use Rattle.cf_types.specs.Forms.{is_lock}
 use Rattle.engine_api.specs.declared.shapes.Shape.{Shape}
 use Rattle.engine_api.specs.Items.{Fits, IsNoMore, IsNoMoreOf}
 use Rattle.lock_queue.specs.declared.waiters.Waiter.{Waiter}
 use Rattle.lock_model.specs.declared.items.LockItem.{LockItem}
 use Rattle.lock_model.specs.declared.items.LockItem.TheVariants.{Owner, Waits}
 use Rattle.lock_model.specs.Interests.{Interest}
-use Rattle.lock_model.specs.Contents.{Content, IsContent, no_content, records_of, records_in, owner, items, content_with, content_without_last, without_last, records_of_item, need_of}
+use Rattle.lock_model.specs.Contents.{Content, IsContent, no_content, records_of, records_in, owner, items, content_with, content_without_last, without_last, entries_of_item, records_of_item, need_of}
 use Rattle.lock_model.specs.Departures.{with_returned}
 use Rattle.lock_model.specs.Meaning.{lock_meaning}
-use Rattle.lock_model.proofs.ContentLaws.{items_in}
 use Rattle.lock_model.proofs.DepartureLaws as departures
 
 pub content-nothing : (caps : Caps) → IsContent caps no_content
@@ -169,7 +169,7 @@ unplace-place content whole (Waits w) others first = waiter_away content.interes
 
 pub need-front : (xs others : List LockItem) → IsNoMore (need_of xs) (need_of (xs ++ others))
 need-front xs others = (
-  omega (arith, length-append xs others),
+  omega (arith, sum_by-append entries_of_item xs others),
   omega
       (arith, sum_by-append records_of_item xs others),
 )
@@ -198,7 +198,18 @@ records_waiters (w ∷ ws) =
           (λ (v : Waiter). records_of v.rec) w ws,
     )
 
--- the record data and the number of the items are those of the content
+entries_owners : (interests : List Interest)
+    → sum_by entries_of_item (map owner interests) ≡ length interests
+entries_owners [] = refl
+entries_owners (x ∷ xs) =
+    omega (arith, entries_owners xs, sum_by-cons entries_of_item (owner x) (map owner xs))
+
+entries_waiters : (waiters : List Waiter) → sum_by entries_of_item (map Waits waiters) ≡ 0
+entries_waiters [] = refl
+entries_waiters (w ∷ ws) =
+    omega (arith, entries_waiters ws, sum_by-cons entries_of_item (Waits w) (map Waits ws))
+
+-- the record data of the items are those of the content, and the entries are its interests
 pub elements-items : (content : Content) → (need_of (items content)).elements ≡ records_in content
 elements-items content =
     omega (
@@ -208,31 +219,31 @@ elements-items content =
       records_waiters content.waiters,
     )
 
-pub entries-items : (content : Content) → (need_of (items content)).entries ≡ items_in content
+pub entries-items : (content : Content) → (need_of (items content)).entries ≡ length content.interests
 entries-items content =
     omega (
       arith,
-      length-append (map owner content.interests) (map Waits content.waiters),
-      length-map content.interests owner,
-      length-map content.waiters Waits,
+      sum_by-append entries_of_item (map owner content.interests) (map Waits content.waiters),
+      entries_owners content.interests,
+      entries_waiters content.waiters,
     )
 
-no_more_of : (kind : Kind) (need other : Caps) → IsNoMore need other → IsNoMoreOf kind need other
-no_more_of kind.Cache need other h = h
-no_more_of (kind.List headers locks refs) need other h = h
-no_more_of kind.Lock need other h = h.1
+-- of a lock structure the elements decide
+no_more_of : (of : Kind) (need other : Caps) → is_lock of ≡ true → need.elements ≤ other.elements
+    → IsNoMoreOf of need other
+no_more_of kind.Cache need other h less = absurd (false≢true h)
+no_more_of (kind.List headers locks refs) need other h less = absurd (false≢true h)
+no_more_of kind.Lock need other h less = less
 
 pub need-leave : (shape : Shape) (caps : Caps) (content : Content) (conn : ConnId) (keep : Bool)
-    → IsContent caps content
+    → is_lock shape.kind ≡ true → IsContent caps content
     → IsNoMoreOf shape.kind (need_of (items (lock_meaning.leave shape content conn keep).state))
     (need_of (items content))
-need-leave shape caps content conn keep is =
+need-leave shape caps content conn keep lock is =
     let left = (lock_meaning.leave shape content conn keep).state in
     let led = departures.led_departed caps conn keep content is in
-    no_more_of shape.kind (need_of (items left)) (need_of (items content)) (
-      omega (arith, led.items, entries-items left, entries-items content),
-      omega (arith, led.records, elements-items left, elements-items content),
-    )
+    no_more_of shape.kind (need_of (items left)) (need_of (items content)) lock
+    (omega (arith, led.records, elements-items left, elements-items content))
 
 -- a content whose items fit another capacity is one there
 fits_records : (kind : Kind) (need caps : Caps) → Fits kind need caps → need.elements ≤ caps.elements

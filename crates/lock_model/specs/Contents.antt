@@ -72,10 +72,18 @@ content_without_last content = without content.waiters
     without [] = record content { interests = without_last content.interests }
     without (w ∷ waiters) = record content { waiters = without_last (w ∷ waiters) }
 
--- items and record data
+-- interests, and the record data of interests and waiters
+abbrev pub entries_of_item : LockItem → ℕ
+entries_of_item (Owner held rec) = 1
+entries_of_item (Waits w) = 0
+
 abbrev pub records_of_item : LockItem → ℕ
 records_of_item (Owner held rec) = records_of rec
 records_of_item (Waits w) = records_of w.rec
 
 abbrev pub need_of : List LockItem → Caps
-need_of items = record { entries = length items; elements = sum_by records_of_item items }
+need_of items =
+    record {
+      entries = sum_by entries_of_item items;
+      elements = sum_by records_of_item items;
+    }

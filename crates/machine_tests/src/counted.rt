@@ -228,5 +228,5 @@ impl Engine for Counted {
 
     ghost need_first = { first_need };
 
-    ghost need_leave = { λ shape caps state conn keep is. same_need shape.kind state };
+    ghost need_leave = { λ shape caps state conn keep kind is. same_need shape.kind state };
 }

@@ -121,7 +121,7 @@ module _ {C R I S : Type 0} (meaning : Meaning C R I S) (is_kind : Kind → Bool
         → IsContent shape other (meaning.forget state)
     pub need_first : (items others : List I) → IsNoMore (meaning.need items) (meaning.need (items ++ others))
     pub need_leave : (shape : Shape) (caps : Caps) (state : S) (conn : ConnId) (keep : Bool)
-        → IsContent shape caps state
+        → IsTrue (is_kind shape.kind) → IsContent shape caps state
         → IsNoMoreOf shape.kind (meaning.need (meaning.items shape (meaning.leave shape state conn keep).state))
         (meaning.need (meaning.items shape state))
 
@@ -289,7 +289,7 @@ module _ {C R I S : Type 0} (meaning : Meaning C R I S) (is_kind : Kind → Bool
           go true = (
             laws.content_leave (shape_of form) machine.shell.caps machine.content leaver.conn leaver.keep held.content,
             room_less machine.shell.rebuild machine.content _ (laws.need_leave (shape_of form) machine.shell.caps
-                machine.content leaver.conn leaver.keep held.content) held.room,
+                machine.content leaver.conn leaver.keep kind held.content) held.room,
           )
           go false = same
 

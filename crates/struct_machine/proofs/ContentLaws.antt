@@ -1,6 +1,6 @@
 -- What becomes of a pair that loses one of two, and of a content that somebody leaves.
 use Rattle.std.proofs.Common.{◌≡◌, Bool, true, false, ◌||◌, [], Option, None, Some, option_map, refl, sym, subst₂}
-use Rattle.std.specs.Prelude.{is_some, if◌then◌else◌}
+use Rattle.std.specs.Prelude.{IsTrue, is_some, if◌then◌else◌}
 use Rattle.cf_types.specs.declared.forms.Caps.{Caps}
 use Rattle.cf_types.specs.declared.forms.Kind.{Kind}
 use Rattle.cf_types.specs.declared.numbers.CfId.{CfId}
@@ -63,7 +63,7 @@ module _ {C R I S : Type 0} (meaning : Meaning C R I S) (is_kind : Kind → Bool
     pub content : (shape : Shape) (caps : Caps) (state : S) (conn : ConnId) (keep : Bool)
         → IsContent shape caps state → IsContent shape caps (meaning.leave shape state conn keep).state
     pub need : (shape : Shape) (caps : Caps) (state : S) (conn : ConnId) (keep : Bool)
-        → IsContent shape caps state
+        → IsTrue (is_kind shape.kind) → IsContent shape caps state
         → IsNoMoreOf shape.kind (meaning.need (meaning.items shape (meaning.leave shape state conn keep).state))
         (meaning.need (meaning.items shape state))
 
@@ -95,7 +95,7 @@ module _ {C R I S : Type 0} (meaning : Meaning C R I S) (is_kind : Kind → Bool
           copy = copy_left meaning is_kind IsContent held (meaning.leave held.shape held.state conn keep).state
               (record filling.copy { items = [] }) refl
               (laws.content held.shape held.caps held.state conn keep standing.0.content)
-              (laws.need held.shape held.caps held.state conn keep standing.0.content)
+              (laws.need held.shape held.caps held.state conn keep standing.0.kind standing.0.content)
               (record {
                 shape = standing.1.copy.shape;
                 kind = standing.1.copy.kind;
