@@ -1,4 +1,5 @@
 pub mod DeskLaws
+pub mod EventLaws
 pub mod SeatLaws
 pub mod PlexLaws
 pub mod OutcomeLaws

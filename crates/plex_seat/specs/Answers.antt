@@ -1,11 +1,13 @@
 -- What a member asks and is answered.
-use Rattle.std.specs.Prelude.{◌≡◌, ◌≢◌, ℕ, ◌<◌, ◌≤◌, ◌++◌, ◌∷◌, [], Bool, true, false, List, Some, IfSome}
+use Rattle.std.specs.Prelude.{◌≡◌, ◌≢◌, ℕ, ◌<◌, ◌≤◌, ◌++◌, ◌∷◌, [], Bool, true, false, List, length, Some, IfSome, All}
 use Rattle.cf_types.specs.declared.shell_commands.ShellCmd.{ShellCmd}
+use Rattle.cf_types.specs.declared.shell_commands.ShellCmd.TheVariants as cmd
 use Rattle.engine_api.specs.declared.asks.Ask.TheVariants as ask
 use Rattle.engine_api.specs.declared.told.Told.{Told}
 use Rattle.plex_script.specs.declared.scripts.AnyAsk.{AnyAsk}
 use Rattle.plex_script.specs.declared.scripts.AnyAsk.TheVariants as any
 use Rattle.plex_script.specs.declared.scripts.Script.{Script}
+use Rattle.plex_script.specs.Heard.{AnyCall}
 use Rattle.plex_report.specs.Lines.{reply_words}
 use Rattle.plex_report.specs.ReplyWords.{cache_reply_words, list_reply_words, lock_reply_words}
 use Rattle.struct_cell.specs.declared.refused.CallRefused.{CallRefused}
@@ -19,7 +21,7 @@ use Rattle.desk_model.specs.Boards.{cell_on}
 use Rattle.plex_seat.specs.declared.answers.Answer.{Answer}
 use Rattle.plex_seat.specs.declared.answers.Unanswered.{Unanswered}
 use Rattle.plex_seat.specs.declared.answers.Unanswered.TheVariants.{OtherKind, NotMade, Unread}
-use Rattle.plex_seat.specs.Seats.{SeatShown, HasType, pass_of}
+use Rattle.plex_seat.specs.Seats.{SeatShown, IsSame, HasType, pass_of, type_at}
 
 -- a common command, as it is asked of a structure of this type
 abbrev pub common_ask : StrType → ShellCmd → AnyAsk
@@ -79,3 +81,19 @@ module _ {L : Type 0} where
   HasFault asked OtherKind before after = (after ≡ before) × (HasType (type_of_ask asked) before → ⊥)
   HasFault asked (NotMade refusal) before after = IsNotMade refusal before after
   HasFault asked (Unread number) before after = HasCalled asked number before after
+
+  -- The member asked for events alone: so many calls at most, each NEXT, and no test; nothing else of its desk is
+  -- different.
+  pub record HasAskedForEvents (most : ℕ) (before after : SeatShown L) : Type 0 where
+    pub more : List AnyCall
+    pub count : length more ≤ most
+    pub calls : (pass_of after).calls ≡ (pass_of before).calls ++ more
+    pub next : All (λ call. call.ask ≡ common_ask (type_at before) cmd.Next) more
+    pub tests : (pass_of after).tests ≡ (pass_of before).tests
+    pub rest : after.desk ≡ with_pass before.on (pass_of after) before.desk
+
+  -- the member asked for events, the last time in vain, for this reason
+  pub record HasAskedInVain (why : Unanswered) (before after : SeatShown L) : Type 0 where
+    pub last : SeatShown L
+    pub same : IsSame before last
+    pub fault : HasFault (common_ask (type_at last) cmd.Next) why last after

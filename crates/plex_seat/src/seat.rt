@@ -1,5 +1,5 @@
 //! A member's seat at a structure.
-ghost use Rattle.std.specs.Prelude.{◌≡◌, ◌↔◌, ◌+◌, ◌<◌, ◌≤◌, ◌++◌, ◌∷◌, [], IfOk, IfErr, IfSome, IfNone, IsSome, IsTrue, All, Some, is_some, length};
+ghost use Rattle.std.specs.Prelude.{◌≡◌, ◌↔◌, ◌⊎◌, ◌+◌, ◌<◌, ◌≤◌, ◌++◌, ◌∷◌, [], IfOk, IfErr, IfSome, IfNone, IsSome, IsTrue, All, Some, is_some, length};
 ghost use Rattle.std.specs.Vec.{vec_len, vec_capacity};
 ghost use Rattle.run_model.specs.Kinds.{MayAskAny};
 ghost use Rattle.run_model.specs.Types.{type_of_ask};
@@ -13,7 +13,9 @@ ghost use Rattle.any_cell.specs.Passes.{reply_numbered};
 ghost use Rattle.desk_model.specs.Desks.{IsLaterOn};
 ghost use Rattle.desk_model.specs.Boards.{IsDeskOf, cell_on};
 ghost use Rattle.plex_seat.specs.Seats.{IsSame, HasType, HasBit, MaySit, pass_of, type_at, HasTested};
-ghost use Rattle.plex_seat.specs.Answers.{HasAnswer, HasFault, HasHeard, common_ask};
+ghost use Rattle.plex_seat.specs.Answers.{HasAnswer, HasFault, HasHeard, HasAskedForEvents, HasAskedInVain, common_ask};
+ghost use Rattle.plex_seat.specs.declared.answers.Unanswered.{Unanswered};
+ghost use Rattle.plex_seat.specs.declared.faults.Fault.TheVariants as ended;
 ghost use Rattle.plex_seat.specs.declared.faults.Fault.TheVariants.{Alone};
 ghost use Rattle.plex_seat.specs.Events.{event_of};
 
@@ -370,6 +372,10 @@ impl<'p> Seat<'p> {
         ensures same { IsSame self.old self.new }
         ensures event { IfOk result (λ answer. event_of answer.reply ≡ Some event) }
         ensures heard { IfOk result (HasHeard self.new) }
+        ensures newer { IfOk result (λ answer. (pass_of self.old).known < answer.no) }
+        ensures asked { HasAskedForEvents most self.old self.new }
+        ensures fault { IfErr result (λ fault. (fault ≡ Alone) ⊎ ((why : Unanswered)
+            × (fault ≡ ended.Unanswered why) × HasAskedInVain why self.old self.new)) }
         ensures alone { IfErr result (λ fault. fault ≡ Alone → length (pass_of self.new).calls
             ≡ length (pass_of self.old).calls + most) }
     {
@@ -396,7 +402,7 @@ fn is_connector(owner: ConnId) -> bool
 
 // Whether an event is the other.
 fn is_same(told: Event, event: Event) -> bool
-    ensures { IsTrue result → told ≡ event }
+    ensures { IsTrue result ↔ (told ≡ event) }
 {
     told == event
 }

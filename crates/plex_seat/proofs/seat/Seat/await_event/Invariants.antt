@@ -1,9 +1,12 @@
-use Rattle.std.proofs.Common.{◌≡◌, ◌+◌, length}
+use Rattle.std.proofs.Common.{◌≡◌, ◌≤◌, ◌+◌, length}
 use Rattle.plex_seat.specs.Seats.{IsSame, pass_of}
+use Rattle.plex_seat.specs.Answers.{HasAskedForEvents}
 use Rattle.plex_seat.proofs.seat.Seat.await_event.Given as goal
 
 abbrev pub invariant-loop : goal.invariant-loop
 invariant-loop g l = record {
   same : IsSame l.fn.self l.self;
+  asked : HasAskedForEvents l.counter l.fn.self l.self;
+  known : (pass_of l.fn.self).known ≤ (pass_of l.self).known;
   calls : length (pass_of l.self).calls ≡ length (pass_of l.fn.self).calls + l.counter;
 }

@@ -1,0 +1,38 @@
+-- What was asked for adds up.
+use Rattle.std.proofs.Common.{rules, ◌≡◌, ◌<◌, ◌≤◌, ◌+◌, length, arith}
+use Rattle.cf_types.specs.declared.shell_commands.ShellCmd.TheVariants as cmd
+use Rattle.plex_script.specs.declared.scripts.AnyAsk.{AnyAsk}
+use Rattle.plex_seat.specs.Seats.{pass_of, type_at}
+use Rattle.plex_seat.specs.Answers.{common_ask}
+use Rattle.plex_seat.proofs.EventLaws.{asked_more, asked_within, asked_fault, known_more, calls_more, same_same}
+use Rattle.plex_seat.proofs.seat.Seat.await_event.Goals as goal
+
+pub returns-in-Err-clause-asked : goal.returns-in-Err-clause-asked
+returns-in-Err-clause-asked g c =
+    let within : c.loop.counter < c.args.most = search rules in
+    asked_fault c.loop.counter c.args.self.now c.loop.self c.next_event.new.self c.loop.invariant.same
+    c.next_event.ensures.same c.loop.invariant.asked c.args.most c.in-Err.fault within c.in-Err.ensures.fault
+
+pub returns-in-Some-clause-asked : goal.returns-in-Some-clause-asked
+returns-in-Some-clause-asked g c =
+    let within : c.loop.counter + 1 ≤ c.args.most = search rules in
+    asked_within (c.loop.counter + 1) c.args.most c.args.self.now c.next_event.new.self within
+    (asked_more c.loop.counter c.args.self.now c.loop.self c.next_event.new.self c.loop.invariant.same
+    c.next_event.ensures.same c.loop.invariant.asked c.in-Ok.answer.no c.in-Ok.ensures.answer.called)
+
+pub loop-preserved : goal.loop-preserved
+loop-preserved g c =
+    let asks : AnyAsk = common_ask (type_at c.loop.self) cmd.Next in
+    let kept : (pass_of c.loop.self).known ≤ (pass_of c.next_event.new.self).known =
+    known_more asks c.in-Ok.answer.no c.loop.self c.next_event.new.self c.next_event.ensures.same
+    c.in-Ok.ensures.answer.called in
+    let more : length (pass_of c.next_event.new.self).calls ≡ length (pass_of c.loop.self).calls + 1 =
+    calls_more asks c.in-Ok.answer.no c.loop.self c.next_event.new.self c.in-Ok.ensures.answer.called in
+    record {
+      same = same_same c.args.self.now c.loop.self c.next_event.new.self c.loop.invariant.same
+          c.next_event.ensures.same;
+      asked = asked_more c.loop.counter c.args.self.now c.loop.self c.next_event.new.self c.loop.invariant.same
+          c.next_event.ensures.same c.loop.invariant.asked c.in-Ok.answer.no c.in-Ok.ensures.answer.called;
+      known = omega (arith, c.loop.invariant.known, kept);
+      calls = omega (arith, c.loop.invariant.calls, more);
+    }
