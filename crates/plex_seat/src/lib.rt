@@ -11,15 +11,18 @@ mod words;
 
 pub use answers::{Answer, Unanswered};
 pub use any_cell::AnyReply;
+pub use cf_link::Steady;
 pub use cf_types::{
-    Adjunct, CacheCmd, CacheReply, ConnId, Event, ListCmd, ListReply, LockCmd, LockReply, Name16,
-    NoMemory, Refusal, Resource, ShellReply, StrNo, parse_adjunct, parse_body, parse_name,
+    Adjunct, CacheCmd, CacheReply, Caps, CfId, ConnId, Event, ListCmd, ListReply, LockCmd,
+    LockReply, Name16, NoMemory, Refusal, Resource, ShellCmd, ShellReply, StrNo, parse_adjunct,
+    parse_body, parse_name,
 };
-pub use engine_api::Reply;
+pub use engine_api::{Ask, Reply, Told};
 pub use faults::Fault;
 pub use plex::{Plex, policy};
+pub use plex_board::{Board, Desk};
 pub use plex_report::render;
-pub use plex_script::{AnyHistory, ReadFault, Script};
+pub use plex_script::{AnyAsk, AnyHistory, ReadFault, Script};
 pub use seat::Seat;
 pub use struct_cell::CallRefused;
 pub use vec_words::Tested;

@@ -90,6 +90,13 @@ impl Plex {
         }
     }
 
+    /// The board, for what no seat asks.
+    pub fn board(&self) -> &Board<Steady>
+        ensures { result.now ≡ self.now }
+    {
+        &self.board
+    }
+
     /// Ends the structures: the history of each. There is none exactly where the desks aren't one
     /// for each caller, in order from the operator's.
     pub fn close(self, rt: &impl Wait, desks: Vec<Desk>) -> Option<Vec<AnyHistory>>

@@ -1,8 +1,8 @@
 //! A member's seat at a structure.
-ghost use Rattle.std.specs.Prelude.{◌≡◌, ◌↔◌, ◌⊎◌, ◌+◌, ◌<◌, ◌≤◌, ◌++◌, ◌∷◌, [], IfOk, IfErr, IfSome, IfNone, IsSome, IsTrue, All, Some, is_some, length};
+ghost use Rattle.std.specs.Prelude.{◌≡◌, ◌≢◌, ◌↔◌, ◌⊎◌, ◌+◌, ◌<◌, ◌≤◌, ◌++◌, ◌∷◌, [], IfOk, IfErr, IfSome, IfNone, IsSome, IsTrue, All, Some, is_some, length};
 ghost use Rattle.std.specs.Vec.{vec_len, vec_capacity};
 ghost use Rattle.run_model.specs.Kinds.{MayAskAny};
-ghost use Rattle.run_model.specs.Types.{type_of_ask};
+ghost use Rattle.run_model.specs.Types.{OfCache, OfList, OfLock, type_of_ask};
 ghost use Rattle.plex_script.specs.declared.scripts.AnyAsk.TheVariants as any;
 ghost use Rattle.engine_api.specs.declared.asks.Ask.TheVariants as ask;
 ghost use Rattle.engine_api.specs.Asking.{MayCommand};
@@ -15,6 +15,7 @@ ghost use Rattle.desk_model.specs.Boards.{IsDeskOf, cell_on};
 ghost use Rattle.plex_seat.specs.Seats.{IsSame, HasType, HasBit, MaySit, pass_of, type_at, HasTested};
 ghost use Rattle.plex_seat.specs.Answers.{HasAnswer, HasFault, HasHeard, HasAskedForEvents, HasAskedInVain, common_ask};
 ghost use Rattle.plex_seat.specs.declared.answers.Unanswered.{Unanswered};
+ghost use Rattle.plex_seat.specs.declared.answers.Unanswered.TheVariants.{OtherKind};
 ghost use Rattle.plex_seat.specs.declared.faults.Fault.TheVariants as ended;
 ghost use Rattle.plex_seat.specs.declared.faults.Fault.TheVariants.{Alone};
 ghost use Rattle.plex_seat.specs.Events.{event_of};
@@ -127,6 +128,7 @@ impl<'p> Seat<'p> {
             (λ answer. HasAnswer (any.Lock (ask.Content cmd)) answer self.old self.new) }
         ensures fault { IfErr result
             (λ fault. HasFault (any.Lock (ask.Content cmd)) fault self.old self.new) }
+        ensures kind { IfErr result (λ fault. fault ≢ OtherKind → HasType OfLock self.old) }
     {
         self.ask_of(rt, alloc, AnyAsk::Lock(Ask::Content(cmd)))
     }
@@ -143,6 +145,7 @@ impl<'p> Seat<'p> {
             (λ answer. HasAnswer (any.Cache (ask.Content cmd)) answer self.old self.new) }
         ensures fault { IfErr result
             (λ fault. HasFault (any.Cache (ask.Content cmd)) fault self.old self.new) }
+        ensures kind { IfErr result (λ fault. fault ≢ OtherKind → HasType OfCache self.old) }
     {
         self.ask_of(rt, alloc, AnyAsk::Cache(Ask::Content(cmd)))
     }
@@ -159,6 +162,7 @@ impl<'p> Seat<'p> {
             (λ answer. HasAnswer (any.List (ask.Content cmd)) answer self.old self.new) }
         ensures fault { IfErr result
             (λ fault. HasFault (any.List (ask.Content cmd)) fault self.old self.new) }
+        ensures kind { IfErr result (λ fault. fault ≢ OtherKind → HasType OfList self.old) }
     {
         self.ask_of(rt, alloc, AnyAsk::List(Ask::Content(cmd)))
     }
@@ -223,8 +227,13 @@ impl<'p> Seat<'p> {
         self.common(rt, alloc, ShellCmd::Respond)
     }
 
-    // A common command that each connector may give.
-    fn common(&mut self, rt: &impl Wait, alloc: Global, cmd: ShellCmd) -> Result<Answer, Unanswered>
+    /// Any common command that a connector may give, as those of a rebuild, and the reply.
+    pub fn common(
+        &mut self,
+        rt: &impl Wait,
+        alloc: Global,
+        cmd: ShellCmd,
+    ) -> Result<Answer, Unanswered>
         requires { IsConnector self.old.desk.owner → MayCommand self.old.desk.owner cmd }
         ensures same { IsSame self.old self.new }
         ensures answer { IfOk result (λ answer. HasAnswer
@@ -242,6 +251,8 @@ impl<'p> Seat<'p> {
         ensures same { IsSame self.old self.new }
         ensures answer { IfOk result (λ answer. HasAnswer ask answer self.old self.new) }
         ensures fault { IfErr result (λ fault. HasFault ask fault self.old self.new) }
+        ensures kind { IfErr result
+            (λ fault. fault ≢ OtherKind → HasType (type_of_ask ask) self.old) }
     {
         if is_of_kind(&ask, self.board.kind(self.on)) {
             self.ask(rt, alloc, ask)
