@@ -3,6 +3,7 @@
 //! reads what the failed one had recorded, and frees the lock.
 #![tactic(auto)]
 
+mod orders;
 mod roles;
 
 ghost use Rattle.std.specs.Prelude.{◌≡◌, IfOk};
@@ -11,6 +12,7 @@ ghost use Rattle.plex_seat.specs.Answers.{HasHeard};
 ghost use Rattle.plex_seat.specs.Seats.{IsSame};
 ghost use Rattle.lock_manager.specs.Members.{IsOutcome};
 
+use orders::{Orders, read_orders};
 use plex_seat::{
     Answer, AnyHistory, ConnId, Fault, NoMemory, Plex, Script, Seat, StrNo, policy, put_reply,
     render,
@@ -67,6 +69,7 @@ fn members<R: Threads + Wait + Sync>(
     // The history is one that a single thread could have made, and it has the reply.
     ensures outcome { IfOk result (λ left. IsOutcome script.now left.0.items left.1) }
 {
+    let orders = read_orders(script)?;
     let (plex, mut desks) = Plex::open(rt, alloc, script, CALLS)?;
     let Some(mut b) = Seat::take(&plex, &mut desks, LOCKS) else {
         return Err(Fault::Policy);
@@ -77,7 +80,7 @@ fn members<R: Threads + Wait + Sync>(
     if b.owner() != B {
         return Err(Fault::Policy);
     }
-    let (failed, read) = work(rt, alloc, &mut a, &mut b);
+    let (failed, read) = work(rt, alloc, &orders, &mut a, &mut b);
     a.leave(&mut desks);
     b.leave(&mut desks);
     let Some(histories) = plex.close(rt, desks) else {
@@ -91,6 +94,7 @@ fn members<R: Threads + Wait + Sync>(
 fn work<R: Threads + Wait + Sync>(
     rt: &R,
     alloc: Global,
+    orders: &Orders,
     a: &mut Seat<'_>,
     b: &mut Seat<'_>,
 ) -> (Result<(), Fault>, Result<Answer, Fault>)
@@ -99,7 +103,7 @@ fn work<R: Threads + Wait + Sync>(
 {
     join_mut(
         rt,
-        &mut || fail(rt, alloc, a),
-        &mut || recover(rt, alloc, b),
+        &mut || fail(rt, alloc, orders, a),
+        &mut || recover(rt, alloc, orders, b),
     )
 }

@@ -2,6 +2,7 @@
 use crate::answers::Unanswered;
 use cf_types::NoMemory;
 use plex_script::ReadFault;
+use plex_spell::Miss;
 use std::io;
 use thiserror::Error;
 
@@ -11,6 +12,10 @@ pub enum Fault {
     /// The text is no policy of these members.
     #[error("no policy of these members")]
     Policy,
+
+    /// The words are no command of such a structure, with names of the policy.
+    #[error("no such command")]
+    Command,
 
     /// A member waited for another, or for an event, as long as it may.
     #[error("a member waited in vain")]
@@ -34,16 +39,40 @@ pub enum Fault {
 }
 
 impl From<NoMemory> for Fault {
+    ghost use Rattle.std.specs.Prelude.{◌≡◌};
+    ghost use Rattle.plex_seat.specs.declared.faults.Fault.TheVariants as ended;
+
+    ghost from_gives = { λ _ fault. fault ≡ ended.NoMemory };
+
     fn from(_: NoMemory) -> Self {
         Fault::NoMemory
     }
 }
 
 impl From<ReadFault> for Fault {
+    ghost use Rattle.std.specs.Prelude.{◌≡◌};
+    ghost use Rattle.plex_seat.specs.Faults.{fault_of};
+
+    ghost from_gives = { λ cause fault. fault ≡ fault_of cause };
+
     fn from(fault: ReadFault) -> Self {
         match fault {
             ReadFault::Script { .. } => Fault::Policy,
             ReadFault::NoMemory => Fault::NoMemory,
+        }
+    }
+}
+
+impl From<Miss> for Fault {
+    ghost use Rattle.std.specs.Prelude.{◌≡◌};
+    ghost use Rattle.plex_seat.specs.Faults.{fault_by};
+
+    ghost from_gives = { λ miss fault. fault ≡ fault_by miss };
+
+    fn from(miss: Miss) -> Self {
+        match miss {
+            Miss::NoForm => Fault::Command,
+            Miss::NoMemory => Fault::NoMemory,
         }
     }
 }

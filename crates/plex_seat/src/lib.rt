@@ -4,6 +4,7 @@
 
 mod answers;
 mod asks;
+mod commands;
 mod faults;
 mod plex;
 mod seat;
@@ -17,12 +18,14 @@ pub use cf_types::{
     LockReply, Name16, NoMemory, Refusal, Resource, ShellCmd, ShellReply, StrNo, parse_adjunct,
     parse_body, parse_name,
 };
+pub use commands::{cache_command, list_command, lock_command};
 pub use engine_api::{Ask, Reply, Told};
 pub use faults::Fault;
 pub use plex::{Plex, policy};
 pub use plex_board::{Board, Desk};
 pub use plex_report::render;
 pub use plex_script::{AnyAsk, AnyHistory, ReadFault, Script};
+pub use plex_spell::Miss;
 pub use seat::Seat;
 pub use struct_cell::CallRefused;
 pub use vec_words::Tested;

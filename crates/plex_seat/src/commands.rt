@@ -1,0 +1,68 @@
+//! Commands from text, as a script's line has them behind who and structure.
+ghost use Rattle.std.specs.Prelude.{◌≡◌};
+ghost use Rattle.plex_spell.specs.declared.rigour.Rigour.TheVariants.{Names};
+ghost use Rattle.plex_spell.specs.Places.{Reads, names_of};
+ghost use Rattle.plex_script.specs.Causes.{declared_in};
+ghost use Rattle.desk_model.specs.Boards.{IsPolicy};
+ghost use Rattle.plex_seat.specs.Commands.{cache_said, list_said, lock_said};
+
+use cf_types::{CacheCmd, ListCmd, LockCmd};
+use plex_script::Script;
+use plex_spell::{Judge, Miss, Rigour, Words, cache, list, lock};
+use std::alloc::Global;
+
+// What words are judged by: the limits, and what the policy declares.
+fn judge(script: &Script) -> Judge<'_>
+    requires { IsPolicy script.now }
+    ensures rigour { result.rigour ≡ Names }
+    ensures declared { names_of result ≡ declared_in script.now }
+{
+    Judge {
+        rigour: Rigour::Names,
+        facilities: script.facilities.items(),
+        structures: script.structures.items(),
+        connectors: script.connectors.items(),
+    }
+}
+
+/// The command of a lock structure that the words are, with names of the policy.
+pub fn lock_command(script: &Script, text: &[u8]) -> Result<LockCmd, Miss>
+    requires { IsPolicy script.now }
+    ensures { Reads result (lock_said script.now text.now) }
+{
+    let mut words = Words::of(text);
+    let cmd = lock(&judge(script), &mut words)?;
+    if words.is_done() {
+        Ok(cmd)
+    } else {
+        Err(Miss::NoForm)
+    }
+}
+
+/// The command of a cache structure that the words are.
+pub fn cache_command(alloc: Global, script: &Script, text: &[u8]) -> Result<CacheCmd, Miss>
+    requires { IsPolicy script.now }
+    ensures { Reads result (cache_said script.now text.now) }
+{
+    let mut words = Words::of(text);
+    let cmd = cache(alloc, &judge(script), &mut words)?;
+    if words.is_done() {
+        Ok(cmd)
+    } else {
+        Err(Miss::NoForm)
+    }
+}
+
+/// The command of a list structure that the words are.
+pub fn list_command(alloc: Global, script: &Script, text: &[u8]) -> Result<ListCmd, Miss>
+    requires { IsPolicy script.now }
+    ensures { Reads result (list_said script.now text.now) }
+{
+    let mut words = Words::of(text);
+    let cmd = list(alloc, &judge(script), &mut words)?;
+    if words.is_done() {
+        Ok(cmd)
+    } else {
+        Err(Miss::NoForm)
+    }
+}
