@@ -9,8 +9,8 @@ use plex_report::{put_cache_reply, put_list_reply, put_lock_reply};
 use plex_script::Script;
 
 /// Puts the words of a reply to a line, with a blank before each, as an entry of a history has them
-/// behind `->`: refusals and events too. Where there is no memory for a word, the line is left in
-/// the middle of it.
+/// behind `->`, but for the OK that a history has before a loss by VARY: refusals and events too.
+/// Where there is no memory for a word, the line is left in the middle of it.
 pub fn put_reply(line: &mut Vec<u8>, script: &Script, reply: &AnyReply) -> Result<(), NoMemory>
     ensures { OnOk result (line.new.items
         ≡ line.old.items ++ tail_of (any_reply_words script.now reply.now)) }
