@@ -4,7 +4,7 @@ use Rattle.std.specs.Prelude.{OnOk, OnErr}
 use Rattle.cf_types.specs.declared.forms.Caps.{Caps}
 use Rattle.cf_types.specs.declared.numbers.ConnId.{ConnId}
 use Rattle.cf_types.specs.declared.refusals.Refusal.{Refusal}
-use Rattle.cf_types.specs.declared.refusals.Refusal.TheVariants.{BadLock, BadHeader}
+use Rattle.cf_types.specs.declared.refusals.Refusal.TheVariants.{BadLock, BadHeader, BadIndex}
 use Rattle.cf_types.specs.declared.list_commands.At.{At}
 use Rattle.cf_types.specs.declared.list_commands.ListCmd.{ListCmd}
 use Rattle.cf_types.specs.declared.list_commands.ListCmd.TheVariants.{Write, Update, Read, Move, Delete, ReadList, LockSet, LockReset, LockTest, LControls, SetLimit, Monitor, Unmonitor}
@@ -15,7 +15,7 @@ use Rattle.list_store.specs.Record.{Record}
 use Rattle.list_store.specs.Lists.{Lists, all_records, ids_apart, record_of}
 use Rattle.list_model.specs.Lists.{record_at, no_record}
 use Rattle.list_model.specs.Contents.{Content, IsContent, headers_of, locks_of}
-use Rattle.list_model.specs.Refusals.{record_refusal, lock_refusal}
+use Rattle.list_model.specs.Refusals.{record_refusal, lock_refusal, index_refusal}
 use Rattle.list_model.specs.Step.{causes, cause}
 use Rattle.list_model.proofs.ContentLaws.{none_hold, header_there}
 use Rattle.list_model.proofs.StoreLaws.{record_of-at, new-alone}
@@ -70,12 +70,20 @@ lock_there locks lock h = header_there locks lock (same (nat_le locks lock) h)
     same true e = absurd (cc)
     same false e = refl
 
+index_there : (vector index : ℕ) → index_refusal vector index ≡ None → index < vector
+index_there vector index h = header_there vector index (same (nat_le vector index) h)
+  where
+    same : (b : Bool) → (if b then Some (BadIndex index vector) else None) ≡ None
+        → (if b then Some (BadHeader index vector) else None) ≡ None
+    same true e = absurd (cc)
+    same false e = refl
+
 at_most : (a n m : ℕ) → m ≡ n → a < n → a < m
 at_most a n m e h = subst (λ (k : ℕ). a < k) (sym e) h
 
 pub possible : (shape : Shape) (caps : Caps) (content : Content) (by : ConnId) (cmd : ListCmd)
     → IsContent shape caps content
-    → cause shape caps content by cmd ≡ None → IsPossible content cmd
+    → cause shape caps content by cmd ≡ None → IsPossible shape.vector content cmd
 possible shape caps content by (Write header head name key body adj cond) is h =
     let none = none_hold (causes shape caps content by (Write header head name key body adj cond)) h in (
       at_most header (headers_of shape.kind) (length content.lists) is.headers (header_there (headers_of shape.kind)
@@ -109,7 +117,9 @@ possible shape caps content by (SetLimit header n) is h =
     let none = none_hold (causes shape caps content by (SetLimit header n)) h in
     at_most header (headers_of shape.kind) (length content.limits) is.limits (header_there (headers_of shape.kind)
     header none.0)
-possible shape caps content by (Monitor header index) is h = tt
+possible shape caps content by (Monitor header index) is h =
+    let none = none_hold (causes shape caps content by (Monitor header index)) h in
+    index_there shape.vector index none.1.0
 possible shape caps content by (Unmonitor header) is h = tt
 
 -- what holds either way

@@ -30,6 +30,7 @@ pub record IsKept (e : Inside) : Type 0 where
   pub caps : IsCapacity e.caps
   pub content : IsContent e.shape e.caps e.kept.content
   pub pool : e.kept.elements ≡ e.caps.elements
+  pub vector : e.kept.vector ≡ e.shape.vector
 
 -- the plan is that for the command, and there is room for what it brings
 pub record IsReadyFor (e : EngineView) (plan : Plan) (out : Effects) : Type 0 where

@@ -1,5 +1,5 @@
 -- What is got ready for a command: its reply.
-use Rattle.std.specs.Prelude.{◌≡◌, ◌<◌, false, Option, Some, None, Ok, Err, length}
+use Rattle.std.specs.Prelude.{◌≡◌, ℕ, ◌<◌, false, Option, Some, None, Ok, Err, length}
 use Rattle.std.specs.List.{list_any}
 use Rattle.cf_types.specs.declared.forms.Caps.{Caps}
 use Rattle.cf_types.specs.declared.numbers.ConnId.{ConnId}
@@ -22,21 +22,21 @@ plan_unless (Some refusal) content by cmd = record { reply = Err refusal }
 abbrev pub plan_for : Shape → Caps → Content → ConnId → ListCmd → Plan
 plan_for shape caps content by cmd = plan_unless (cause shape caps content by cmd) content by cmd
 
--- what a command names is there
-abbrev pub IsPossible : Content → ListCmd → Type 0
-IsPossible content (Write header head name key body adj cond) =
+-- what a command names is there, in a structure whose vectors have so many bits
+abbrev pub IsPossible : ℕ → Content → ListCmd → Type 0
+IsPossible vector content (Write header head name key body adj cond) =
     (header < length content.lists)
     × (list_any (is_id (write.new_id content)) (all_records content.lists) ≡ false)
-IsPossible content (Update at body adj version cond) = IsFound content.lists at
-IsPossible content (Read at cond) = Unit {0}
-IsPossible content (Move at header head key version cond) =
+IsPossible vector content (Update at body adj version cond) = IsFound content.lists at
+IsPossible vector content (Read at cond) = Unit {0}
+IsPossible vector content (Move at header head key version cond) =
     IsFound content.lists at × (header < length content.lists)
-IsPossible content (Delete at version cond) = IsFound content.lists at
-IsPossible content (ReadList header) = Unit {0}
-IsPossible content (LockSet lock) = lock < length content.locks
-IsPossible content (LockReset lock) = lock < length content.locks
-IsPossible content (LockTest lock) = Unit {0}
-IsPossible content (LControls header) = Unit {0}
-IsPossible content (SetLimit header n) = header < length content.limits
-IsPossible content (Monitor header index) = Unit {0}
-IsPossible content (Unmonitor header) = Unit {0}
+IsPossible vector content (Delete at version cond) = IsFound content.lists at
+IsPossible vector content (ReadList header) = Unit {0}
+IsPossible vector content (LockSet lock) = lock < length content.locks
+IsPossible vector content (LockReset lock) = lock < length content.locks
+IsPossible vector content (LockTest lock) = Unit {0}
+IsPossible vector content (LControls header) = Unit {0}
+IsPossible vector content (SetLimit header n) = header < length content.limits
+IsPossible vector content (Monitor header index) = index < vector
+IsPossible vector content (Unmonitor header) = Unit {0}

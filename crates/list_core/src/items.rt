@@ -201,6 +201,7 @@ fn place_row(kept: &mut Kept, header: u32, bare: Bare, body: Option<Body>) -> Re
     ensures err { OnErr result (kept.new.content ≡ kept.old.content) }
     ensures handed_back { IfErr result (λ back. back ≡ row_of header (with_data bare body)) }
     ensures elements { kept.new.elements ≡ kept.old.elements }
+    ensures vector { kept.new.vector ≡ kept.old.vector }
 {
     let Bare {
         id,
@@ -236,6 +237,7 @@ pub(crate) fn place_item(alloc: Global, kept: &mut Kept, item: ListItem) -> Resu
     ensures err { OnErr result (kept.new.content ≡ kept.old.content) }
     ensures handed_back { IfErr result (λ back. back ≡ item) }
     ensures elements { kept.new.elements ≡ kept.old.elements }
+    ensures vector { kept.new.vector ≡ kept.old.vector }
 {
     match item {
         ListItem::Controls {

@@ -2,6 +2,7 @@
 ghost use Rattle.std.specs.Prelude.{◌≡◌, ◌^◌, ◌<◌, IfOk, None, false};
 ghost use Rattle.std.specs.Result.{result_err};
 ghost use Rattle.std.specs.List.{list_any};
+ghost use Rattle.cf_types.specs.Forms.{IsCaller};
 ghost use Rattle.cf_types.specs.Gains.{Gains};
 ghost use Rattle.list_store.specs.Lists.{all_records, count_of, is_id};
 ghost use Rattle.list_model.specs.Records.{elements_in};
@@ -151,11 +152,13 @@ pub(crate) fn make_plan(
 
 /// Does a command that isn't refused.
 pub(crate) fn act(kept: &mut Kept, by: ConnId, cmd: &ListCmd, out: &mut Effects)
+    requires caller { IsCaller by }
     requires room { IsRoomy kept.old out.old.bits.room }
-    requires possible { IsPossible kept.old.content cmd.now }
+    requires possible { IsPossible kept.old.vector kept.old.content cmd.now }
     requires orderly { IsOrderly kept.old.elements (after kept.old.content by cmd.now).lists }
     ensures content { kept.new.content ≡ after kept.old.content by cmd.now }
     ensures elements { kept.new.elements ≡ kept.old.elements }
+    ensures vector { kept.new.vector ≡ kept.old.vector }
     ensures bits { Gains (stands kept.old.content) (stands kept.new.content) out.old.bits.items
         out.new.bits.items }
     ensures mail { out.new.mail ≡ out.old.mail }

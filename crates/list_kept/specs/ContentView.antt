@@ -14,12 +14,13 @@ use Rattle.list_kept.specs.declared.keeping.Kept.TheInside.{Inside}
 use Rattle.list_kept.specs.Told.{AreTold}
 use Rattle.list_kept.specs.Orderly.{IsOrderly}
 
--- the content, the chains in which its data lie, how many elements there are for data, and for how
--- many more records, names and monitors there is room
+-- the content, the chains in which its data lie, how many elements there are for data, how many bits a
+-- vector has, and for how many more records, names and monitors there is room
 pub record ContentView : Type 0 where
   pub content : Content
   pub chains : List (Option (List ℕ))
   pub elements : ℕ
+  pub vector : ℕ
   pub record_room : ℕ
   pub name_room : ℕ
   pub monitor_room : ℕ
@@ -40,6 +41,7 @@ content_view k =
       content = content_of k;
       chains = k.store.chains;
       elements = k.elements;
+      vector = k.watch.len;
       record_room = k.store.room;
       name_room = k.names.room;
       monitor_room = k.watch.room;

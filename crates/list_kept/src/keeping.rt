@@ -2,6 +2,7 @@
 ghost use Rattle.std.specs.Prelude.{◌≡◌, ◌+◌, ◌<◌, ◌≤◌, ◌∷◌, ◌++◌, [], false, true, IfOk, OnOk, OnErr, None, Some, if◌then◌else◌, length, map, filter, option_map, replicate, get_or, slice_get, slice_set};
 ghost use Rattle.std.specs.Prelude.{IsTrue, IfSome, find};
 ghost use Rattle.std.specs.List.{list_any, prefix_len};
+ghost use Rattle.cf_types.specs.Forms.{IsCaller};
 ghost use Rattle.cf_types.specs.Gains.{Gains};
 ghost use Rattle.list_laws.specs.Pairwise.{pairwise};
 ghost use Rattle.list_store.specs.Lists.{all_records, records_of, is_id, record_of, ids_apart, lists_without, lists_replaced, with_records};
@@ -28,8 +29,8 @@ use std::marker::Model;
 /// The content of a list structure: the records of each header, with their names and the elements
 /// for their data, the headers' limits, the list locks, the monitors, and the id that the next
 /// record gets. Contracts see the content, the chains in which data lie, how many elements there
-/// are, and for how many more records, names and monitors there is room. Each connector was told
-/// whether the headers that the connector monitors have records.
+/// are, how many bits a vector has, and for how many more records, names and monitors there is
+/// room. Each connector was told whether the headers that the connector monitors have records.
 #[derive(Drop)]
 pub struct Kept {
     store: Store,
@@ -138,6 +139,7 @@ impl Kept {
     pub fn new(alloc: Global, shape: Shape, elements: u32) -> Result<Kept, NoMemory>
         ensures content { IfOk result (λ kept. kept.content ≡ no_content shape) }
         ensures elements { IfOk result (λ kept. kept.elements ≡ elements) }
+        ensures vector { IfOk result (λ kept. kept.vector ≡ shape.vector) }
     {
         let names = Keys::new(alloc)?;
         Kept::with_names(alloc, shape, elements, names)
@@ -148,6 +150,7 @@ impl Kept {
         requires { names.names ≡ [] }
         ensures content { IfOk result (λ kept. kept.content ≡ no_content shape) }
         ensures elements { IfOk result (λ kept. kept.elements ≡ elements) }
+        ensures vector { IfOk result (λ kept. kept.vector ≡ shape.vector) }
     {
         let headers = headers_of(shape.kind);
         let locks = locks_of(shape.kind);
@@ -170,6 +173,7 @@ impl Kept {
     pub fn copy(&self, alloc: Global) -> Result<Kept, NoMemory>
         ensures content { IfOk result (λ copy. copy.content ≡ self.now.content) }
         ensures elements { IfOk result (λ copy. copy.elements ≡ self.now.elements) }
+        ensures vector { IfOk result (λ copy. copy.vector ≡ self.now.vector) }
     {
         let store = copy_records(alloc, &self.store, self.elements)?;
         let names = self.names.copy(alloc)?;
@@ -193,6 +197,7 @@ impl Kept {
     pub fn reserve(&mut self, out: &mut Effects) -> Result<(), NoMemory>
         ensures content { self.new.content ≡ self.old.content }
         ensures elements { self.new.elements ≡ self.old.elements }
+        ensures vector { self.new.vector ≡ self.old.vector }
         ensures room { OnOk result (IsRoomy self.new out.new.bits.room) }
         ensures bits { out.new.bits.items ≡ out.old.bits.items }
         ensures mail { out.new.mail ≡ out.old.mail }
@@ -407,6 +412,7 @@ impl Kept {
           next = self.old.content.next + 1;
         } }
         ensures elements { self.new.elements ≡ self.old.elements }
+        ensures vector { self.new.vector ≡ self.old.vector }
         ensures bits { Gains (stands self.old.content) (stands self.new.content) out.old.bits.items
             out.new.bits.items }
         ensures mail { out.new.mail ≡ out.old.mail }
@@ -434,6 +440,7 @@ impl Kept {
               self.old.content.lists;
         } }
         ensures elements { self.new.elements ≡ self.old.elements }
+        ensures vector { self.new.vector ≡ self.old.vector }
     {
         renew(&mut self.store, bare, body);
     }
@@ -445,6 +452,7 @@ impl Kept {
         ensures content { self.new.content
             ≡ record self.old.content { lists = lists_without id self.old.content.lists } }
         ensures elements { self.new.elements ≡ self.old.elements }
+        ensures vector { self.new.vector ≡ self.old.vector }
         ensures bits { Gains (stands self.old.content) (stands self.new.content) out.old.bits.items
             out.new.bits.items }
         ensures mail { out.new.mail ≡ out.old.mail }
@@ -483,6 +491,7 @@ impl Kept {
               (lists_without id self.old.content.lists);
         } }
         ensures elements { self.new.elements ≡ self.old.elements }
+        ensures vector { self.new.vector ≡ self.old.vector }
         ensures bits { Gains (stands self.old.content) (stands self.new.content) out.old.bits.items
             out.new.bits.items }
         ensures mail { out.new.mail ≡ out.old.mail }
@@ -505,6 +514,7 @@ impl Kept {
         ensures content { self.new.content
             ≡ record self.old.content { limits = slice_set self.old.content.limits header n } }
         ensures elements { self.new.elements ≡ self.old.elements }
+        ensures vector { self.new.vector ≡ self.old.vector }
     {
         self.limits[header as usize] = n;
     }
@@ -515,6 +525,7 @@ impl Kept {
         ensures content { self.new.content
             ≡ record self.old.content { locks = slice_set self.old.content.locks lock holder } }
         ensures elements { self.new.elements ≡ self.old.elements }
+        ensures vector { self.new.vector ≡ self.old.vector }
     {
         self.locks[lock as usize] = holder;
     }
@@ -523,11 +534,14 @@ impl Kept {
     /// monitor of that header at another index, end. There is room. `out` is told the bits that
     /// change.
     pub fn monitor(&mut self, conn: ConnId, index: u32, header: u32, out: &mut Effects)
+        requires caller { IsCaller conn }
+        requires index { index < self.old.vector }
         requires room { IsRoomy self.old out.old.bits.room }
         ensures content { self.new.content ≡ record self.old.content {
           monitors = monitors_with conn index header self.old.content.monitors;
         } }
         ensures elements { self.new.elements ≡ self.old.elements }
+        ensures vector { self.new.vector ≡ self.old.vector }
         ensures bits { Gains (stands self.old.content) (stands self.new.content) out.old.bits.items
             out.new.bits.items }
         ensures mail { out.new.mail ≡ out.old.mail }
@@ -544,6 +558,7 @@ impl Kept {
           monitors = monitors_without conn header self.old.content.monitors;
         } }
         ensures elements { self.new.elements ≡ self.old.elements }
+        ensures vector { self.new.vector ≡ self.old.vector }
         ensures bits { Gains (stands self.old.content) (stands self.new.content) out.old.bits.items
             out.new.bits.items }
         ensures mail { out.new.mail ≡ out.old.mail }
@@ -564,6 +579,7 @@ impl Kept {
         }) }
         ensures err { OnErr result (self.new.content ≡ self.old.content) }
         ensures elements { self.new.elements ≡ self.old.elements }
+        ensures vector { self.new.vector ≡ self.old.vector }
     {
         self.names.room()?;
         self.push_named(header, bare, body)
@@ -583,6 +599,7 @@ impl Kept {
         }) }
         ensures err { OnErr result (self.new.content ≡ self.old.content) }
         ensures elements { self.new.elements ≡ self.old.elements }
+        ensures vector { self.new.vector ≡ self.old.vector }
     {
         let Bare { id, name, .. } = bare;
         match push(&mut self.store, header, bare, body) {
@@ -610,6 +627,7 @@ impl Kept {
         requires few { vec_len rows < 4294967296 }
         requires told { AreTold self.old.content.lists rows.items }
         ensures elements { self.new.elements ≡ self.old.elements }
+        ensures vector { self.new.vector ≡ self.old.vector }
         ensures content { self.new.content ≡ record {
           lists = self.old.content.lists;
           limits = limits.items;
@@ -627,6 +645,7 @@ impl Kept {
     // No limits but the entries, no list lock held, no monitors, and the first id.
     fn reset(&mut self, entries: u32)
         ensures elements { self.new.elements ≡ self.old.elements }
+        ensures vector { self.new.vector ≡ self.old.vector }
         ensures content { self.new.content ≡ record {
           lists = self.old.content.lists;
           limits = replicate (length self.old.content.limits) entries;
@@ -648,6 +667,7 @@ impl Kept {
           lists = first_records (count_of self.old.content.lists - 1) self.old.content.lists;
         } }
         ensures elements { self.new.elements ≡ self.old.elements }
+        ensures vector { self.new.vector ≡ self.old.vector }
     {
         match self.store.pop() {
             Some((header, rec)) => {
@@ -669,6 +689,7 @@ impl Kept {
         requires locks { length self.old.content.locks ≡ locks_of shape.kind }
         ensures content { self.new.content ≡ content_without_last shape self.old.content }
         ensures elements { self.new.elements ≡ self.old.elements }
+        ensures vector { self.new.vector ≡ self.old.vector }
     {
         if !self.pop_record() {
             self.reset(shape.caps.entries);
@@ -682,6 +703,7 @@ impl Kept {
         requires { length self.old.content.monitors ≤ out.old.bits.room }
         ensures content { self.new.content ≡ content_without self.old.content conn keep }
         ensures elements { self.new.elements ≡ self.old.elements }
+        ensures vector { self.new.vector ≡ self.old.vector }
         ensures bits { Gains (stands self.old.content) (stands self.new.content) out.old.bits.items
             out.new.bits.items }
         ensures mail { out.new.mail ≡ out.old.mail }

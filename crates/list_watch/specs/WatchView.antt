@@ -6,14 +6,20 @@ use Rattle.list_watch.specs.declared.watch.Watch.TheInside.{Inside}
 use Rattle.list_watch.specs.Monitors.{AreMonitors}
 use Rattle.list_watch.specs.Rows.{monitors_of}
 
--- the monitors with the bits that were told, and for how many more there is room
+-- the monitors with the bits that were told, how many bits a vector has, and for how many more monitors
+-- there is room
 pub record WatchView : Type 0 where
   pub rows : List Watched
+  pub len : ℕ
   pub room : ℕ
 
 abbrev pub watch_view : Inside → WatchView
 watch_view w =
-    record { rows = w.rows.items; room = min (vec_capacity w.rows - vec_len w.rows) (4294967295 - vec_len w.rows) }
+    record {
+      rows = w.rows.items;
+      len = w.len;
+      room = min (vec_capacity w.rows - vec_len w.rows) (4294967295 - vec_len w.rows);
+    }
 
 -- fewer than 2^32, so that their number is one of 32 bits
 pub record IsKept (w : Inside) : Type 0 where

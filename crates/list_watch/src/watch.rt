@@ -1,6 +1,7 @@
 ghost use Rattle.std.specs.Prelude.{◌≡◌, ◌+◌, ◌≤◌, ◌<◌, ◌++◌, ◌∷◌, [], if◌then◌else◌, IfOk, OnOk, option_map, find, length, filter};
 ghost use Rattle.std.specs.List.{list_any};
 ghost use Rattle.std.specs.Vec.{vec_len, vec_capacity};
+ghost use Rattle.cf_types.specs.Forms.{IsCaller};
 ghost use Rattle.cf_types.specs.Gains.{Gains};
 ghost use Rattle.list_watch.specs.Monitors.{is_at, is_for, monitored_at, AreMonitors};
 ghost use Rattle.list_watch.specs.Rows.{monitors_of, bit_of, row_turned, rows_turned, rows_with, rows_without, rows_of_others};
@@ -14,10 +15,11 @@ use std::marker::Model;
 
 /// The monitors of a list structure, one at most of a connector at an index, and one at most of a
 /// connector for a header. Contracts see them in the order in which they were made, with the bits
-/// that were told, and for how many more there is room.
+/// that were told, how many bits a vector has, and for how many more monitors there is room.
 #[derive(Drop)]
 pub struct Watch {
     rows: Vec<Watched>,
+    len: u32,
 }
 
 impl Model for Watch {
@@ -120,21 +122,27 @@ fn put(rows: &mut Vec<Watched>, new: Watched, out: &mut Effects)
 
 impl Watch {
     /// No monitors, for structures of so many connections and of vectors of so many bits. It takes
-    /// no memory yet.
-    pub fn new(alloc: Global, _conns: u8, _len: u32) -> Result<Watch, NoMemory>
-        ensures { IfOk result (λ watch. watch.rows ≡ []) }
+    /// no memory yet. The number of connections plays no part: monitors are for any caller.
+    pub fn new(alloc: Global, _conns: u8, len: u32) -> Result<Watch, NoMemory>
+        ensures rows { IfOk result (λ watch. watch.rows ≡ []) }
+        ensures len { IfOk result (λ watch. watch.len ≡ len) }
     {
         Ok(Watch {
             rows: Vec::new(alloc),
+            len,
         })
     }
 
     /// The same monitors once more.
     pub fn copy(&self, alloc: Global) -> Result<Watch, NoMemory>
-        ensures { IfOk result (λ copy. copy.rows ≡ self.now.rows) }
+        ensures rows { IfOk result (λ copy. copy.rows ≡ self.now.rows) }
+        ensures len { IfOk result (λ copy. copy.len ≡ self.now.len) }
     {
         let rows = Vec::from_slice(alloc, self.rows.as_slice())?;
-        Ok(Watch { rows })
+        Ok(Watch {
+            rows,
+            len: self.len,
+        })
     }
 
     /// The monitors, in the order in which they were made.
@@ -164,6 +172,7 @@ impl Watch {
     /// memory changes nothing.
     pub fn room(&mut self, out: &mut Effects) -> Result<(), NoMemory>
         ensures rows { self.new.rows ≡ self.old.rows }
+        ensures len { self.new.len ≡ self.old.len }
         ensures place { OnOk result (1 ≤ self.new.room) }
         ensures bits { OnOk result (length self.new.rows + length self.new.rows + 2 ≤
             out.new.bits.room) }
@@ -182,9 +191,12 @@ impl Watch {
     /// that header at another one, end. `full` is whether the header has records. At most two bits
     /// change.
     pub fn set(&mut self, conn: ConnId, index: u32, header: u32, full: bool, out: &mut Effects)
+        requires caller { IsCaller conn }
+        requires index { index < self.old.len }
         requires place { 1 ≤ self.old.room }
         requires room { 2 ≤ out.old.bits.room }
         ensures rows { self.new.rows ≡ rows_with conn index header full self.old.rows }
+        ensures len { self.new.len ≡ self.old.len }
         ensures bits { Gains (bit_of self.old.rows) (bit_of self.new.rows) out.old.bits.items
             out.new.bits.items }
         ensures mail { out.new.mail ≡ out.old.mail }
@@ -211,6 +223,7 @@ impl Watch {
         requires { length self.old.rows ≤ out.old.bits.room }
         ensures found { result ≡ list_any (λ row. is_for conn header row.monitor) self.old.rows }
         ensures rows { self.new.rows ≡ rows_without conn header self.old.rows }
+        ensures len { self.new.len ≡ self.old.len }
         ensures bits { Gains (bit_of self.old.rows) (bit_of self.new.rows) out.old.bits.items
             out.new.bits.items }
         ensures mail { out.new.mail ≡ out.old.mail }
@@ -225,6 +238,7 @@ impl Watch {
     pub fn turned(&mut self, header: u32, full: bool, out: &mut Effects)
         requires { length self.old.rows ≤ out.old.bits.room }
         ensures rows { self.new.rows ≡ rows_turned header full self.old.rows }
+        ensures len { self.new.len ≡ self.old.len }
         ensures bits { Gains (bit_of self.old.rows) (bit_of self.new.rows) out.old.bits.items
             out.new.bits.items }
         ensures mail { out.new.mail ≡ out.old.mail }
@@ -237,7 +251,8 @@ impl Watch {
 
     /// The same, where the bits are nobody's yet: nothing is told.
     pub fn settle(&mut self, header: u32, full: bool)
-        ensures { self.new.rows ≡ rows_turned header full self.old.rows }
+        ensures rows { self.new.rows ≡ rows_turned header full self.old.rows }
+        ensures len { self.new.len ≡ self.old.len }
     {
         turn_all(&mut self.rows, header, full);
     }
@@ -246,6 +261,7 @@ impl Watch {
     pub fn drop_conn(&mut self, conn: ConnId, out: &mut Effects)
         requires { length self.old.rows ≤ out.old.bits.room }
         ensures rows { self.new.rows ≡ rows_of_others conn self.old.rows }
+        ensures len { self.new.len ≡ self.old.len }
         ensures bits { Gains (bit_of self.old.rows) (bit_of self.new.rows) out.old.bits.items
             out.new.bits.items }
         ensures mail { out.new.mail ≡ out.old.mail }
@@ -257,14 +273,16 @@ impl Watch {
     pub fn restore(&mut self, rows: Vec<Watched>)
         requires monitors { AreMonitors (monitors_of rows.items) }
         requires few { vec_len rows < 4294967296 }
-        ensures { self.new.rows ≡ rows.items }
+        ensures rows { self.new.rows ≡ rows.items }
+        ensures len { self.new.len ≡ self.old.len }
     {
         self.rows = rows;
     }
 
     /// Ends all monitors, and tells nothing.
     pub fn forget(&mut self)
-        ensures { self.new.rows ≡ [] }
+        ensures rows { self.new.rows ≡ [] }
+        ensures len { self.new.len ≡ self.old.len }
     {
         self.rows.clear();
     }

@@ -47,6 +47,7 @@ pub(crate) fn act(kept: &mut Kept, at: At, out: &mut Effects)
     requires found { IsFound kept.old.content.lists at }
     ensures content { kept.new.content ≡ delete.after kept.old.content at }
     ensures elements { kept.new.elements ≡ kept.old.elements }
+    ensures vector { kept.new.vector ≡ kept.old.vector }
     ensures bits { Gains (stands kept.old.content) (stands kept.new.content) out.old.bits.items
         out.new.bits.items }
     ensures mail { out.new.mail ≡ out.old.mail }

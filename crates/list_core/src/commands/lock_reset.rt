@@ -22,6 +22,7 @@ pub(crate) fn act(kept: &mut Kept, lock: u32)
     requires { lock < length kept.old.content.locks }
     ensures content { kept.new.content ≡ lock_reset.after kept.old.content lock }
     ensures elements { kept.new.elements ≡ kept.old.elements }
+    ensures vector { kept.new.vector ≡ kept.old.vector }
 {
     kept.set_lock(lock, None);
 }

@@ -22,6 +22,7 @@ pub(crate) fn act(kept: &mut Kept, by: ConnId, lock: u32)
     requires { lock < length kept.old.content.locks }
     ensures content { kept.new.content ≡ lock_set.after kept.old.content by lock }
     ensures elements { kept.new.elements ≡ kept.old.elements }
+    ensures vector { kept.new.vector ≡ kept.old.vector }
 {
     kept.set_lock(lock, Some(by));
 }

@@ -1,6 +1,7 @@
 //! MONITOR_LIST of IXLLIST, start: the caller's monitor of a header stands at the index alone.
-ghost use Rattle.std.specs.Prelude.{◌≡◌};
+ghost use Rattle.std.specs.Prelude.{◌≡◌, ◌<◌};
 ghost use Rattle.std.specs.Result.{result_err};
+ghost use Rattle.cf_types.specs.Forms.{IsCaller};
 ghost use Rattle.cf_types.specs.Gains.{Gains};
 ghost use Rattle.engine_api.specs.Meaning.{first_refusal};
 ghost use Rattle.list_model.specs.Contents.{stands};
@@ -35,9 +36,12 @@ pub(crate) fn reply(kept: &Kept, header: u32) -> ListReply
 
 /// Does the command.
 pub(crate) fn act(kept: &mut Kept, by: ConnId, header: u32, index: u32, out: &mut Effects)
-    requires { IsRoomy kept.old out.old.bits.room }
+    requires caller { IsCaller by }
+    requires index { index < kept.old.vector }
+    requires room { IsRoomy kept.old out.old.bits.room }
     ensures content { kept.new.content ≡ monitor.after kept.old.content by header index }
     ensures elements { kept.new.elements ≡ kept.old.elements }
+    ensures vector { kept.new.vector ≡ kept.old.vector }
     ensures bits { Gains (stands kept.old.content) (stands kept.new.content) out.old.bits.items
         out.new.bits.items }
     ensures mail { out.new.mail ≡ out.old.mail }

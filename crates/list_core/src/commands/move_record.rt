@@ -71,6 +71,7 @@ pub(crate) fn act(
         (moving.after kept.old.content at header head key).lists }
     ensures content { kept.new.content ≡ moving.after kept.old.content at header head key }
     ensures elements { kept.new.elements ≡ kept.old.elements }
+    ensures vector { kept.new.vector ≡ kept.old.vector }
     ensures bits { Gains (stands kept.old.content) (stands kept.new.content) out.old.bits.items
         out.new.bits.items }
     ensures mail { out.new.mail ≡ out.old.mail }

@@ -21,6 +21,7 @@ pub(crate) fn act(kept: &mut Kept, by: ConnId, header: u32, out: &mut Effects)
     requires { length kept.old.content.monitors ≤ out.old.bits.room }
     ensures content { kept.new.content ≡ unmonitor.after kept.old.content by header }
     ensures elements { kept.new.elements ≡ kept.old.elements }
+    ensures vector { kept.new.vector ≡ kept.old.vector }
     ensures bits { Gains (stands kept.old.content) (stands kept.new.content) out.old.bits.items
         out.new.bits.items }
     ensures mail { out.new.mail ≡ out.old.mail }

@@ -87,6 +87,7 @@ pub(crate) fn act(kept: &mut Kept, at: At, body: &Option<Body>, adj: Option<Adju
         (update.after kept.old.content at body.now adj).lists }
     ensures content { kept.new.content ≡ update.after kept.old.content at body.now adj }
     ensures elements { kept.new.elements ≡ kept.old.elements }
+    ensures vector { kept.new.vector ≡ kept.old.vector }
 {
     let bare = updated(kept, at, adj);
     kept.replace(bare, body);

@@ -97,6 +97,7 @@ pub(crate) fn act(kept: &mut Kept, wanted: Wanted, body: &Option<Body>, out: &mu
     ensures content { kept.new.content ≡ write.after kept.old.content wanted.header wanted.head
         wanted.name wanted.key body.now wanted.adj }
     ensures elements { kept.new.elements ≡ kept.old.elements }
+    ensures vector { kept.new.vector ≡ kept.old.vector }
     ensures bits { Gains (stands kept.old.content) (stands kept.new.content) out.old.bits.items
         out.new.bits.items }
     ensures mail { out.new.mail ≡ out.old.mail }

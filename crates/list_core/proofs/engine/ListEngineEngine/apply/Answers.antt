@@ -1,8 +1,8 @@
-use Rattle.std.proofs.Common.{◌≡◌, ◌∙◌, Some, refl, sym, subst, arith}
+use Rattle.std.proofs.Common.{◌≡◌, ◌∙◌, ℕ, Some, refl, sym, subst, arith}
 use Rattle.cf_types.proofs.GainsLaws.{gains_none}
 use Rattle.list_model.specs.Contents.{Content, IsContent}
 use Rattle.list_model.proofs.ContentLaws.{content-done}
-use Rattle.list_core.specs.Plans.{plan_for}
+use Rattle.list_core.specs.Plans.{plan_for, IsPossible}
 use Rattle.list_core.specs.EngineView.{EngineView}
 use Rattle.list_core.proofs.PlanLaws.{plan_taken, plan_accepted, possible}
 use Rattle.list_core.proofs.engine.ListEngineEngine.apply.Goals as goal
@@ -16,7 +16,8 @@ act-requires-clause-possible c =
     c.args.cmd.now) c.take.ensures.value c.in-Some.is planned in
     let accepted = plan_accepted e.shape e.caps e.kept.content c.args.by c.args.cmd.now c.in-Some.plan c.in-Ok.reply
     is c.in-Ok.is in
-    possible e.shape e.caps e.kept.content c.args.by c.args.cmd.now c.self.invariant.content accepted.none
+    subst (λ (n : ℕ). IsPossible n e.kept.content c.args.cmd.now) (sym c.self.invariant.vector)
+    (possible e.shape e.caps e.kept.content c.args.by c.args.cmd.now c.self.invariant.content accepted.none)
 
 pub act-requires-clause-orderly : goal.act-requires-clause-orderly
 act-requires-clause-orderly c =
@@ -51,6 +52,7 @@ invariant_of-self c =
           (content-done e.shape e.caps e.kept.content c.args.by c.args.cmd.now c.self.invariant.content
           accepted.none);
       pool = c.act.ensures.elements ∙ c.self.invariant.pool;
+      vector = c.act.ensures.vector ∙ c.self.invariant.vector;
     }
 
 pub returns-in-Err-clause-bits : goal.returns-in-Err-clause-bits

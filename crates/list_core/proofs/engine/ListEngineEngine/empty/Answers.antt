@@ -13,4 +13,5 @@ invariant_of-result c =
       content = subst (λ (k : Content). IsContent c.of-shape.result c.args.caps k) (sym c.in_ok-kept.ensures.content)
           (content-nothing c.of-shape.result c.args.caps);
       pool = c.in_ok-kept.ensures.elements;
+      vector = c.in_ok-kept.ensures.vector;
     }

@@ -12,4 +12,5 @@ invariant_of-self c =
       content = subst (λ (k : Content). IsContent e.shape e.caps k) (sym c.leave.ensures.content)
           (leave-content e.shape e.caps e.kept.content c.args.conn c.args.keep c.self.invariant.content);
       pool = c.leave.ensures.elements ∙ c.self.invariant.pool;
+      vector = c.leave.ensures.vector ∙ c.self.invariant.vector;
     }

@@ -65,4 +65,5 @@ invariant_of-self c =
           c.place_item.new.kept.content c.place_item.ensures.ok c.place_item.ensures.err
           placed c.self.invariant.content;
       pool = c.place_item.ensures.elements ∙ c.self.invariant.pool;
+      vector = c.place_item.ensures.vector ∙ c.self.invariant.vector;
     }

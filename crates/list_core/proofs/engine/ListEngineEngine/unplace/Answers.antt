@@ -12,4 +12,5 @@ invariant_of-self c =
       content = subst (λ (k : Content). IsContent e.shape e.caps k) (sym c.pop.ensures.content)
           (content-unplace e.shape e.caps e.kept.content c.self.invariant.content);
       pool = c.pop.ensures.elements ∙ c.self.invariant.pool;
+      vector = c.pop.ensures.vector ∙ c.self.invariant.vector;
     }

@@ -37,7 +37,7 @@ invariant_of-self c =
     let rec = record_in c.self.inside.store.chains c.in-Some.rec in
     let with = taken c.in-Some.rec.id lists rec c.pop.ensures.apart c.in-Some.ensures.found in
     record {
-      told = ap (λ (l : List Watched). list_all (is_told later) l) c.settle.ensures
+      told = ap (λ (l : List Watched). list_all (is_told later) l) c.settle.ensures.rows
           ∙ ap (λ b. list_all (is_told later) (rows_turned header b rows)) c.has_records-full.ensures
           ∙ told-one header lists later rows
           (λ other e. ap (λ (l : Lists). has_records l other) (popped c)
@@ -66,7 +66,7 @@ returns-in-Some-clause-content c =
     let k = c.self.inside in
     rw (← c.self.view_is)
     (ap (λ (m : List Monitor). content_at c.give.new.store.lists k.limits.items k.locks.items m k.next)
-    (ap (λ (l : List Watched). monitors_of l) c.settle.ensures ∙ monitors-turned c.in-Some.header
+    (ap (λ (l : List Watched). monitors_of l) c.settle.ensures.rows ∙ monitors-turned c.in-Some.header
     c.has_records-full.result k.watch.rows)
     ∙ ap (λ (l : Lists). content_at l k.limits.items k.locks.items (monitors_of k.watch.rows) k.next)
     (popped c ∙ last-gone k.store.lists c.in-Some.header c.in-Some.ensures.header))

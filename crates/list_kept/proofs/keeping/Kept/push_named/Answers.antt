@@ -60,7 +60,7 @@ invariant_of-self c =
     let later = c.push.new.store.lists in
     let recs = records_of lists c.args.header ++ (with_data c.args.bare c.args.body.now) ∷ [] in
     record {
-      told = ap (λ (l : List Watched). list_all (is_told later) l) c.settle.ensures
+      told = ap (λ (l : List Watched). list_all (is_told later) l) c.settle.ensures.rows
           ∙ ap (λ b. list_all (is_told later) (rows_turned c.args.header b rows)) c.has_records-full.ensures
           ∙ told-one c.args.header lists later rows
           (λ other e. ap (λ (l : Lists). has_records l other) (pushed c)
@@ -81,7 +81,7 @@ returns-in-Ok-clause-ok c =
     let k = c.self.inside in
     rw (← c.self.view_is)
     (ap (λ (m : List Monitor). content_at c.push.new.store.lists k.limits.items k.locks.items m k.next)
-    (ap (λ (l : List Watched). monitors_of l) c.settle.ensures ∙ monitors-turned c.args.header
+    (ap (λ (l : List Watched). monitors_of l) c.settle.ensures.rows ∙ monitors-turned c.args.header
     c.has_records-full.result k.watch.rows)
     ∙ ap (λ (l : Lists). content_at l k.limits.items k.locks.items (monitors_of k.watch.rows) k.next) (pushed c))
 

@@ -15,7 +15,7 @@ pub invariant_of-result : goal.invariant_of-result
 invariant_of-result c =
     let headers = c.headers_of-headers.result in
     record {
-      told = ap (λ (l : List Watched). list_all (is_told c.in_ok-store.store.lists) l) c.in_ok-watch.ensures;
+      told = ap (λ (l : List Watched). list_all (is_told c.in_ok-store.store.lists) l) c.in_ok-watch.ensures.rows;
       orderly = subst (IsOrderly c.args.elements) (sym c.in_ok-store.ensures.lists)
           (orderly-none c.args.elements headers);
       named = subst (λ (l : Lists). AreNamed c.args.names.names (all_records l)) (sym c.in_ok-store.ensures.lists)
