@@ -4,7 +4,7 @@ ghost use Rattle.engine_api.specs.Asking.{MayCommand};
 
 use crate::counted::Counted;
 use crate::tokens::{Share, Token};
-use cf_link::{Links, Steady};
+use cf_link::{Links, ListLink};
 use cf_types::{Caps, CfId, ConnId, Kind, Listing, Name16, NoMemory, Pref, ShellCmd, StrForm};
 use engine_api::Ask;
 use std::alloc::Global;
@@ -48,7 +48,7 @@ struct Row(Step, usize);
 // A machine, and the share that its engines take.
 #[derive(Drop)]
 struct Trial {
-    machine: Machine<Counted, Steady>,
+    machine: Machine<Counted, ListLink>,
     changed: Changed,
     share: Option<Share>,
 }
@@ -82,23 +82,46 @@ fn form_of(alloc: Global) -> Result<StrForm, NoMemory>
     })
 }
 
-// A machine without calls yet.
-fn machine_of(alloc: Global) -> Result<Machine<Counted, Steady>, NoMemory> {
+// A link that is down at these calls.
+fn link_of(alloc: Global, fails: &[u64]) -> Result<ListLink, NoMemory> {
+    let fails = Vec::from_slice(alloc, fails)?;
+    Ok(ListLink {
+        calls: 0,
+        fails,
+        faults: 0,
+    })
+}
+
+// The links to the first and the second facility are down at these calls, the others never.
+fn links_of(alloc: Global, one: &[u64], two: &[u64]) -> Result<Links<ListLink>, NoMemory> {
+    let one = link_of(alloc, one)?;
+    let two = link_of(alloc, two)?;
+    let three = link_of(alloc, &[])?;
+    let four = link_of(alloc, &[])?;
+    Ok(Links {
+        one,
+        two,
+        three,
+        four,
+    })
+}
+
+// A machine without calls yet, over such links.
+fn machine_of(
+    alloc: Global,
+    one: &[u64],
+    two: &[u64],
+) -> Result<Machine<Counted, ListLink>, NoMemory> {
     let form = form_of(alloc)?;
-    let links = Links {
-        one: Steady,
-        two: Steady,
-        three: Steady,
-        four: Steady,
-    };
+    let links = links_of(alloc, one, two)?;
     match Machine::start(alloc, form, links) {
         Ok(machine) => Ok(machine),
         Err(_) => Err(NoMemory),
     }
 }
 
-fn trial_of(alloc: Global) -> Result<Trial, NoMemory> {
-    let machine = machine_of(alloc)?;
+fn trial_of(alloc: Global, one: &[u64], two: &[u64]) -> Result<Trial, NoMemory> {
+    let machine = machine_of(alloc, one, two)?;
     let share = Arc::new(alloc, 0)?;
     Ok(Trial {
         machine,
@@ -190,9 +213,10 @@ fn ends(trial: Trial) -> bool {
     live(&share) == 0
 }
 
-// Whether as many engines live behind each step as is told, and none once the machine ends.
-fn lives_as_told(alloc: Global, rows: &[Row]) -> Result<bool, NoMemory> {
-    let mut trial = trial_of(alloc)?;
+// Whether as many engines live behind each step as is told, and none once the machine ends, over
+// links to the two facilities that are down at these calls.
+fn lives_as_told(alloc: Global, rows: &[Row], one: &[u64], two: &[u64]) -> Result<bool, NoMemory> {
+    let mut trial = trial_of(alloc, one, two)?;
     for row in rows {
         take(alloc, &mut trial, row.0)?;
         if live(&trial.share) != row.1 {
@@ -213,7 +237,7 @@ fn second_instance_that_is_stopped(rt: HostRuntime) -> Result<(), Fail> {
         Row(Step::Duplex, 2),
         Row(Step::Disconnect, 0),
     ];
-    let told = lives_as_told(rt.alloc(), &rows)?;
+    let told = lives_as_told(rt.alloc(), &rows, &[], &[])?;
     assert!(rt; told);
     Ok(())
 }
@@ -228,7 +252,7 @@ fn instances_that_are_lost(rt: HostRuntime) -> Result<(), Fail> {
         Row(Step::Store, 1),
         Row(Step::LoseFirst, 0),
     ];
-    let told = lives_as_told(rt.alloc(), &second)?;
+    let told = lives_as_told(rt.alloc(), &second, &[], &[])?;
     assert!(rt; told);
     let first = [
         Row(Step::Connect, 0),
@@ -238,7 +262,7 @@ fn instances_that_are_lost(rt: HostRuntime) -> Result<(), Fail> {
         Row(Step::Store, 1),
         Row(Step::LoseSecond, 0),
     ];
-    let told = lives_as_told(rt.alloc(), &first)?;
+    let told = lives_as_told(rt.alloc(), &first, &[], &[])?;
     assert!(rt; told);
     Ok(())
 }
@@ -255,13 +279,13 @@ fn new_instance_that_takes_the_place(rt: HostRuntime) -> Result<(), Fail> {
         Row(Step::CopyOne, 2),
         Row(Step::Complete, 1),
     ];
-    let told = lives_as_told(rt.alloc(), &rows)?;
+    let told = lives_as_told(rt.alloc(), &rows, &[], &[])?;
     assert!(rt; told);
     Ok(())
 }
 
-// The steps up to a copy in which one number is moved, and then one more.
-fn in_copy(last: Row) -> [Row; 8] {
+// The steps up to a copy's first item, behind which so many engines live, and then one more.
+fn in_copy(copied: usize, last: Row) -> [Row; 8] {
     [
         Row(Step::Connect, 0),
         Row(Step::Store, 1),
@@ -269,20 +293,53 @@ fn in_copy(last: Row) -> [Row; 8] {
         Row(Step::Next, 1),
         Row(Step::Respond, 1),
         Row(Step::Join, 1),
-        Row(Step::CopyOne, 2),
+        Row(Step::CopyOne, copied),
         last,
     ]
 }
 
 #[test]
 fn new_instance_that_goes(rt: HostRuntime) -> Result<(), Fail> {
-    let stopped = lives_as_told(rt.alloc(), &in_copy(Row(Step::Stop, 1)))?;
+    let stopped = lives_as_told(rt.alloc(), &in_copy(2, Row(Step::Stop, 1)), &[], &[])?;
     assert!(rt; stopped);
-    let lost = lives_as_told(rt.alloc(), &in_copy(Row(Step::LoseSecond, 1)))?;
+    let lost = lives_as_told(rt.alloc(), &in_copy(2, Row(Step::LoseSecond, 1)), &[], &[])?;
     assert!(rt; lost);
-    let failed = lives_as_told(rt.alloc(), &in_copy(Row(Step::LoseFirst, 0)))?;
+    let failed = lives_as_told(rt.alloc(), &in_copy(2, Row(Step::LoseFirst, 0)), &[], &[])?;
     assert!(rt; failed);
-    let departed = lives_as_told(rt.alloc(), &in_copy(Row(Step::Fail, 0)))?;
+    let departed = lives_as_told(rt.alloc(), &in_copy(2, Row(Step::Fail, 0)), &[], &[])?;
     assert!(rt; departed);
+    Ok(())
+}
+
+// A store asks the link of each instance, the first one's also before there are two.
+#[test]
+fn instances_that_links_lose(rt: HostRuntime) -> Result<(), Fail> {
+    let one_of_two = [
+        Row(Step::Connect, 0),
+        Row(Step::Store, 1),
+        Row(Step::Duplex, 2),
+        Row(Step::Store, 1),
+        Row(Step::Store, 1),
+    ];
+    let second = lives_as_told(rt.alloc(), &one_of_two, &[], &[1])?;
+    assert!(rt; second);
+    let first = lives_as_told(rt.alloc(), &one_of_two, &[2], &[])?;
+    assert!(rt; first);
+    let both_of_two = [
+        Row(Step::Connect, 0),
+        Row(Step::Store, 1),
+        Row(Step::Duplex, 2),
+        Row(Step::Store, 0),
+    ];
+    let both = lives_as_told(rt.alloc(), &both_of_two, &[2], &[1])?;
+    assert!(rt; both);
+    Ok(())
+}
+
+// The copy finds the new instance lost, and the next one is refused: the rebuild stops.
+#[test]
+fn new_instance_that_a_link_loses(rt: HostRuntime) -> Result<(), Fail> {
+    let lost = lives_as_told(rt.alloc(), &in_copy(1, Row(Step::CopyOne, 1)), &[], &[1])?;
+    assert!(rt; lost);
     Ok(())
 }
