@@ -206,13 +206,38 @@ fn the_first_instance_is_lost_at_each_call(rt: HostRuntime) -> Result<(), Fail> 
     Ok(())
 }
 
+/// The same of the other link.
+const OTHER_LOST: [(u64, &str); 4] = [
+    (
+        1,
+        "\n3 SYS LOST CF2 -> SIMPLEX CF1\n4 A WRITE P1 0 v CHANGED 1 -> OK\n\
+         5 A READ P1 0 -> DATA v CHANGED\n6 A CASTOUT P1 -> DATA v\n7 A UNLOCK P1 -> OK UNCHANGED\n",
+    ),
+    (
+        2,
+        "\n3 A WRITE P1 0 v CHANGED 1 -> OK\n4 SYS LOST CF2 -> SIMPLEX CF1\n\
+         5 A READ P1 0 -> DATA v CHANGED\n6 A CASTOUT P1 -> DATA v\n7 A UNLOCK P1 -> OK UNCHANGED\n",
+    ),
+    (
+        3,
+        "\n3 A WRITE P1 0 v CHANGED 1 -> OK\n4 A READ P1 0 -> DATA v CHANGED\n\
+         5 SYS LOST CF2 -> SIMPLEX CF1\n6 A CASTOUT P1 -> DATA v\n7 A UNLOCK P1 -> OK UNCHANGED\n",
+    ),
+    (
+        4,
+        "\n3 A WRITE P1 0 v CHANGED 1 -> OK\n4 A READ P1 0 -> DATA v CHANGED\n\
+         5 A CASTOUT P1 -> DATA v\n6 SYS LOST CF2 -> SIMPLEX CF1\n7 A UNLOCK P1 -> OK UNCHANGED\n",
+    ),
+];
+
 #[test]
 fn the_second_instance_is_lost_at_each_call(rt: HostRuntime) -> Result<(), Fail> {
-    for call in 1..=4 {
+    for (call, history) in OTHER_LOST {
         let ran = ran_over(&rt, rt.alloc(), "serial", FOUR_CALLS, &[], &[call])?;
-        assert!(rt; ran.shows(" SYS LOST CF2 -> SIMPLEX CF1\n"), "{call}");
-        assert!(rt; ran.shows("\n7 A UNLOCK P1 -> OK UNCHANGED\n"), "{call}");
-        assert!(rt; ran.shows("\nGBP TEST 0 VALID 7\n"), "{call}");
+        assert!(rt;
+            ran.shows(history) && ran.shows("\nGBP TEST 0 VALID 7\n"),
+            "{call}"
+        );
         assert!(rt; ran.asked((4, 0), (call, 1)), "{call}");
     }
     Ok(())
@@ -259,25 +284,53 @@ fn both_instances_are_lost_at_one_call(rt: HostRuntime) -> Result<(), Fail> {
     Ok(())
 }
 
+// The run of these lines on threads, over such links, where each of the lines that are listed waits
+// for the one before it. Where one waits in vain the run counts as one that ended badly.
+fn ran_in_order<R: Threads + Wait + Sync>(
+    rt: &R,
+    alloc: Global,
+    lines: &str,
+    listed: &[LineOf],
+    one: &[u64],
+    two: &[u64],
+) -> Result<Ran, Fail> {
+    let mut holds = Vec::new(alloc);
+    for k in 1..listed.len() {
+        holds.push(Hold::new(listed[k], listed[k - 1]))?;
+    }
+    let gate = Order::new(&holds);
+    let mut ran = ran_at(rt, alloc, "threads", lines, one, two, &gate)?;
+    if gate.kept() != holds.len() as u64 {
+        ran.status = u8::MAX;
+    }
+    Ok(ran)
+}
+
+const OP: ConnId = ConnId(0);
+
+const A: ConnId = ConnId(1);
+
+const B: ConnId = ConnId(2);
+
 // The four commands on threads, over such links. The operator waits for A's CONNECT, and A's WRITE
-// for the operator; where one waits in vain the run counts as one that ended badly.
+// for the operator.
 fn four_calls_on_threads<R: Threads + Wait + Sync>(
     rt: &R,
     alloc: Global,
     one: &[u64],
     two: &[u64],
 ) -> Result<Ran, Fail> {
-    let (operator, a) = (ConnId(0), ConnId(1));
-    let holds = [
-        Hold::new(LineOf(operator, 9), LineOf(a, 8)),
-        Hold::new(LineOf(a, 10), LineOf(operator, 9)),
-    ];
-    let gate = Order::new(&holds);
-    let mut ran = ran_at(rt, alloc, "threads", FOUR_CALLS, one, two, &gate)?;
-    if gate.kept() < 2 {
-        ran.status = u8::MAX;
-    }
-    Ok(ran)
+    let listed = [LineOf(A, 8), LineOf(OP, 9), LineOf(A, 10)];
+    ran_in_order(rt, alloc, FOUR_CALLS, &listed, one, two)
+}
+
+#[test]
+fn one_instance_is_lost_and_then_the_other_on_threads(rt: HostRuntime) -> Result<(), Fail> {
+    let listed = [LineOf(A, 9), LineOf(OP, 10), LineOf(A, 11)];
+    let ran = ran_in_order(&rt, rt.alloc(), DUPLEXED, &listed, &[2], &[2])?;
+    assert!(rt; ran.shows(BOTH_LOST));
+    assert!(rt; ran.asked((2, 1), (2, 1)));
+    Ok(())
 }
 
 #[test]
@@ -289,6 +342,19 @@ fn the_first_instance_is_lost_at_each_call_on_threads(rt: HostRuntime) -> Result
             "{call}"
         );
         assert!(rt; ran.asked((call, 1), (4, 0)), "{call}");
+    }
+    Ok(())
+}
+
+#[test]
+fn the_second_instance_is_lost_at_each_call_on_threads(rt: HostRuntime) -> Result<(), Fail> {
+    for (call, history) in OTHER_LOST {
+        let ran = four_calls_on_threads(&rt, rt.alloc(), &[], &[call])?;
+        assert!(rt;
+            ran.shows(history) && ran.shows("\nGBP TEST 0 VALID 7\n"),
+            "{call}"
+        );
+        assert!(rt; ran.asked((4, 0), (call, 1)), "{call}");
     }
     Ok(())
 }
@@ -306,7 +372,17 @@ fn both_instances_are_lost_at_one_call_on_threads(rt: HostRuntime) -> Result<(),
     Ok(())
 }
 
-/// A rebuild up to its first COPY. One member reads while it has not been told yet.
+/// The calls at which the links to CF1 and CF2 are down in a rebuild, what the history shows then,
+/// and how often each link was asked and was down.
+struct Failing {
+    one: &'static [u64],
+    two: &'static [u64],
+    shown: &'static str,
+    asked: [(u64, u64); 2],
+}
+
+/// A rebuild up to its first COPY. One member reads while it has not been told yet, and stays until
+/// the other is done.
 const COPYING: &str = "A GBP CONNECT DELETE\n\
     B GBP CONNECT DELETE\n\
     A GBP WRITE P1 0 one CHANGED 1\n\
@@ -319,47 +395,83 @@ const COPYING: &str = "A GBP CONNECT DELETE\n\
     A GBP REBUILD CONNECT\n\
     B GBP REBUILD CONNECT\n\
     A GBP COPY 1\n\
-    A GBP READ P1 0\n";
+    A GBP READ P1 0\n\
+    B GBP TAKE\n";
 
-// The new instance is lost: the rebuild stops, and the pool stays where it was.
+/// Its lines, in their order.
+const COPYING_LINES: [LineOf; 14] = [
+    LineOf(A, 8),
+    LineOf(B, 9),
+    LineOf(A, 10),
+    LineOf(B, 11),
+    LineOf(OP, 12),
+    LineOf(A, 13),
+    LineOf(A, 14),
+    LineOf(B, 15),
+    LineOf(B, 16),
+    LineOf(A, 17),
+    LineOf(B, 18),
+    LineOf(A, 19),
+    LineOf(A, 20),
+    LineOf(B, 21),
+];
+
+/// The same of this rebuild.
+const COPYING_FAILS: [Failing; 3] = [
+    // the new instance is lost: the rebuild stops, and the pool stays where it was
+    Failing {
+        one: &[],
+        two: &[1],
+        shown: "\n17 B REBUILD CONNECT -> OK CF2\n18 SYS LOST CF2 -> STOPPED 1\n\
+            19 A COPY 1 -> REFUSED 69 WRONGSTAGE STOPPING\n20 A READ P1 0 -> DATA one CHANGED\n",
+        asked: [(5, 0), (1, 1)],
+    },
+    // the old one is: the pool fails, and the link to the new one isn't asked
+    Failing {
+        one: &[4],
+        two: &[],
+        shown: "\n18 SYS LOST CF1 -> FAILED\n19 A COPY 1 -> REFUSED 74 LOSTFACILITY CF1\n\
+            20 A READ P1 0 -> REFUSED 75 STRUCTUREFAILED\n",
+        asked: [(4, 1), (0, 0)],
+    },
+    // a rebuild that waits for its members ends with the instance
+    Failing {
+        one: &[3],
+        two: &[],
+        shown: "\n10 A READ P1 0 -> REFUSED 72 QUIESCED 1\n11 SYS LOST CF1 -> FAILED\n\
+            12 B READ P1 1 -> REFUSED 74 LOSTFACILITY CF1\n",
+        asked: [(3, 1), (0, 0)],
+    },
+];
+
+// Whether a run shows what it is to show at these links.
+fn is_as_told(ran: &Ran, failing: &Failing) -> bool {
+    let [one, two] = failing.asked;
+    ran.shows(failing.shown) && ran.asked(one, two)
+}
+
 #[test]
-fn the_new_instance_is_lost_while_it_is_copied_to(rt: HostRuntime) -> Result<(), Fail> {
-    let ran = ran_over(&rt, rt.alloc(), "serial", COPYING, &[], &[1])?;
-    assert!(rt;
-        ran.shows(
-            "\n17 B REBUILD CONNECT -> OK CF2\n18 SYS LOST CF2 -> STOPPED 1\n\
-             19 A COPY 1 -> REFUSED 69 WRONGSTAGE STOPPING\n20 A READ P1 0 -> DATA one CHANGED\n"
-        )
-    );
-    assert!(rt; ran.asked((5, 0), (1, 1)));
+fn an_instance_is_lost_in_a_rebuild_of_two(rt: HostRuntime) -> Result<(), Fail> {
+    for failing in &COPYING_FAILS {
+        let ran = ran_over(&rt, rt.alloc(), "serial", COPYING, failing.one, failing.two)?;
+        assert!(rt; is_as_told(&ran, failing), "{}", failing.shown);
+    }
     Ok(())
 }
 
-// The old one is: the pool fails, and the link to the new one isn't asked.
 #[test]
-fn the_old_instance_is_lost_while_it_is_copied(rt: HostRuntime) -> Result<(), Fail> {
-    let ran = ran_over(&rt, rt.alloc(), "serial", COPYING, &[4], &[])?;
-    assert!(rt;
-        ran.shows(
-            "\n18 SYS LOST CF1 -> FAILED\n19 A COPY 1 -> REFUSED 74 LOSTFACILITY CF1\n\
-             20 A READ P1 0 -> REFUSED 75 STRUCTUREFAILED\n"
-        )
-    );
-    assert!(rt; ran.asked((4, 1), (0, 0)));
-    Ok(())
-}
-
-// A rebuild that waits for its members ends with the instance.
-#[test]
-fn the_instance_is_lost_while_members_are_quiesced(rt: HostRuntime) -> Result<(), Fail> {
-    let ran = ran_over(&rt, rt.alloc(), "serial", COPYING, &[3], &[])?;
-    assert!(rt;
-        ran.shows(
-            "\n10 A READ P1 0 -> REFUSED 72 QUIESCED 1\n11 SYS LOST CF1 -> FAILED\n\
-             12 B READ P1 1 -> REFUSED 74 LOSTFACILITY CF1\n"
-        )
-    );
-    assert!(rt; ran.asked((3, 1), (0, 0)));
+fn an_instance_is_lost_in_a_rebuild_of_two_on_threads(rt: HostRuntime) -> Result<(), Fail> {
+    for failing in &COPYING_FAILS {
+        let ran = ran_in_order(
+            &rt,
+            rt.alloc(),
+            COPYING,
+            &COPYING_LINES,
+            failing.one,
+            failing.two,
+        )?;
+        assert!(rt; is_as_told(&ran, failing), "{}", failing.shown);
+    }
     Ok(())
 }
 
@@ -403,15 +515,7 @@ const MOVING: &str = "A GBP CONNECT DELETE\n\
     A GBP EVENTS\n\
     A GBP READ P1 0\n";
 
-/// The calls at which the links to CF1 and CF2 are down in the rebuild, what the history shows then,
-/// and how often each link was asked and was down.
-struct Failing {
-    one: &'static [u64],
-    two: &'static [u64],
-    shown: &'static str,
-    asked: [(u64, u64); 2],
-}
-
+/// The same of that rebuild.
 const FAILING: [Failing; 8] = [
     // none; the old instance's link is not asked behind the move
     Failing {
@@ -509,8 +613,7 @@ fn fails_in_each_stage<R: Threads + Wait + Sync>(
 ) -> Result<bool, Fail> {
     for failing in &FAILING {
         let ran = ran_over(rt, alloc, word, MOVING, failing.one, failing.two)?;
-        let [one, two] = failing.asked;
-        if !(ran.shows(failing.shown) && ran.asked(one, two)) {
+        if !is_as_told(&ran, failing) {
             return Ok(false);
         }
     }
