@@ -14,26 +14,30 @@ CONNECTOR A
 CONNECTOR B
 A IRLM OBTAIN R1@5 EXCL
 B IRLM OBTAIN R1@5 SHR
-A IRLM OBTAIN R3@1 SHR
-B IRLM OBTAIN R3@1 SHR
+A IRLM RELEASE R1@5
+B IRLM OBTAIN R1@5 SHR
+A IRLM OBTAIN R1@5 SHR
 ";
 
+// Whoever did all lines of one connector before those of the other would tell that B held the word
+// already.
 const TOLD: &[u8] = b"LOCKWORDS IRLM 16
-HAND A 2
+HAND A 3
 OBTAIN R1@5 EXCL -> GRANTED
-OBTAIN R3@1 SHR -> GRANTED
+RELEASE R1@5 -> OK
+OBTAIN R1@5 SHR -> GRANTED
 HAND B 2
 OBTAIN R1@5 SHR -> CONTENDED EXCL
-OBTAIN R3@1 SHR -> GRANTED
-WORD 1 SHR 2
-WORD 5 EXCL
+OBTAIN R1@5 SHR -> GRANTED
+WORD 5 SHR 2
 END
 ";
 
 // How often a caller looks whether the other has come so far.
-const PATIENCE: u32 = 1_000_000_000;
+const PATIENCE: u64 = 500_000_000;
 
-// Lets the lines be done in the order in which they stand in the text.
+// Lets the lines be done in the order in which they stand in the text. Once a caller has waited in
+// vain nobody waits any more.
 #[derive(Drop)]
 struct InOrder {
     next: AtomicU64,
@@ -47,6 +51,7 @@ impl Gate for InOrder {
             }
             spin_loop();
         }
+        self.next.store(u64::from(u32::MAX), SeqCst);
     }
 
     fn after(&self, _who: ConnId, _line: u32) {
