@@ -1,6 +1,6 @@
 //! A journal that one caller fills.
 use super::reports::entries;
-use super::runs::ran_by;
+use super::runs::ran_in_writes;
 use super::{POLICY, script_of};
 use plex_agent::OpenGate;
 use std::test::Fail;
@@ -66,10 +66,13 @@ fn a_journal_that_one_caller_fills(rt: HostRuntime) -> Result<(), Fail> {
     for _ in 0..LINES {
         script.push_str(ASKS)?;
     }
-    let (status, text) = ran_by(&rt, rt.alloc(), "serial", &script, &OpenGate)?;
+    let (status, text, writes) = ran_in_writes(&rt, rt.alloc(), "serial", &script, &OpenGate)?;
     assert_eq!(rt; status, 8);
     assert!(rt; begins_full(&text));
     assert!(rt; goes_on_full(&text));
     assert_eq!(rt; entries(&text), 65_536);
+
+    // The report goes out in pieces of many lines.
+    assert!(rt; writes < 200, "{writes}");
     Ok(())
 }

@@ -15,7 +15,7 @@ use std::thread::Threads;
 const ROOM: usize = 1 << 22;
 
 /// How many bytes one write takes at most.
-const PIECE: usize = 4096;
+const PIECE: usize = 1 << 16;
 
 fn source_of(alloc: Global, script: &str) -> Result<MemSource, AllocError> {
     Ok(MemSource {
@@ -43,7 +43,25 @@ fn steady(alloc: Global) -> Result<Vec<Steady>, AllocError>
     vec![in alloc; Steady; 64]
 }
 
-/// The status of the script's run by these words, with a blank between them, and what it wrote.
+/// The status of the script's run by these words, with a blank between them, what it wrote, and in
+/// how many writes.
+pub(super) fn ran_in_writes<R: Threads + Wait + Sync, G: Gate>(
+    rt: &R,
+    alloc: Global,
+    words: &str,
+    script: &str,
+    gate: &G,
+) -> Result<(u8, String, u64), Fail> {
+    let mut source = source_of(alloc, script)?;
+    let mut sink = MemSink::new(alloc, ROOM, PIECE, Vec::new(alloc))?;
+    let words = words_of(alloc, words)?;
+    let mut links = steady(alloc)?;
+    let status = run(rt, alloc, &words, &mut source, &mut sink, &mut links, gate);
+    let writes = sink.calls;
+    Ok((status, String::from_utf8(sink.bytes)?, writes))
+}
+
+/// The same without the number of writes.
 pub(super) fn ran_by<R: Threads + Wait + Sync, G: Gate>(
     rt: &R,
     alloc: Global,
@@ -51,12 +69,8 @@ pub(super) fn ran_by<R: Threads + Wait + Sync, G: Gate>(
     script: &str,
     gate: &G,
 ) -> Result<(u8, String), Fail> {
-    let mut source = source_of(alloc, script)?;
-    let mut sink = MemSink::new(alloc, ROOM, PIECE, Vec::new(alloc))?;
-    let words = words_of(alloc, words)?;
-    let mut links = steady(alloc)?;
-    let status = run(rt, alloc, &words, &mut source, &mut sink, &mut links, gate);
-    Ok((status, String::from_utf8(sink.bytes)?))
+    let (status, text, _) = ran_in_writes(rt, alloc, words, script, gate)?;
+    Ok((status, text))
 }
 
 /// The status of the script's run on threads, and what it wrote.
