@@ -82,6 +82,26 @@ fn a_thousand_writes_each(rt: HostRuntime) -> Result<(), Fail> {
     Ok(())
 }
 
+/// How many connectors there can be.
+const MEMBERS: u32 = 64;
+
+/// A policy with a cache for all of them, without the connectors.
+const LARGE: &str = "FACILITY CF1 100\n\
+    FACILITY CF2 100\n\
+    STRUCTURE GBP CACHE 8 8 64 64 DELETE\n\
+    PREF GBP CF1 40\n\
+    PREF GBP CF2 40\n";
+
+// This policy and the connectors C1 to the last one.
+fn policy_of(alloc: Global, members: u32) -> Result<String, AllocError> {
+    let mut policy = String::from_str(alloc, LARGE)?;
+    for member in 1..=members {
+        let line = format!(in alloc; "CONNECTOR C{member}\n")?;
+        policy.push_str(&line)?;
+    }
+    Ok(policy)
+}
+
 /// The calls of a run in which B connects first, and A writes before B takes its note.
 const IN_ORDER: &str = "HISTORY GBP 5\n\
     1 B CONNECT DELETE -> OK NEW CF1\n\

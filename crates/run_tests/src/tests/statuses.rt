@@ -2,7 +2,7 @@
 ghost use Rattle.std.specs.Prelude.{◌≡◌, ◌<◌, IfOk};
 ghost use Rattle.std.specs.Vec.{vec_len};
 
-use super::POLICY;
+use super::{MEMBERS, POLICY, policy_of};
 use cf_io::{MemSink, MemSource};
 use cf_link::Steady;
 use plex_agent::OpenGate;
@@ -200,6 +200,17 @@ fn misspelt_policy(rt: HostRuntime) -> Result<(), Fail> {
         "* A line that says nothing.\nFACILTY CF3 100\n",
     )?;
     assert!(rt; status == 3 && text.as_slice() == b"SCRIPT 9 SYNTAX\n".as_slice());
+    Ok(())
+}
+
+// Five lines stand before those of the connectors.
+#[test]
+fn one_connector_too_many(rt: HostRuntime) -> Result<(), Fail> {
+    let policy = policy_of(rt.alloc(), MEMBERS + 1)?;
+    let mut source = source_of(rt.alloc(), &policy, "", &[])?;
+    let mut sink = sink_of(rt.alloc(), 64, &[])?;
+    let status = run_into(&rt, rt.alloc(), "serial", &mut source, &mut sink)?;
+    assert!(rt; status == 3 && sink.bytes.as_slice() == b"SCRIPT 70 LIMIT\n".as_slice());
     Ok(())
 }
 

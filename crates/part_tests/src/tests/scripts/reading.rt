@@ -33,6 +33,9 @@ fn the_first_fault_is_told(rt: HostRuntime) -> Result<(), Fail> {
         ("FACILITY CF5 10", 8, Why::Syntax),
         ("CONNECTOR A", 8, Why::Twice),
         ("STRUCTURE X LOCK 8 8 4 KEEP\nPREF X CF1 61", 9, Why::Space),
+        ("STRUCTURE X CACHE 8 8 65 64 KEEP", 8, Why::Limit),
+        ("STRUCTURE X CACHE 8 8 4 4097 KEEP", 8, Why::Limit),
+        ("STRUCTURE X LOCK 8 8 65 KEEP", 8, Why::Limit),
         ("CONNECTOR C\r", 8, Why::Syntax),
         ("A GBP DELETE P1 VERSION 1", 8, Why::Syntax),
         (
