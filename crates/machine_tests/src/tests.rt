@@ -2,6 +2,8 @@ ghost use Rattle.std.specs.Prelude.{◌≡◌, true, IfOk, IfSome, IsTrue};
 ghost use Rattle.cf_types.specs.Forms.{IsForm, is_cache};
 ghost use Rattle.engine_api.specs.Asking.{MayCommand};
 
+mod pairs;
+
 use crate::counted::Counted;
 use crate::tokens::{Share, Token};
 use cf_link::{Links, ListLink};

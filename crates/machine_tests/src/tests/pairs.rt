@@ -1,0 +1,78 @@
+//! A pair of engines that are counted, without a machine.
+ghost use Rattle.std.specs.Prelude.{◌≡◌, IfOk, is_some, true};
+
+use super::{A, FIRST, SECOND, form_of, links_of, live};
+use crate::counted::Counted;
+use crate::tokens::{Share, Token};
+use cf_link::ListLink;
+use cf_types::{Effects, NoMemory};
+use duplex_pair::Pair;
+use engine_api::Engine;
+use std::alloc::Global;
+use std::sync::Arc;
+use std::test::Fail;
+
+// Two instances with nothing in them.
+fn two_of(alloc: Global) -> Result<Pair<Counted, ListLink>, NoMemory>
+    ensures { IfOk result (λ pair. is_some pair.primary ≡ true) }
+{
+    let form = form_of(alloc)?;
+    let engine = Counted::empty(alloc, &form, form.caps)?;
+    let second = engine.copy(alloc)?;
+    let links = links_of(alloc, &[], &[])?;
+    let mut pair = Pair::one(alloc, engine, FIRST, links);
+    pair.add(second, SECOND);
+    Ok(pair)
+}
+
+// Whether a number is stored in both.
+fn stores(
+    pair: &mut Pair<Counted, ListLink>,
+    share: &Option<Share>,
+    out: &mut Effects,
+) -> Result<bool, NoMemory>
+    requires { is_some pair.old.primary ≡ true }
+    ensures { is_some pair.new.primary ≡ true }
+{
+    let token = Token::new(7, share)?;
+    pair.ready(A, &token, out)?;
+    Ok(pair.apply(A, &token, out).is_ok())
+}
+
+// The first number, where there is one.
+fn first_of(alloc: Global, pair: &Pair<Counted, ListLink>) -> Result<Option<u32>, NoMemory>
+    requires { is_some pair.now.primary ≡ true }
+{
+    if pair.count() == 0 {
+        return Ok(None);
+    }
+    let token = pair.item(alloc, 0)?;
+    Ok(Some(token.number))
+}
+
+// What is first once registrations have ended.
+fn forgets(
+    alloc: Global,
+    pair: &mut Pair<Counted, ListLink>,
+    out: &mut Effects,
+) -> Result<Option<u32>, NoMemory>
+    requires { is_some pair.old.primary ≡ true }
+{
+    pair.forget_ready(out)?;
+    pair.forget(out);
+    first_of(alloc, pair)
+}
+
+#[test]
+fn pair_that_forgets_keeps_its_numbers(rt: HostRuntime) -> Result<(), Fail> {
+    let share = Some(Arc::new(rt.alloc(), 0)?);
+    let mut out = Effects::new(rt.alloc());
+    let mut pair = two_of(rt.alloc())?;
+    let stored = stores(&mut pair, &share, &mut out)?;
+    assert!(rt; stored && live(&share) == 2);
+    let first = forgets(rt.alloc(), &mut pair, &mut out)?;
+    assert!(rt; first == Some(7) && live(&share) == 2);
+    drop(pair);
+    assert!(rt; live(&share) == 0);
+    Ok(())
+}
