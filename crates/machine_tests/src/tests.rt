@@ -9,6 +9,7 @@ use crate::tokens::{Share, Token};
 use cf_link::{Links, ListLink};
 use cf_types::{Caps, CfId, ConnId, Kind, Listing, Name16, NoMemory, Pref, ShellCmd, StrForm};
 use engine_api::Ask;
+use plex_shell::LostAs;
 use std::alloc::Global;
 use std::sync::Arc;
 use std::test::Fail;
@@ -343,5 +344,50 @@ fn instances_that_links_lose(rt: HostRuntime) -> Result<(), Fail> {
 fn new_instance_that_a_link_loses(rt: HostRuntime) -> Result<(), Fail> {
     let lost = lives_as_told(rt.alloc(), &in_copy(1, Row(Step::CopyOne, 1)), &[], &[1])?;
     assert!(rt; lost);
+    Ok(())
+}
+
+// The machine loses the first instance that a number's call would ask. What became of it is told,
+// where there was one.
+fn lose_asked(
+    machine: &mut Machine<Counted, ListLink>,
+    token: Token,
+) -> Result<Option<LostAs>, NoMemory> {
+    let asked = machine.asks(A, &Ask::Content(token));
+    match asked.first {
+        Some(cf) => {
+            let lost = machine.lose(cf)?;
+            Ok(Some(lost))
+        }
+        None => Ok(None),
+    }
+}
+
+// The same by the machine of a trial.
+fn loses(trial: &mut Trial) -> Result<Option<LostAs>, NoMemory> {
+    let token = Token::new(8, &None)?;
+    lose_asked(&mut trial.machine, token)
+}
+
+// A trial with two instances.
+fn duplexed(alloc: Global) -> Result<Trial, NoMemory> {
+    let mut trial = trial_of(alloc, &[], &[])?;
+    for step in [Step::Connect, Step::Store, Step::Duplex] {
+        take(alloc, &mut trial, step)?;
+    }
+    Ok(trial)
+}
+
+#[test]
+fn instances_that_are_told_as_lost(rt: HostRuntime) -> Result<(), Fail> {
+    let mut trial = duplexed(rt.alloc())?;
+    let first = loses(&mut trial)?;
+    assert!(rt; matches!(first, Some(LostAs::Simplex { cf: CfId(2) })));
+    assert!(rt; live(&trial.share) == 1);
+    let second = loses(&mut trial)?;
+    assert!(rt; matches!(second, Some(LostAs::FailedNow)));
+    assert!(rt; live(&trial.share) == 0);
+    let none = loses(&mut trial)?;
+    assert!(rt; none.is_none() && ends(trial));
     Ok(())
 }
