@@ -82,8 +82,10 @@ fn a_thousand_writes_each(rt: HostRuntime) -> Result<(), Fail> {
     Ok(())
 }
 
-/// How many connectors there can be.
+/// How many connectors there can be, and how many writes each of them makes.
 const MEMBERS: u32 = 64;
+
+const MEMBERS_WRITES: u32 = 100;
 
 /// A policy with a cache for all of them, without the connectors.
 const LARGE: &str = "FACILITY CF1 100\n\
@@ -100,6 +102,46 @@ fn policy_of(alloc: Global, members: u32) -> Result<String, AllocError> {
         policy.push_str(&line)?;
     }
     Ok(policy)
+}
+
+// All connect, and then each writes a row of its own, one after another in each round.
+fn writers(alloc: Global) -> Result<String, AllocError> {
+    let mut script = policy_of(alloc, MEMBERS)?;
+    for member in 1..=MEMBERS {
+        let line = format!(in alloc; "C{member} GBP CONNECT DELETE\n")?;
+        script.push_str(&line)?;
+    }
+    for _ in 0..MEMBERS_WRITES {
+        for member in 1..=MEMBERS {
+            let line = format!(in alloc; "C{member} GBP WRITE N{member} 0 a UNCHANGED\n")?;
+            script.push_str(&line)?;
+        }
+    }
+    Ok(script)
+}
+
+// Whether the transcript of a connector has so many calls, with rising numbers.
+fn rises(alloc: Global, transcripts: &str, member: u32, calls: usize) -> Result<bool, Fail> {
+    let heading = format!(in alloc; "TRANSCRIPT C{member} {calls}")?;
+    let numbers = call_numbers(alloc, transcripts, &heading, "GBP")?;
+    Ok(numbers.len() == calls && numbers.is_sorted_by(|one, next| one < next))
+}
+
+#[test]
+fn sixty_four_writers(rt: HostRuntime) -> Result<(), Fail> {
+    let script = writers(rt.alloc())?;
+    let (status, report) = ran(&rt, rt.alloc(), &script, &OpenGate)?;
+    assert!(rt; status == 0 && report.contains("\nHISTORY GBP 6528\n"));
+    assert!(rt; entries(&report) == 6_528);
+    let (_, transcripts) = report
+        .split_once("\nTRANSCRIPT OP 0\n")
+        .ok_or("no transcripts")?;
+    for member in 1..=MEMBERS {
+        let whole = rises(rt.alloc(), transcripts, member, 102)?;
+        assert!(rt; whole, "{member}");
+    }
+    assert!(rt; transcripts.ends_with("\nEND\n"));
+    Ok(())
 }
 
 /// The calls of a run in which B connects first, and A writes before B takes its note.
