@@ -17,7 +17,7 @@ use Rattle.list_laws.proofs.InsertionLaws.{filter-insertion_out}
 use Rattle.list_laws.proofs.PairwiseLaws.{FindsPlace, pairwise-filter, pairwise-insertion}
 use Rattle.table_entries.specs.Bins.{arranged, in_turn}
 use Rattle.table_entries.proofs.BinLaws.{arranged_in_turn, keyed-arranged}
-use Rattle.table_entries.proofs.TieLaws.{ordered_filters}
+use Rattle.list_laws.proofs.TieLaws.{ordered_filters}
 use Rattle.table_entries.proofs.ViewLaws.{length_arranged}
 use Rattle.cache_classes.specs.declared.changed.Changed.{Changed}
 use Rattle.cache_classes.specs.Castout.{is_named, name_of, names_without, names_with}

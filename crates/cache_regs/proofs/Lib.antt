@@ -1,7 +1,6 @@
 pub mod NameLaws
 pub mod RegLaws
 pub mod BitLaws
-mod OrderLaws
 mod MapLaws
 mod AgreeLaws
 mod EndLaws

@@ -18,7 +18,7 @@ use Rattle.cache_regs.specs.declared.registrations.Registration.{Registration}
 use Rattle.cache_regs.specs.Registrations.{is_at, registered_at, stands, stands_before}
 use Rattle.cache_regs.specs.Maps.{place_eq, named_eq, at_place, reg_of, regs_in, WritesPlace}
 use Rattle.cache_regs.proofs.RegLaws.{finds_place, places_apart}
-use Rattle.cache_regs.proofs.OrderLaws.{ordered_same}
+use Rattle.list_laws.proofs.OrderLaws.{ordered_same}
 
 pub place_laws : IsEquivalence place_eq
 place_laws = and_equiv (on_equiv (λ (x : ℕ × ℕ). x.0) nat_eq_equiv) (on_equiv (λ (x : ℕ × ℕ). x.1) nat_eq_equiv)

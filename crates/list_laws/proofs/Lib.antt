@@ -8,3 +8,5 @@ pub mod ImageLaws
 pub mod TableLaws
 pub mod TakeLaws
 pub mod PlaceLaws
+pub mod OrderLaws
+pub mod TieLaws

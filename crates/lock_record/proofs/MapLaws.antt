@@ -22,7 +22,7 @@ use Rattle.list_laws.proofs.PairwiseLaws.{pairwise-filter, pairwise-insertion, p
 use Rattle.table_entries.specs.Bins.{arranged, in_turn}
 use Rattle.table_entries.proofs.BinLaws.{arranged_in_turn, keyed-arranged}
 use Rattle.table_entries.proofs.SortLaws.{arranged-filter}
-use Rattle.table_entries.proofs.TieLaws.{ordered_filters}
+use Rattle.list_laws.proofs.TieLaws.{ordered_filters}
 use Rattle.table_entries.proofs.ViewLaws.{length_arranged}
 use Rattle.lock_record.specs.declared.recorded.Record.{Record}
 use Rattle.lock_record.specs.Book.{Key, key_eq, key_of, part_at, recorded, records_in, Writes}

@@ -11,7 +11,7 @@ use Rattle.list_laws.proofs.PairwiseLaws.{FindsPlace, pairwise-insertion}
 use Rattle.list_laws.proofs.InsertionLaws.{filter-insertion_out}
 use Rattle.table_entries.specs.Bins.{is_keyed, in_turn, arranged, joined, AreAtHome, IsKeyOrder}
 use Rattle.table_entries.proofs.PlaceLaws.{filter-insertion_ahead}
-use Rattle.table_entries.proofs.TieLaws.{ordered_filters}
+use Rattle.list_laws.proofs.TieLaws.{ordered_filters}
 
 -- ---- one entry of all
 

@@ -1,4 +1,3 @@
-pub mod TieLaws
 pub mod PlaceLaws
 pub mod BinLaws
 pub mod OpLaws

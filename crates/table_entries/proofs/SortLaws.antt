@@ -10,7 +10,7 @@ use Rattle.list_laws.specs.Pairwise.{pairwise}
 use Rattle.list_laws.proofs.FilterLaws.{list_all_weaker, list_all-filter_same, filter_swap}
 use Rattle.list_laws.proofs.PairwiseLaws.{pairwise-filter}
 use Rattle.table_entries.specs.Bins.{is_keyed, in_turn, arranged, IsKeyOrder}
-use Rattle.table_entries.proofs.TieLaws.{ordered_filters}
+use Rattle.list_laws.proofs.TieLaws.{ordered_filters}
 use Rattle.table_entries.proofs.BinLaws.{arranged_in_turn, keyed-arranged}
 use Rattle.table_entries.proofs.ViewLaws.{mapped_pairs}
 
