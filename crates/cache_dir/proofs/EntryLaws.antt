@@ -1,7 +1,8 @@
--- The entries of a map, copied in their order.
-use Rattle.std.proofs.Common.{◌≡◌, ℕ, Bool, true, false, nat_eq, cond, List, [], ◌∷◌, ◌++◌, None, Some, refl, sym, ap, ◌∙◌, subst, append_assoc, append-nil}
+-- The entries of a map: copied in their order, and changed.
+use Rattle.std.proofs.Common.{◌≡◌, ℕ, suc, Bool, true, false, nat_eq, cond, List, [], ◌∷◌, ◌++◌, Option, None, Some, option_map, map, length, refl, sym, ap, ◌∙◌, subst, append_assoc, append-nil}
 use Rattle.std.specs.List.{IsDistinct}
 use Rattle.std.specs.Map.{keys_of, lookup}
+use Rattle.std.specs.Map.Calls.{RetainsPairs}
 use Rattle.std.specs.Cmp.Lexicographic.{pointwise, nat_list_eq_equiv}
 use Rattle.std.proofs.lemmas.Bool.{false≢true}
 use Rattle.std.proofs.lemmas.Map.{NonePasses}
@@ -52,3 +53,33 @@ module _ {X : Type 0} where
 
   pub copy_all : (done left whole : Entries X) → left ≡ [] → done ++ left ≡ whole → done ≡ whole
   copy_all done left whole none seam = sym (append-nil done) ∙ ap (λ l. done ++ l) (sym none) ∙ seam
+
+  -- ---- each value is changed by one function
+
+  abbrev pub changed_values : (X → X) → Entries X → Entries X
+  changed_values g es = map (λ e. (e.0, g e.1)) es
+
+  changed_step : (g : X → X) (b : Bool) (x : X) (o r : Option X) → r ≡ option_map g o
+      → cond b (Some (g x)) r ≡ option_map g (cond b (Some x) o)
+  changed_step g true x o r e = refl
+  changed_step g false x o r e = e
+
+  pub lookup-changed : (g : X → X) (p : List ℕ → Bool) (es : Entries X)
+      → lookup p (changed_values g es) ≡ option_map g (lookup p es)
+  lookup-changed g p [] = refl
+  lookup-changed g p (e ∷ es) =
+      changed_step g (p e.0) e.1 (lookup p es) (lookup p (changed_values g es)) (lookup-changed g p es)
+
+  pub length-changed : (g : X → X) (es : Entries X) → length (changed_values g es) ≡ length es
+  length-changed g [] = refl
+  length-changed g (e ∷ es) = ap suc (length-changed g es)
+
+-- what `retain` leaves, where the closure keeps everything and changes each value
+pub changed-RetainsPairs : {X F : Type 0} (T : F → List ℕ → X → Bool → X → F → Type 0) (g : X → X) (f : F)
+    → ((k : List ℕ) (v : X) (b : Bool) (w : X) (h : F) → T f k v b w h → (b ≡ true) × (w ≡ g v) × (h ≡ f))
+    → (es kept : Entries X) → RetainsPairs T f es kept → kept ≡ changed_values g es
+changed-RetainsPairs T g f says [] kept h = h
+changed-RetainsPairs T g f says (e ∷ es) kept h =
+    let s = says e.0 e.1 h.0 h.1 h.2 h.4 in
+    let rest = changed-RetainsPairs T g f says es h.3 (subst (λ k. RetainsPairs T k es h.3) s.2 h.5) in
+    h.6 ∙ (λ j. cond (s.0 j) ((e.0, s.1 j) ∷ rest j) (rest j))

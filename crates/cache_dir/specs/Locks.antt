@@ -1,5 +1,5 @@
 -- The castout locks that are held, noted by the names of their rows.
-use Rattle.std.specs.Prelude.{◌≡◌, ℕ, nat_eq, ◌==◌, List, Option, Some, None, option_map, if◌then◌else◌}
+use Rattle.std.specs.Prelude.{◌≡◌, ℕ, nat_eq, ◌==◌, List, Option, Some, None, option_map, if◌then◌else◌, true}
 use Rattle.std.specs.List.{IsDistinct}
 use Rattle.std.specs.Map.{keys_of}
 use Rattle.std.specs.Cmp.Lexicographic.{pointwise}
@@ -24,9 +24,10 @@ lock_without conn None = None
 lock_without conn (Some other) = if other.0 == conn.0 then None else Some other
 
 -- under each name stands who holds the castout lock of its row
-pub record AreNoted (rows : List (List ℕ × DirRow)) (locks : List (List ℕ × ConnId)) : Type 0 where
-  pub unique : IsDistinct (pointwise nat_eq) (keys_of locks)
-  pub noted : (q : Name16) → row_at locks q ≡ lock_of (row_at rows q)
+abbrev pub AreNoted : List (List ℕ × DirRow) → List (List ℕ × ConnId) → Type 0
+AreNoted rows locks = (q : Name16) → row_at locks q ≡ lock_of (row_at rows q)
 
-abbrev pub AreLocked : Inside → Type 0
-AreLocked d = AreNoted d.rows.entries d.locks.entries
+-- no two locks are noted under one name, and all that are held are, but where one had no room
+pub record AreLocked (d : Inside) : Type 0 where
+  pub unique : IsDistinct (pointwise nat_eq) (keys_of d.locks.entries)
+  pub noted : d.are_noted ≡ true → AreNoted d.rows.entries d.locks.entries

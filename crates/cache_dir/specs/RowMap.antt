@@ -1,5 +1,5 @@
 -- A directory as a map from names to rows.
-use Rattle.std.specs.Prelude.{◌≡◌, ℕ, nat_eq, min, List, Option, None, if◌then◌else◌}
+use Rattle.std.specs.Prelude.{◌≡◌, ℕ, nat_eq, List, Option, None, if◌then◌else◌}
 use Rattle.std.specs.Map.{lookup}
 use Rattle.std.specs.Cmp.Lexicographic.{pointwise}
 use Rattle.indexmap.specs.IndexMap.{spare}
@@ -16,7 +16,7 @@ pub record RowMap : Type 0 where
   pub room : ℕ
 
 abbrev pub row_map : Inside → RowMap
-row_map d = record { entries = d.rows.entries; room = min (spare d.rows) (spare d.locks) }
+row_map d = record { entries = d.rows.entries; room = spare d.rows }
 
 -- a connector's castout lock is released
 abbrev pub let_go : ConnId → DirRow → DirRow

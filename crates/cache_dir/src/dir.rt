@@ -80,7 +80,7 @@ fn release_at(rows: &mut Rows, name: &[u8; NAME_BYTES], conn: ConnId)
 }
 
 // Releases all castout locks of a connector, which are noted.
-fn release_all(rows: &mut Rows, locks: &Locks, conn: ConnId)
+fn release_noted(rows: &mut Rows, locks: &Locks, conn: ConnId)
     requires { AreNoted rows.old.entries locks.now.entries }
     ensures released { (q : Name16) → row_at rows.new.entries q
         ≡ option_map (let_go conn) (row_at rows.old.entries q) }
@@ -94,6 +94,19 @@ fn release_all(rows: &mut Rows, locks: &Locks, conn: ConnId)
     }
 }
 
+// Releases all castout locks of a connector, by a look at each row.
+fn release_each(rows: &mut Rows, conn: ConnId)
+    ensures released { (q : Name16) → row_at rows.new.entries q
+        ≡ option_map (let_go conn) (row_at rows.old.entries q) }
+    ensures len { length rows.new.entries ≡ length rows.old.entries }
+    ensures spare { spare rows.old ≤ spare rows.new }
+{
+    rows.retain(|_, row| {
+        release(row, conn);
+        true
+    });
+}
+
 // Whether the castout lock of a row that was taken out is held.
 fn is_held(row: &Option<DirRow>) -> bool
     ensures { result ≡ is_some (lock_of row.now) }
@@ -104,49 +117,34 @@ fn is_held(row: &Option<DirRow>) -> bool
     }
 }
 
-// Notes who holds the castout lock of a row that comes, if anyone does, where there is room for it.
-fn note(locks: &mut Locks, name: Name16, holder: Option<Holder>)
-    requires unique { IsDistinct (pointwise nat_eq) (keys_of locks.old.entries) }
-    requires alone { row_at locks.old.entries name ≡ None }
-    requires room { 1 ≤ spare locks.old }
-    ensures writes { Writes (row_at locks.old.entries) name (conn_of holder)
-        (row_at locks.new.entries) }
-    ensures unique { IsDistinct (pointwise nat_eq) (keys_of locks.new.entries) }
-    ensures spare { spare locks.old ≤ spare locks.new + 1 }
+// Whether there is room for one lock more.
+fn has_room(locks: &Locks) -> bool
+    ensures { result ≡ true → 1 ≤ spare locks.now }
 {
-    if let Some(holder) = holder {
-        let _ = locks.insert(name.0, holder.conn);
-    }
+    locks.len() < locks.capacity()
 }
 
-// Notes who holds the castout lock of a row that takes another's place, if anyone does. A lock that
-// wasn't noted takes room.
-fn note_anew(locks: &mut Locks, name: Name16, holder: Option<Holder>)
-    requires unique { IsDistinct (pointwise nat_eq) (keys_of locks.old.entries) }
-    requires room { is_some holder ≡ true → row_at locks.old.entries name ≡ None
-        → 1 ≤ spare locks.old }
-    ensures writes { Writes (row_at locks.old.entries) name (conn_of holder)
-        (row_at locks.new.entries) }
+// Notes who holds the castout lock of the row of a name, if anyone does, and answers whether there
+// was room for it. It takes no memory.
+fn note(locks: &mut Locks, name: Name16, holder: Option<Holder>) -> bool
+    requires { IsDistinct (pointwise nat_eq) (keys_of locks.old.entries) }
+    ensures writes { result ≡ true
+        → Writes (row_at locks.old.entries) name (conn_of holder) (row_at locks.new.entries) }
     ensures unique { IsDistinct (pointwise nat_eq) (keys_of locks.new.entries) }
-    ensures spare { spare locks.old ≤ spare locks.new + 1 }
 {
-    match holder {
-        Some(holder) => {
-            let _ = locks.insert(name.0, holder.conn);
-        }
-        None => {
-            let _ = locks.swap_remove(&name.0);
-        }
-    }
+    locks.swap_remove(&name.0);
+    let Some(holder) = holder else {
+        return true;
+    };
+    has_room(locks) && locks.insert(name.0, holder.conn).is_ok()
 }
 
 // The castout lock of a row that was taken out is noted no more.
 fn forget(locks: &mut Locks, name: &Name16, row: &Option<DirRow>)
-    requires unique { IsDistinct (pointwise nat_eq) (keys_of locks.old.entries) }
-    requires noted { row_at locks.old.entries name.now ≡ lock_of row.now }
-    ensures writes { Writes (row_at locks.old.entries) name.now None (row_at locks.new.entries) }
+    requires { IsDistinct (pointwise nat_eq) (keys_of locks.old.entries) }
+    ensures writes { row_at locks.old.entries name.now ≡ lock_of row.now
+        → Writes (row_at locks.old.entries) name.now None (row_at locks.new.entries) }
     ensures unique { IsDistinct (pointwise nat_eq) (keys_of locks.new.entries) }
-    ensures spare { spare locks.old ≤ spare locks.new }
 {
     if is_held(row) {
         locks.swap_remove(&name.0);
@@ -159,7 +157,6 @@ fn forget_all(locks: &mut Locks, conn: ConnId)
     ensures rest { (q : Name16) → row_at locks.new.entries q
         ≡ lock_without conn (row_at locks.old.entries q) }
     ensures unique { IsDistinct (pointwise nat_eq) (keys_of locks.new.entries) }
-    ensures spare { spare locks.old ≤ spare locks.new }
 {
     locks.retain(|_, holder| *holder != conn);
 }
@@ -240,11 +237,12 @@ fn copied_locks(alloc: Global, from: &Locks) -> Result<Locks, NoMemory>
 /// The rows of a cache's directory by their names. Contracts see them in whatever order, and for
 /// how many more there is room. The chains of their data lie in a pool beside it. The castout locks
 /// that are held are noted apart from the rows, so that those of a connector are found without a
-/// pass over all rows.
+/// pass over all rows; there is such a pass once a lock had no room among them.
 #[derive(Drop)]
 pub struct Dir {
     rows: Rows,
     locks: Locks,
+    are_noted: bool,
 }
 
 impl Model for Dir {
@@ -268,7 +266,11 @@ impl Dir {
     {
         let rows = IndexMap::with_capacity(alloc, entries as usize)?;
         let locks = IndexMap::with_capacity(alloc, entries as usize)?;
-        Ok(Dir { rows, locks })
+        Ok(Dir {
+            rows,
+            locks,
+            are_noted: true,
+        })
     }
 
     /// The same rows once more, for a copy of the pool. Only want of memory is refused.
@@ -277,7 +279,11 @@ impl Dir {
     {
         let rows = copied(alloc, &self.rows)?;
         let locks = copied_locks(alloc, &self.locks)?;
-        Ok(Dir { rows, locks })
+        Ok(Dir {
+            rows,
+            locks,
+            are_noted: self.are_noted,
+        })
     }
 
     /// How many rows there are.
@@ -314,23 +320,21 @@ impl Dir {
         ensures len { length self.new.entries ≡ length self.old.entries + 1 }
         ensures kept { self.old.room ≤ self.new.room + 1 }
     {
-        note(&mut self.locks, row.name, row.holder);
+        self.are_noted = note(&mut self.locks, row.name, row.holder) && self.are_noted;
         put(&mut self.rows, row);
     }
 
     /// Puts a row in the place of the one of its name, which there must be, and hands that one out.
-    /// A castout lock that nobody held before takes room. It takes no memory.
+    /// It takes no memory.
     pub fn set(&mut self, row: DirRow) -> DirRow
-        requires there { is_some (row_at self.old.entries row.name) ≡ true }
-        requires room { is_some row.holder ≡ true
-            → lock_of (row_at self.old.entries row.name) ≡ None → 1 ≤ self.old.room }
+        requires { is_some (row_at self.old.entries row.name) ≡ true }
         ensures row { Some result ≡ row_at self.old.entries row.name }
         ensures writes { Writes (row_at self.old.entries) row.name (Some row)
             (row_at self.new.entries) }
         ensures len { length self.new.entries ≡ length self.old.entries }
-        ensures kept { self.old.room ≤ self.new.room + 1 }
+        ensures kept { self.old.room ≤ self.new.room }
     {
-        note_anew(&mut self.locks, row.name, row.holder);
+        self.are_noted = note(&mut self.locks, row.name, row.holder) && self.are_noted;
         replace(&mut self.rows, row)
     }
 
@@ -355,7 +359,11 @@ impl Dir {
         ensures len { length self.new.entries ≡ length self.old.entries }
         ensures kept { self.old.room ≤ self.new.room }
     {
-        release_all(&mut self.rows, &self.locks, conn);
+        if self.are_noted {
+            release_noted(&mut self.rows, &self.locks, conn);
+        } else {
+            release_each(&mut self.rows, conn);
+        }
         forget_all(&mut self.locks, conn);
     }
 }

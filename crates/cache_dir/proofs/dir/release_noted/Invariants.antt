@@ -1,7 +1,7 @@
 use Rattle.std.proofs.Common.{◌≡◌, ◌≤◌, length}
 use Rattle.indexmap.specs.IndexMap.{spare}
 use Rattle.cache_dir.proofs.LockLaws.{IsReleased}
-use Rattle.cache_dir.proofs.dir.release_all.Given as goal
+use Rattle.cache_dir.proofs.dir.release_noted.Given as goal
 
 abbrev pub invariant-loop-name : goal.invariant-loop-name
 invariant-loop-name l =
