@@ -2,6 +2,7 @@
 ghost use Rattle.std.specs.Prelude.{◌≡◌, ◌<◌, ◌+◌, ◌∷◌, [], IfOk, IfSome, map};
 ghost use Rattle.std.specs.Vec.{vec_len};
 ghost use Rattle.std.specs.List.{range_with_len};
+ghost use Rattle.cf_types.specs.declared.limits.TheConstants.{LINKS};
 ghost use Rattle.engine_api.specs.Asking.{MayAsk};
 ghost use Rattle.desk_model.specs.Boards.{new_desk};
 ghost use Rattle.bench_cell.specs.Seats.{IsOneCache, IsCacheBoard, IsOperated, IsSeated};
@@ -9,6 +10,7 @@ ghost use Rattle.bench_cell.specs.Seats.{IsOneCache, IsCacheBoard, IsOperated, I
 use crate::faults::{Timed, call_error};
 use crate::pages::{PAGES, form, name, read, write};
 use cf_link::Steady;
+use cf_types::limits::LINKS;
 use cf_types::{CacheCmd, Listing, NoMemory, ShellCmd, StrNo};
 use engine_api::{Ask, Told};
 use plex_board::{Board, Desk};
@@ -21,9 +23,6 @@ use struct_cell::CallRefused;
 
 /// How many calls a journal takes.
 const JOURNAL_LIMIT: u32 = 65_536;
-
-/// How many links there are to the facilities: four for each of 16 structures.
-const LINKS: usize = 64;
 
 // The structure of the pages.
 const POOL: StrNo = StrNo(0);
@@ -133,7 +132,7 @@ fn open(
     links: Vec<Steady>,
 ) -> Result<(Board<Steady>, Vec<Desk>), Vec<Steady>>
     requires policy { IsOneCache policy.now }
-    requires links { vec_len links ≡ 64 }
+    requires links { vec_len links ≡ LINKS }
     ensures board { IfOk result (λ r. IsCacheBoard r.0) }
     ensures desks { IfOk result
         (λ r. r.1.items ≡ map (new_desk r.0) (range_with_len 0 (1 + 1))) }

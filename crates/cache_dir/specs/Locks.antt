@@ -5,7 +5,7 @@ use Rattle.std.specs.Map.{keys_of}
 use Rattle.std.specs.Cmp.Lexicographic.{pointwise}
 use Rattle.cf_types.specs.declared.names.Name16.{Name16}
 use Rattle.cf_types.specs.declared.numbers.ConnId.{ConnId}
-use Rattle.cache_model.specs.declared.items.Holder.{Holder}
+use Rattle.cache_dir.specs.declared.row.Holder.{Holder}
 use Rattle.cache_dir.specs.declared.row.DirRow.{DirRow}
 use Rattle.cache_dir.specs.declared.dir.Dir.TheInside.{Inside}
 use Rattle.cache_dir.specs.RowMap.{row_at}

@@ -1,13 +1,13 @@
 -- A directory as a map from names to rows.
-use Rattle.std.specs.Prelude.{◌≡◌, ℕ, nat_eq, List, Option, None, if◌then◌else◌}
+use Rattle.std.specs.Prelude.{◌≡◌, ◌==◌, ℕ, nat_eq, Bool, false, List, Option, None, Some, if◌then◌else◌}
 use Rattle.std.specs.Map.{lookup}
 use Rattle.std.specs.Cmp.Lexicographic.{pointwise}
 use Rattle.indexmap.specs.IndexMap.{spare}
 use Rattle.cf_types.specs.declared.names.Name16.{Name16}
 use Rattle.cf_types.specs.declared.numbers.ConnId.{ConnId}
 use Rattle.cf_types.specs.Name.{same_name}
-use Rattle.cache_model.specs.Rows.{is_held_by}
 use Rattle.cache_dir.specs.declared.row.DirRow.{DirRow}
+use Rattle.cache_dir.specs.declared.row.Holder.{Holder}
 use Rattle.cache_dir.specs.declared.dir.Dir.TheInside.{Inside}
 
 -- the rows with the bytes of their names, in whatever order, and for how many more there is room, held or not
@@ -17,6 +17,11 @@ pub record RowMap : Type 0 where
 
 abbrev pub row_map : Inside → RowMap
 row_map d = record { entries = d.rows.entries; room = spare d.rows }
+
+-- a connector holds the castout lock
+abbrev pub is_held_by : ConnId → Option Holder → Bool
+is_held_by conn None = false
+is_held_by conn (Some holder) = holder.conn.0 == conn.0
 
 -- a connector's castout lock is released
 abbrev pub let_go : ConnId → DirRow → DirRow

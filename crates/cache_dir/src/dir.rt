@@ -8,8 +8,7 @@ ghost use Rattle.cf_types.specs.declared.names.Name16.{Name16};
 ghost use Rattle.cache_dir.specs.RowMap.{row_at, let_go, Writes};
 ghost use Rattle.cache_dir.specs.Locks.{conn_of, lock_of, lock_without, AreNoted};
 
-use crate::row::DirRow;
-use cache_model::Holder;
+use crate::row::{DirRow, Holder};
 use cf_pool::Chain;
 use cf_types::limits::NAME_BYTES;
 use cf_types::{ConnId, Name16, NoMemory};

@@ -7,4 +7,4 @@ mod row;
 
 pub use cf_pool::{Chain, NoElements, Pool};
 pub use dir::Dir;
-pub use row::DirRow;
+pub use row::{DirRow, Holder};

@@ -21,7 +21,7 @@ use Rattle.cache_regs.specs.Registrations.{is_of, is_replaced, stands_before as 
 use Rattle.cache_regs.proofs.NameLaws.{same_name-eq, same_name-refl}
 use Rattle.cache_regs.proofs.RegLaws.{registry-with, registry-filter}
 use Rattle.cache_model.specs.declared.items.CacheItem.{CacheItem}
-use Rattle.cache_model.specs.declared.items.Holder.{Holder}
+use Rattle.cache_dir.specs.declared.row.Holder.{Holder}
 use Rattle.cache_model.specs.declared.requests.Request.{Request}
 use Rattle.cache_model.specs.Rows.{is_row_of, is_changed, elements_of, elements_in, row_of, has_row, rows_without, rows_replaced, new_row, row_or_new, is_sound, IsDirectory}
 use Rattle.cache_model.specs.Contents.{Content, IsContent, IsOrderly, content_without, content_forgotten, without_hold, is_among, rows_spared, regs_spared}

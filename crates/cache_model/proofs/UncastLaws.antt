@@ -15,7 +15,7 @@ use Rattle.engine_api.specs.Meaning.{unless_refused, first_refusal}
 use Rattle.list_laws.proofs.FilterLaws.{list_any-map}
 use Rattle.cache_regs.proofs.NameLaws.{same_name-eq}
 use Rattle.cache_model.specs.declared.items.CacheItem.{CacheItem}
-use Rattle.cache_model.specs.declared.items.Holder.{Holder}
+use Rattle.cache_dir.specs.declared.row.Holder.{Holder}
 use Rattle.cache_model.specs.declared.requests.Request.{Request}
 use Rattle.cache_model.specs.Rows.{is_row_of, is_changed, is_held_by, row_of, rows_without, rows_replaced, new_row, row_or_new, IsDirectory}
 use Rattle.cache_model.specs.Contents.{Content, IsContent, no_content, without_hold, is_among, rows_spared}

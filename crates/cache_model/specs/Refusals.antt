@@ -10,7 +10,7 @@ use Rattle.cf_types.specs.Name.{same_name}
 use Rattle.cache_regs.specs.declared.registrations.Registration.{Registration}
 use Rattle.cache_regs.specs.Registrations.{is_for, registered_at}
 use Rattle.cache_model.specs.declared.items.CacheItem.{CacheItem}
-use Rattle.cache_model.specs.declared.items.Holder.{Holder}
+use Rattle.cache_dir.specs.declared.row.Holder.{Holder}
 use Rattle.cache_model.specs.Rows.{is_changed, is_held_by, row_of}
 
 -- the caller gives up this name

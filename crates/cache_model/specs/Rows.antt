@@ -1,15 +1,14 @@
 -- An entry of the directory, and the directory as a list of rows. The rows stand in one order: the changed ones by
 -- name, then the unchanged ones from least to most recently used.
-use Rattle.std.specs.Prelude.{ℕ, ◌+◌, ◌/◌, Bool, IsTrue, true, false, not, ◌&&◌, ◌||◌, ◌==◌, if◌then◌else◌, List, [], ◌∷◌, ◌++◌, length, Option, Some, None, is_some, is_none, unwrap_or, filter, find, sum_by}
+use Rattle.std.specs.Prelude.{ℕ, Bool, IsTrue, true, false, not, ◌&&◌, ◌||◌, ◌==◌, if◌then◌else◌, List, [], ◌∷◌, ◌++◌, Option, Some, None, is_some, is_none, unwrap_or, filter, find, sum_by}
 use Rattle.std.specs.List.{list_any, list_all}
 use Rattle.cf_types.specs.declared.names.Name16.{Name16}
-use Rattle.cf_types.specs.declared.numbers.ConnId.{ConnId}
 use Rattle.cf_types.specs.Name.{same_name, name_before}
 use Rattle.list_laws.specs.Pairwise.{pairwise}
 use Rattle.list_laws.specs.Insertions.{insertion}
 use Rattle.cache_model.specs.declared.items.CacheItem.{CacheItem}
-use Rattle.cache_model.specs.declared.items.Holder.{Holder}
 pub use Rattle.cf_types.specs.Stored.{elements_of}
+pub use Rattle.cache_dir.specs.RowMap.{is_held_by}
 
 abbrev pub is_row_of : Name16 → CacheItem → Bool
 is_row_of name row = same_name row.name name
@@ -50,11 +49,6 @@ new_row name stg = record { name = name; body = None; adj = None; class = None; 
 
 abbrev pub row_or_new : Name16 → ℕ → List CacheItem → CacheItem
 row_or_new name stg rows = unwrap_or (row_of name rows) (new_row name stg)
-
--- a connector holds the castout lock
-abbrev pub is_held_by : ConnId → Option Holder → Bool
-is_held_by conn None = false
-is_held_by conn (Some holder) = holder.conn.0 == conn.0
 
 -- the changed rows of a castout class; the rows of a storage class
 abbrev pub has_class : ℕ → CacheItem → Bool

@@ -7,7 +7,7 @@ use Rattle.cf_types.specs.declared.cache_commands.CacheCmd.{CacheCmd}
 use Rattle.cf_types.specs.declared.cache_commands.CacheCmd.TheVariants.{Read, Write, CrossInval, RegList, Castout, Unlock, CoClass, CoStats, DirInfo, Delete, StgStats}
 use Rattle.cf_types.specs.Name.{same_name}
 use Rattle.cache_model.specs.declared.items.CacheItem.{CacheItem}
-use Rattle.cache_model.specs.declared.items.Holder.{Holder}
+use Rattle.cache_dir.specs.declared.row.Holder.{Holder}
 use Rattle.cache_model.specs.Contents.{Content}
 use Rattle.cache_model.specs.Step.{cause}
 use Rattle.cache_model.specs.Runs.{Deed, after_deed}

@@ -1,11 +1,5 @@
-use cf_types::{Adjunct, Body, ConnId, Name16};
-
-/// Who holds the castout lock of an entry, and whether the entry was written since.
-#[derive(Clone, Copy, PartialEq, Eq)]
-pub struct Holder {
-    pub conn: ConnId,
-    pub rewritten: bool,
-}
+use cache_dir::Holder;
+use cf_types::{Adjunct, Body, Name16};
 
 /// An entry of the directory. It is changed where it has a castout class (1 to 16); `stg` is its
 /// storage class (1 to 8).

@@ -6,5 +6,6 @@
 mod items;
 mod requests;
 
-pub use items::{CacheItem, Holder};
+pub use cache_dir::Holder;
+pub use items::CacheItem;
 pub use requests::Request;

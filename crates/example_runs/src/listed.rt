@@ -1,5 +1,6 @@
 //! Links that are down at calls which a text lists.
 ghost use Rattle.std.specs.Prelude.{◌≡◌, ◌≤◌, IfOk, length};
+ghost use Rattle.example_runs.specs.declared.listed.TheConstants.{LINKS};
 
 use cf_link::ListLink;
 use std::alloc::{AllocError, Global};
@@ -12,7 +13,7 @@ pub const LINKS: usize = 64;
 /// structure in its script, from 0, the number of a facility, and the number of a call of the link
 /// between them, from 1.
 pub fn listed(alloc: Global, text: &str) -> io::Result<Vec<ListLink>>
-    ensures { IfOk result (λ links. length links.items ≡ 64) }
+    ensures { IfOk result (λ links. length links.items ≡ LINKS) }
 {
     let mut links = steady(alloc)?;
     for line in text.lines() {
@@ -25,7 +26,7 @@ pub fn listed(alloc: Global, text: &str) -> io::Result<Vec<ListLink>>
 
 // Links that are never down.
 fn steady(alloc: Global) -> Result<Vec<ListLink>, AllocError>
-    ensures { IfOk result (λ links. length links.items ≡ 64) }
+    ensures { IfOk result (λ links. length links.items ≡ LINKS) }
 {
     let mut links = Vec::with_capacity(alloc, LINKS)?;
     for _ in 0..LINKS {

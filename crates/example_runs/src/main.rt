@@ -10,6 +10,7 @@
 mod listed;
 
 ghost use Rattle.std.specs.Prelude.{◌≡◌, IfOk, length};
+ghost use Rattle.example_runs.specs.declared.listed.TheConstants.{LINKS};
 
 use cf_io::{MemSink, MemSource};
 use cf_link::ListLink;
@@ -35,7 +36,7 @@ fn report_of(
     script: Vec<u8>,
     mut links: Vec<ListLink>,
 ) -> io::Result<(u8, Vec<u8>)>
-    requires { length links.items ≡ 64 }
+    requires { length links.items ≡ LINKS }
 {
     let mut source = MemSource {
         bytes: script,
@@ -63,7 +64,7 @@ fn report_of(
 
 // The links over which a story is run: those that its file lists, where it has one.
 fn links_of(rt: &(impl Files + AllocGlobal), name: &str, way: &str) -> io::Result<Vec<ListLink>>
-    ensures { IfOk result (λ links. length links.items ≡ 64) }
+    ensures { IfOk result (λ links. length links.items ≡ LINKS) }
 {
     if way == "links" {
         let text = fs::read_to_string(rt, format!(in rt.alloc(); "{name}.links")?)?;

@@ -2,6 +2,7 @@
 use Rattle.std.specs.Prelude.{◌≡◌, ℕ, ◌+◌, ◌<◌, ◌≤◌, List, [], ◌∷◌, ◌++◌, length, map, All}
 use Rattle.std.specs.List.{range_with_len}
 use Rattle.std.specs.Vec.{vec_capacity}
+use Rattle.cf_types.specs.declared.limits.TheConstants.{STRUCTURES, LINKS}
 use Rattle.any_cell.specs.Passes.{PassShown}
 use Rattle.any_cell.specs.Cells.{CellShown}
 use Rattle.plex_board.specs.declared.rest.Rest.{Rest}
@@ -21,21 +22,21 @@ bare_desk owner = record { owner = record { 0 = owner }; passes = [] }
 abbrev pub desk_with : PassShown → DeskShown → DeskShown
 desk_with pass desk = record desk { passes = desk.passes ++ pass ∷ [] }
 
--- what the end will need is there, for 16 structures with 64 links
+-- what the end will need is there, for as many structures as a script may have, and their links
 pub record IsBegun {L : Type 0} (callers : ℕ) (cells : List (CellShown L)) (rest : Rest L) : Type 0 where
   pub homes : AreHomes (callers + 1) cells (homes_shown rest.homes.items)
   pub empty : AreEmpty (homes_shown rest.homes.items)
-  pub homes_room : 16 ≤ vec_capacity rest.homes
+  pub homes_room : STRUCTURES ≤ vec_capacity rest.homes
   pub no_histories : rest.histories.items ≡ []
-  pub history_room : 16 ≤ vec_capacity rest.histories
+  pub history_room : STRUCTURES ≤ vec_capacity rest.histories
   pub no_links : rest.links.items ≡ []
-  pub link_room : 64 ≤ vec_capacity rest.links
+  pub link_room : LINKS ≤ vec_capacity rest.links
   pub no_spare : rest.spare.items ≡ []
-  pub spare_room : 64 ≤ vec_capacity rest.spare
+  pub spare_room : LINKS ≤ vec_capacity rest.spare
 
 pub record IsOpening {L : Type 0} (callers limit : ℕ) (opening : Opening L) : Type 0 where
   pub started : All (IsStarted callers limit) opening.stations.items
-  pub stations_room : 16 ≤ vec_capacity opening.stations
+  pub stations_room : STRUCTURES ≤ vec_capacity opening.stations
   pub desks : opening.desks.items ≡ map (desk_at opening.stations.items) (range_with_len 0 (callers + 1))
   pub begun : IsBegun callers opening.stations.items opening.rest
 

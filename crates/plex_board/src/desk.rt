@@ -17,6 +17,7 @@ pub struct Desk {
 impl Model for Desk {
     ghost use Rattle.std.specs.Prelude.{◌≤◌};
     ghost use Rattle.std.specs.Vec.{vec_capacity};
+    ghost use Rattle.cf_types.specs.declared.limits.TheConstants.{STRUCTURES};
     ghost use Rattle.desk_model.specs.Desks.{DeskShown};
 
     ghost Value = { DeskShown };
@@ -24,7 +25,7 @@ impl Model for Desk {
     ghost view = { λ desk. record { owner = desk.owner; passes = desk.places.items } };
 
     // a place at each structure that a board may have
-    ghost invariant = { λ desk. 16 ≤ vec_capacity desk.places };
+    ghost invariant = { λ desk. STRUCTURES ≤ vec_capacity desk.places };
 }
 
 impl Drop for Desk {

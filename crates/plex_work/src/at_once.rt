@@ -1,6 +1,7 @@
 //! The run of a script on threads.
 ghost use Rattle.std.specs.Prelude.{◌≡◌, ◌≢◌, ◌≤◌, IfOk, OnErr, All, length};
 ghost use Rattle.std.specs.Vec.{vec_len};
+ghost use Rattle.cf_types.specs.declared.limits.TheConstants.{LINKS};
 ghost use Rattle.plex_script.specs.declared.transcripts.AgentEnd.TheVariants as ended;
 ghost use Rattle.run_model.specs.Runnable.{IsRunnable};
 ghost use Rattle.run_model.specs.Headline.{ShowsHistories};
@@ -37,7 +38,7 @@ pub fn threads<R: Threads + Wait + Sync, L: Link, G: Gate>(
 ) -> (Result<Finished, NoMemory>, Vec<L>)
     requires script { IsRunnable script.now }
     requires limit { (1 ≤ limit) × (limit ≤ 4294967000) }
-    requires links { vec_len links ≡ 64 }
+    requires links { vec_len links ≡ LINKS }
     // Whatever the schedule was: a legal history of each structure, each caller's calls in it once
     // and in their order, transcripts that follow the script, and tests that tell what stood.
     ensures shows { IfOk result.0 (λ it.

@@ -2,7 +2,7 @@
 ghost use Rattle.std.specs.Prelude.{◌≡◌, ◌+◌, ◌≤◌, ℕ, IfOk, OnOk, IsOk, All, length, map};
 ghost use Rattle.std.specs.Vec.{vec_len};
 ghost use Rattle.std.specs.List.{range_with_len};
-ghost use Rattle.cf_types.specs.declared.limits.TheConstants.{CONNECTORS};
+ghost use Rattle.cf_types.specs.declared.limits.TheConstants.{CONNECTORS, LINKS};
 ghost use Rattle.cf_types.specs.declared.numbers.CfId.{CfId};
 ghost use Rattle.cf_link.specs.Links.{Telling};
 ghost use Rattle.run_model.specs.Headline.{ShowsHistories};
@@ -87,7 +87,7 @@ pub fn serial<L: Link>(
 ) -> (Result<Finished, NoMemory>, Vec<L>)
     requires script { IsRunnable script.now }
     requires limit { (1 ≤ limit) × (limit ≤ 4294967000) }
-    requires links { vec_len links ≡ 64 }
+    requires links { vec_len links ≡ LINKS }
     // Where the links tell which calls they answer Down, it is the run over links that tell so.
     ensures exact { (told : ℕ → CfId → Telling)
         → AreTelling L.calls L.downs L.faults told (length script.now.structures) links.items

@@ -7,7 +7,7 @@ use Rattle.cf_types.specs.declared.cache_commands.CacheReply.{CacheReply}
 use Rattle.cf_types.specs.declared.cache_commands.CacheReply.TheVariants as replies
 use Rattle.cache_model.specs.Contents.{Content}
 use Rattle.cache_model.specs.declared.items.CacheItem.{CacheItem}
-use Rattle.cache_model.specs.declared.items.Holder.{Holder}
+use Rattle.cache_dir.specs.declared.row.Holder.{Holder}
 use Rattle.cache_model.specs.Rows.{row_of, row_or_new, rows_replaced}
 use Rattle.cache_model.specs.Refusals.{entry_refusal, not_held_refusal}
 

@@ -8,7 +8,7 @@ use Rattle.cf_types.specs.declared.refusals.Refusal.{Refusal}
 use Rattle.cache_model.specs.Contents.{Content}
 use Rattle.cache_regs.specs.Registrations.{regs_with, regs_without_name}
 use Rattle.cache_model.specs.declared.items.CacheItem.{CacheItem}
-use Rattle.cache_model.specs.declared.items.Holder.{Holder}
+use Rattle.cache_dir.specs.declared.row.Holder.{Holder}
 use Rattle.cache_model.specs.declared.requests.Request.{Request}
 use Rattle.cache_model.specs.Rows.{elements_of, row_or_new, rows_replaced}
 use Rattle.cache_model.specs.Contents.{rows_spared, regs_spared}

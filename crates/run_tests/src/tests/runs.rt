@@ -1,9 +1,11 @@
 //! Runs of the program in memory.
 ghost use Rattle.std.specs.Prelude.{◌≡◌, IfOk};
 ghost use Rattle.std.specs.Vec.{vec_len};
+ghost use Rattle.cf_types.specs.declared.limits.TheConstants.{LINKS};
 
 use cf_io::{MemSink, MemSource};
 use cf_link::Steady;
+use cf_types::limits::LINKS;
 use plex_agent::Gate;
 use plex_run::run;
 use std::alloc::{AllocError, Global};
@@ -38,9 +40,9 @@ fn words_of(alloc: Global, line: &str) -> Result<Vec<String>, AllocError> {
 
 // Links to facilities that are never lost.
 fn steady(alloc: Global) -> Result<Vec<Steady>, AllocError>
-    ensures { IfOk result (λ links. vec_len links ≡ 64) }
+    ensures { IfOk result (λ links. vec_len links ≡ LINKS) }
 {
-    vec![in alloc; Steady; 64]
+    vec![in alloc; Steady; LINKS]
 }
 
 /// The status of the script's run by these words, with a blank between them, what it wrote, and in

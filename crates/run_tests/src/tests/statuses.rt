@@ -1,10 +1,12 @@
 //! How runs end: the statuses, and what is written with each.
 ghost use Rattle.std.specs.Prelude.{◌≡◌, ◌<◌, IfOk};
 ghost use Rattle.std.specs.Vec.{vec_len};
+ghost use Rattle.cf_types.specs.declared.limits.TheConstants.{LINKS};
 
 use super::{MEMBERS, POLICY, policy_of};
 use cf_io::{MemSink, MemSource};
 use cf_link::Steady;
+use cf_types::limits::LINKS;
 use plex_agent::OpenGate;
 use plex_run::run;
 use std::alloc::{AllocError, Global};
@@ -45,9 +47,9 @@ fn words_of(alloc: Global, word: &str) -> Result<Vec<String>, AllocError> {
 
 // Links to facilities that are never lost.
 fn steady(alloc: Global) -> Result<Vec<Steady>, AllocError>
-    ensures { IfOk result (λ links. vec_len links ≡ 64) }
+    ensures { IfOk result (λ links. vec_len links ≡ LINKS) }
 {
-    vec![in alloc; Steady; 64]
+    vec![in alloc; Steady; LINKS]
 }
 
 /// The status of a run by this word over what the source has left, into this sink.

@@ -1,6 +1,7 @@
 use Rattle.std.proofs.Common.{◌-◌, ◌<◌, ◌≤◌, length, sym, subst, arith}
 use Rattle.std.proofs.lemmas.List.{length-set}
 use Rattle.std.proofs.Common.{◌∙◌}
+use Rattle.cf_types.specs.declared.limits.TheConstants.{STRUCTURES}
 use Rattle.plex_board.proofs.DealLaws.{deal-some, deal-next, deal-desks, deal-unused, few-left}
 use Rattle.plex_board.proofs.opening.deal.Goals as goal
 
@@ -12,7 +13,7 @@ deal_one-requires-clause-unused c =
 pub deal_one-requires-clause-few : goal.deal_one-requires-clause-few
 deal_one-requires-clause-few c =
     let before = c.loop-pass.invariant in
-    subst (λ desk. length desk.passes < 16) (sym c.index_mut.ensures.value)
+    subst (λ desk. length desk.passes < STRUCTURES) (sym c.index_mut.ensures.value)
     (before.few (c.loop-pass.owner - 1) c.index_mut.result.now
     (omega (arith, deal-some _ _ _ _ c.in-Some.ensures.some before.owner)))
 
@@ -29,7 +30,7 @@ loop-pass-preserved c =
       unused = (deal-unused _ _ _ _ c.in-Some.ensures.some before.owner before.unused).0;
       count = length-set c.loop-pass.desks.items (c.loop-pass.owner - 1) _ ∙ before.count;
       within = omega (arith, before.within);
-      few = few-left c.loop-pass.desks.items c.loop-pass.owner 16 _ before.few;
+      few = few-left c.loop-pass.desks.items c.loop-pass.owner STRUCTURES _ before.few;
       str_type = c.pop.ensures.str_type ∙ before.str_type;
       room = c.pop.ensures.room ∙ before.room;
     }

@@ -1,5 +1,6 @@
 use Rattle.std.proofs.Common.{◌≡◌, ◌<◌, ◌≤◌, ℕ, [], length, get_or}
 use Rattle.std.specs.Prelude.{All}
+use Rattle.cf_types.specs.declared.limits.TheConstants.{STRUCTURES}
 use Rattle.any_cell.specs.Passes.{passes_shown, type_of_passes, room_of}
 use Rattle.desk_model.specs.Desks.{DeskShown}
 use Rattle.plex_board.specs.Rests.{each_with}
@@ -14,7 +15,7 @@ invariant-loop-pass l = record {
   unused : All (λ pass. pass.calls ≡ []) (passes_shown l.home);
   count : length l.desks.items ≡ length l.fn.desks.items;
   within : l.owner ≤ length l.fn.desks.items;
-  few : (k : ℕ) (desk : DeskShown) → k < l.owner → length (get_or l.desks.items k desk).passes < 16;
+  few : (k : ℕ) (desk : DeskShown) → k < l.owner → length (get_or l.desks.items k desk).passes < STRUCTURES;
   str_type : type_of_passes l.home ≡ type_of_passes l.fn.home;
   room : room_of l.home ≡ room_of l.fn.home;
 }

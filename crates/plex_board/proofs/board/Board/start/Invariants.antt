@@ -1,6 +1,7 @@
 use Rattle.std.proofs.Common.{◌≡◌, ◌+◌, ◌*◌, ◌++◌, length, map, take}
 use Rattle.std.specs.List.{flat_map}
 use Rattle.std.specs.Vec.Iter.{into_iter_items, into_iter_len}
+use Rattle.cf_types.specs.declared.limits.TheConstants.{LINKS}
 use Rattle.desk_model.specs.Boards.{four_of}
 use Rattle.plex_board.specs.Openings.{IsOpening}
 use Rattle.plex_board.proofs.board.Board.start.Given as goal
@@ -11,5 +12,5 @@ invariant-loop-form g l = record {
   forms : map (λ cell. cell.form) l.opening.stations.items ≡ take l.form-index l.form-items;
   count : length l.opening.stations.items ≡ l.form-index;
   links : flat_map (λ cell. four_of cell.links) l.opening.stations.items ++ into_iter_items l.left ≡ l.fn.links.items;
-  left : into_iter_len l.left + 4 * l.form-index ≡ 64;
+  left : into_iter_len l.left + 4 * l.form-index ≡ LINKS;
 }
