@@ -14,10 +14,10 @@ use Rattle.plex_script.specs.declared.scripts.AnyAsk.{AnyAsk}
 use Rattle.plex_script.specs.declared.scripts.AnyAsk.TheVariants as any_ask
 use Rattle.struct_cell.specs.declared.refused.CallRefused.{CallRefused}
 use Rattle.run_model.specs.Types.{type_of_kind}
-use Rattle.any_cell.specs.Cells.{CellShown, IsAskOf}
-use Rattle.desk_model.specs.Desks.{DeskShown, IsAnsweredOn, IsLaterOn}
-use Rattle.desk_model.specs.Boards.{BoardShown, IsPolicy, IsStarted, IsDeskOf, cell_on, new_desk}
-use Rattle.desk_model.proofs.DeskLaws.{new_desk-of_board}
+use Rattle.plex_board.specs.Cells.{CellShown, IsAskOf}
+use Rattle.plex_board.specs.Desks.{DeskShown, IsAnsweredOn, IsLaterOn}
+use Rattle.plex_board.specs.Boards.{BoardShown, IsPolicy, IsStarted, IsDeskOf, cell_on, new_desk}
+use Rattle.plex_board.proofs.DeskLaws.{new_desk-of_board}
 use Rattle.bench_cell.proofs.LastLaws.{front-of_two, last-of_one, last-some}
 use Rattle.bench_cell.specs.Seats.{IsCacheForm, IsCacheAlone, IsOneCache, IsPool, IsCacheBoard, IsOperated, IsSeated, pool}
 

@@ -7,9 +7,9 @@ use Rattle.cf_types.specs.Forms.{IsForm, IsConnector}
 use Rattle.engine_api.specs.Asking.{IsOperator}
 use Rattle.plex_script.specs.declared.scripts.Script.{Script}
 use Rattle.run_model.specs.Types.{OfCache}
-use Rattle.any_cell.specs.Cells.{CellShown}
-use Rattle.desk_model.specs.Desks.{DeskShown}
-use Rattle.desk_model.specs.Boards.{BoardShown, IsDeskOf, cell_on}
+use Rattle.plex_board.specs.Cells.{CellShown}
+use Rattle.plex_board.specs.Desks.{DeskShown}
+use Rattle.plex_board.specs.Boards.{BoardShown, IsDeskOf, cell_on}
 
 -- the form of a cache structure with vectors of 32 bits
 pub record IsCacheForm (form : StrForm) : Type 0 where

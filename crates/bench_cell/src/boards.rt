@@ -4,7 +4,7 @@ ghost use Rattle.std.specs.Vec.{vec_len};
 ghost use Rattle.std.specs.List.{range_with_len};
 ghost use Rattle.cf_types.specs.declared.limits.TheConstants.{LINKS};
 ghost use Rattle.engine_api.specs.Asking.{MayAsk};
-ghost use Rattle.desk_model.specs.Boards.{new_desk};
+ghost use Rattle.plex_board.specs.Boards.{new_desk};
 ghost use Rattle.bench_cell.specs.Seats.{IsOneCache, IsCacheBoard, IsOperated, IsSeated};
 
 use crate::faults::{Timed, call_error};

@@ -3,9 +3,9 @@ use Rattle.std.proofs.Common.{◌≡◌, ℕ, ◌+◌, List, [], ◌∷◌, map,
 use Rattle.std.specs.Prelude.{All}
 use Rattle.std.specs.List.{range_with_len}
 use Rattle.std.proofs.lemmas.List.Elements.{All-cons, All-map, All-nil, All-same}
-use Rattle.desk_model.specs.Desks.{DeskShown}
-use Rattle.desk_model.specs.Boards.{BoardShown, IsDeskOf, new_desk}
-use Rattle.desk_model.proofs.DeskLaws.{new_desk-of_board}
+use Rattle.plex_board.specs.Desks.{DeskShown}
+use Rattle.plex_board.specs.Boards.{BoardShown, IsDeskOf, new_desk}
+use Rattle.plex_board.proofs.DeskLaws.{new_desk-of_board}
 
 abbrev owner_of : DeskShown → ℕ
 owner_of desk = desk.owner.0

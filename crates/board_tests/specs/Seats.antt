@@ -3,8 +3,8 @@ use Rattle.std.specs.Prelude.{◌≡◌, ◌<◌, IfSome, length}
 use Rattle.cf_types.specs.declared.numbers.StrNo.{StrNo}
 use Rattle.cf_types.specs.Forms.{IsConnector}
 use Rattle.run_model.specs.Types.{OfCache}
-use Rattle.desk_model.specs.Desks.{DeskShown}
-use Rattle.desk_model.specs.Boards.{BoardShown, IsDeskOf, cell_on}
+use Rattle.plex_board.specs.Desks.{DeskShown}
+use Rattle.plex_board.specs.Boards.{BoardShown, IsDeskOf, cell_on}
 use Rattle.board_tests.specs.declared.trial.Trial.{Trial}
 
 abbrev pub first_structure : StrNo

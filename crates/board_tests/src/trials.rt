@@ -1,6 +1,6 @@
 //! A board with one cache and two connectors, from its start to its history.
 ghost use Rattle.std.specs.Prelude.{◌≡◌, ◌≤◌, ◌∷◌, [], IfOk, All};
-ghost use Rattle.desk_model.specs.Boards.{IsDeskOf, IsPolicy};
+ghost use Rattle.plex_board.specs.Boards.{IsDeskOf, IsPolicy};
 ghost use Rattle.board_tests.specs.Seats.{HasCache, IsTrial};
 
 use crate::halts::Halt;

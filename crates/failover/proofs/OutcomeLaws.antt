@@ -17,10 +17,10 @@ use Rattle.plex_script.specs.declared.asks.AnyHistory.TheVariants as history
 use Rattle.plex_script.specs.declared.scripts.Script.{Script}
 use Rattle.vec_words.specs.declared.logged.Tested.{Tested}
 use Rattle.run_model.specs.Kinds.{any_answers}
-use Rattle.any_cell.specs.Cells.{CellShown, IsAnyTold}
-use Rattle.desk_model.specs.Desks.{DeskShown, pass_at}
-use Rattle.desk_model.specs.Boards.{BoardShown, IsAccount, AreClosed, AreEachAsked, AreLinksAsked, links_of, four_of, new_desk}
-use Rattle.desk_model.proofs.DeskLaws.{desk-pass_owner}
+use Rattle.plex_board.specs.Cells.{CellShown, IsAnyTold}
+use Rattle.plex_board.specs.Desks.{DeskShown, pass_at}
+use Rattle.plex_board.specs.Boards.{BoardShown, IsAccount, AreClosed, AreEachAsked, AreLinksAsked, links_of, four_of, new_desk}
+use Rattle.plex_board.proofs.DeskLaws.{desk-pass_owner}
 use Rattle.failover.specs.Failing.{AreDownOnce, IsDownAt}
 use Rattle.failover.specs.Members.{HasPool, AreSeated, HasTested, gbp, sight_of}
 use Rattle.failover.specs.Outcome.{IsOpened, IsOutcome, WasAsked, reader, cf1, cf2, down_once}

@@ -16,11 +16,11 @@ use Rattle.plex_script.specs.Scripts.{IsScript}
 use Rattle.plex_script.proofs.FormedLines.{script-formed}
 use Rattle.vec_words.specs.declared.logged.Tested.{Tested}
 use Rattle.run_model.specs.Types.{type_of_kind}
-use Rattle.any_cell.specs.Passes.{PassShown}
-use Rattle.any_cell.specs.Cells.{CellShown}
-use Rattle.desk_model.specs.Desks.{DeskShown, pass_at, with_pass}
-use Rattle.desk_model.specs.Boards.{BoardShown, IsPolicy, IsDeskOf, cell_on, new_desk}
-use Rattle.desk_model.proofs.DeskLaws.{new_desk-of_board, desk-length, pass_at-with_pass_same}
+use Rattle.plex_board.specs.Passes.{PassShown}
+use Rattle.plex_board.specs.Cells.{CellShown}
+use Rattle.plex_board.specs.Desks.{DeskShown, pass_at, with_pass}
+use Rattle.plex_board.specs.Boards.{BoardShown, IsPolicy, IsDeskOf, cell_on, new_desk}
+use Rattle.plex_board.proofs.DeskLaws.{new_desk-of_board, desk-length, pass_at-with_pass_same}
 use Rattle.failover.specs.Members.{HasPool, AreSeated, HasTested, gbp, owner_of, sight_of}
 
 -- what a text says states a policy

@@ -5,9 +5,9 @@ use Rattle.cf_types.specs.declared.numbers.StrNo.{StrNo}
 use Rattle.vec_words.specs.declared.logged.Sight.{Sight}
 use Rattle.vec_words.specs.declared.logged.Tested.{Tested}
 use Rattle.run_model.specs.Types.{OfCache}
-use Rattle.any_cell.specs.Cells.{CellShown}
-use Rattle.desk_model.specs.Desks.{DeskShown, pass_at}
-use Rattle.desk_model.specs.Boards.{BoardShown, IsDeskOf, cell_on}
+use Rattle.plex_board.specs.Cells.{CellShown}
+use Rattle.plex_board.specs.Desks.{DeskShown, pass_at}
+use Rattle.plex_board.specs.Boards.{BoardShown, IsDeskOf, cell_on}
 
 -- the first structure of the policy
 abbrev pub gbp : StrNo

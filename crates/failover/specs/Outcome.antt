@@ -9,9 +9,9 @@ use Rattle.plex_script.specs.declared.asks.AnyHistory.{AnyHistory}
 use Rattle.plex_script.specs.declared.scripts.Script.{Script}
 use Rattle.vec_words.specs.declared.logged.Tested.{Tested}
 use Rattle.run_model.specs.Kinds.{IsAnyLegal, any_answers}
-use Rattle.any_cell.specs.Cells.{CellShown, IsAnyTold}
-use Rattle.desk_model.specs.Desks.{DeskShown}
-use Rattle.desk_model.specs.Boards.{BoardShown, links_of}
+use Rattle.plex_board.specs.Cells.{CellShown, IsAnyTold}
+use Rattle.plex_board.specs.Desks.{DeskShown}
+use Rattle.plex_board.specs.Boards.{BoardShown, links_of}
 use Rattle.failover.specs.Failing.{AreDownOnce}
 use Rattle.failover.specs.Members.{AreSeated, sight_of}
 

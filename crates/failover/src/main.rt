@@ -8,7 +8,7 @@ mod links;
 mod members;
 
 ghost use Rattle.std.specs.Prelude.{IsTrue, IfOk};
-ghost use Rattle.desk_model.specs.Boards.{IsPolicy};
+ghost use Rattle.plex_board.specs.Boards.{IsPolicy};
 ghost use Rattle.failover.specs.Members.{HasPool};
 ghost use Rattle.failover.specs.Outcome.{IsOpened, IsOutcome};
 

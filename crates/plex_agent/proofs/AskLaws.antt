@@ -13,12 +13,12 @@ use Rattle.plex_script.specs.declared.transcripts.AgentEnd.{AgentEnd}
 use Rattle.plex_script.specs.declared.transcripts.AgentEnd.TheVariants as ended
 use Rattle.plex_script.specs.declared.transcripts.Shown.{Shown}
 use Rattle.plex_script.specs.Agent.{most_asks, step_after, IsReady}
-use Rattle.any_cell.specs.Passes.{PassShown, with_call}
-use Rattle.any_cell.specs.Cells.{CellShown}
-use Rattle.desk_model.specs.Desks.{DeskShown, pass_at, with_pass, IsLaterOn}
-use Rattle.desk_model.specs.Boards.{BoardShown, IsDeskOf, cell_on}
-use Rattle.desk_model.proofs.DeskLaws.{pass_at-with_pass_same, with_pass-pass_at, desk-length}
-use Rattle.desk_model.specs.Turns.{AtWork, Asks, Steps, EndsAt, Halts, call_item}
+use Rattle.plex_board.specs.Passes.{PassShown, with_call}
+use Rattle.plex_board.specs.Cells.{CellShown}
+use Rattle.plex_board.specs.Desks.{DeskShown, pass_at, with_pass, IsLaterOn}
+use Rattle.plex_board.specs.Boards.{BoardShown, IsDeskOf, cell_on}
+use Rattle.plex_board.proofs.DeskLaws.{pass_at-with_pass_same, with_pass-pass_at, desk-length}
+use Rattle.plex_board.specs.Turns.{AtWork, Asks, Steps, EndsAt, Halts, call_item}
 use Rattle.plex_agent.specs.Calls.{IsAsked, at_work, end_of}
 use Rattle.plex_script.proofs.StepLaws.{asks_some, fewer_asks, ready_after}
 use Rattle.plex_agent.proofs.CellLaws.{some_is, cell_there}

@@ -6,9 +6,9 @@ use Rattle.std.proofs.lemmas.List.Elements.{All-get_or}
 use Rattle.std.proofs.lemmas.Option.{get_or_from_slice_get}
 use Rattle.cf_types.specs.declared.numbers.ConnId.{ConnId}
 use Rattle.plex_script.specs.declared.scripts.Line.{Line}
-use Rattle.desk_model.specs.Boards.{BoardShown, cell_on}
-use Rattle.desk_model.specs.Turns.{AtWork, Turns, Departs}
-use Rattle.desk_model.specs.Callers.{IsLineFor, DoesLines, DepartsEach, lines_by}
+use Rattle.plex_board.specs.Boards.{BoardShown, cell_on}
+use Rattle.plex_board.specs.Turns.{AtWork, Turns, Departs}
+use Rattle.plex_board.specs.Callers.{IsLineFor, DoesLines, DepartsEach, lines_by}
 use Rattle.plex_agent.proofs.CellLaws.{some_is, cell_there}
 
 drop_next : {X : Type 0} (xs : List X) (i : ℕ) (x d : X) → i < length xs → x ≡ get_or xs i d

@@ -10,8 +10,8 @@ use Rattle.plex_script.specs.declared.scripts.AnyAsk.{AnyAsk}
 use Rattle.plex_script.specs.Agent.{asked_by}
 use Rattle.run_model.specs.Types.{type_of_kind}
 use Rattle.run_model.specs.Kinds.{MayAskAny}
-use Rattle.any_cell.specs.Cells.{CellShown, IsAskOf}
-use Rattle.desk_model.specs.Boards.{BoardShown, cell_on}
+use Rattle.plex_board.specs.Cells.{CellShown, IsAskOf}
+use Rattle.plex_board.specs.Boards.{BoardShown, cell_on}
 use Rattle.plex_agent.specs.Calls.{IsAskable}
 use Rattle.plex_agent.proofs.StepLaws.{may_ask}
 

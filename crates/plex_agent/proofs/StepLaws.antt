@@ -12,7 +12,7 @@ use Rattle.plex_script.specs.declared.scripts.AnyAsk.{AnyAsk}
 use Rattle.plex_script.specs.Agent.{asked_by, shell_ask}
 use Rattle.run_model.specs.Types.{type_of_kind}
 use Rattle.run_model.specs.Kinds.{MayAskAny}
-use Rattle.any_cell.specs.Cells.{CellShown, IsAskOf}
+use Rattle.plex_board.specs.Cells.{CellShown, IsAskOf}
 use Rattle.plex_agent.specs.Calls.{IsAskable}
 
 -- ---- what may be asked

@@ -14,11 +14,11 @@ use Rattle.plex_script.specs.declared.transcripts.AgentEnd.TheVariants as ended
 use Rattle.plex_script.specs.declared.transcripts.Shown.{Shown}
 use Rattle.plex_script.specs.Agent.{step_after, asked_by}
 use Rattle.run_model.specs.Kinds.{MayAskAny}
-use Rattle.any_cell.specs.declared.any_reply.AnyReply.{AnyReply}
-use Rattle.any_cell.specs.Passes.{with_call}
-use Rattle.any_cell.specs.Cells.{CellShown, IsAskOf}
-use Rattle.desk_model.specs.Desks.{DeskShown, pass_at, with_pass}
-use Rattle.desk_model.specs.Turns.{AtWork, call_item}
+use Rattle.plex_board.specs.declared.any_reply.AnyReply.{AnyReply}
+use Rattle.plex_board.specs.Passes.{with_call}
+use Rattle.plex_board.specs.Cells.{CellShown, IsAskOf}
+use Rattle.plex_board.specs.Desks.{DeskShown, pass_at, with_pass}
+use Rattle.plex_board.specs.Turns.{AtWork, call_item}
 
 abbrev pub at_work : DeskShown → List Shown → AgentEnd → AtWork
 at_work desk items end = record { desk = desk; shown = record { items = items; end = end } }

@@ -2,10 +2,10 @@
 ghost use Rattle.std.specs.Prelude.{◌≡◌, ◌<◌, IfSome, OnOk, OnErr, All, length};
 ghost use Rattle.cf_types.specs.Forms.{IsCaller, IsConnector};
 ghost use Rattle.plex_script.specs.declared.transcripts.AgentEnd.TheVariants as ended;
-ghost use Rattle.desk_model.specs.Boards.{IsDeskOf, cell_on};
-ghost use Rattle.desk_model.specs.Turns.{Acts, Turns, Departs};
+ghost use Rattle.plex_board.specs.Boards.{IsDeskOf, cell_on};
+ghost use Rattle.plex_board.specs.Turns.{Acts, Turns, Departs};
 ghost use Rattle.plex_agent.specs.Calls.{at_work};
-ghost use Rattle.desk_model.specs.Callers.{IsLineFor, Serves, Closes, no_items};
+ghost use Rattle.plex_board.specs.Callers.{IsLineFor, Serves, Closes, no_items};
 
 use crate::calls::ask_all;
 use crate::gate::Gate;

@@ -4,9 +4,9 @@ ghost use Rattle.std.specs.Option.{option_copied};
 ghost use Rattle.struct_cell.specs.declared.refused.CallRefused.TheVariants as refused;
 ghost use Rattle.plex_script.specs.declared.agents.Step.TheVariants as step;
 ghost use Rattle.plex_script.specs.declared.transcripts.AgentEnd.TheVariants as ended;
-ghost use Rattle.desk_model.specs.Desks.{pass_at, IsLaterOn};
-ghost use Rattle.desk_model.specs.Boards.{IsDeskOf, cell_on};
-ghost use Rattle.desk_model.specs.Turns.{Asks};
+ghost use Rattle.plex_board.specs.Desks.{pass_at, IsLaterOn};
+ghost use Rattle.plex_board.specs.Boards.{IsDeskOf, cell_on};
+ghost use Rattle.plex_board.specs.Turns.{Asks};
 ghost use Rattle.plex_script.specs.Agent.{IsReady};
 ghost use Rattle.plex_agent.specs.Calls.{IsAskable, IsAsked, at_work, end_of};
 

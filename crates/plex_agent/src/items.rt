@@ -2,7 +2,7 @@
 //! is done, so nothing is done that isn't shown.
 ghost use Rattle.std.specs.Prelude.{◌≡◌, ◌<◌, OnOk, [], length};
 ghost use Rattle.std.specs.Vec.{vec_len, vec_capacity};
-ghost use Rattle.desk_model.specs.Turns.{is_done_as};
+ghost use Rattle.plex_board.specs.Turns.{is_done_as};
 
 use cf_types::{Listing, NoMemory};
 use plex_script::{AgentEnd, Shown, Transcript};

@@ -1,8 +1,8 @@
 //! What a caller does without a call: tests of its own vector, and notes for others.
 ghost use Rattle.std.specs.Prelude.{◌≡◌, ◌<◌, OnOk, OnErr, IfSome, length};
 ghost use Rattle.plex_script.specs.declared.transcripts.AgentEnd.TheVariants as ended;
-ghost use Rattle.desk_model.specs.Boards.{IsDeskOf, cell_on};
-ghost use Rattle.desk_model.specs.Turns.{Looks, LooksAtWord, Posts, Takes};
+ghost use Rattle.plex_board.specs.Boards.{IsDeskOf, cell_on};
+ghost use Rattle.plex_board.specs.Turns.{Looks, LooksAtWord, Posts, Takes};
 ghost use Rattle.plex_agent.specs.Calls.{at_work};
 
 use crate::items::reserve_item;

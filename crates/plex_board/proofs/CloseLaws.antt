@@ -5,8 +5,8 @@ use Rattle.std.specs.List.{range_with_len}
 use Rattle.std.proofs.lemmas.List.{length-map}
 use Rattle.std.proofs.lemmas.List.FromFn.{length-range_with_len}
 use Rattle.plex_script.specs.declared.asks.AnyHistory.{AnyHistory}
-use Rattle.desk_model.specs.Desks.{DeskShown, no_pass}
-use Rattle.desk_model.specs.Boards.{BoardShown, IsDeskOf, AreClosed, AreEachAsked, AreLinksAsked}
+use Rattle.plex_board.specs.Desks.{DeskShown, no_pass}
+use Rattle.plex_board.specs.Boards.{BoardShown, IsDeskOf, AreClosed, AreEachAsked, AreLinksAsked}
 use Rattle.plex_board.specs.declared.rest.Rest.{Rest}
 use Rattle.plex_board.specs.Rests.{HomeShown, homes_shown, AllFit, homes_gathered, AreHomes, AreEmpty, AreEnded, IsReady}
 use Rattle.plex_board.proofs.HomeLaws.{desks-fit, homes-gathered, accounts-at, count-of-homes, count-of-histories}

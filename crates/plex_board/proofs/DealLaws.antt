@@ -5,8 +5,8 @@ use Rattle.std.specs.List.{range_with_len}
 use Rattle.std.proofs.lemmas.List.{length-append}
 use Rattle.std.proofs.lemmas.List.FromFn.{map-range_with_len_more}
 use Rattle.std.proofs.lemmas.List.Elements.{All-pop}
-use Rattle.any_cell.specs.Passes.{PassShown}
-use Rattle.desk_model.specs.Desks.{DeskShown}
+use Rattle.plex_board.specs.Passes.{PassShown}
+use Rattle.plex_board.specs.Desks.{DeskShown}
 use Rattle.plex_board.specs.Rests.{each_with}
 use Rattle.plex_board.specs.Openings.{bare_desk, desk_with}
 use Rattle.plex_board.proofs.RowLaws.{each_with-last}

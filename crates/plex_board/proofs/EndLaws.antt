@@ -5,12 +5,12 @@ use Rattle.std.proofs.lemmas.List.{append-nil}
 use Rattle.cf_link.specs.declared.links.Links.{Links}
 use Rattle.plex_script.specs.declared.asks.AnyHistory.{AnyHistory}
 use Rattle.plex_script.specs.Heard.{any_calls, any_length, own_calls}
-use Rattle.any_cell.specs.declared.any_pass.AnyPasses.{AnyPasses}
-use Rattle.any_cell.specs.Passes.{PassShown, passes_shown}
-use Rattle.any_cell.specs.Cells.{CellShown, IsAnyTold, own_replies}
+use Rattle.plex_board.specs.declared.any_pass.AnyPasses.{AnyPasses}
+use Rattle.plex_board.specs.Passes.{PassShown, passes_shown}
+use Rattle.plex_board.specs.Cells.{CellShown, IsAnyTold, own_replies}
 use Rattle.cf_link.specs.Links.{AreAsked}
 use Rattle.run_model.specs.Kinds.{IsAnyPoint, any_answers}
-use Rattle.desk_model.specs.Boards.{IsClosed, IsAccount, AreEachAsked, four_of}
+use Rattle.plex_board.specs.Boards.{IsClosed, IsAccount, AreEachAsked, four_of}
 use Rattle.plex_board.specs.Rests.{HomeShown, home_shown, homes_shown, AreHomes, AreEnded}
 use Rattle.plex_board.proofs.OpenLaws.{ended-step}
 

@@ -7,10 +7,10 @@ use Rattle.std.proofs.lemmas.Option.{slice_get_within}
 use Rattle.cf_types.specs.declared.numbers.ConnId.{ConnId}
 use Rattle.plex_script.specs.declared.asks.AnyHistory.{AnyHistory}
 use Rattle.run_model.specs.Types.{OfCache}
-use Rattle.any_cell.specs.Passes.{PassShown}
-use Rattle.any_cell.specs.Cells.{CellShown, IsPassOf}
-use Rattle.desk_model.specs.Desks.{DeskShown, fixed_of}
-use Rattle.desk_model.specs.Boards.{IsClosed, IsAccount, fixed_at}
+use Rattle.plex_board.specs.Passes.{PassShown}
+use Rattle.plex_board.specs.Cells.{CellShown, IsPassOf}
+use Rattle.plex_board.specs.Desks.{DeskShown, fixed_of}
+use Rattle.plex_board.specs.Boards.{IsClosed, IsAccount, fixed_at}
 use Rattle.plex_board.specs.Rests.{each_with, HomeShown, home_with, Fits, homes_gathered, AllFit, IsHomeOf, AreHomes, AreEnded, ArePasses}
 use Rattle.plex_board.proofs.RowLaws.{each_with-length}
 

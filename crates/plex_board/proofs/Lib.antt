@@ -1,3 +1,8 @@
+mod CallLaws
+mod ShownLaws
+pub mod UnusedPassLaws
+pub mod DeskLaws
+pub mod SightLaws
 pub mod StationLaws
 pub mod RowLaws
 pub mod HomeLaws

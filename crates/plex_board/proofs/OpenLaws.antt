@@ -6,13 +6,13 @@ use Rattle.std.proofs.lemmas.List.Elements.{All-push, All-nil, All-map}
 use Rattle.cf_types.specs.declared.forms.StrForm.{StrForm}
 use Rattle.cf_link.specs.declared.links.Links.{Links}
 use Rattle.plex_script.specs.declared.asks.AnyHistory.{AnyHistory}
-use Rattle.any_cell.specs.declared.any_pass.AnyPasses.{AnyPasses}
+use Rattle.plex_board.specs.declared.any_pass.AnyPasses.{AnyPasses}
 use Rattle.run_model.specs.Types.{StrType, type_of_kind}
-use Rattle.any_cell.specs.Passes.{PassShown, unused_pass, passes_shown, type_of_passes, room_of}
-use Rattle.any_cell.specs.Cells.{CellShown, IsPassOf}
+use Rattle.plex_board.specs.Passes.{PassShown, unused_pass, passes_shown, type_of_passes, room_of}
+use Rattle.plex_board.specs.Cells.{CellShown, IsPassOf}
 use Rattle.vec_words.specs.Tokens.{WordTable}
-use Rattle.desk_model.specs.Desks.{DeskShown}
-use Rattle.desk_model.specs.Boards.{IsClosed, IsAccount, IsStarted}
+use Rattle.plex_board.specs.Desks.{DeskShown}
+use Rattle.plex_board.specs.Boards.{IsClosed, IsAccount, IsStarted}
 use Rattle.plex_board.specs.Rests.{each_with, HomeShown, home_shown, homes_shown, IsHomeOf, AreHomes, AreEmpty, AreEnded}
 use Rattle.plex_board.specs.Openings.{desk_with, desk_at}
 

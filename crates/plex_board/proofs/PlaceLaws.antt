@@ -9,12 +9,12 @@ use Rattle.engine_api.specs.declared.told.Told.{Told}
 use Rattle.plex_script.specs.declared.scripts.AnyAsk.{AnyAsk}
 use Rattle.struct_cell.specs.declared.refused.CallRefused.{CallRefused}
 use Rattle.struct_cell.specs.declared.refused.CallRefused.TheVariants as refused
-use Rattle.any_cell.specs.Passes.{PassShown, NoteShown, IsAnswered, IsLater, with_call}
-use Rattle.desk_model.specs.Notes.{with_any_note}
-use Rattle.any_cell.specs.Cells.{CellShown, IsPassOf}
-use Rattle.desk_model.specs.Desks.{DeskShown, IsAnsweredOn, fixed_of, no_pass, pass_at, with_pass}
-use Rattle.desk_model.specs.Boards.{BoardShown, cell_on, IsDeskOf}
-use Rattle.desk_model.proofs.DeskLaws.{desk-length, desk-pass_is, desk-pass_owner}
+use Rattle.plex_board.specs.Passes.{PassShown, NoteShown, IsAnswered, IsLater, with_call}
+use Rattle.plex_board.specs.Notes.{with_any_note}
+use Rattle.plex_board.specs.Cells.{CellShown, IsPassOf}
+use Rattle.plex_board.specs.Desks.{DeskShown, IsAnsweredOn, fixed_of, no_pass, pass_at, with_pass}
+use Rattle.plex_board.specs.Boards.{BoardShown, cell_on, IsDeskOf}
+use Rattle.plex_board.proofs.DeskLaws.{desk-length, desk-pass_is, desk-pass_owner}
 
 -- the station's cell and the place's pass are those on a structure
 pub record IsPlace {L : Type 0} (board : BoardShown L) (desk : DeskShown) (on : StrNo) (station : CellShown L)

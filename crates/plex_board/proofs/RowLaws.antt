@@ -1,6 +1,6 @@
 -- What is known of passes that go from desks to homes, and of the homes when structures end.
 use Rattle.std.proofs.Common.{◌≡◌, suc, ◌<◌, List, [], ◌∷◌, ◌++◌, length, get_or, set, refl, ap, arith}
-use Rattle.any_cell.specs.Passes.{PassShown}
+use Rattle.plex_board.specs.Passes.{PassShown}
 use Rattle.plex_board.specs.Rests.{each_with, HomeShown, Fits}
 
 -- ---- the last partner first

@@ -6,9 +6,9 @@ use Rattle.std.proofs.lemmas.List.{take_more, length-map, length-append}
 use Rattle.std.proofs.lemmas.List.Elements.{All-get_or}
 use Rattle.cf_types.specs.declared.forms.StrForm.{StrForm}
 use Rattle.cf_types.specs.Forms.{IsForm}
-use Rattle.any_cell.specs.Cells.{CellShown}
-use Rattle.desk_model.specs.Desks.{DeskShown}
-use Rattle.desk_model.specs.Boards.{BoardShown, IsStarted, four_of, links_of, new_desk}
+use Rattle.plex_board.specs.Cells.{CellShown}
+use Rattle.plex_board.specs.Desks.{DeskShown}
+use Rattle.plex_board.specs.Boards.{BoardShown, IsStarted, four_of, links_of, new_desk}
 use Rattle.plex_board.specs.Openings.{desk_at}
 
 -- four links more are those of one structure more

@@ -9,10 +9,10 @@ use Rattle.std.proofs.lemmas.List.Elements.{All-get_or, All-map}
 use Rattle.cf_types.specs.declared.forms.StrForm.{StrForm}
 use Rattle.cf_link.specs.declared.links.Links.{Links}
 use Rattle.vec_words.specs.Tokens.{WordTable}
-use Rattle.any_cell.specs.declared.any_pass.AnyPass.{AnyPass}
+use Rattle.plex_board.specs.declared.any_pass.AnyPass.{AnyPass}
 use Rattle.run_model.specs.Types.{StrType, type_of_kind}
-use Rattle.any_cell.specs.Passes.{PassShown, unused_pass}
-use Rattle.any_cell.specs.Cells.{CellShown, IsPassOf}
+use Rattle.plex_board.specs.Passes.{PassShown, unused_pass}
+use Rattle.plex_board.specs.Cells.{CellShown, IsPassOf}
 
 -- the passes of a new cell, by the cell
 pub started-passes : {L : Type 0} (cell : CellShown L) (form : StrForm) (callers limit : ℕ) (links : Links L)

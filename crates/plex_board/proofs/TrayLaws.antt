@@ -5,10 +5,10 @@ use Rattle.std.proofs.lemmas.List.{length-set, length-map, map-set}
 use Rattle.std.proofs.Math.Seq.{map-set_same}
 use Rattle.std.proofs.lemmas.Option.{slice_get_read, slice_get-map, slice_get_within}
 use Rattle.cf_types.specs.declared.numbers.StrNo.{StrNo}
-use Rattle.any_cell.specs.declared.any_note.AnyNote.{AnyNote}
-use Rattle.any_cell.specs.Passes.{NoteShown, note_shown}
-use Rattle.any_cell.specs.Cells.{CellShown, IsNoteOf}
-use Rattle.desk_model.specs.Boards.{BoardShown, cell_on, IsTrayOf}
+use Rattle.plex_board.specs.declared.any_note.AnyNote.{AnyNote}
+use Rattle.plex_board.specs.Passes.{NoteShown, note_shown}
+use Rattle.plex_board.specs.Cells.{CellShown, IsNoteOf}
+use Rattle.plex_board.specs.Boards.{BoardShown, cell_on, IsTrayOf}
 
 -- an element after one was written: the written one, or what was there
 element-after : {X : Type 0} (xs : List X) (i x : ℕ) (v w : X) → slice_get (set xs i v) x ≡ Some w

@@ -12,12 +12,12 @@ use Rattle.cf_link.specs.Links.{AreAsked}
 use Rattle.plex_script.specs.declared.asks.AnyHistory.{AnyHistory}
 use Rattle.plex_script.specs.Heard.{any_calls, own_calls}
 use Rattle.run_model.specs.Kinds.{any_answers}
-use Rattle.any_cell.specs.Passes.{PassShown, unused_pass}
-use Rattle.any_cell.specs.Cells.{CellShown}
-use Rattle.any_cell.proofs.UnusedLaws.{unused_links}
-use Rattle.desk_model.specs.Desks.{DeskShown, no_pass, fixed_of}
-use Rattle.desk_model.specs.Boards.{IsStarted, IsClosed, IsAccount, AreEachAsked, four_of, fixed_at}
-use Rattle.desk_model.proofs.DeskLaws.{new_desk-of_board}
+use Rattle.plex_board.specs.Passes.{PassShown, unused_pass}
+use Rattle.plex_board.specs.Cells.{CellShown}
+use Rattle.plex_board.proofs.UnusedPassLaws.{unused_links}
+use Rattle.plex_board.specs.Desks.{DeskShown, no_pass, fixed_of}
+use Rattle.plex_board.specs.Boards.{IsStarted, IsClosed, IsAccount, AreEachAsked, four_of, fixed_at}
+use Rattle.plex_board.proofs.DeskLaws.{new_desk-of_board}
 use Rattle.plex_board.specs.declared.opening.Opening.{Opening}
 use Rattle.plex_board.specs.Rests.{HomeShown, homes_shown, AllFit, homes_gathered, AreHomes, AreEnded}
 use Rattle.plex_board.specs.Openings.{IsOpening, IsUnused, desk_at}

@@ -1,3 +1,11 @@
+pub mod Passes
+pub mod Cells
+pub mod Notes
+pub mod Desks
+pub mod Boards
+pub mod Turns
+pub mod Callers
+pub mod Floors
 pub mod Stations
 pub mod Rests
 pub mod Openings

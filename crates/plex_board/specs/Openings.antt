@@ -3,12 +3,12 @@ use Rattle.std.specs.Prelude.{◌≡◌, ℕ, ◌+◌, ◌<◌, ◌≤◌, List,
 use Rattle.std.specs.List.{range_with_len}
 use Rattle.std.specs.Vec.{vec_capacity}
 use Rattle.cf_types.specs.declared.limits.TheConstants.{STRUCTURES, LINKS}
-use Rattle.any_cell.specs.Passes.{PassShown}
-use Rattle.any_cell.specs.Cells.{CellShown}
+use Rattle.plex_board.specs.Passes.{PassShown}
+use Rattle.plex_board.specs.Cells.{CellShown}
 use Rattle.plex_board.specs.declared.rest.Rest.{Rest}
 use Rattle.plex_board.specs.declared.opening.Opening.{Opening}
-use Rattle.desk_model.specs.Desks.{DeskShown}
-use Rattle.desk_model.specs.Boards.{IsStarted, new_desk}
+use Rattle.plex_board.specs.Desks.{DeskShown}
+use Rattle.plex_board.specs.Boards.{IsStarted, new_desk}
 use Rattle.plex_board.specs.Rests.{HomeShown, AreHomes, AreEmpty, homes_shown}
 
 -- the desk of a caller that has seen nothing of these structures

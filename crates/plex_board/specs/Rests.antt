@@ -3,13 +3,13 @@ use Rattle.std.specs.Prelude.{◌≡◌, ℕ, ◌+◌, ◌*◌, ◌≤◌, ◌<�
 use Rattle.std.specs.Vec.{vec_capacity}
 use Rattle.cf_types.specs.declared.limits.TheConstants.{STRUCTURES, CONNECTORS}
 use Rattle.plex_script.specs.declared.asks.AnyHistory.{AnyHistory}
-use Rattle.any_cell.specs.declared.any_pass.AnyPasses.{AnyPasses}
+use Rattle.plex_board.specs.declared.any_pass.AnyPasses.{AnyPasses}
 use Rattle.run_model.specs.Types.{StrType}
-use Rattle.any_cell.specs.Passes.{PassShown, passes_shown, type_of_passes, room_of}
-use Rattle.any_cell.specs.Cells.{CellShown, IsPassOf}
+use Rattle.plex_board.specs.Passes.{PassShown, passes_shown, type_of_passes, room_of}
+use Rattle.plex_board.specs.Cells.{CellShown, IsPassOf}
 use Rattle.plex_board.specs.declared.rest.Rest.{Rest}
-use Rattle.desk_model.specs.Desks.{DeskShown}
-use Rattle.desk_model.specs.Boards.{IsClosed, IsAccount}
+use Rattle.plex_board.specs.Desks.{DeskShown}
+use Rattle.plex_board.specs.Boards.{IsClosed, IsAccount}
 
 -- each of the second, changed by its partner of the first
 abbrev pub each_with : {A B : Type 0} → (A → B → B) → List A → List B → List B

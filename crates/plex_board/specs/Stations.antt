@@ -2,8 +2,8 @@
 use Rattle.std.specs.Prelude.{◌≡◌, ℕ}
 use Rattle.cf_types.specs.declared.forms.Kind.{Kind}
 use Rattle.run_model.specs.Types.{type_of_kind}
-use Rattle.any_cell.specs.Passes.{NoteShown}
-use Rattle.any_cell.specs.Cells.{CellShown, IsNoteOf}
+use Rattle.plex_board.specs.Passes.{NoteShown}
+use Rattle.plex_board.specs.Cells.{CellShown, IsNoteOf}
 
 -- a note of the same structure
 abbrev pub IsOfSame : NoteShown → NoteShown → Type 0

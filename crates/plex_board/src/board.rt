@@ -8,20 +8,20 @@ ghost use Rattle.vec_words.specs.Logged.{words_of, indices_of, sight};
 ghost use Rattle.plex_script.specs.Heard.{call_numbered};
 ghost use Rattle.run_model.specs.Types.{type_of_kind};
 ghost use Rattle.run_model.specs.Kinds.{MayAskAny};
-ghost use Rattle.any_cell.specs.Passes.{note_of, reply_numbered};
-ghost use Rattle.any_cell.specs.Cells.{IsAskOf};
-ghost use Rattle.desk_model.specs.Notes.{with_note, with_any_note};
-ghost use Rattle.desk_model.specs.Desks.{pass_at, with_pass, IsAnsweredOn, IsLaterOn};
+ghost use Rattle.plex_board.specs.Passes.{note_of, reply_numbered};
+ghost use Rattle.plex_board.specs.Cells.{IsAskOf};
+ghost use Rattle.plex_board.specs.Notes.{with_note, with_any_note};
+ghost use Rattle.plex_board.specs.Desks.{pass_at, with_pass, IsAnsweredOn, IsLaterOn};
 ghost use Rattle.plex_board.specs.Rests.{IsReady};
-ghost use Rattle.desk_model.specs.Boards.{IsPolicy, IsStarted, IsDeskOf, IsTrayOf, AreClosed, AreLinksAsked, cell_on, links_of, new_desk, no_notes, note_in};
+ghost use Rattle.plex_board.specs.Boards.{IsPolicy, IsStarted, IsDeskOf, IsTrayOf, AreClosed, AreLinksAsked, cell_on, links_of, new_desk, no_notes, note_in};
 
+use crate::any_reply::AnyReply;
 use crate::desk::Desk;
 use crate::ending::{end, gather};
 use crate::opening::{Opening, next_four};
 use crate::rest::Rest;
 use crate::station::Station;
 use crate::tray::Tray;
-use any_cell::AnyReply;
 use cf_link::Link;
 use cf_turn::KeyLock;
 use cf_types::{Kind, NoMemory, StrNo};
@@ -42,7 +42,7 @@ pub struct Board<L: Link> {
 }
 
 impl<L: Link> Model for Board<L> {
-    ghost use Rattle.desk_model.specs.Boards.{BoardShown};
+    ghost use Rattle.plex_board.specs.Boards.{BoardShown};
     ghost use Rattle.plex_board.specs.Rests.{IsReady};
 
     ghost Value = { BoardShown L };

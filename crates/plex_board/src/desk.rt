@@ -1,7 +1,7 @@
 //! A caller's desk.
 ghost use Rattle.std.specs.Prelude.{◌≡◌, ◌<◌, ◌≤◌, length};
 ghost use Rattle.plex_script.specs.Heard.{is_linked};
-ghost use Rattle.desk_model.specs.Desks.{pass_at};
+ghost use Rattle.plex_board.specs.Desks.{pass_at};
 
 use crate::place::Place;
 use cf_types::{ConnId, StrNo};
@@ -18,7 +18,7 @@ impl Model for Desk {
     ghost use Rattle.std.specs.Prelude.{◌≤◌};
     ghost use Rattle.std.specs.Vec.{vec_capacity};
     ghost use Rattle.cf_types.specs.declared.limits.TheConstants.{STRUCTURES};
-    ghost use Rattle.desk_model.specs.Desks.{DeskShown};
+    ghost use Rattle.plex_board.specs.Desks.{DeskShown};
 
     ghost Value = { DeskShown };
 

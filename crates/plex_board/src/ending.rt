@@ -3,15 +3,15 @@ ghost use Rattle.std.specs.Prelude.{◌≡◌, ◌+◌, ◌≤◌, ◌++◌, len
 ghost use Rattle.std.specs.List.{flat_map};
 ghost use Rattle.std.specs.Vec.{vec_len, vec_capacity};
 ghost use Rattle.std.specs.Vec.Iter.{into_iter_items, into_iter_len};
-ghost use Rattle.desk_model.specs.Boards.{four_of, AreEachAsked};
+ghost use Rattle.plex_board.specs.Boards.{four_of, AreEachAsked};
 ghost use Rattle.plex_board.specs.Openings.{IsUnused};
 ghost use Rattle.plex_board.specs.Rests.{each_with, home_with, homes_shown, Fits, AllFit, homes_gathered, AreHomes, AreEnded, IsRoomy};
 
+use crate::any_pass::AnyPasses;
 use crate::desk::Desk;
 use crate::place::Place;
 use crate::rest::Rest;
 use crate::station::Station;
-use any_cell::AnyPasses;
 use cf_link::{Link, Links};
 use plex_script::AnyHistory;
 use std::sync::Wait;

@@ -1,12 +1,12 @@
 //! What the lock of a structure's box keeps.
-use any_cell::AnyNote;
+use crate::any_note::AnyNote;
 use cf_turn::Keeps;
 
 /// The fact that the lock of a box keeps: the note in it is one of its structure, as the first was.
 pub(crate) struct NoteBox;
 
 impl Keeps for NoteBox {
-    ghost use Rattle.any_cell.specs.Passes.{note_shown};
+    ghost use Rattle.plex_board.specs.Passes.{note_shown};
     ghost use Rattle.plex_board.specs.Stations.{IsOfSame};
 
     type Value = AnyNote;

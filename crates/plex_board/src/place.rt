@@ -1,9 +1,9 @@
 //! A caller's place at a structure.
 ghost use Rattle.std.specs.Prelude.{◌≡◌, ◌≤◌, []};
-ghost use Rattle.any_cell.specs.Passes.{pass_shown};
+ghost use Rattle.plex_board.specs.Passes.{pass_shown};
 ghost use Rattle.plex_script.specs.Heard.{is_linked};
 
-use any_cell::AnyPass;
+use crate::any_pass::AnyPass;
 use std::marker::Model;
 
 /// A caller's pass to a structure, with whether the caller is active there by the replies to its
@@ -16,7 +16,7 @@ pub(crate) struct Place {
 
 impl Model for Place {
     ghost use Rattle.std.specs.Prelude.{◌≡◌};
-    ghost use Rattle.any_cell.specs.Passes.{PassShown, pass_shown};
+    ghost use Rattle.plex_board.specs.Passes.{PassShown, pass_shown};
     ghost use Rattle.plex_script.specs.Heard.{is_linked};
 
     ghost Value = { PassShown };

@@ -1,5 +1,5 @@
 //! What a board keeps for its end.
-use any_cell::AnyPasses;
+use crate::any_pass::AnyPasses;
 use cf_link::Link;
 use cf_turn::Keeps;
 use plex_script::AnyHistory;

@@ -10,13 +10,16 @@ ghost use Rattle.vec_words.specs.Logged.{words_of, indices_of, sight};
 ghost use Rattle.run_model.specs.Types.{type_of_kind, type_of_history};
 ghost use Rattle.struct_cell.specs.Limits.{AreMadeBelow};
 ghost use Rattle.run_model.specs.Kinds.{MayAskAny, IsAnyLegal, IsAnyPoint, any_answers, any_numbers};
-ghost use Rattle.any_cell.specs.Passes.{IsAnswered, IsLater, passes_shown, type_of_passes, room_of, note_shown, note_of, unused_pass, reply_numbered};
-ghost use Rattle.any_cell.specs.Cells.{IsPassOf, IsNoteOf, IsAskOf, IsAnyTold, cell_shown, own_replies};
-ghost use Rattle.desk_model.specs.Notes.{with_note, with_any_note};
+ghost use Rattle.plex_board.specs.Passes.{IsAnswered, IsLater, passes_shown, type_of_passes, room_of, note_shown, note_of, unused_pass, reply_numbered};
+ghost use Rattle.plex_board.specs.Cells.{IsPassOf, IsNoteOf, IsAskOf, IsAnyTold, cell_shown, own_replies};
+ghost use Rattle.plex_board.specs.Notes.{with_note, with_any_note};
 
+use crate::any_cell::AnyCell;
+use crate::any_note::AnyNote;
+use crate::any_pass::AnyPasses;
+use crate::any_reply::AnyReply;
 use crate::note_box::NoteBox;
 use crate::place::Place;
-use any_cell::{AnyCell, AnyNote, AnyPasses, AnyReply};
 use cf_link::{Link, Links};
 use cf_turn::KeyLock;
 use cf_types::{Kind, NoMemory, StrForm};
@@ -40,8 +43,8 @@ pub(crate) struct Station<L: Link> {
 }
 
 impl<L: Link> Model for Station<L> {
-    ghost use Rattle.any_cell.specs.Passes.{note_shown};
-    ghost use Rattle.any_cell.specs.Cells.{CellShown, cell_shown};
+    ghost use Rattle.plex_board.specs.Passes.{note_shown};
+    ghost use Rattle.plex_board.specs.Cells.{CellShown, cell_shown};
     ghost use Rattle.plex_board.specs.Stations.{IsKept};
 
     ghost Value = { CellShown L };

@@ -1,5 +1,5 @@
 //! Notes that lie open, one for each structure.
-use any_cell::AnyNote;
+use crate::any_note::AnyNote;
 use std::marker::Model;
 
 /// For each structure of a board the note that was put in last, if there is one, without a lock.
@@ -10,7 +10,7 @@ pub struct Tray {
 
 impl Model for Tray {
     ghost use Rattle.std.specs.Prelude.{List, Option, map, option_map};
-    ghost use Rattle.any_cell.specs.Passes.{NoteShown, note_shown};
+    ghost use Rattle.plex_board.specs.Passes.{NoteShown, note_shown};
 
     ghost Value = { List (Option NoteShown) };
 

@@ -4,10 +4,10 @@ use Rattle.std.proofs.Math.Seq.{get_or-append_seam}
 use Rattle.std.proofs.lemmas.List.{length-append, set-set}
 use Rattle.cf_types.specs.declared.numbers.StrNo.{StrNo}
 use Rattle.cf_types.specs.Forms.{IsConnector}
-use Rattle.any_cell.specs.Passes.{PassShown, IsLater}
-use Rattle.desk_model.specs.Desks.{DeskShown, pass_at, with_pass, IsLaterOn}
-use Rattle.desk_model.specs.Boards.{BoardShown}
-use Rattle.desk_model.proofs.DeskLaws.{with_pass-pass_at}
+use Rattle.plex_board.specs.Passes.{PassShown, IsLater}
+use Rattle.plex_board.specs.Desks.{DeskShown, pass_at, with_pass, IsLaterOn}
+use Rattle.plex_board.specs.Boards.{BoardShown}
+use Rattle.plex_board.proofs.DeskLaws.{with_pass-pass_at}
 use Rattle.plex_seat.specs.Seats.{SeatShown, IsSame, MaySit}
 
 -- ---- more was seen

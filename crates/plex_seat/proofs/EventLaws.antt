@@ -9,10 +9,10 @@ use Rattle.cf_types.specs.declared.shell_commands.ShellCmd.TheVariants as cmd
 use Rattle.plex_script.specs.declared.scripts.AnyAsk.{AnyAsk}
 use Rattle.plex_script.specs.Heard.{AnyCall}
 use Rattle.run_model.specs.Types.{StrType, OfCache}
-use Rattle.any_cell.specs.Passes.{PassShown, with_call}
-use Rattle.any_cell.specs.Cells.{CellShown}
-use Rattle.desk_model.specs.Desks.{DeskShown, IsLaterOn, no_pass, pass_at, with_pass}
-use Rattle.desk_model.specs.Boards.{BoardShown, cell_on}
+use Rattle.plex_board.specs.Passes.{PassShown, with_call}
+use Rattle.plex_board.specs.Cells.{CellShown}
+use Rattle.plex_board.specs.Desks.{DeskShown, IsLaterOn, no_pass, pass_at, with_pass}
+use Rattle.plex_board.specs.Boards.{BoardShown, cell_on}
 use Rattle.plex_seat.specs.declared.answers.Unanswered.{Unanswered}
 use Rattle.plex_seat.specs.declared.answers.Unanswered.TheVariants.{OtherKind, NotMade, Unread}
 use Rattle.plex_seat.proofs.DeskLaws.{later_same}

@@ -11,11 +11,11 @@ use Rattle.cf_types.specs.declared.numbers.StrNo.{StrNo}
 use Rattle.plex_script.specs.declared.asks.AnyHistory.{AnyHistory}
 use Rattle.plex_script.specs.declared.asks.AnyHistory.TheVariants as history
 use Rattle.plex_script.specs.declared.scripts.Script.{Script}
-use Rattle.any_cell.specs.Passes.{reply_numbered}
-use Rattle.any_cell.specs.Cells.{CellShown, own_replies}
-use Rattle.desk_model.specs.Desks.{DeskShown, pass_at}
-use Rattle.desk_model.specs.Boards.{BoardShown, IsDeskOf, IsAccount, AreClosed}
-use Rattle.desk_model.proofs.DeskLaws.{desk-pass_owner}
+use Rattle.plex_board.specs.Passes.{reply_numbered}
+use Rattle.plex_board.specs.Cells.{CellShown, own_replies}
+use Rattle.plex_board.specs.Desks.{DeskShown, pass_at}
+use Rattle.plex_board.specs.Boards.{BoardShown, IsDeskOf, IsAccount, AreClosed}
+use Rattle.plex_board.proofs.DeskLaws.{desk-pass_owner}
 use Rattle.plex_seat.specs.declared.answers.Answer.{Answer}
 use Rattle.plex_seat.specs.Seats.{SeatShown, IsSame}
 use Rattle.plex_seat.specs.Answers.{HasHeard}

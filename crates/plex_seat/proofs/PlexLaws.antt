@@ -6,9 +6,9 @@ use Rattle.std.proofs.lemmas.Bool.Decides.{nat_tests}
 use Rattle.std.proofs.lemmas.List.{length-map, get_or-map, drop_more, drop_all}
 use Rattle.std.proofs.lemmas.List.FromFn.{length-range_with_len, length-map-range_with_len, get_or-range_with_len}
 use Rattle.std.proofs.lemmas.List.Elements.{All-map, All-same}
-use Rattle.desk_model.specs.Desks.{DeskShown}
-use Rattle.desk_model.specs.Boards.{BoardShown, IsDeskOf, new_desk}
-use Rattle.desk_model.proofs.DeskLaws.{new_desk-of_board}
+use Rattle.plex_board.specs.Desks.{DeskShown}
+use Rattle.plex_board.specs.Boards.{BoardShown, IsDeskOf, new_desk}
+use Rattle.plex_board.proofs.DeskLaws.{new_desk-of_board}
 
 module _ {L : Type 0} (board : BoardShown L) (desks : List DeskShown) (n : ℕ)
     (new : desks ≡ map (new_desk board) (range_with_len 0 n)) where

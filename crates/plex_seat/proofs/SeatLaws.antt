@@ -8,11 +8,11 @@ use Rattle.cf_types.specs.declared.numbers.StrNo.{StrNo}
 use Rattle.engine_api.specs.declared.told.Told.{Told}
 use Rattle.plex_script.specs.declared.scripts.AnyAsk.{AnyAsk}
 use Rattle.plex_script.specs.Heard.{AnyCall, call_numbered}
-use Rattle.any_cell.specs.declared.any_reply.AnyReply.{AnyReply}
-use Rattle.any_cell.specs.Passes.{PassShown, with_call}
-use Rattle.desk_model.specs.Desks.{DeskShown, pass_at, IsAnsweredOn}
-use Rattle.desk_model.specs.Boards.{BoardShown}
-use Rattle.desk_model.proofs.DeskLaws.{pass_at-with_pass_same, desk-length}
+use Rattle.plex_board.specs.declared.any_reply.AnyReply.{AnyReply}
+use Rattle.plex_board.specs.Passes.{PassShown, with_call}
+use Rattle.plex_board.specs.Desks.{DeskShown, pass_at, IsAnsweredOn}
+use Rattle.plex_board.specs.Boards.{BoardShown}
+use Rattle.plex_board.proofs.DeskLaws.{pass_at-with_pass_same, desk-length}
 use Rattle.plex_seat.specs.Seats.{IsSeat}
 
 -- the last that is looked for is found

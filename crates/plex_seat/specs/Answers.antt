@@ -13,11 +13,11 @@ use Rattle.plex_report.specs.ReplyWords.{cache_reply_words, list_reply_words, lo
 use Rattle.struct_cell.specs.declared.refused.CallRefused.{CallRefused}
 use Rattle.struct_cell.specs.declared.refused.CallRefused.TheVariants.{JournalFull, NoMemory}
 use Rattle.run_model.specs.Types.{StrType, OfCache, OfList, OfLock, type_of_ask}
-use Rattle.any_cell.specs.declared.any_reply.AnyReply.{AnyReply}
-use Rattle.any_cell.specs.declared.any_reply.AnyReply.TheVariants as reply
-use Rattle.any_cell.specs.Passes.{with_call, reply_numbered}
-use Rattle.desk_model.specs.Desks.{DeskShown, IsLaterOn, pass_at, with_pass}
-use Rattle.desk_model.specs.Boards.{cell_on}
+use Rattle.plex_board.specs.declared.any_reply.AnyReply.{AnyReply}
+use Rattle.plex_board.specs.declared.any_reply.AnyReply.TheVariants as reply
+use Rattle.plex_board.specs.Passes.{with_call, reply_numbered}
+use Rattle.plex_board.specs.Desks.{DeskShown, IsLaterOn, pass_at, with_pass}
+use Rattle.plex_board.specs.Boards.{cell_on}
 use Rattle.plex_seat.specs.declared.answers.Answer.{Answer}
 use Rattle.plex_seat.specs.declared.answers.Unanswered.{Unanswered}
 use Rattle.plex_seat.specs.declared.answers.Unanswered.TheVariants.{OtherKind, NotMade, Unread}

@@ -6,8 +6,8 @@ use Rattle.cf_types.specs.declared.numbers.StrNo.{StrNo}
 use Rattle.plex_script.specs.declared.asks.AnyHistory.{AnyHistory}
 use Rattle.plex_script.specs.declared.scripts.Script.{Script}
 use Rattle.run_model.specs.Kinds.{IsAnyLegal}
-use Rattle.any_cell.specs.Passes.{reply_numbered}
-use Rattle.any_cell.specs.Cells.{own_replies}
+use Rattle.plex_board.specs.Passes.{reply_numbered}
+use Rattle.plex_board.specs.Cells.{own_replies}
 use Rattle.plex_seat.specs.declared.answers.Answer.{Answer}
 
 -- A structure's history is one that a single thread could have made, and the answer is the one that it has for the

@@ -5,10 +5,10 @@ use Rattle.cf_types.specs.declared.numbers.StrNo.{StrNo}
 use Rattle.cf_types.specs.Forms.{IsConnector}
 use Rattle.run_model.specs.Types.{StrType, OfCache}
 use Rattle.vec_words.specs.declared.logged.Tested.{Tested}
-use Rattle.any_cell.specs.Passes.{PassShown}
-use Rattle.any_cell.specs.Cells.{CellShown}
-use Rattle.desk_model.specs.Desks.{DeskShown, pass_at, with_pass}
-use Rattle.desk_model.specs.Boards.{BoardShown, IsDeskOf, cell_on}
+use Rattle.plex_board.specs.Passes.{PassShown}
+use Rattle.plex_board.specs.Cells.{CellShown}
+use Rattle.plex_board.specs.Desks.{DeskShown, pass_at, with_pass}
+use Rattle.plex_board.specs.Boards.{BoardShown, IsDeskOf, cell_on}
 
 -- the board, the member's desk, and which structure of the board it is
 pub record SeatShown (L : Type 0) : Type 0 where

@@ -2,9 +2,9 @@
 ghost use Rattle.std.specs.Prelude.{◌≡◌};
 ghost use Rattle.plex_seat.specs.Events.{event_in};
 
-use any_cell::AnyReply;
 use cf_types::{Event, ShellReply};
 use engine_api::Reply;
+use plex_board::AnyReply;
 use struct_cell::CallRefused;
 use thiserror::Error;
 

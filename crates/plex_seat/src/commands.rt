@@ -3,7 +3,7 @@ ghost use Rattle.std.specs.Prelude.{◌≡◌};
 ghost use Rattle.plex_spell.specs.declared.rigour.Rigour.TheVariants.{Names};
 ghost use Rattle.plex_spell.specs.Places.{Reads, names_of};
 ghost use Rattle.plex_script.specs.Causes.{declared_in};
-ghost use Rattle.desk_model.specs.Boards.{IsPolicy};
+ghost use Rattle.plex_board.specs.Boards.{IsPolicy};
 ghost use Rattle.plex_seat.specs.Commands.{cache_said, list_said, lock_said};
 
 use cf_types::{CacheCmd, ListCmd, LockCmd};

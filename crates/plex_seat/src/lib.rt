@@ -11,7 +11,6 @@ mod seat;
 mod words;
 
 pub use answers::{Answer, Unanswered};
-pub use any_cell::AnyReply;
 pub use cf_link::Steady;
 pub use cf_types::{
     Adjunct, CacheCmd, CacheReply, Caps, CfId, ConnId, Event, ListCmd, ListReply, LockCmd,
@@ -22,7 +21,7 @@ pub use commands::{cache_command, list_command, lock_command};
 pub use engine_api::{Ask, Reply, Told};
 pub use faults::Fault;
 pub use plex::{Plex, policy};
-pub use plex_board::{Board, Desk};
+pub use plex_board::{AnyReply, Board, Desk};
 pub use plex_report::render;
 pub use plex_script::{AnyAsk, AnyHistory, ReadFault, Script};
 pub use plex_spell::Miss;

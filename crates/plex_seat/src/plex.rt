@@ -3,7 +3,7 @@ ghost use Rattle.std.specs.Prelude.{◌≡◌, ◌↔◌, ◌+◌, ◌≤◌, If
 ghost use Rattle.std.specs.List.{range_with_len};
 ghost use Rattle.plex_script.specs.Scripts.{IsScript};
 ghost use Rattle.plex_script.specs.Reading.{TellsFault};
-ghost use Rattle.desk_model.specs.Boards.{IsPolicy, IsStarted, IsDeskOf, AreClosed, new_desk};
+ghost use Rattle.plex_board.specs.Boards.{IsPolicy, IsStarted, IsDeskOf, AreClosed, new_desk};
 
 use cf_link::Steady;
 use cf_types::NoMemory;
@@ -42,7 +42,7 @@ pub struct Plex {
 impl Model for Plex {
     ghost use Rattle.std.specs.Prelude.{◌≡◌, ◌+◌};
     ghost use Rattle.cf_link.specs.declared.steady.Steady.{Steady};
-    ghost use Rattle.desk_model.specs.Boards.{BoardShown};
+    ghost use Rattle.plex_board.specs.Boards.{BoardShown};
 
     ghost Value = { BoardShown Steady };
 

@@ -3,8 +3,8 @@ ghost use Rattle.std.specs.Prelude.{◌≡◌, ◌++◌, OnOk};
 ghost use Rattle.plex_spell.specs.Words.{tail_of};
 ghost use Rattle.plex_seat.specs.Answers.{any_reply_words};
 
-use any_cell::AnyReply;
 use cf_types::NoMemory;
+use plex_board::AnyReply;
 use plex_report::{put_cache_reply, put_list_reply, put_lock_reply};
 use plex_script::Script;
 

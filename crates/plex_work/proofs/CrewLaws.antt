@@ -15,11 +15,11 @@ use Rattle.plex_script.specs.declared.transcripts.AgentEnd.TheVariants as ended
 use Rattle.plex_script.specs.declared.transcripts.Transcript.{Transcript}
 use Rattle.run_model.specs.Headline.{ShowsHistories}
 use Rattle.run_model.specs.Runnable.{IsRunnable}
-use Rattle.desk_model.specs.Desks.{DeskShown}
-use Rattle.desk_model.specs.Boards.{BoardShown, IsDeskOf, AreClosed, new_desk}
-use Rattle.desk_model.specs.Turns.{AtWork}
-use Rattle.desk_model.specs.Callers.{IsLineFor, Serves, no_items}
-use Rattle.desk_model.proofs.DeskLaws.{new_desk-of_board}
+use Rattle.plex_board.specs.Desks.{DeskShown}
+use Rattle.plex_board.specs.Boards.{BoardShown, IsDeskOf, AreClosed, new_desk}
+use Rattle.plex_board.specs.Turns.{AtWork}
+use Rattle.plex_board.specs.Callers.{IsLineFor, Serves, no_items}
+use Rattle.plex_board.proofs.DeskLaws.{new_desk-of_board}
 use Rattle.serve_laws.proofs.ServeLaw.{serves_right}
 use Rattle.serve_laws.proofs.Alone.{alone_serves}
 use Rattle.plex_work.specs.declared.in_turn.Finished.{Finished}

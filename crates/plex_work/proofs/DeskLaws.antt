@@ -6,9 +6,9 @@ use Rattle.std.proofs.lemmas.List.{get_or_read, get_or_append_left, set-append_l
 use Rattle.std.proofs.lemmas.Option.{slice_get-get_or}
 use Rattle.cf_types.specs.declared.numbers.ConnId.{ConnId}
 use Rattle.cf_types.specs.declared.numbers.StrNo.{StrNo}
-use Rattle.desk_model.specs.Desks.{DeskShown, no_pass, fixed_of}
-use Rattle.desk_model.specs.Boards.{BoardShown, IsDeskOf}
-use Rattle.desk_model.specs.Floors.{no_worker}
+use Rattle.plex_board.specs.Desks.{DeskShown, no_pass, fixed_of}
+use Rattle.plex_board.specs.Boards.{BoardShown, IsDeskOf}
+use Rattle.plex_board.specs.Floors.{no_worker}
 use Rattle.plex_work.specs.Standing.{AreDesksOf, desk_of}
 use Rattle.plex_work.specs.Hearings.{told_desk, told_desks}
 

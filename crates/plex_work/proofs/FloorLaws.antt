@@ -9,12 +9,12 @@ use Rattle.std.proofs.lemmas.Option.{slice_get_read, slice_get_within, get_or_fr
 use Rattle.cf_types.specs.declared.numbers.ConnId.{ConnId}
 use Rattle.cf_types.specs.declared.numbers.StrNo.{StrNo}
 use Rattle.plex_script.specs.declared.transcripts.Transcript.{Transcript}
-use Rattle.any_cell.specs.Passes.{NoteShown}
-use Rattle.desk_model.specs.Desks.{DeskShown}
-use Rattle.desk_model.specs.Boards.{BoardShown, IsDeskOf, IsTrayOf}
-use Rattle.desk_model.specs.Turns.{AtWork}
-use Rattle.desk_model.specs.Callers.{no_items}
-use Rattle.desk_model.specs.Floors.{Floor, no_worker, worker_of, with_worker, heard_from_last, heard_from, told_by}
+use Rattle.plex_board.specs.Passes.{NoteShown}
+use Rattle.plex_board.specs.Desks.{DeskShown}
+use Rattle.plex_board.specs.Boards.{BoardShown, IsDeskOf, IsTrayOf}
+use Rattle.plex_board.specs.Turns.{AtWork}
+use Rattle.plex_board.specs.Callers.{no_items}
+use Rattle.plex_board.specs.Floors.{Floor, no_worker, worker_of, with_worker, heard_from_last, heard_from, told_by}
 use Rattle.plex_work.specs.Standing.{AreDesksOf, IsFloorOf, at_work, floor_of, desk_of}
 use Rattle.plex_work.specs.Hearings.{told_desk, told_desks, heard_desks}
 use Rattle.plex_work.proofs.DeskLaws.{own_desk, desks-set, slice_get-set}

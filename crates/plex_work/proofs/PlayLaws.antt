@@ -11,11 +11,11 @@ use Rattle.plex_script.specs.declared.scripts.Act.{Act}
 use Rattle.plex_script.specs.declared.scripts.Act.TheVariants as act
 use Rattle.plex_script.specs.declared.scripts.Line.{Line}
 use Rattle.plex_script.specs.declared.transcripts.AgentEnd.TheVariants as ended
-use Rattle.any_cell.specs.Cells.{CellShown}
-use Rattle.desk_model.specs.Boards.{BoardShown}
-use Rattle.desk_model.specs.Turns.{AtWork, Turns}
-use Rattle.desk_model.specs.Callers.{DepartsEach}
-use Rattle.desk_model.specs.Floors.{Floor, no_worker, worker_of, with_worker, heard_from_last, heard_from, heard_all, told_by, worker_ready, last_after, is_counted, is_working, PlaysAct, PlaysLine, PlaysLines, ClosesOne, ClosesAll}
+use Rattle.plex_board.specs.Cells.{CellShown}
+use Rattle.plex_board.specs.Boards.{BoardShown}
+use Rattle.plex_board.specs.Turns.{AtWork, Turns}
+use Rattle.plex_board.specs.Callers.{DepartsEach}
+use Rattle.plex_board.specs.Floors.{Floor, no_worker, worker_of, with_worker, heard_from_last, heard_from, heard_all, told_by, worker_ready, last_after, is_counted, is_working, PlaysAct, PlaysLine, PlaysLines, ClosesOne, ClosesAll}
 use Rattle.plex_work.specs.Standing.{IsTurn, conns_from}
 use Rattle.plex_work.specs.Hearings.{told_desk}
 

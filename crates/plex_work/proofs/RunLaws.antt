@@ -29,12 +29,12 @@ use Rattle.run_model.specs.Runnable.{IsRunnable, IsRunnableLine, IsRunnableAct}
 use Rattle.run_model.specs.RunLinks.{AreTelling, AreRunLinks}
 use Rattle.run_model.specs.Serial.{serial_run}
 use Rattle.run_model.specs.Types.{type_of_kind, type_of_ask}
-use Rattle.any_cell.specs.Passes.{unused_pass}
-use Rattle.any_cell.specs.Cells.{CellShown}
-use Rattle.desk_model.specs.Desks.{DeskShown, fixed_of}
-use Rattle.desk_model.specs.Boards.{BoardShown, IsStarted, IsDeskOf, AreClosed, AreLinksAsked, links_of, new_desk, fixed_at}
-use Rattle.desk_model.specs.Turns.{AtWork, MayAct}
-use Rattle.desk_model.specs.Floors.{Floor}
+use Rattle.plex_board.specs.Passes.{unused_pass}
+use Rattle.plex_board.specs.Cells.{CellShown}
+use Rattle.plex_board.specs.Desks.{DeskShown, fixed_of}
+use Rattle.plex_board.specs.Boards.{BoardShown, IsStarted, IsDeskOf, AreClosed, AreLinksAsked, links_of, new_desk, fixed_at}
+use Rattle.plex_board.specs.Turns.{AtWork, MayAct}
+use Rattle.plex_board.specs.Floors.{Floor}
 use Rattle.plex_work.specs.Standing.{AreDesksOf, IsFloorOf, IsPlayable}
 use Rattle.plex_work.specs.Played.{IsBoardOf, IsPlayed}
 use Rattle.serve_laws.proofs.ExactLaw.{exact}

@@ -9,12 +9,12 @@ use Rattle.cf_types.specs.declared.numbers.ConnId.{ConnId}
 use Rattle.plex_script.specs.declared.transcripts.AgentEnd.{AgentEnd}
 use Rattle.plex_script.specs.declared.transcripts.AgentEnd.TheVariants as ended
 use Rattle.plex_script.specs.declared.transcripts.Transcript.{Transcript}
-use Rattle.any_cell.specs.Passes.{NoteShown}
-use Rattle.desk_model.specs.Desks.{DeskShown}
-use Rattle.desk_model.specs.Boards.{BoardShown, IsTrayOf, new_desk, no_notes}
-use Rattle.desk_model.specs.Turns.{AtWork}
-use Rattle.desk_model.specs.Callers.{no_items}
-use Rattle.desk_model.specs.Floors.{Floor, new_floor}
+use Rattle.plex_board.specs.Passes.{NoteShown}
+use Rattle.plex_board.specs.Desks.{DeskShown}
+use Rattle.plex_board.specs.Boards.{BoardShown, IsTrayOf, new_desk, no_notes}
+use Rattle.plex_board.specs.Turns.{AtWork}
+use Rattle.plex_board.specs.Callers.{no_items}
+use Rattle.plex_board.specs.Floors.{Floor, new_floor}
 use Rattle.plex_work.specs.Standing.{IsFloorOf, HasMemory, at_work, floor_of}
 use Rattle.plex_work.proofs.WorkLaws.{length-at_work, desk-at_work}
 use Rattle.plex_work.proofs.RunLaws.{new_desks-are}

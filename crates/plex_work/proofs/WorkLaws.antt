@@ -1,10 +1,10 @@
 -- Desks beside the transcripts of their owners.
 use Rattle.std.proofs.Common.{◌≡◌, ℕ, zero, suc, List, [], ◌∷◌, Some, map, length, slice_get, get_or, set, refl, ap}
 use Rattle.plex_script.specs.declared.transcripts.Transcript.{Transcript}
-use Rattle.desk_model.specs.Desks.{DeskShown}
-use Rattle.desk_model.specs.Turns.{AtWork}
-use Rattle.desk_model.specs.Callers.{no_items}
-use Rattle.desk_model.specs.Floors.{no_worker}
+use Rattle.plex_board.specs.Desks.{DeskShown}
+use Rattle.plex_board.specs.Turns.{AtWork}
+use Rattle.plex_board.specs.Callers.{no_items}
+use Rattle.plex_board.specs.Floors.{no_worker}
 use Rattle.plex_work.specs.Standing.{at_work}
 
 fewer : {a b : ℕ} → suc a ≡ suc b → a ≡ b

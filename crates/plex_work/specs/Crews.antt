@@ -3,10 +3,10 @@ use Rattle.std.specs.Prelude.{◌≡◌, ℕ, ◌+◌, List, slice_get, length, 
 use Rattle.std.specs.List.{range_with_len}
 use Rattle.cf_types.specs.Forms.{IsCaller}
 use Rattle.plex_script.specs.declared.scripts.Line.{Line}
-use Rattle.desk_model.specs.Desks.{DeskShown}
-use Rattle.desk_model.specs.Boards.{BoardShown, IsDeskOf, new_desk}
-use Rattle.desk_model.specs.Turns.{AtWork}
-use Rattle.desk_model.specs.Callers.{Serves, no_items}
+use Rattle.plex_board.specs.Desks.{DeskShown}
+use Rattle.plex_board.specs.Boards.{BoardShown, IsDeskOf, new_desk}
+use Rattle.plex_board.specs.Turns.{AtWork}
+use Rattle.plex_board.specs.Callers.{Serves, no_items}
 
 -- a caller that was shown nothing yet
 abbrev pub idle_worker : DeskShown → AtWork

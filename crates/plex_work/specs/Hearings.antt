@@ -2,9 +2,9 @@
 use Rattle.std.specs.Prelude.{◌==◌, if◌then◌else◌, List, slice_set, Option, None, Some}
 use Rattle.cf_types.specs.declared.numbers.ConnId.{ConnId}
 use Rattle.cf_types.specs.declared.numbers.StrNo.{StrNo}
-use Rattle.any_cell.specs.Passes.{note_of}
-use Rattle.desk_model.specs.Notes.{with_note}
-use Rattle.desk_model.specs.Desks.{DeskShown, pass_at, with_pass}
+use Rattle.plex_board.specs.Passes.{note_of}
+use Rattle.plex_board.specs.Notes.{with_note}
+use Rattle.plex_board.specs.Desks.{DeskShown, pass_at, with_pass}
 use Rattle.plex_work.specs.Standing.{desk_of}
 
 abbrev pub told_desk : StrNo → DeskShown → DeskShown → DeskShown

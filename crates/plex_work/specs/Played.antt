@@ -3,9 +3,9 @@ use Rattle.std.specs.Prelude.{◌≡◌, ℕ, List, length, map, All}
 use Rattle.plex_script.specs.declared.scripts.Script.{Script}
 use Rattle.plex_script.specs.declared.transcripts.Transcript.{Transcript}
 use Rattle.run_model.specs.Serial.{connectors}
-use Rattle.desk_model.specs.Desks.{DeskShown}
-use Rattle.desk_model.specs.Boards.{BoardShown, IsStarted}
-use Rattle.desk_model.specs.Floors.{Floor, Plays}
+use Rattle.plex_board.specs.Desks.{DeskShown}
+use Rattle.plex_board.specs.Boards.{BoardShown, IsStarted}
+use Rattle.plex_board.specs.Floors.{Floor, Plays}
 use Rattle.plex_work.specs.Standing.{HasMemory}
 
 -- a board that was started for a script

@@ -8,12 +8,12 @@ use Rattle.plex_script.specs.declared.scripts.Line.{Line}
 use Rattle.plex_script.specs.declared.transcripts.AgentEnd.TheVariants as ended
 use Rattle.plex_script.specs.declared.transcripts.Transcript.{Transcript}
 use Rattle.run_model.specs.Kinds.{numbers_from}
-use Rattle.any_cell.specs.Passes.{NoteShown}
-use Rattle.desk_model.specs.Desks.{DeskShown}
-use Rattle.desk_model.specs.Boards.{BoardShown, IsDeskOf, IsTrayOf}
-use Rattle.desk_model.specs.Turns.{AtWork}
-use Rattle.desk_model.specs.Callers.{IsLineFor}
-use Rattle.desk_model.specs.Floors.{Floor, no_worker}
+use Rattle.plex_board.specs.Passes.{NoteShown}
+use Rattle.plex_board.specs.Desks.{DeskShown}
+use Rattle.plex_board.specs.Boards.{BoardShown, IsDeskOf, IsTrayOf}
+use Rattle.plex_board.specs.Turns.{AtWork}
+use Rattle.plex_board.specs.Callers.{IsLineFor}
+use Rattle.plex_board.specs.Floors.{Floor, no_worker}
 
 -- desks with the transcripts of their owners
 abbrev pub at_work : List DeskShown → List Transcript → List AtWork

@@ -6,7 +6,7 @@ ghost use Rattle.plex_script.specs.declared.transcripts.AgentEnd.TheVariants as 
 ghost use Rattle.run_model.specs.Runnable.{IsRunnable};
 ghost use Rattle.run_model.specs.Headline.{ShowsHistories};
 ghost use Rattle.run_model.specs.RunLinks.{AreRunLinks};
-ghost use Rattle.desk_model.specs.Boards.{links_of};
+ghost use Rattle.plex_board.specs.Boards.{links_of};
 ghost use Rattle.plex_work.specs.Played.{IsBoardOf};
 ghost use Rattle.plex_work.specs.Crews.{crew_of};
 

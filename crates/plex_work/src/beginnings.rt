@@ -1,7 +1,7 @@
 //! What a run begins with, beside the desks.
 ghost use Rattle.std.specs.Prelude.{◌≡◌, IfOk, None, length, replicate};
-ghost use Rattle.desk_model.specs.Boards.{IsTrayOf, no_notes};
-ghost use Rattle.desk_model.specs.Callers.{no_items};
+ghost use Rattle.plex_board.specs.Boards.{IsTrayOf, no_notes};
+ghost use Rattle.plex_board.specs.Callers.{no_items};
 
 use cf_link::Link;
 use cf_types::{ConnId, Listing, NoMemory};

@@ -1,6 +1,6 @@
 //! The callers of a script, each of which can work on a thread of its own.
 ghost use Rattle.std.specs.Prelude.{◌≡◌, ◌<◌, IfOk, IfErr, All, map, length};
-ghost use Rattle.desk_model.specs.Callers.{IsLineFor};
+ghost use Rattle.plex_board.specs.Callers.{IsLineFor};
 ghost use Rattle.plex_work.specs.Crews.{IsIdle, Works, WorkEach, idle_worker};
 
 use cf_link::Link;
@@ -22,7 +22,7 @@ pub struct Worker {
 }
 
 impl Model for Worker {
-    ghost use Rattle.desk_model.specs.Turns.{AtWork};
+    ghost use Rattle.plex_board.specs.Turns.{AtWork};
 
     ghost Value = { AtWork };
 
@@ -71,7 +71,7 @@ pub(crate) struct Crew {
 impl Model for Crew {
     ghost use Rattle.std.specs.Prelude.{◌≡◌, ◌≤◌, [], List};
     ghost use Rattle.std.specs.Vec.{vec_len, vec_capacity};
-    ghost use Rattle.desk_model.specs.Turns.{AtWork};
+    ghost use Rattle.plex_board.specs.Turns.{AtWork};
 
     ghost Value = { List AtWork };
 

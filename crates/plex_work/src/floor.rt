@@ -5,12 +5,12 @@ ghost use Rattle.cf_types.specs.declared.limits.TheConstants.{CONNECTORS};
 ghost use Rattle.cf_types.specs.Forms.{IsConnector};
 ghost use Rattle.plex_script.specs.declared.scripts.Act.TheVariants as act;
 ghost use Rattle.plex_script.specs.declared.transcripts.AgentEnd.TheVariants as ended;
-ghost use Rattle.any_cell.specs.Passes.{note_of};
-ghost use Rattle.desk_model.specs.Desks.{pass_at};
-ghost use Rattle.desk_model.specs.Boards.{new_desk, cell_on, note_in};
-ghost use Rattle.desk_model.specs.Turns.{Turns, Posts};
-ghost use Rattle.desk_model.specs.Callers.{IsLineFor, DepartsEach};
-ghost use Rattle.desk_model.specs.Floors.{PlaysAct, PlaysLine, PlaysLines, ClosesOne, ClosesAll, Plays, new_floor, with_worker, heard_from_last, heard_all, worker_of, is_working, worker_after_take};
+ghost use Rattle.plex_board.specs.Passes.{note_of};
+ghost use Rattle.plex_board.specs.Desks.{pass_at};
+ghost use Rattle.plex_board.specs.Boards.{new_desk, cell_on, note_in};
+ghost use Rattle.plex_board.specs.Turns.{Turns, Posts};
+ghost use Rattle.plex_board.specs.Callers.{IsLineFor, DepartsEach};
+ghost use Rattle.plex_board.specs.Floors.{PlaysAct, PlaysLine, PlaysLines, ClosesOne, ClosesAll, Plays, new_floor, with_worker, heard_from_last, heard_all, worker_of, is_working, worker_after_take};
 ghost use Rattle.run_model.specs.Serial.{connectors};
 ghost use Rattle.plex_work.specs.Standing.{IsFloorOf, HasMemory, IsTurn, IsPlayable, conns_from};
 
@@ -37,7 +37,7 @@ pub struct Floor {
 
 impl Model for Floor {
     ghost use Rattle.std.specs.Prelude.{◌≡◌, length};
-    ghost use Rattle.desk_model.specs.Floors.{Floor};
+    ghost use Rattle.plex_board.specs.Floors.{Floor};
     ghost use Rattle.run_model.specs.Serial.{connectors};
     ghost use Rattle.plex_work.specs.Standing.{at_work};
 

@@ -9,7 +9,7 @@ ghost use Rattle.run_model.specs.Headline.{ShowsHistories};
 ghost use Rattle.run_model.specs.Runnable.{IsRunnable};
 ghost use Rattle.run_model.specs.Serial.{serial_run};
 ghost use Rattle.run_model.specs.RunLinks.{AreTelling, AreRunLinks};
-ghost use Rattle.desk_model.specs.Boards.{new_desk};
+ghost use Rattle.plex_board.specs.Boards.{new_desk};
 ghost use Rattle.plex_work.specs.Standing.{AreDesksOf, IsPlayable};
 ghost use Rattle.plex_work.specs.Played.{IsPlayed};
 

@@ -2,13 +2,13 @@
 ghost use Rattle.std.specs.Prelude.{◌≡◌, ◌≢◌, ◌<◌, Some, OnOk, IfSome, length, slice_set};
 ghost use Rattle.cf_types.specs.Forms.{IsCaller, IsConnector};
 ghost use Rattle.cf_types.specs.declared.forms.StrForm.{StrForm};
-ghost use Rattle.any_cell.specs.Passes.{note_of};
+ghost use Rattle.plex_board.specs.Passes.{note_of};
 ghost use Rattle.plex_script.specs.declared.transcripts.AgentEnd.TheVariants as ended;
-ghost use Rattle.desk_model.specs.Desks.{pass_at};
-ghost use Rattle.desk_model.specs.Boards.{IsDeskOf, IsTrayOf, cell_on, note_in};
-ghost use Rattle.desk_model.specs.Turns.{Posts, Turns, is_done_as};
-ghost use Rattle.desk_model.specs.Callers.{IsLineFor, DepartsEach};
-ghost use Rattle.desk_model.specs.Floors.{is_counted, worker_after_take};
+ghost use Rattle.plex_board.specs.Desks.{pass_at};
+ghost use Rattle.plex_board.specs.Boards.{IsDeskOf, IsTrayOf, cell_on, note_in};
+ghost use Rattle.plex_board.specs.Turns.{Posts, Turns, is_done_as};
+ghost use Rattle.plex_board.specs.Callers.{IsLineFor, DepartsEach};
+ghost use Rattle.plex_board.specs.Floors.{is_counted, worker_after_take};
 
 use cf_link::Link;
 use cf_types::{NoMemory, StrNo};

@@ -16,10 +16,10 @@ use Rattle.plex_script.specs.declared.transcripts.Transcript.{Transcript}
 use Rattle.plex_script.specs.Agent.{first_step, call_of}
 use Rattle.plex_script.specs.Heard.{calls_on}
 use Rattle.plex_script.specs.Follows.{RunsUpTo, ShowsAct}
-use Rattle.any_cell.specs.Passes.{PassShown}
+use Rattle.plex_board.specs.Passes.{PassShown}
 use Rattle.run_model.specs.Kinds.{Rising}
-use Rattle.desk_model.specs.Desks.{pass_at}
-use Rattle.desk_model.specs.Turns.{AtWork, Tests, TestsWord, ShowsOnly, RunsOut, Acts}
+use Rattle.plex_board.specs.Desks.{pass_at}
+use Rattle.plex_board.specs.Turns.{AtWork, Tests, TestsWord, ShowsOnly, RunsOut, Acts}
 use Rattle.serve_laws.specs.Ends.{ShowsUpTo}
 use Rattle.serve_laws.proofs.Passes.{Caller, advances_none, advances_one}
 use Rattle.serve_laws.proofs.Adds.{test_adds, word_adds, bad_adds, post_adds, take_adds, with_test, with_word}

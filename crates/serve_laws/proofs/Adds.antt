@@ -27,10 +27,10 @@ use Rattle.run_model.specs.Headline.{TellsBit, TellsWord, place_of}
 use Rattle.vec_words.specs.declared.logged.Sight.{Sight}
 use Rattle.vec_words.specs.Logged.{bit_in, sight, indices_of}
 use Rattle.struct_cell.specs.Telling.{IsTold}
-use Rattle.any_cell.specs.declared.any_reply.AnyReply.{AnyReply}
-use Rattle.any_cell.specs.Passes.{PassShown, IsLater, with_call}
-use Rattle.any_cell.specs.Cells.{IsAnyTold}
-use Rattle.desk_model.proofs.SightLaws.{told_past, each_sight, bit_in_word}
+use Rattle.plex_board.specs.declared.any_reply.AnyReply.{AnyReply}
+use Rattle.plex_board.specs.Passes.{PassShown, IsLater, with_call}
+use Rattle.plex_board.specs.Cells.{IsAnyTold}
+use Rattle.plex_board.proofs.SightLaws.{told_past, each_sight, bit_in_word}
 use Rattle.run_model.specs.Kinds.{AnyTells}
 use Rattle.run_model.proofs.WordLaws.{all_bits}
 use Rattle.serve_laws.proofs.Fronts.{itself, front_same, front_more}

@@ -13,7 +13,7 @@ use Rattle.plex_script.specs.declared.transcripts.Transcript.{Transcript}
 use Rattle.plex_script.specs.Heard.{AnyCall}
 use Rattle.run_model.specs.Kinds.{any_take, end_of}
 use Rattle.run_model.specs.Numbers.{shown_on, seen_on}
-use Rattle.any_cell.specs.Passes.{PassShown, NoteShown}
+use Rattle.plex_board.specs.Passes.{PassShown, NoteShown}
 use Rattle.serve_laws.proofs.Spots.{conn, str, put, put_all, same_number, other_number, Spot}
 
 -- ---- what items show

@@ -2,11 +2,11 @@
 use Rattle.std.proofs.Common.{◌≡◌, ℕ, ◌+◌, ◌==◌, Bool, true, false, MatchBool, List, [], ◌∷◌, sym, ap, subst}
 use Rattle.cf_types.specs.declared.numbers.ConnId.{ConnId}
 use Rattle.plex_script.specs.declared.scripts.Line.{Line}
-use Rattle.any_cell.specs.Cells.{CellShown}
-use Rattle.desk_model.specs.Boards.{BoardShown}
-use Rattle.desk_model.specs.Turns.{AtWork}
-use Rattle.desk_model.specs.Callers as alone
-use Rattle.desk_model.specs.Callers.{lines_by}
+use Rattle.plex_board.specs.Cells.{CellShown}
+use Rattle.plex_board.specs.Boards.{BoardShown}
+use Rattle.plex_board.specs.Turns.{AtWork}
+use Rattle.plex_board.specs.Callers as alone
+use Rattle.plex_board.specs.Callers.{lines_by}
 use Rattle.serve_laws.specs.Chains.{Hears, DoesLines, DepartsEach, Closes, Serves}
 use Rattle.serve_laws.proofs.Hearings.{hears_none}
 use Rattle.serve_laws.proofs.Keeping.{Keeps, keeps_same, keeps_then, turns_keep}

@@ -17,11 +17,11 @@ use Rattle.plex_script.specs.declared.transcripts.Shown.TheVariants as shown
 use Rattle.plex_script.specs.Agent.{shell_ask}
 use Rattle.plex_script.specs.Heard.{AnyCall, is_linked, calls_on, length_on}
 use Rattle.plex_script.specs.Follows.{Runs, RunsUpTo, is_linked_by, ShowsClosing, ShowsClosings}
-use Rattle.any_cell.specs.Cells.{CellShown}
-use Rattle.any_cell.specs.Passes.{PassShown}
-use Rattle.desk_model.specs.Desks.{DeskShown, pass_at}
-use Rattle.desk_model.specs.Boards.{BoardShown}
-use Rattle.desk_model.specs.Turns.{AtWork, Asks, Departs, is_done_as}
+use Rattle.plex_board.specs.Cells.{CellShown}
+use Rattle.plex_board.specs.Passes.{PassShown}
+use Rattle.plex_board.specs.Desks.{DeskShown, pass_at}
+use Rattle.plex_board.specs.Boards.{BoardShown}
+use Rattle.plex_board.specs.Turns.{AtWork, Asks, Departs, is_done_as}
 use Rattle.serve_laws.specs.Chains.{DepartsEach, Hears}
 use Rattle.serve_laws.proofs.Passes.{Caller, advances_none}
 use Rattle.serve_laws.proofs.Moves.{AreWithin, Goes, goes_then, moves_go, moves_still, hears_go}

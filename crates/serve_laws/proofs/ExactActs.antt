@@ -17,13 +17,13 @@ use Rattle.run_model.specs.Numbers.{shown_on, seen_on}
 use Rattle.run_model.specs.Serial.{with_shown, test_shown, word_shown, post_made, take_made}
 use Rattle.vec_words.specs.declared.logged.Sight.{Sight}
 use Rattle.vec_words.specs.Logged.{sight, indices_of}
-use Rattle.any_cell.specs.Passes.{PassShown, NoteShown, note_of}
-use Rattle.any_cell.specs.Cells.{IsAnyTold}
-use Rattle.desk_model.specs.Notes.{with_any_note}
-use Rattle.desk_model.specs.Turns.{with_item}
+use Rattle.plex_board.specs.Passes.{PassShown, NoteShown, note_of}
+use Rattle.plex_board.specs.Cells.{IsAnyTold}
+use Rattle.plex_board.specs.Notes.{with_any_note}
+use Rattle.plex_board.specs.Turns.{with_item}
 use Rattle.list_laws.proofs.TableLaws.{set_same}
 use Rattle.serve_laws.proofs.TestLaws.{told_bit, told_word, told_point}
-use Rattle.desk_model.proofs.SightLaws.{each_sight}
+use Rattle.plex_board.proofs.SightLaws.{each_sight}
 use Rattle.serve_laws.proofs.Spots.{conn, str, put, put_all, put_same, is_other, Spot, IsKnownPass, IsKnownNote, moved, noticed, posted, known_moved, known_noticed, known_posted, put_other}
 use Rattle.serve_laws.proofs.Fits.{FitsAt, events_front, fits_put}
 use Rattle.serve_laws.proofs.Agreements.{AgreesAt, IsSeen, agrees_put, sure_in, known_in, last_is, seen_push, seen_none}

@@ -23,13 +23,13 @@ use Rattle.run_model.proofs.HistoryLaws.{take_none}
 use Rattle.run_model.specs.Serial.{start, connectors}
 use Rattle.run_model.specs.Runnable.{IsRunnable, IsRunnableLine}
 use Rattle.run_model.specs.Types.{type_of_kind, type_of_history}
-use Rattle.any_cell.specs.Passes.{PassShown, unused_pass}
-use Rattle.any_cell.specs.Cells.{CellShown}
-use Rattle.desk_model.specs.Desks.{pass_at, no_pass}
-use Rattle.desk_model.specs.Boards.{BoardShown, IsStarted, new_desk, IsClosed}
-use Rattle.desk_model.specs.Callers.{no_items}
-use Rattle.desk_model.specs.Turns.{AtWork}
-use Rattle.desk_model.specs.Floors.{worker_of, no_worker, new_floor}
+use Rattle.plex_board.specs.Passes.{PassShown, unused_pass}
+use Rattle.plex_board.specs.Cells.{CellShown}
+use Rattle.plex_board.specs.Desks.{pass_at, no_pass}
+use Rattle.plex_board.specs.Boards.{BoardShown, IsStarted, new_desk, IsClosed}
+use Rattle.plex_board.specs.Callers.{no_items}
+use Rattle.plex_board.specs.Turns.{AtWork}
+use Rattle.plex_board.specs.Floors.{worker_of, no_worker, new_floor}
 use Rattle.serve_laws.proofs.Spots.{conn, str, Spot, IsKnownPass}
 use Rattle.serve_laws.proofs.Stages.{Stage, IsStage, State, Known, Agrees}
 use Rattle.serve_laws.proofs.Workers.{IsWorker, IsFloor}

@@ -22,9 +22,9 @@ use Rattle.plex_script.proofs.StepLaws.{rests, fewer_asks, some_goes}
 use Rattle.plex_script.specs.Heard.{any_length}
 use Rattle.run_model.specs.Kinds.{any_take, any_told, end_of}
 use Rattle.run_model.specs.Serial.{Run, stopped_at, steps_made}
-use Rattle.any_cell.specs.declared.any_reply.AnyReply.{AnyReply}
-use Rattle.any_cell.specs.Passes.{PassShown, IsLater, with_call}
-use Rattle.desk_model.specs.Turns.{Steps, call_item}
+use Rattle.plex_board.specs.declared.any_reply.AnyReply.{AnyReply}
+use Rattle.plex_board.specs.Passes.{PassShown, IsLater, with_call}
+use Rattle.plex_board.specs.Turns.{Steps, call_item}
 use Rattle.serve_laws.proofs.Spots.{conn, str, put, put_same, put_other, Spot, moved, called}
 use Rattle.serve_laws.proofs.Fits.{IsNextCall}
 use Rattle.serve_laws.proofs.Stages.{Stage, IsStage, State, Known, Fits, Shows, Agrees, Goes, goes_not, goes_same}

@@ -20,13 +20,13 @@ use Rattle.run_model.specs.Kinds.{IsAnyPoint, any_take, end_of}
 use Rattle.run_model.proofs.SeamLaws.{IsFrontOf}
 use Rattle.run_model.specs.Serial as serial
 use Rattle.run_model.specs.Serial.{Run, is_done, after_departure, after_closing, all_steps_made}
-use Rattle.any_cell.specs.Passes.{PassShown}
-use Rattle.any_cell.specs.Cells.{CellShown, IsAnyTold}
-use Rattle.desk_model.specs.Desks.{pass_at, with_pass}
-use Rattle.desk_model.specs.Boards.{BoardShown, note_in}
-use Rattle.desk_model.specs.Turns.{AtWork, Asks, Departs, is_done_as}
-use Rattle.desk_model.specs.Callers.{DepartsEach}
-use Rattle.desk_model.specs.Floors.{Floor, worker_of, with_worker, heard_from_last, heard_all, ClosesAll}
+use Rattle.plex_board.specs.Passes.{PassShown}
+use Rattle.plex_board.specs.Cells.{CellShown, IsAnyTold}
+use Rattle.plex_board.specs.Desks.{pass_at, with_pass}
+use Rattle.plex_board.specs.Boards.{BoardShown, note_in}
+use Rattle.plex_board.specs.Turns.{AtWork, Asks, Departs, is_done_as}
+use Rattle.plex_board.specs.Callers.{DepartsEach}
+use Rattle.plex_board.specs.Floors.{Floor, worker_of, with_worker, heard_from_last, heard_all, ClosesAll}
 use Rattle.serve_laws.proofs.Spots.{conn, str, put, put_all, put_same, put_other, Spot, moved, known_moved}
 use Rattle.serve_laws.proofs.Fits.{put_back, FitsAt, events_front, fits_put, heard_pass, IsHeardPass, heard_is, heard_complete}
 use Rattle.serve_laws.proofs.Agreements.{AgreesAt, agrees_put, last_is}

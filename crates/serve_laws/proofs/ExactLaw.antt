@@ -17,11 +17,11 @@ use Rattle.run_model.proofs.HistoryLaws.{calls_rise, same_calls, take_all}
 use Rattle.run_model.proofs.SeamLaws.{end_length}
 use Rattle.run_model.specs.Serial.{Run, start, connectors, after_line, after_closing, serial_run}
 use Rattle.run_model.specs.Runnable.{IsRunnable}
-use Rattle.any_cell.specs.Cells.{CellShown, IsAnyTold}
-use Rattle.desk_model.specs.Desks.{DeskShown, pass_at}
-use Rattle.desk_model.specs.Boards.{BoardShown, IsStarted, IsAccount, AreClosed}
-use Rattle.desk_model.specs.Turns.{AtWork}
-use Rattle.desk_model.specs.Floors.{Floor, Plays, worker_of, no_worker}
+use Rattle.plex_board.specs.Cells.{CellShown, IsAnyTold}
+use Rattle.plex_board.specs.Desks.{DeskShown, pass_at}
+use Rattle.plex_board.specs.Boards.{BoardShown, IsStarted, IsAccount, AreClosed}
+use Rattle.plex_board.specs.Turns.{AtWork}
+use Rattle.plex_board.specs.Floors.{Floor, Plays, worker_of, no_worker}
 use Rattle.serve_laws.proofs.Spots.{conn, str, Spot, IsKnownPass}
 use Rattle.serve_laws.proofs.Agreements.{AgreesAt}
 use Rattle.serve_laws.proofs.Stages.{Stage, IsStage, State, Known, Fits, Agrees, Goes, goes_then}

@@ -20,9 +20,9 @@ use Rattle.run_model.proofs.HistoryLaws.{calls_rise}
 use Rattle.run_model.proofs.SeamLaws.{IsFrontOf, point_end}
 use Rattle.run_model.specs.Numbers.{shown_on, seen_on}
 use Rattle.run_model.specs.Serial.{Run, shown_to, stopped_at, transcript_of, transcript_at}
-use Rattle.any_cell.specs.declared.any_reply.AnyReply.{AnyReply}
-use Rattle.any_cell.specs.Passes.{PassShown, with_call, IsLater}
-use Rattle.any_cell.specs.Cells.{IsAnyTold}
+use Rattle.plex_board.specs.declared.any_reply.AnyReply.{AnyReply}
+use Rattle.plex_board.specs.Passes.{PassShown, with_call, IsLater}
+use Rattle.plex_board.specs.Cells.{IsAnyTold}
 use Rattle.list_laws.proofs.TableLaws.{set_same}
 use Rattle.serve_laws.proofs.Spots.{conn, str, put, put_same, put_other, is_other, Spot, IsKnown, LastKnows, event, moved, called, known_moved, known_called}
 use Rattle.serve_laws.proofs.Fits.{FitsAt, events_front, fits_put, fits_called, IsNextCall, is_next_call, heard_pass, IsHeardPass, heard_is, heard_complete}

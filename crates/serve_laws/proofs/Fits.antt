@@ -12,10 +12,10 @@ use Rattle.plex_script.specs.Heard.{AnyCall, any_calls, any_length}
 use Rattle.run_model.specs.Kinds.{IsAnyLegal, AreAnyAsTold, any_take, any_next, any_told, any_numbers, end_of, last_number}
 use Rattle.run_model.proofs.SeamLaws.{IsNextOf, next_call, IsFrontOf, front_of, numbers_of, numbers_any, IsBefore}
 use Rattle.struct_cell.specs.Limits.{AreMadeBelow}
-use Rattle.any_cell.specs.declared.any_reply.AnyReply.{AnyReply}
-use Rattle.any_cell.specs.Passes.{PassShown, with_call, note_of}
-use Rattle.any_cell.specs.Cells.{IsAnyTold}
-use Rattle.desk_model.specs.Notes.{with_note}
+use Rattle.plex_board.specs.declared.any_reply.AnyReply.{AnyReply}
+use Rattle.plex_board.specs.Passes.{PassShown, with_call, note_of}
+use Rattle.plex_board.specs.Cells.{IsAnyTold}
+use Rattle.plex_board.specs.Notes.{with_note}
 use Rattle.serve_laws.proofs.Spots.{conn, put, same_number, Spot, IsKnown, LastKnows, event, called}
 
 pub put_back : {X : Type 0} (P : ℕ → X → Type 0) (at : ℕ) (x : X) (xs : ℕ → X) → (P at x → P at (xs at))

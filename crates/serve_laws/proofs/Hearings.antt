@@ -1,8 +1,8 @@
 -- Hearings: none, and one after another.
 use Rattle.std.proofs.Common.{refl, ap, ◌∙◌, arith}
-use Rattle.any_cell.specs.Passes.{PassShown, IsLater}
-use Rattle.desk_model.specs.Desks.{pass_at}
-use Rattle.desk_model.specs.Turns.{AtWork}
+use Rattle.plex_board.specs.Passes.{PassShown, IsLater}
+use Rattle.plex_board.specs.Desks.{pass_at}
+use Rattle.plex_board.specs.Turns.{AtWork}
 use Rattle.serve_laws.specs.Chains.{Hears}
 
 pub later_same : (pass : PassShown) → IsLater pass pass

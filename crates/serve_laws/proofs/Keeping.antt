@@ -17,11 +17,11 @@ use Rattle.plex_script.specs.declared.transcripts.AgentEnd.TheVariants as ended
 use Rattle.plex_script.specs.declared.transcripts.Shown.TheVariants as shown
 use Rattle.plex_script.specs.Agent.{step_after}
 use Rattle.plex_script.specs.Heard.{is_linked}
-use Rattle.any_cell.specs.Passes.{PassShown, NoteShown, with_call}
-use Rattle.any_cell.specs.Cells.{CellShown}
-use Rattle.desk_model.specs.Desks.{DeskShown, no_pass, pass_at, with_pass}
-use Rattle.desk_model.specs.Turns.{AtWork, Steps, Halts, EndsAt, Asks, Tests, TestsWord, ShowsOnly, Acts, Turns, Departs, is_done_as}
-use Rattle.desk_model.specs.Callers as alone
+use Rattle.plex_board.specs.Passes.{PassShown, NoteShown, with_call}
+use Rattle.plex_board.specs.Cells.{CellShown}
+use Rattle.plex_board.specs.Desks.{DeskShown, no_pass, pass_at, with_pass}
+use Rattle.plex_board.specs.Turns.{AtWork, Steps, Halts, EndsAt, Asks, Tests, TestsWord, ShowsOnly, Acts, Turns, Departs, is_done_as}
+use Rattle.plex_board.specs.Callers as alone
 use Rattle.serve_laws.proofs.Closings.{departing}
 
 abbrev pub conn : ℕ → ConnId

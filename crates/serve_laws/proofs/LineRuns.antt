@@ -19,12 +19,12 @@ use Rattle.plex_script.specs.declared.transcripts.Transcript.{Transcript}
 use Rattle.plex_script.specs.Agent.{first_step}
 use Rattle.run_model.specs.Serial as serial
 use Rattle.run_model.specs.Serial.{Run, act_made, after_line, is_done, test_shown, word_shown}
-use Rattle.any_cell.specs.Cells.{CellShown}
-use Rattle.desk_model.specs.Boards.{BoardShown, cell_on}
-use Rattle.desk_model.specs.Turns.{AtWork, Acts, Tests, TestsWord, ShowsOnly, RunsOut, IfDone, is_done_as}
+use Rattle.plex_board.specs.Cells.{CellShown}
+use Rattle.plex_board.specs.Boards.{BoardShown, cell_on}
+use Rattle.plex_board.specs.Turns.{AtWork, Acts, Tests, TestsWord, ShowsOnly, RunsOut, IfDone, is_done_as}
 use Rattle.run_model.specs.Kinds.{any_word}
 use Rattle.plex_script.specs.Heard.{any_length}
-use Rattle.desk_model.specs.Floors.{Floor, worker_of, with_worker, heard_from, told_by, heard_from_last, is_counted, PlaysAct, is_working, PlaysLine, PlaysLines}
+use Rattle.plex_board.specs.Floors.{Floor, worker_of, with_worker, heard_from, told_by, heard_from_last, is_counted, PlaysAct, is_working, PlaysLine, PlaysLines}
 use Rattle.serve_laws.proofs.Stages.{Stage, IsStage, State, Known, Shows, Agrees, Goes, goes_then, goes_not}
 use Rattle.serve_laws.proofs.ExactMoves.{transcript_is}
 use Rattle.serve_laws.proofs.Workers.{IsFloor}

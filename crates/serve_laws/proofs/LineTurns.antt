@@ -16,12 +16,12 @@ use Rattle.plex_script.specs.declared.asks.AnyHistory.{AnyHistory}
 use Rattle.vec_words.specs.Logged.{sight, indices_of}
 use Rattle.run_model.specs.Numbers.{shown_on}
 use Rattle.run_model.specs.Serial.{Run, act_made, all_steps_made, with_shown, post_made, take_made}
-use Rattle.any_cell.specs.Passes.{PassShown, NoteShown, note_of}
-use Rattle.desk_model.specs.Notes.{with_any_note}
-use Rattle.desk_model.specs.Desks.{DeskShown, pass_at, with_pass, no_pass}
-use Rattle.desk_model.specs.Boards.{note_in}
-use Rattle.desk_model.specs.Turns.{AtWork, Asks, Tests, TestsWord, ShowsOnly, RunsOut, Posts, with_item}
-use Rattle.desk_model.specs.Floors.{Floor, worker_of, heard_from_last, worker_after_take}
+use Rattle.plex_board.specs.Passes.{PassShown, NoteShown, note_of}
+use Rattle.plex_board.specs.Notes.{with_any_note}
+use Rattle.plex_board.specs.Desks.{DeskShown, pass_at, with_pass, no_pass}
+use Rattle.plex_board.specs.Boards.{note_in}
+use Rattle.plex_board.specs.Turns.{AtWork, Asks, Tests, TestsWord, ShowsOnly, RunsOut, Posts, with_item}
+use Rattle.plex_board.specs.Floors.{Floor, worker_of, heard_from_last, worker_after_take}
 use Rattle.serve_laws.proofs.Spots.{conn, str, put_same, put_other, Spot, moved, noticed}
 use Rattle.serve_laws.proofs.Fits.{heard_pass}
 use Rattle.serve_laws.proofs.Stages.{Stage, IsStage, State, Known, Shows, Goes, goes_then, acted}

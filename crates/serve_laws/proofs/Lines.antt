@@ -13,12 +13,12 @@ use Rattle.plex_script.specs.declared.transcripts.Transcript.{Transcript}
 use Rattle.plex_script.specs.Agent.{first_step, call_of}
 use Rattle.plex_script.specs.Heard.{calls_on, length_on}
 use Rattle.plex_script.specs.Follows.{RunsUpTo, ShowsLines}
-use Rattle.any_cell.specs.Cells.{CellShown}
+use Rattle.plex_board.specs.Cells.{CellShown}
 use Rattle.run_model.specs.Kinds.{Rising}
-use Rattle.desk_model.specs.Desks.{DeskShown, pass_at}
-use Rattle.desk_model.specs.Boards.{BoardShown, cell_on}
-use Rattle.desk_model.specs.Turns.{AtWork, Acts, Turns, is_done_as}
-use Rattle.desk_model.specs.Callers.{lines_by}
+use Rattle.plex_board.specs.Desks.{DeskShown, pass_at}
+use Rattle.plex_board.specs.Boards.{BoardShown, cell_on}
+use Rattle.plex_board.specs.Turns.{AtWork, Acts, Turns, is_done_as}
+use Rattle.plex_board.specs.Callers.{lines_by}
 use Rattle.serve_laws.specs.Chains.{DoesLines, Hears}
 use Rattle.serve_laws.proofs.Passes.{Caller}
 use Rattle.serve_laws.proofs.Moves.{same_number, AreWithin, Goes, goes_then, moves_go, hears_go}

@@ -22,8 +22,8 @@ use Rattle.plex_script.specs.declared.asks.AnyHistory.TheVariants as history
 use Rattle.run_model.specs.Kinds.{IsAnyLegal, AreAnyAsTold, any_answers, any_marks_at}
 use Rattle.run_model.proofs.ToldLaws.{links_told}
 use Rattle.run_model.specs.RunLinks.{link_place, AreTelling, IsLinkOf, AreRunLinks}
-use Rattle.any_cell.specs.Cells.{CellShown}
-use Rattle.desk_model.specs.Boards.{BoardShown, AreEachAsked, AreLinksAsked, four_of, links_of}
+use Rattle.plex_board.specs.Cells.{CellShown}
+use Rattle.plex_board.specs.Boards.{BoardShown, AreEachAsked, AreLinksAsked, four_of, links_of}
 
 -- ---- places
 

@@ -5,9 +5,9 @@ use Rattle.std.proofs.lemmas.List.{length-set, get_or-set_same, get_or-set_other
 use Rattle.cf_types.specs.declared.numbers.StrNo.{StrNo}
 use Rattle.plex_script.specs.declared.transcripts.Shown.{Shown}
 use Rattle.plex_script.specs.declared.transcripts.Transcript.{Transcript}
-use Rattle.any_cell.specs.Passes.{PassShown}
-use Rattle.desk_model.specs.Desks.{DeskShown, no_pass, pass_at, with_pass}
-use Rattle.desk_model.specs.Turns.{AtWork}
+use Rattle.plex_board.specs.Passes.{PassShown}
+use Rattle.plex_board.specs.Desks.{DeskShown, no_pass, pass_at, with_pass}
+use Rattle.plex_board.specs.Turns.{AtWork}
 use Rattle.serve_laws.specs.Chains.{Hears}
 use Rattle.serve_laws.proofs.Items.{Each}
 use Rattle.serve_laws.proofs.Passes.{Caller, IsShown, IsGood, IsWithin, Advances, advances_later}

@@ -11,8 +11,8 @@ use Rattle.plex_script.specs.Heard.{AnyCall, own_calls, calls_on, length_on}
 use Rattle.plex_script.specs.Follows.{number_on, numbers_on, sure_on, surest_on, IsNote}
 use Rattle.run_model.specs.Numbers.{shown_on, seen_on}
 use Rattle.run_model.specs.Headline.{TellsOf, place_of}
-use Rattle.any_cell.specs.Passes.{PassShown, IsLater}
-use Rattle.any_cell.specs.Cells.{IsAnyTold}
+use Rattle.plex_board.specs.Passes.{PassShown, IsLater}
+use Rattle.plex_board.specs.Cells.{IsAnyTold}
 use Rattle.serve_laws.proofs.Fronts.{IsFront, front_same, front_then, take_front}
 use Rattle.serve_laws.proofs.Items.{Each, each_push, greatest_push, unread_push}
 

@@ -21,15 +21,15 @@ use Rattle.plex_script.specs.declared.transcripts.Shown.TheVariants as shown
 use Rattle.run_model.specs.Kinds.{numbers_from}
 use Rattle.run_model.specs.Serial.{connectors}
 use Rattle.run_model.specs.Headline.{ShowsHistories}
-use Rattle.any_cell.specs.Passes.{PassShown, NoteShown, IsLater, note_of, unused_pass}
-use Rattle.any_cell.specs.Cells.{CellShown}
-use Rattle.desk_model.specs.Notes.{with_note, with_any_note}
-use Rattle.desk_model.specs.Desks.{no_pass, pass_at, with_pass}
-use Rattle.desk_model.specs.Boards.{BoardShown, IsStarted, AreClosed, cell_on, new_desk, note_in}
-use Rattle.desk_model.specs.Turns.{AtWork, Takes, Acts, Turns, is_done_as, with_item}
-use Rattle.desk_model.specs.Callers as alone
-use Rattle.desk_model.specs.Callers.{lines_by, no_items}
-use Rattle.desk_model.specs.Floors.{Floor, Plays, PlaysLines, PlaysLine, PlaysAct, ClosesOne, ClosesAll, new_floor, no_worker, worker_of, told_by, heard_from, heard_from_last, heard_all, is_counted, is_working, with_worker, last_after, worker_ready, worker_after_take}
+use Rattle.plex_board.specs.Passes.{PassShown, NoteShown, IsLater, note_of, unused_pass}
+use Rattle.plex_board.specs.Cells.{CellShown}
+use Rattle.plex_board.specs.Notes.{with_note, with_any_note}
+use Rattle.plex_board.specs.Desks.{no_pass, pass_at, with_pass}
+use Rattle.plex_board.specs.Boards.{BoardShown, IsStarted, AreClosed, cell_on, new_desk, note_in}
+use Rattle.plex_board.specs.Turns.{AtWork, Takes, Acts, Turns, is_done_as, with_item}
+use Rattle.plex_board.specs.Callers as alone
+use Rattle.plex_board.specs.Callers.{lines_by, no_items}
+use Rattle.plex_board.specs.Floors.{Floor, Plays, PlaysLines, PlaysLine, PlaysAct, ClosesOne, ClosesAll, new_floor, no_worker, worker_of, told_by, heard_from, heard_from_last, heard_all, is_counted, is_working, with_worker, last_after, worker_ready, worker_after_take}
 use Rattle.serve_laws.specs.Chains.{Hears, HearsThen, DoesLines, DepartsEach, Serves}
 use Rattle.serve_laws.proofs.Hearings.{hears_none, hears_then}
 use Rattle.serve_laws.proofs.Moves.{same_number, other_number}

@@ -19,13 +19,13 @@ use Rattle.plex_script.specs.declared.transcripts.Transcript.{Transcript}
 use Rattle.plex_script.specs.Heard.{AnyCall, any_calls, any_length, own_calls, calls_of, calls_on, length_of, length_on}
 use Rattle.plex_script.specs.Follows.{AgreesWith, numbers_on}
 use Rattle.run_model.specs.Headline.{TestsTell, EndsRight, IsHistoryOf, ShowsHistories}
-use Rattle.any_cell.specs.Cells.{CellShown, IsAnyTold}
+use Rattle.plex_board.specs.Cells.{CellShown, IsAnyTold}
 use Rattle.run_model.specs.Kinds.{Rising}
 use Rattle.run_model.proofs.HistoryLaws.{calls_rise}
-use Rattle.desk_model.specs.Desks.{DeskShown, no_pass, pass_at}
-use Rattle.desk_model.specs.Boards.{BoardShown, IsStarted, IsClosed, IsAccount, AreClosed, new_desk}
-use Rattle.desk_model.specs.Turns.{AtWork}
-use Rattle.desk_model.specs.Callers.{no_items}
+use Rattle.plex_board.specs.Desks.{DeskShown, no_pass, pass_at}
+use Rattle.plex_board.specs.Boards.{BoardShown, IsStarted, IsClosed, IsAccount, AreClosed, new_desk}
+use Rattle.plex_board.specs.Turns.{AtWork}
+use Rattle.plex_board.specs.Callers.{no_items}
 use Rattle.serve_laws.specs.Chains.{Serves}
 use Rattle.serve_laws.specs.Ends.{WorkEnds, ShowsWork}
 use Rattle.serve_laws.proofs.Passes.{Caller, IsWithin}

@@ -9,8 +9,8 @@ use Rattle.engine_api.specs.declared.told.Told.{Told}
 use Rattle.plex_script.specs.declared.scripts.AnyAsk.{AnyAsk}
 use Rattle.plex_script.specs.Heard.{AnyCall, own_calls}
 use Rattle.run_model.specs.Kinds.{Rising}
-use Rattle.any_cell.specs.declared.any_reply.AnyReply.{AnyReply}
-use Rattle.any_cell.specs.Passes.{PassShown, NoteShown, with_call}
+use Rattle.plex_board.specs.declared.any_reply.AnyReply.{AnyReply}
+use Rattle.plex_board.specs.Passes.{PassShown, NoteShown, with_call}
 
 abbrev pub conn : ℕ → ConnId
 conn c = record { 0 = c }

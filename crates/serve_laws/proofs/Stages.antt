@@ -13,7 +13,7 @@ use Rattle.struct_cell.specs.Limits.{AreMadeBelow}
 use Rattle.run_model.specs.Numbers.{seen_on}
 use Rattle.run_model.specs.Serial.{Run}
 use Rattle.list_laws.proofs.TableLaws.{get-set_same, get-set_other}
-use Rattle.any_cell.specs.Passes.{PassShown}
+use Rattle.plex_board.specs.Passes.{PassShown}
 use Rattle.serve_laws.proofs.Spots.{str, put, put_all, put_same, put_other, Spot, IsKnown}
 use Rattle.serve_laws.proofs.Fits.{put_back, FitsAt}
 use Rattle.serve_laws.proofs.Agreements.{AgreesAt, agrees_elsewhere, sure_in}

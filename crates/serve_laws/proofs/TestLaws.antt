@@ -16,8 +16,8 @@ use Rattle.plex_script.specs.declared.asks.AnyHistory.TheVariants as history
 use Rattle.vec_words.specs.declared.logged.Sight.{Sight}
 use Rattle.vec_words.specs.Logged.{bit_in, sight, indices_of}
 use Rattle.struct_cell.specs.Telling.{IsTold}
-use Rattle.any_cell.specs.Cells.{IsAnyTold}
-use Rattle.desk_model.proofs.SightLaws.{told_past, each_sight, bit_in_word}
+use Rattle.plex_board.specs.Cells.{IsAnyTold}
+use Rattle.plex_board.proofs.SightLaws.{told_past, each_sight, bit_in_word}
 use Rattle.run_model.specs.Kinds.{IsAnyPoint, any_take, any_stands, any_word}
 use Rattle.run_model.proofs.WordLaws.{all_bits}
 

@@ -6,12 +6,12 @@ use Rattle.cf_types.specs.declared.numbers.ConnId.{ConnId}
 use Rattle.plex_script.specs.declared.transcripts.AgentEnd.TheVariants as ended
 use Rattle.plex_script.specs.declared.transcripts.Transcript.{Transcript}
 use Rattle.run_model.specs.Serial.{Run}
-use Rattle.any_cell.specs.Passes.{PassShown, NoteShown, note_of}
-use Rattle.desk_model.specs.Notes.{with_note}
-use Rattle.desk_model.specs.Desks.{DeskShown, pass_at, with_pass, no_pass}
-use Rattle.desk_model.specs.Boards.{note_in}
-use Rattle.desk_model.specs.Turns.{AtWork}
-use Rattle.desk_model.specs.Floors.{Floor, worker_of, heard_from, heard_from_last}
+use Rattle.plex_board.specs.Passes.{PassShown, NoteShown, note_of}
+use Rattle.plex_board.specs.Notes.{with_note}
+use Rattle.plex_board.specs.Desks.{DeskShown, pass_at, with_pass, no_pass}
+use Rattle.plex_board.specs.Boards.{note_in}
+use Rattle.plex_board.specs.Turns.{AtWork}
+use Rattle.plex_board.specs.Floors.{Floor, worker_of, heard_from, heard_from_last}
 use Rattle.serve_laws.proofs.Spots.{conn, str, put, put_same, put_other, Spot, LastKnows, noticed, known_noticed}
 use Rattle.serve_laws.proofs.Fits.{fits_put, heard_as, heard_pass}
 use Rattle.serve_laws.proofs.Stages.{Stage, State, Known, Shows, Goes, acted, known_acted, fits_acted}

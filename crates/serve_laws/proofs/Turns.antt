@@ -14,11 +14,11 @@ use Rattle.plex_script.specs.declared.transcripts.Shown.{Shown}
 use Rattle.plex_script.specs.Agent.{step_after, asked_by}
 use Rattle.plex_script.specs.Heard.{AnyCall, call_numbered, calls_on, length_on}
 use Rattle.plex_script.specs.Follows.{IsHeard, Runs, RunsUpTo}
-use Rattle.any_cell.specs.declared.any_reply.AnyReply.{AnyReply}
-use Rattle.any_cell.specs.Passes.{PassShown, with_call}
+use Rattle.plex_board.specs.declared.any_reply.AnyReply.{AnyReply}
+use Rattle.plex_board.specs.Passes.{PassShown, with_call}
 use Rattle.run_model.specs.Kinds.{Rising}
-use Rattle.desk_model.specs.Desks.{DeskShown, pass_at, with_pass}
-use Rattle.desk_model.specs.Turns.{AtWork, call_item, Steps, Halts, EndsAt, Asks}
+use Rattle.plex_board.specs.Desks.{DeskShown, pass_at, with_pass}
+use Rattle.plex_board.specs.Turns.{AtWork, call_item, Steps, Halts, EndsAt, Asks}
 use Rattle.serve_laws.proofs.Fronts.{own_heard}
 use Rattle.serve_laws.proofs.Passes.{Caller, IsWithin, Advances, advances_none, advances_then, advances_one, advances_later}
 use Rattle.serve_laws.proofs.Adds.{call_adds}

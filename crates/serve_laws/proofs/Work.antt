@@ -12,11 +12,11 @@ use Rattle.plex_script.specs.declared.transcripts.Shown.{Shown}
 use Rattle.plex_script.specs.declared.transcripts.Transcript.{Transcript}
 use Rattle.plex_script.specs.Heard.{AnyCall, own_calls, is_linked, calls_on}
 use Rattle.plex_script.specs.Follows.{AgreesWith, ShowsLines, ShowsClosings, lines_of, numbers_on}
-use Rattle.any_cell.specs.Passes.{PassShown, unused_pass}
-use Rattle.any_cell.specs.Cells.{CellShown}
-use Rattle.desk_model.specs.Desks.{no_pass, pass_at}
-use Rattle.desk_model.specs.Boards.{BoardShown}
-use Rattle.desk_model.specs.Turns.{AtWork, is_done_as}
+use Rattle.plex_board.specs.Passes.{PassShown, unused_pass}
+use Rattle.plex_board.specs.Cells.{CellShown}
+use Rattle.plex_board.specs.Desks.{no_pass, pass_at}
+use Rattle.plex_board.specs.Boards.{BoardShown}
+use Rattle.plex_board.specs.Turns.{AtWork, is_done_as}
 use Rattle.serve_laws.specs.Chains.{Serves, DepartsEach, Hears}
 use Rattle.serve_laws.specs.Ends.{WorkEnds, beginner}
 use Rattle.serve_laws.proofs.Fronts.{take_front}

@@ -12,11 +12,11 @@ use Rattle.plex_script.specs.declared.transcripts.Shown.{Shown}
 use Rattle.plex_script.specs.declared.transcripts.Transcript.{Transcript}
 use Rattle.plex_script.specs.Agent.{most_asks}
 use Rattle.run_model.specs.Serial.{all_steps_made}
-use Rattle.any_cell.specs.Passes.{PassShown, IsLater}
-use Rattle.desk_model.specs.Desks.{DeskShown, pass_at, with_pass, no_pass}
-use Rattle.desk_model.specs.Boards.{note_in}
-use Rattle.desk_model.specs.Turns.{AtWork, Asks, EndsAt, Halts, Steps, call_item}
-use Rattle.desk_model.specs.Floors.{Floor, worker_of, no_worker}
+use Rattle.plex_board.specs.Passes.{PassShown, IsLater}
+use Rattle.plex_board.specs.Desks.{DeskShown, pass_at, with_pass, no_pass}
+use Rattle.plex_board.specs.Boards.{note_in}
+use Rattle.plex_board.specs.Turns.{AtWork, Asks, EndsAt, Halts, Steps, call_item}
+use Rattle.plex_board.specs.Floors.{Floor, worker_of, no_worker}
 use Rattle.serve_laws.proofs.Spots.{conn, str, same_number, other_number, Spot}
 use Rattle.serve_laws.proofs.Stages.{Stage, IsStage, State, Shows, Goes}
 use Rattle.serve_laws.proofs.ExactMoves.{SaysLess}

@@ -2,9 +2,9 @@ ghost use Rattle.std.specs.Prelude.{ℕ, List};
 ghost use Rattle.plex_script.specs.declared.asks.AnyHistory.{AnyHistory};
 ghost use Rattle.plex_script.specs.declared.scripts.Line.{Line};
 ghost use Rattle.plex_script.specs.declared.scripts.Script.{Script};
-ghost use Rattle.desk_model.specs.Boards.{BoardShown};
-ghost use Rattle.desk_model.specs.Callers as alone;
-ghost use Rattle.desk_model.specs.Turns.{AtWork};
+ghost use Rattle.plex_board.specs.Boards.{BoardShown};
+ghost use Rattle.plex_board.specs.Callers as alone;
+ghost use Rattle.plex_board.specs.Turns.{AtWork};
 ghost use Rattle.serve_laws.specs.Chains.{Serves};
 ghost use Rattle.serve_laws.specs.Ends.{ShowsWhoServed};
 

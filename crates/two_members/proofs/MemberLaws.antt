@@ -9,9 +9,9 @@ use Rattle.cf_types.specs.declared.limits.TheConstants.{CONNECTORS}
 use Rattle.plex_script.specs.declared.scripts.Script.{Script}
 use Rattle.plex_script.specs.Scripts.{IsScript}
 use Rattle.plex_script.proofs.FormedLines.{script-formed}
-use Rattle.desk_model.specs.Desks.{DeskShown}
-use Rattle.desk_model.specs.Boards.{BoardShown, IsPolicy, IsDeskOf, new_desk}
-use Rattle.desk_model.proofs.DeskLaws.{new_desk-of_board}
+use Rattle.plex_board.specs.Desks.{DeskShown}
+use Rattle.plex_board.specs.Boards.{BoardShown, IsPolicy, IsDeskOf, new_desk}
+use Rattle.plex_board.proofs.DeskLaws.{new_desk-of_board}
 use Rattle.two_members.specs.Members.{HasPool, IsMember, Stays}
 
 -- what a text says states a policy

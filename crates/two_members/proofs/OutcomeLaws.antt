@@ -9,11 +9,11 @@ use Rattle.cf_types.specs.declared.forms.StrForm.{StrForm}
 use Rattle.plex_script.specs.declared.asks.AnyHistory.{AnyHistory}
 use Rattle.plex_script.specs.declared.asks.AnyHistory.TheVariants as history
 use Rattle.plex_script.specs.declared.scripts.Script.{Script}
-use Rattle.any_cell.specs.Passes.{reply_numbered}
-use Rattle.any_cell.specs.Cells.{CellShown, IsAnyTold, own_replies}
-use Rattle.desk_model.specs.Desks.{DeskShown, pass_at}
-use Rattle.desk_model.specs.Boards.{BoardShown, IsDeskOf, IsAccount, AreClosed}
-use Rattle.desk_model.proofs.DeskLaws.{desk-pass_owner}
+use Rattle.plex_board.specs.Passes.{reply_numbered}
+use Rattle.plex_board.specs.Cells.{CellShown, IsAnyTold, own_replies}
+use Rattle.plex_board.specs.Desks.{DeskShown, pass_at}
+use Rattle.plex_board.specs.Boards.{BoardShown, IsDeskOf, IsAccount, AreClosed}
+use Rattle.plex_board.proofs.DeskLaws.{desk-pass_owner}
 use Rattle.two_members.specs.Members.{HasPool, HasRead, HasTested, IsOutcome, gbp, reader, sight_of}
 use Rattle.two_members.specs.declared.seen.Seen.{Seen}
 

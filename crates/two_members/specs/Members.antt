@@ -10,11 +10,11 @@ use Rattle.vec_words.specs.declared.logged.Sight.{Sight}
 use Rattle.vec_words.specs.declared.logged.Tested.{Tested}
 use Rattle.run_model.specs.Types.{OfCache}
 use Rattle.run_model.specs.Kinds.{IsAnyLegal}
-use Rattle.any_cell.specs.declared.any_reply.AnyReply.{AnyReply}
-use Rattle.any_cell.specs.Passes.{Replied, reply_numbered}
-use Rattle.any_cell.specs.Cells.{CellShown, IsAnyTold, own_replies}
-use Rattle.desk_model.specs.Desks.{DeskShown, pass_at}
-use Rattle.desk_model.specs.Boards.{BoardShown, IsDeskOf, cell_on}
+use Rattle.plex_board.specs.declared.any_reply.AnyReply.{AnyReply}
+use Rattle.plex_board.specs.Passes.{Replied, reply_numbered}
+use Rattle.plex_board.specs.Cells.{CellShown, IsAnyTold, own_replies}
+use Rattle.plex_board.specs.Desks.{DeskShown, pass_at}
+use Rattle.plex_board.specs.Boards.{BoardShown, IsDeskOf, cell_on}
 use Rattle.two_members.specs.declared.seen.Seen.{Seen}
 
 -- the first structure of the policy

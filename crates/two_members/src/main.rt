@@ -7,7 +7,7 @@ mod roles;
 mod seen;
 
 ghost use Rattle.std.specs.Prelude.{◌≡◌, IsTrue, IfOk, false};
-ghost use Rattle.desk_model.specs.Boards.{IsPolicy};
+ghost use Rattle.plex_board.specs.Boards.{IsPolicy};
 ghost use Rattle.two_members.specs.Members.{HasPool, IsMember, Stays, HasRead, HasTested, IsOutcome};
 
 use cf_link::Steady;

@@ -1,7 +1,7 @@
 //! What the reader saw of the page.
-use any_cell::AnyReply;
 use cf_types::CacheReply;
 use engine_api::Reply;
+use plex_board::AnyReply;
 use vec_words::Tested;
 
 /// What the reader saw: the reply to its READ, by the call's number, and its last test.

@@ -1,6 +1,6 @@
 -- The desks of the members, from the start of the board to its end.
 use Rattle.std.proofs.Common.{rules, ◌≡◌, length, ◌∙◌, ap, arith}
-use Rattle.desk_model.specs.Desks.{DeskShown}
+use Rattle.plex_board.specs.Desks.{DeskShown}
 use Rattle.two_members.proofs.MemberLaws.{seats, member, all-of_board, all-owners}
 use Rattle.two_members.proofs.OutcomeLaws.{outcome}
 use Rattle.two_members.specs.Members.{HasPool}

@@ -1,5 +1,5 @@
 use Rattle.std.proofs.Common.{ap}
-use Rattle.desk_model.specs.Desks.{DeskShown}
+use Rattle.plex_board.specs.Desks.{DeskShown}
 use Rattle.bench_cell.proofs.SeatLaws.{pool-within, still-seated}
 use Rattle.bench_cell.proofs.boards.is_set.Goals as goal
 

@@ -2,7 +2,7 @@
 use Rattle.std.proofs.Common.{sym, ap, subst}
 use Rattle.cf_types.specs.declared.numbers.ConnId.{ConnId}
 use Rattle.engine_api.specs.Asking.{MayAsk}
-use Rattle.desk_model.specs.Desks.{DeskShown}
+use Rattle.plex_board.specs.Desks.{DeskShown}
 use Rattle.failover.proofs.SeatLaws.{seat_is, still_seated}
 use Rattle.failover.proofs.members.call.Goals as goal
 

@@ -1,9 +1,9 @@
 use Rattle.std.proofs.Common.{rules, ◌≤◌, ◌∙◌}
 use Rattle.std.specs.Option.{option_copied}
 use Rattle.plex_script.specs.declared.transcripts.AgentEnd.TheVariants as ended
-use Rattle.any_cell.specs.Cells.{CellShown}
-use Rattle.desk_model.specs.Desks.{pass_at}
-use Rattle.desk_model.specs.Boards.{cell_on}
+use Rattle.plex_board.specs.Cells.{CellShown}
+use Rattle.plex_board.specs.Desks.{pass_at}
+use Rattle.plex_board.specs.Boards.{cell_on}
 use Rattle.plex_agent.specs.Calls.{IsAsked, at_work}
 use Rattle.plex_agent.proofs.CellLaws.{some_is, if_each}
 use Rattle.plex_agent.proofs.AskLaws.{asks_more, asks_refused, pass_there, asked_fewer, asked_ready, asked_owner}

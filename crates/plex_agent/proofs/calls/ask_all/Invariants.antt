@@ -2,9 +2,9 @@ use Rattle.std.proofs.Common.{◌≡◌, Some}
 use Rattle.std.specs.Option.{option_copied}
 use Rattle.plex_script.specs.declared.transcripts.AgentEnd.TheVariants as ended
 use Rattle.plex_script.specs.Agent.{most_asks, IsReady}
-use Rattle.any_cell.specs.Cells.{CellShown}
-use Rattle.desk_model.specs.Boards.{IsDeskOf, cell_on}
-use Rattle.desk_model.specs.Turns.{AtWork, Asks}
+use Rattle.plex_board.specs.Cells.{CellShown}
+use Rattle.plex_board.specs.Boards.{IsDeskOf, cell_on}
+use Rattle.plex_board.specs.Turns.{AtWork, Asks}
 use Rattle.plex_agent.specs.Calls.{at_work}
 use Rattle.plex_agent.proofs.calls.ask_all.Given as goal
 

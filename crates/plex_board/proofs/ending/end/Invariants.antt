@@ -2,7 +2,7 @@ use Rattle.std.proofs.Common.{◌≡◌, ◌+◌, ◌*◌, ◌≤◌, ◌++◌, 
 use Rattle.std.specs.Vec.{vec_len, vec_capacity}
 use Rattle.std.specs.Vec.Iter.{into_iter_items}
 use Rattle.plex_script.specs.declared.asks.AnyHistory.{AnyHistory}
-use Rattle.desk_model.specs.Boards.{AreEachAsked}
+use Rattle.plex_board.specs.Boards.{AreEachAsked}
 use Rattle.plex_board.specs.Rests.{homes_shown, AreHomes, AreEnded}
 use Rattle.plex_board.proofs.ending.end.Given as goal
 

@@ -1,8 +1,8 @@
 use Rattle.std.proofs.Common.{◌≡◌, ◌<◌, ◌≤◌, ℕ, [], length, get_or}
 use Rattle.std.specs.Prelude.{All}
 use Rattle.cf_types.specs.declared.limits.TheConstants.{STRUCTURES}
-use Rattle.any_cell.specs.Passes.{passes_shown, type_of_passes, room_of}
-use Rattle.desk_model.specs.Desks.{DeskShown}
+use Rattle.plex_board.specs.Passes.{passes_shown, type_of_passes, room_of}
+use Rattle.plex_board.specs.Desks.{DeskShown}
 use Rattle.plex_board.specs.Rests.{each_with}
 use Rattle.plex_board.specs.Openings.{desk_with}
 use Rattle.plex_board.proofs.opening.deal.Given as goal

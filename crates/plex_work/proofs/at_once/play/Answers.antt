@@ -1,5 +1,5 @@
 use Rattle.std.proofs.Common.{arith, refl}
-use Rattle.desk_model.specs.Boards.{links_of}
+use Rattle.plex_board.specs.Boards.{links_of}
 use Rattle.plex_work.proofs.RunLaws.{finished_asked, finished_count}
 use Rattle.plex_work.proofs.CrewLaws.{crew_is_idle, desks-of_board, desks-owners, finish_shows, lines_fit}
 use Rattle.plex_work.proofs.at_once.play.Goals as goal

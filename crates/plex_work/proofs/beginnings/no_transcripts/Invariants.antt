@@ -1,5 +1,5 @@
 use Rattle.std.proofs.Common.{◌≡◌, replicate}
-use Rattle.desk_model.specs.Callers.{no_items}
+use Rattle.plex_board.specs.Callers.{no_items}
 use Rattle.plex_work.proofs.beginnings.no_transcripts.Given as goal
 
 abbrev pub invariant-loop : goal.invariant-loop

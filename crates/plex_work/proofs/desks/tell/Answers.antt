@@ -1,6 +1,6 @@
 -- The desks were cut in two between the caller's and the other's, and one of each part changed.
 use Rattle.std.proofs.Common.{sym, subst, arith, List}
-use Rattle.desk_model.specs.Desks.{DeskShown}
+use Rattle.plex_board.specs.Desks.{DeskShown}
 use Rattle.plex_work.specs.Standing.{AreDesksOf}
 use Rattle.plex_work.proofs.DeskLaws.{told_before, told_behind, told_desks-are}
 use Rattle.plex_work.proofs.desks.tell.Goals as goal

@@ -1,5 +1,5 @@
 use Rattle.std.proofs.Common.{sym, ap}
-use Rattle.desk_model.specs.Desks.{fixed_of}
+use Rattle.plex_board.specs.Desks.{fixed_of}
 use Rattle.plex_board.proofs.PlaceLaws.{place-is, changed-of_board}
 use Rattle.plex_board.proofs.board.Board.hear.Goals as goal
 

@@ -1,7 +1,7 @@
 use Rattle.std.proofs.Common.{sym, ap, subst, ◌∙◌}
 use Rattle.std.specs.Prelude.{Some}
-use Rattle.any_cell.specs.Passes.{note_of}
-use Rattle.desk_model.specs.Boards.{IsTrayOf}
+use Rattle.plex_board.specs.Passes.{note_of}
+use Rattle.plex_board.specs.Boards.{IsTrayOf}
 use Rattle.plex_board.proofs.PlaceLaws.{place-is}
 use Rattle.plex_board.proofs.TrayLaws.{tray-after, tray-set}
 use Rattle.plex_board.proofs.board.Board.post_in.Goals as goal

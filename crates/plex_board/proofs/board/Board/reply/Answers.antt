@@ -1,8 +1,8 @@
 use Rattle.std.proofs.Common.{◌≡◌, sym, ap, subst}
 use Rattle.std.specs.Prelude.{IfOk, is_some}
 use Rattle.plex_script.specs.Heard.{call_numbered}
-use Rattle.any_cell.specs.Passes.{PassShown, reply_numbered}
-use Rattle.desk_model.specs.Desks.{fixed_of}
+use Rattle.plex_board.specs.Passes.{PassShown, reply_numbered}
+use Rattle.plex_board.specs.Desks.{fixed_of}
 use Rattle.plex_board.proofs.PlaceLaws.{place-is, changed-of_board, unread-on}
 use Rattle.plex_board.proofs.board.Board.reply.Goals as goal
 

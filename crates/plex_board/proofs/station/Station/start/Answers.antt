@@ -1,8 +1,8 @@
 use Rattle.std.proofs.Common.{◌≡◌, ◌+◌, ◌≤◌, ◌++◌, ◌∷◌, [], sym, ap, subst, ◌∙◌, arith}
 use Rattle.std.specs.Prelude.{All}
-use Rattle.any_cell.specs.Passes.{PassShown, pass_shown, passes_shown, note_shown}
-use Rattle.any_cell.specs.Cells.{IsPassOf, cell_shown}
-use Rattle.any_cell.proofs.UnusedLaws.{unused_links, unused_none}
+use Rattle.plex_board.specs.Passes.{PassShown, pass_shown, passes_shown, note_shown}
+use Rattle.plex_board.specs.Cells.{IsPassOf, cell_shown}
+use Rattle.plex_board.proofs.UnusedPassLaws.{unused_links, unused_none}
 use Rattle.plex_board.proofs.StationLaws.{started-passes, unused-of_cell, last-of_cell, popped, room-again}
 use Rattle.plex_board.proofs.station.Station.start.Goals as goal
 

@@ -1,5 +1,5 @@
 use Rattle.std.proofs.Common.{◌<◌, ◌≤◌}
-use Rattle.desk_model.specs.Desks.{IsLaterOn}
+use Rattle.plex_board.specs.Desks.{IsLaterOn}
 use Rattle.plex_seat.specs.Seats.{IsSame, pass_of}
 use Rattle.plex_seat.proofs.seat.Seat.wait_past.Given as goal
 

@@ -1,5 +1,5 @@
 use Rattle.std.proofs.Common.{◌<◌, length, sym, ◌∙◌, subst, arith}
-use Rattle.desk_model.specs.Floors.{Floor}
+use Rattle.plex_board.specs.Floors.{Floor}
 use Rattle.plex_work.specs.Standing.{IsFloorOf}
 use Rattle.plex_work.proofs.FloorLaws.{everywhere_fits}
 use Rattle.plex_work.proofs.PlayLaws.{closes_one}

@@ -1,5 +1,5 @@
 use Rattle.std.proofs.Common.{◌+◌, ◌-◌}
-use Rattle.desk_model.specs.Floors.{Floor, ClosesAll}
+use Rattle.plex_board.specs.Floors.{Floor, ClosesAll}
 use Rattle.plex_work.specs.Standing.{IsFloorOf, HasMemory, conns_from}
 use Rattle.plex_work.proofs.floor.Floor.closings.Given as goal
 

@@ -2,10 +2,10 @@ use Rattle.std.proofs.Common.{◌≢◌, ◌≤◌, sym, ◌∙◌, ap, subst, a
 use Rattle.cf_types.specs.declared.limits.TheConstants.{CONNECTORS}
 use Rattle.cf_types.specs.declared.numbers.ConnId.{ConnId}
 use Rattle.plex_script.specs.declared.transcripts.AgentEnd.TheVariants as ended
-use Rattle.desk_model.specs.Boards.{IsTrayOf}
-use Rattle.desk_model.specs.Turns.{AtWork}
-use Rattle.desk_model.specs.Callers.{DepartsEach}
-use Rattle.desk_model.specs.Floors.{Floor, worker_of, with_worker}
+use Rattle.plex_board.specs.Boards.{IsTrayOf}
+use Rattle.plex_board.specs.Turns.{AtWork}
+use Rattle.plex_board.specs.Callers.{DepartsEach}
+use Rattle.plex_board.specs.Floors.{Floor, worker_of, with_worker}
 use Rattle.plex_work.proofs.FloorLaws.{desk_inside, shown_inside, desk_fits, desk_own, worker_is, changed_only, changed_worker, changed_fits, on_ok}
 use Rattle.plex_work.proofs.floor.Floor.depart.Goals as goal
 

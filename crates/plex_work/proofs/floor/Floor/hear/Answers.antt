@@ -1,9 +1,9 @@
 -- The caller's desk is told what the last knows; nothing else changes.
 use Rattle.std.proofs.Common.{◌≡◌, List, length, sym, ◌∙◌, ap, subst, arith}
 use Rattle.std.proofs.lemmas.List.{with_items_is}
-use Rattle.desk_model.specs.Desks.{DeskShown}
-use Rattle.desk_model.specs.Boards.{IsTrayOf}
-use Rattle.desk_model.specs.Floors.{Floor}
+use Rattle.plex_board.specs.Desks.{DeskShown}
+use Rattle.plex_board.specs.Boards.{IsTrayOf}
+use Rattle.plex_board.specs.Floors.{Floor}
 use Rattle.plex_work.specs.Standing.{AreDesksOf, IsFloorOf, floor_of}
 use Rattle.plex_work.specs.Hearings.{heard_desks}
 use Rattle.plex_work.proofs.FloorLaws.{floor_desks, floor_fits, heard_floor, actor_is}

@@ -1,5 +1,5 @@
 use Rattle.std.proofs.Common.{◌<◌, length, arith}
-use Rattle.desk_model.specs.Floors.{heard_all}
+use Rattle.plex_board.specs.Floors.{heard_all}
 use Rattle.plex_work.proofs.PlayLaws.{hears_more}
 use Rattle.plex_work.proofs.floor.Floor.hear_all.Goals as goal
 

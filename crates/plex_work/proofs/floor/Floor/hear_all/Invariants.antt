@@ -1,6 +1,6 @@
 use Rattle.std.proofs.Common.{◌≡◌, ◌-◌, fold, length}
 use Rattle.std.specs.List.{range_with_len}
-use Rattle.desk_model.specs.Floors.{with_worker, worker_of, heard_from_last, heard_all}
+use Rattle.plex_board.specs.Floors.{with_worker, worker_of, heard_from_last, heard_all}
 use Rattle.plex_work.specs.Standing.{IsFloorOf}
 use Rattle.plex_work.proofs.floor.Floor.hear_all.Given as goal
 

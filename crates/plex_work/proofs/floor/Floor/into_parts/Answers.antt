@@ -1,6 +1,6 @@
 use Rattle.std.proofs.Common.{map, sym, ◌∙◌, ap}
-use Rattle.desk_model.specs.Turns.{AtWork}
-use Rattle.desk_model.specs.Floors.{Floor}
+use Rattle.plex_board.specs.Turns.{AtWork}
+use Rattle.plex_board.specs.Floors.{Floor}
 use Rattle.plex_work.proofs.WorkLaws.{map-desk-at_work, map-shown-at_work}
 use Rattle.plex_work.proofs.floor.Floor.into_parts.Goals as goal
 

@@ -2,9 +2,9 @@
 use Rattle.std.proofs.Common.{◌<◌, length, get_or, sym, ◌∙◌, ap, arith, ℕ}
 use Rattle.std.proofs.lemmas.List.{get_or_read}
 use Rattle.plex_script.specs.declared.transcripts.Transcript.{Transcript}
-use Rattle.desk_model.specs.Turns.{AtWork, is_done_as}
-use Rattle.desk_model.specs.Callers.{no_items}
-use Rattle.desk_model.specs.Floors.{Floor}
+use Rattle.plex_board.specs.Turns.{AtWork, is_done_as}
+use Rattle.plex_board.specs.Callers.{no_items}
+use Rattle.plex_board.specs.Floors.{Floor}
 use Rattle.plex_work.proofs.FloorLaws.{worker_parts}
 use Rattle.plex_work.proofs.WorkLaws.{length-at_work}
 use Rattle.plex_work.proofs.floor.Floor.is_working.Goals as goal

@@ -1,5 +1,5 @@
 use Rattle.std.proofs.Common.{◌≡◌, Bool, true, false, MatchBool, refl, sym, ◌∙◌, subst}
-use Rattle.desk_model.specs.Floors.{PlaysAct}
+use Rattle.plex_board.specs.Floors.{PlaysAct}
 use Rattle.plex_work.proofs.FloorLaws.{on_ok}
 use Rattle.plex_work.proofs.PlayLaws.{if_there}
 use Rattle.plex_work.proofs.floor.Floor.line.Goals as goal

@@ -1,6 +1,6 @@
 use Rattle.std.proofs.Common.{sym, subst}
 use Rattle.plex_script.specs.declared.scripts.Line.{Line}
-use Rattle.desk_model.specs.Callers.{IsLineFor}
+use Rattle.plex_board.specs.Callers.{IsLineFor}
 use Rattle.plex_work.proofs.PlayLaws.{lines_more}
 use Rattle.plex_work.proofs.floor.Floor.lines.Goals as goal
 

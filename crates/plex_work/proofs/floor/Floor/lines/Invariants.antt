@@ -1,5 +1,5 @@
 use Rattle.std.proofs.Common.{drop}
-use Rattle.desk_model.specs.Floors.{Floor, PlaysLines}
+use Rattle.plex_board.specs.Floors.{Floor, PlaysLines}
 use Rattle.plex_work.specs.Standing.{IsFloorOf, HasMemory}
 use Rattle.plex_work.proofs.floor.Floor.lines.Given as goal
 

@@ -1,5 +1,5 @@
 use Rattle.std.proofs.Common.{sym, ◌∙◌, subst}
-use Rattle.desk_model.specs.Floors.{Floor}
+use Rattle.plex_board.specs.Floors.{Floor}
 use Rattle.plex_work.specs.Standing.{HasMemory}
 use Rattle.plex_work.proofs.StartLaws.{new_floor_is, new_floor_fits, new_floor-memory}
 use Rattle.plex_work.proofs.floor.Floor.new.Goals as goal

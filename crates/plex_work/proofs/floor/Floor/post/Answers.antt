@@ -1,9 +1,9 @@
 use Rattle.std.proofs.Common.{List, slice_set, Option, Some, sym, ◌∙◌, ap, subst, arith}
-use Rattle.any_cell.specs.Passes.{NoteShown, note_of}
-use Rattle.desk_model.specs.Desks.{DeskShown, pass_at}
-use Rattle.desk_model.specs.Boards.{IsDeskOf, IsTrayOf}
-use Rattle.desk_model.specs.Turns.{AtWork, Posts}
-use Rattle.desk_model.specs.Floors.{Floor, worker_of}
+use Rattle.plex_board.specs.Passes.{NoteShown, note_of}
+use Rattle.plex_board.specs.Desks.{DeskShown, pass_at}
+use Rattle.plex_board.specs.Boards.{IsDeskOf, IsTrayOf}
+use Rattle.plex_board.specs.Turns.{AtWork, Posts}
+use Rattle.plex_board.specs.Floors.{Floor, worker_of}
 use Rattle.plex_work.proofs.FloorLaws.{desk_inside, shown_inside, desk_fits, worker_is, changed_worker, changed_fits, changed_tray, tray_is, on_ok, on_ok_always}
 use Rattle.plex_work.proofs.floor.Floor.post.Goals as goal
 

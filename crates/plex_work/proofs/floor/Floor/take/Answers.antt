@@ -1,8 +1,8 @@
 use Rattle.std.proofs.Common.{List, Option, set, sym, ◌∙◌, ap, subst, arith}
-use Rattle.any_cell.specs.Passes.{NoteShown}
-use Rattle.desk_model.specs.Boards.{IsTrayOf, note_in}
-use Rattle.desk_model.specs.Turns.{AtWork}
-use Rattle.desk_model.specs.Floors.{Floor, worker_of, with_worker, worker_after_take}
+use Rattle.plex_board.specs.Passes.{NoteShown}
+use Rattle.plex_board.specs.Boards.{IsTrayOf, note_in}
+use Rattle.plex_board.specs.Turns.{AtWork}
+use Rattle.plex_board.specs.Floors.{Floor, worker_of, with_worker, worker_after_take}
 use Rattle.plex_work.specs.Standing.{floor_of}
 use Rattle.plex_work.proofs.FloorLaws.{desk_inside, shown_inside, desk_fits, worker_is, changed_only, changed_fits, tray_is, on_ok}
 use Rattle.plex_work.proofs.floor.Floor.take.Goals as goal

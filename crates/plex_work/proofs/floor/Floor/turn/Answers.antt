@@ -1,6 +1,6 @@
 use Rattle.std.proofs.Common.{◌≡◌, ◌<◌, length, sym, subst, arith}
-use Rattle.desk_model.specs.Turns.{Turns}
-use Rattle.desk_model.specs.Floors.{Floor, worker_of, PlaysAct}
+use Rattle.plex_board.specs.Turns.{Turns}
+use Rattle.plex_board.specs.Floors.{Floor, worker_of, PlaysAct}
 use Rattle.plex_work.specs.Standing.{IsFloorOf}
 use Rattle.plex_work.proofs.FloorLaws.{acted_fits}
 use Rattle.plex_work.proofs.PlayLaws.{plays_turn, if_there, of_there}

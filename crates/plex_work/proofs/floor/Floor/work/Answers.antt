@@ -1,9 +1,9 @@
 use Rattle.std.proofs.Common.{◌≢◌, IfSome, sym, ◌∙◌, ap, subst, arith}
 use Rattle.cf_types.specs.declared.numbers.ConnId.{ConnId}
 use Rattle.plex_script.specs.declared.transcripts.AgentEnd.TheVariants as ended
-use Rattle.desk_model.specs.Boards.{IsTrayOf, cell_on}
-use Rattle.desk_model.specs.Turns.{AtWork, Turns}
-use Rattle.desk_model.specs.Floors.{Floor, worker_of, with_worker}
+use Rattle.plex_board.specs.Boards.{IsTrayOf, cell_on}
+use Rattle.plex_board.specs.Turns.{AtWork, Turns}
+use Rattle.plex_board.specs.Floors.{Floor, worker_of, with_worker}
 use Rattle.plex_work.proofs.FloorLaws.{desk_inside, shown_inside, desk_fits, desk_own, worker_is, changed_only, changed_worker, changed_fits, on_ok}
 use Rattle.plex_work.proofs.floor.Floor.work.Goals as goal
 

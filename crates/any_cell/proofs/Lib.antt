@@ -1,3 +1,0 @@
-mod CallLaws
-mod ShownLaws
-pub mod UnusedLaws

@@ -1,6 +1,0 @@
-pub mod Notes
-pub mod Desks
-pub mod Boards
-pub mod Turns
-pub mod Callers
-pub mod Floors

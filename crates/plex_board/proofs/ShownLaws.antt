@@ -1,0 +1,193 @@
+-- What holds of passes and calls by the type of their structure holds of them as they are shown.
+use Rattle.std.proofs.Common.{◌≡◌, ℕ, ◌<◌, ◌≤◌, ◌==◌, Bool, true, false, List, [], ◌∷◌, length, map, get_or, All, refl, sym, ap, subst, ◌∙◌, arith}
+use Rattle.std.proofs.lemmas.Bool.Decides.{nat_tests}
+use Rattle.std.proofs.lemmas.Simd.{map-map}
+use Rattle.std.proofs.lemmas.List.{length-map, get_or-map}
+use Rattle.std.specs.Prelude.{Option, is_some, option_map}
+use Rattle.std.specs.List.{range_with_len}
+use Rattle.std.proofs.lemmas.List.FromFn.{length-range_with_len}
+use Rattle.std.proofs.lemmas.List.Elements.{All-map, All-weaker}
+use Rattle.cf_link.specs.declared.links.Links.{Links}
+use Rattle.cf_link.specs.Links.{AreAsked}
+use Rattle.cf_types.specs.declared.forms.StrForm.{StrForm}
+use Rattle.cf_types.specs.declared.numbers.CfId.{CfId}
+use Rattle.cf_types.specs.declared.numbers.ConnId.{ConnId}
+use Rattle.engine_api.specs.declared.asks.Ask.{Ask}
+use Rattle.engine_api.specs.declared.asks.Reply.{Reply}
+use Rattle.engine_api.specs.declared.histories.Entry.{Entry}
+use Rattle.engine_api.specs.Meaning.{Meaning}
+use Rattle.engine_api.specs.History.{Call, calls, own}
+use Rattle.list_laws.proofs.ImageLaws.{map-filtered}
+use Rattle.plex_script.specs.declared.scripts.AnyAsk.{AnyAsk}
+use Rattle.plex_script.specs.Heard.{AnyCall, any_call, call_numbered, own_calls}
+use Rattle.vec_words.specs.declared.logged.Sight.{Sight}
+use Rattle.vec_words.specs.Tokens.{WordTable, PassSeen, new_pass}
+use Rattle.struct_cell.specs.declared.inside.CellKey.{CellKey}
+use Rattle.struct_cell.specs.Calls.{reply_to}
+use Rattle.struct_cell.specs.Cells.{About, own_call_of}
+use Rattle.struct_cell.specs.Limits.{AreMadeBelow}
+use Rattle.struct_cell.specs.Telling.{IsTold}
+use Rattle.run_model.specs.Types.{StrType}
+use Rattle.plex_board.specs.declared.any_reply.AnyReply.{AnyReply}
+use Rattle.plex_board.specs.Passes.{PassShown, call_by, heard_by, replies_by, reply_by, reply_numbered, shown_as, unused_pass}
+use Rattle.plex_board.specs.Cells.{CellShown, keyed_as, replied, IsPassOf}
+
+-- a vector of so many has room for so many
+pub room_for : {X : Type 0} (of : ℕ → X) (n : ℕ) (items : List X) (len cap : ℕ) → (len ≡ length items) × (len ≤ cap)
+    → items ≡ map of (range_with_len 0 n) → n ≤ cap
+room_for of n items len cap ok are =
+    let count : length items ≡ n = ap length are ∙ length-map (range_with_len 0 n) of ∙ length-range_with_len 0 n in
+    omega (arith, count, ok.0, ok.1)
+
+module _ {C R : Type 0} (str_type : StrType) (of : Ask C → AnyAsk) (told : Reply R → AnyReply) where
+  -- passes that have seen nothing
+  pub shown_new : (other : StrType) (words : WordTable) (owners : List ℕ) (passes : List (PassSeen (About C R)))
+      → other ≡ str_type → passes ≡ map (new_pass words) owners
+      → map (shown_as str_type of told) passes ≡ map (unused_pass other words) owners
+  shown_new other words owners passes type_is are =
+      rw (type_is, are) (map-map (shown_as str_type of told) (new_pass words) owners)
+
+  heard_same : (owner : ConnId) (call : Call C R) → call.by.0 == owner.0 ≡ true
+      → any_call of (call_by owner (own_call_of call)) ≡ any_call of call
+  heard_same owner call is =
+      let same : call.by.0 ≡ owner.0 = grind (arith, nat_tests) in
+      ap (λ (n : ℕ). any_call of (call_by (record { 0 = n }) (own_call_of call))) (sym same)
+
+  -- a caller's own calls, as it heard of them
+  heard_own : (history : List (Entry C R)) (owner : ConnId)
+      → heard_by of owner (map own_call_of (own history owner)) ≡ own_calls (map (any_call of) (calls history)) owner
+  heard_own history owner =
+      map-map (λ (it : ℕ × About C R). any_call of (call_by owner it)) own_call_of (own history owner)
+      ∙ map-filtered (λ (call : Call C R). any_call of (call_by owner (own_call_of call))) (any_call of)
+      (λ (call : Call C R). call.by.0 == owner.0) (λ (call : AnyCall). call.by.0 == owner.0)
+      (heard_same owner) (λ call. refl) (calls history)
+
+  -- and the replies to them
+  replied_own : (history : List (Entry C R)) (owner : ConnId)
+      → replies_by told (map own_call_of (own history owner)) ≡ map (replied told) (own history owner)
+  replied_own history owner = map-map (reply_by told) own_call_of (own history owner)
+
+  module _ {L : Type 0} (shown : CellShown L) (key : CellKey C R L) (list : List PassShown)
+      (passes : List (PassSeen (About C R))) (shown_is : shown ≡ keyed_as str_type key)
+      (list_is : list ≡ map (shown_as str_type of told) passes) where
+    -- all of them, where each of them as it is seen
+    each_shown : (P : PassShown → Type 0) → All (λ (pass : PassSeen (About C R)). P (shown_as str_type of told pass))
+        passes
+        → All P list
+    each_shown P all = subst (All P) (sym list_is) (All-map P (shown_as str_type of told) passes all)
+
+    pub shown_tables : All (IsPassOf shown) list → All (λ (pass : PassSeen (About C R)). pass.table ≡ key.words)
+        passes
+    shown_tables all k d below =
+        let P : PassShown → Type 0 = IsPassOf (keyed_as str_type key) in
+        let listed : All (IsPassOf shown) (map (shown_as str_type of told) passes) =
+        subst (All (IsPassOf shown)) list_is all in
+        let all' : All P (map (shown_as str_type of told) passes) =
+        subst (λ (s : CellShown L). All (IsPassOf s) (map (shown_as str_type of told) passes)) shown_is listed in
+        let below' : k < length (map (shown_as str_type of told) passes) =
+        subst (λ (n : ℕ). k < n) (sym (length-map passes (shown_as str_type of told))) below in
+        let each : P (get_or (map (shown_as str_type of told) passes) k (shown_as str_type of told d)) =
+        all' k (shown_as str_type of told d) below' in
+        (subst P (get_or-map (shown_as str_type of told) passes k d (shown_as str_type of told d) below) each).1
+
+    pub shown_callers : (all : List (Call C R)) → All (λ (call : Call C R). call.by.0 ≤ key.callers) all
+        → All (λ (call : AnyCall). call.by.0 ≤ shown.callers) (map (any_call of) all)
+    shown_callers all callers =
+        subst (λ (s : CellShown L). All (λ (call : AnyCall). call.by.0 ≤ s.callers) (map (any_call of) all))
+        (sym shown_is) (All-map (λ (call : AnyCall). call.by.0 ≤ key.callers) (any_call of) all callers)
+
+    pub shown_mine : (history : List (Entry C R))
+        → All (λ (pass : PassSeen (About C R)). pass.mine ≡ map own_call_of (own history (record { 0 = pass.owner })))
+        passes
+        → All (λ (pass : PassShown). pass.calls ≡ own_calls (map (any_call of) (calls history)) pass.owner) list
+    shown_mine history mine =
+        each_shown (λ (pass : PassShown). pass.calls ≡ own_calls (map (any_call of) (calls history)) pass.owner)
+        (All-weaker
+        (λ (pass : PassSeen (About C R)). pass.mine ≡ map own_call_of (own history (record { 0 = pass.owner })))
+        (λ (pass : PassSeen (About C R)). heard_by of (record { 0 = pass.owner }) pass.mine
+        ≡ own_calls (map (any_call of) (calls history)) (record { 0 = pass.owner }))
+        (λ pass is. ap (heard_by of (record { 0 = pass.owner })) is ∙ heard_own history (record { 0 = pass.owner }))
+        passes mine)
+
+    pub shown_replies : (history : List (Entry C R))
+        → All (λ (pass : PassSeen (About C R)). pass.mine ≡ map own_call_of (own history (record { 0 = pass.owner })))
+        passes
+        → All (λ (pass : PassShown). pass.replies ≡ map (replied told) (own history pass.owner)) list
+    shown_replies history mine =
+        each_shown (λ (pass : PassShown). pass.replies ≡ map (replied told) (own history pass.owner))
+        (All-weaker
+        (λ (pass : PassSeen (About C R)). pass.mine ≡ map own_call_of (own history (record { 0 = pass.owner })))
+        (λ (pass : PassSeen (About C R)). replies_by told pass.mine
+        ≡ map (replied told) (own history (record { 0 = pass.owner })))
+        (λ pass is. ap (replies_by told) is ∙ replied_own history (record { 0 = pass.owner }))
+        passes mine)
+
+    pub shown_tests : {I S : Type 0} (meaning : Meaning C R I S) (history : List (Entry C R))
+        → All (λ (pass : PassSeen (About C R)). All (IsTold meaning key.form history pass.owner) pass.tests) passes
+        → All (λ (pass : PassShown). All
+        (λ (test : Sight). IsTold meaning shown.form history pass.owner.0 test) pass.tests) list
+    shown_tests meaning history tells =
+        each_shown
+        (λ (pass : PassShown). All (λ (test : Sight). IsTold meaning shown.form history pass.owner.0 test) pass.tests)
+        (subst (λ (s : CellShown L). All (λ (pass : PassSeen (About C R)). All
+        (λ (test : Sight). IsTold meaning s.form history pass.owner test) pass.tests) passes)
+        (sym shown_is) tells)
+
+    pub shown_known : (P : ℕ → Type 0) → All (λ (pass : PassSeen (About C R)). P pass.known) passes
+        → All (λ (pass : PassShown). P pass.known) list
+    shown_known P known = each_shown (λ (pass : PassShown). P pass.known) known
+
+    pub shown_room : (numbers : List ℕ) → AreMadeBelow key.limit 0 numbers → AreMadeBelow shown.limit 0 numbers
+    shown_room numbers made = subst (λ (s : CellShown L). AreMadeBelow s.limit 0 numbers) (sym shown_is) made
+
+    pub shown_links : (asks : L → Option ℕ) (downs : L → Option (List ℕ)) (faults : L → ℕ)
+        (answered : StrForm → CfId → List Bool) (handed : Links L)
+        → AreAsked asks downs faults (answered key.form) key.links handed
+        → AreAsked asks downs faults (answered shown.form) shown.links handed
+    shown_links asks downs faults answered handed are =
+        subst (λ (s : CellShown L). AreAsked asks downs faults (answered s.form) s.links handed) (sym shown_is) are
+
+  -- ---- a reply by its number
+
+  -- the reply that a caller's call of this number was given, as it is shown
+  pub reply_shown : (number : ℕ) (mine : List (ℕ × About C R))
+      → reply_numbered number (replies_by told mine) ≡ option_map told (reply_to number mine)
+  reply_shown number [] = refl
+  reply_shown number (it ∷ mine) = go (it.0 == number) refl (reply_shown number mine)
+    where
+      go : (b : Bool) → it.0 == number ≡ b
+          → reply_numbered number (replies_by told mine) ≡ option_map told (reply_to number mine)
+          → reply_numbered number (replies_by told (it ∷ mine)) ≡ option_map told (reply_to number (it ∷ mine))
+      go true same rest = rw same refl
+      go false other rest = rw other rest
+
+  -- there is one exactly where a call has the number
+  pub reply_exists : (number : ℕ) (owner : ConnId) (mine : List (ℕ × About C R))
+      → is_some (reply_numbered number (replies_by told mine))
+      ≡ is_some (call_numbered number (heard_by of owner mine))
+  reply_exists number owner [] = refl
+  reply_exists number owner (it ∷ mine) = go (it.0 == number) refl (reply_exists number owner mine)
+    where
+      go : (b : Bool) → it.0 == number ≡ b
+          → is_some (reply_numbered number (replies_by told mine))
+          ≡ is_some (call_numbered number (heard_by of owner mine))
+          → is_some (reply_numbered number (replies_by told (it ∷ mine)))
+          ≡ is_some (call_numbered number (heard_by of owner (it ∷ mine)))
+      go true same rest = rw same refl
+      go false other rest = rw other rest
+
+  -- what the owner of a pass is told of the call of this number
+  module _ (number : ℕ) (reply : Option (Reply R)) (answer : Option AnyReply) (pass : PassShown)
+      (seen : PassSeen (About C R)) (pass_is : pass ≡ shown_as str_type of told seen)
+      (reply_is : reply ≡ reply_to number seen.mine) (answer_is : answer ≡ option_map told reply) where
+    pub told_reply : answer ≡ reply_numbered number pass.replies
+    told_reply =
+        answer_is ∙ ap (option_map told) reply_is ∙ sym (reply_shown number seen.mine)
+        ∙ sym (ap (λ (p : PassShown). reply_numbered number p.replies) pass_is)
+
+    pub told_own : is_some answer ≡ is_some (call_numbered number pass.calls)
+    told_own =
+        ap (λ (o : Option AnyReply). is_some o)
+        (told_reply ∙ ap (λ (p : PassShown). reply_numbered number p.replies) pass_is)
+        ∙ reply_exists number (record { 0 = seen.owner }) seen.mine
+        ∙ sym (ap (λ (p : PassShown). is_some (call_numbered number p.calls)) pass_is)
