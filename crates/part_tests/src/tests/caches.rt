@@ -1,7 +1,7 @@
 ghost use Rattle.std.specs.Prelude.{◌≡◌, None};
 
 use cache_classes::Classes;
-use cache_dir::{Dir, DirRow};
+use cache_dir::{Dir, DirRow, Holder};
 use cache_reclaim::Order;
 use cache_regs::Regs;
 use cf_types::{ConnId, Effects, Name16, NoMemory};
@@ -97,5 +97,39 @@ fn a_row_takes_the_place_of_another(rt: HostRuntime) -> Result<(), Fail> {
         return Ok(());
     };
     assert!(rt; new.stg == 2);
+    Ok(())
+}
+
+// A row without data, which a connector holds for castout.
+fn held(name: Name16, conn: ConnId) -> DirRow
+    ensures { result.name ≡ name }
+{
+    let mut held = row(name, 1);
+    held.holder = Some(Holder {
+        conn,
+        rewritten: false,
+    });
+    held
+}
+
+// Whether the first row is held.
+fn is_held(dir: &Dir) -> bool {
+    match dir.find(&FIRST) {
+        Some(row) => row.holder.is_some(),
+        None => false,
+    }
+}
+
+// A copy takes memory for the locks that are held, and here none are.
+#[test]
+fn a_lock_without_room_goes_with_its_connector(rt: HostRuntime) -> Result<(), Fail> {
+    let mut dir = Dir::new(rt.alloc(), 1)?;
+    dir.put(row(FIRST, 1));
+    let mut copy = dir.copy(rt.alloc())?;
+    let _ = copy.set(held(FIRST, ConnId(2)));
+    copy.release(ConnId(1));
+    assert!(rt; is_held(&copy));
+    copy.release(ConnId(2));
+    assert!(rt; !is_held(&copy));
     Ok(())
 }
