@@ -1,7 +1,5 @@
-mod CrewLaws
-pub mod DeskLaws
-pub mod WorkLaws
+pub mod CallerLaws
+pub mod CrewLaws
 pub mod FloorLaws
 pub mod PlayLaws
 pub mod RunLaws
-pub mod StartLaws

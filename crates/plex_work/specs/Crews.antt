@@ -3,6 +3,7 @@ use Rattle.std.specs.Prelude.{◌≡◌, ℕ, ◌+◌, List, slice_get, length, 
 use Rattle.std.specs.List.{range_with_len}
 use Rattle.cf_types.specs.Forms.{IsCaller}
 use Rattle.plex_script.specs.declared.scripts.Line.{Line}
+use Rattle.plex_script.specs.declared.transcripts.Transcript.{Transcript}
 use Rattle.plex_board.specs.Desks.{DeskShown}
 use Rattle.plex_board.specs.Boards.{BoardShown, IsDeskOf, new_desk}
 use Rattle.plex_board.specs.Turns.{AtWork}
@@ -32,3 +33,11 @@ pub record WorkEach {L : Type 0} (board : BoardShown L) (lines : List Line) (bef
     pub callers : length after ≡ length before
     pub each : (c : ℕ) (worker : AtWork) → slice_get after c ≡ Some worker
         → (idler : AtWork) × (slice_get before c ≡ Some idler) × Works board lines idler worker
+
+-- the desks and the transcripts of the callers, once each did its whole work
+pub record IsServed {L : Type 0} (board : BoardShown L) (lines : List Line) (desks : List DeskShown)
+    (shown : List Transcript) : Type 0 where
+  pub workers : List AtWork
+  pub work : WorkEach board lines (crew_of board) workers
+  pub desks_are : desks ≡ map (λ worker. worker.desk) workers
+  pub shown_are : shown ≡ map (λ worker. worker.shown) workers

@@ -1,4 +1,4 @@
 pub mod Crews
-pub mod Standing
-pub mod Hearings
+pub mod Exact
 pub mod Played
+pub mod Standing

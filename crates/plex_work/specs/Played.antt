@@ -6,7 +6,6 @@ use Rattle.run_model.specs.Serial.{connectors}
 use Rattle.plex_board.specs.Desks.{DeskShown}
 use Rattle.plex_board.specs.Boards.{BoardShown, IsStarted}
 use Rattle.plex_board.specs.Floors.{Floor, Plays}
-use Rattle.plex_work.specs.Standing.{HasMemory}
 
 -- a board that was started for a script
 pub record IsBoardOf {L : Type 0} (limit : ℕ) (script : Script) (board : BoardShown L) : Type 0 where
@@ -19,6 +18,5 @@ pub record IsPlayed {L : Type 0} (board : BoardShown L) (script : Script) (desks
     (shown : List Transcript) : Type 0 where
   pub floor : Floor
   pub plays : Plays board script.lines (connectors script) floor
-  pub memory : HasMemory floor
-  pub desks_are : map (λ worker. worker.desk) floor.workers ≡ desks
-  pub shown_are : map (λ worker. worker.shown) floor.workers ≡ shown
+  pub desks_are : desks ≡ map (λ worker. worker.desk) floor.workers
+  pub shown_are : shown ≡ map (λ worker. worker.shown) floor.workers

@@ -1,26 +1,91 @@
 //! The run of a script on threads.
-ghost use Rattle.std.specs.Prelude.{◌≡◌, ◌≢◌, ◌≤◌, IfOk, OnErr, All, length};
+ghost use Rattle.std.specs.Prelude.{◌≡◌, ◌+◌, ◌<◌, ◌≤◌, IfOk, All, length, map};
 ghost use Rattle.std.specs.Vec.{vec_len};
-ghost use Rattle.cf_types.specs.declared.limits.TheConstants.{LINKS};
-ghost use Rattle.plex_script.specs.declared.transcripts.AgentEnd.TheVariants as ended;
+ghost use Rattle.std.specs.List.{range_with_len};
+ghost use Rattle.cf_types.specs.declared.limits.TheConstants.{CONNECTORS, LINKS};
 ghost use Rattle.run_model.specs.Runnable.{IsRunnable};
 ghost use Rattle.run_model.specs.Headline.{ShowsHistories};
 ghost use Rattle.run_model.specs.RunLinks.{AreRunLinks};
-ghost use Rattle.plex_board.specs.Boards.{links_of};
-ghost use Rattle.plex_work.specs.Played.{IsBoardOf};
-ghost use Rattle.plex_work.specs.Crews.{crew_of};
+ghost use Rattle.plex_board.specs.Boards.{new_desk};
+ghost use Rattle.plex_board.specs.Callers.{IsLineFor};
+ghost use Rattle.plex_work.specs.Standing.{AreDesksOf, IsPlayable};
+ghost use Rattle.plex_work.specs.Crews.{IsIdle, Works, WorkEach, IsServed};
 
-use crate::crew::Crew;
-use crate::in_turn::Finished;
+use crate::crew::seat;
+use crate::in_turn::{Finished, finish};
+use crate::worker::Worker;
 use cf_link::Link;
-use cf_types::{Listing, NoMemory};
+use cf_types::NoMemory;
 use plex_agent::Gate;
-use plex_board::Board;
-use plex_script::{AgentEnd, AnyHistory, Script, Transcript};
+use plex_board::{Board, Desk};
+use plex_script::{Line, Script, Transcript};
 use std::alloc::Global;
-use std::mem::drop;
 use std::sync::Wait;
+use std::thread;
 use std::thread::Threads;
+
+// Each of the workers does its lines and its departures, on at most this many threads.
+fn work_all<R: Threads + Wait + Sync, L: Link, G: Gate>(
+    rt: &R,
+    alloc: Global,
+    lines: &[Line],
+    board: &Board<L>,
+    gate: &G,
+    threads: usize,
+    workers: &mut [Worker],
+)
+    requires threads { 0 < threads }
+    requires workers { All (IsIdle board.now) workers.old }
+    requires lines { All (IsLineFor board.now) lines.now }
+    ensures { WorkEach board.now lines.now workers.old workers.new }
+{
+    thread::for_each_mut(
+        rt,
+        workers,
+        threads,
+        &|_, worker: &mut Worker|
+            requires { All (IsLineFor board.now) lines.now × IsIdle board.now worker.now }
+            ensures { Works board.entry.now lines.entry.now worker.entry.now worker.exit.now }
+        { worker.work(rt, alloc, lines, board, gate) },
+    );
+}
+
+// Each caller does its lines, in their order, and then its departures, on a thread of its own where
+// threads can be made. Where none can be made the callers work one after another. The desks come
+// back also where there was no memory.
+fn work<R: Threads + Wait + Sync, L: Link, G: Gate>(
+    rt: &R,
+    alloc: Global,
+    script: &Script,
+    board: &Board<L>,
+    desks: Vec<Desk>,
+    gate: &G,
+) -> (Result<Vec<Transcript>, NoMemory>, Vec<Desk>)
+    requires desks { desks.items
+        ≡ map (new_desk board.now) (range_with_len 0 (board.now.callers + 1)) }
+    requires few { board.now.callers ≤ CONNECTORS }
+    requires lines { All (IsPlayable board.now) script.now.lines }
+    ensures served { IfOk result.0
+        (λ shown. IsServed board.now script.now.lines result.1.items shown.items) }
+    ensures of_board { AreDesksOf board.now result.1.items }
+{
+    let (mut workers, room) = match seat(alloc, desks) {
+        Ok(seated) => seated,
+        Err(desks) => return (Err(NoMemory), desks),
+    };
+    let callers = workers.len();
+    work_all(
+        rt,
+        alloc,
+        script.lines.items(),
+        board,
+        gate,
+        callers,
+        workers.as_mut_slice(),
+    );
+    let (desks, shown) = room.part(workers);
+    (Ok(shown), desks)
+}
 
 /// Runs a script with a worker for each caller, the operator's among them, each on a thread of its
 /// own where threads can be made: it does the caller's lines in their order, and then its
@@ -52,55 +117,7 @@ pub fn threads<R: Threads + Wait + Sync, L: Link, G: Gate>(
         Ok(begun) => begun,
         Err(links) => return (Err(NoMemory), links),
     };
-    match Crew::new(alloc, desks) {
-        Ok(crew) => play(rt, alloc, limit, script, board, crew, gate),
-        Err(desks) => {
-            let (histories, links) = board.close(rt, desks);
-            drop(histories);
-            (Err(NoMemory), links)
-        }
-    }
-}
-
-// The callers work at the board, which then ends.
-fn play<R: Threads + Wait + Sync, L: Link, G: Gate>(
-    rt: &R,
-    alloc: Global,
-    limit: u32,
-    script: &Script,
-    board: Board<L>,
-    mut crew: Crew,
-    gate: &G,
-) -> (Result<Finished, NoMemory>, Vec<L>)
-    requires script { IsRunnable script.now }
-    requires board { IsBoardOf limit script.now board }
-    requires crew { crew ≡ crew_of board }
-    ensures shows { IfOk result.0 (λ it.
-        ShowsHistories limit script.now it.histories it.transcripts) }
-    ensures asked { IfOk result.0 (λ it. AreRunLinks L.calls L.downs L.faults
-        script.now.structures it.histories (links_of board) result.1.items) }
-    ensures count { length result.1.items ≡ length (links_of board) }
-{
-    crew.work(rt, alloc, script.lines.items(), &board, gate);
-    let (desks, transcripts) = crew.part();
+    let (shown, desks) = work(rt, alloc, script, &board, desks, gate);
     let (histories, links) = board.close(rt, desks);
-    (finish(histories, transcripts), links)
-}
-
-// What is left of a run, unless some caller's work ended for want of memory.
-fn finish(histories: Vec<AnyHistory>, transcripts: Vec<Transcript>) -> Result<Finished, NoMemory>
-    ensures histories { IfOk result (λ it. it.histories ≡ histories.items) }
-    ensures transcripts { IfOk result (λ it. it.transcripts ≡ transcripts.items) }
-    ensures had_memory { IfOk result (λ it. All
-        (λ transcript. transcript.end ≢ ended.NoMemory) transcripts.items) }
-{
-    for transcript in &transcripts {
-        if transcript.end == AgentEnd::NoMemory {
-            return Err(NoMemory);
-        }
-    }
-    Ok(Finished {
-        histories: Listing::from_vec(histories),
-        transcripts: Listing::from_vec(transcripts),
-    })
+    (finish(shown, histories), links)
 }

@@ -1,24 +1,25 @@
 //! The run of a script on one thread.
-ghost use Rattle.std.specs.Prelude.{◌≡◌, ◌+◌, ◌≤◌, ℕ, IfOk, OnOk, IsOk, All, length, map};
+ghost use Rattle.std.specs.Prelude.{◌≡◌, ◌≢◌, ◌+◌, ◌≤◌, IfOk, IsOkAnd, All, length, map};
 ghost use Rattle.std.specs.Vec.{vec_len};
 ghost use Rattle.std.specs.List.{range_with_len};
 ghost use Rattle.cf_types.specs.declared.limits.TheConstants.{CONNECTORS, LINKS};
-ghost use Rattle.cf_types.specs.declared.numbers.CfId.{CfId};
-ghost use Rattle.cf_link.specs.Links.{Telling};
+ghost use Rattle.plex_script.specs.declared.transcripts.AgentEnd.TheVariants as ended;
 ghost use Rattle.run_model.specs.Headline.{ShowsHistories};
 ghost use Rattle.run_model.specs.Runnable.{IsRunnable};
-ghost use Rattle.run_model.specs.Serial.{serial_run};
-ghost use Rattle.run_model.specs.RunLinks.{AreTelling, AreRunLinks};
+ghost use Rattle.run_model.specs.RunLinks.{AreRunLinks};
 ghost use Rattle.plex_board.specs.Boards.{new_desk};
 ghost use Rattle.plex_work.specs.Standing.{AreDesksOf, IsPlayable};
 ghost use Rattle.plex_work.specs.Played.{IsPlayed};
+ghost use Rattle.plex_work.specs.Exact.{IsSerialRun};
 
-use crate::floor::Floor;
+use crate::crew::seat;
+use crate::floor::{Floor, nobody};
 use cf_link::Link;
 use cf_types::{Listing, NoMemory};
 use plex_board::{Board, Desk};
-use plex_script::{AnyHistory, Script, Transcript};
+use plex_script::{AgentEnd, AnyHistory, Script, Transcript};
 use std::alloc::Global;
+use std::mem::drop;
 use std::sync::Wait;
 
 /// What a run leaves: the history of each structure, and the transcript of each caller, from the
@@ -27,6 +28,30 @@ use std::sync::Wait;
 pub struct Finished {
     pub histories: Listing<AnyHistory>,
     pub transcripts: Listing<Transcript>,
+}
+
+/// A run, of what the callers were shown and of the histories, unless some caller's work ended for
+/// want of memory.
+pub(crate) fn finish(
+    shown: Result<Vec<Transcript>, NoMemory>,
+    histories: Vec<AnyHistory>,
+) -> Result<Finished, NoMemory>
+    ensures histories { IfOk result (λ it. it.histories ≡ histories.items) }
+    ensures transcripts { IfOk result
+        (λ it. IsOkAnd shown (λ transcripts. it.transcripts ≡ transcripts.items)) }
+    ensures had_memory { IfOk result
+        (λ it. All (λ transcript. transcript.end ≢ ended.NoMemory) it.transcripts) }
+{
+    let transcripts = shown?;
+    for transcript in &transcripts {
+        if transcript.end == AgentEnd::NoMemory {
+            return Err(NoMemory);
+        }
+    }
+    Ok(Finished {
+        histories: Listing::from_vec(histories),
+        transcripts: Listing::from_vec(transcripts),
+    })
 }
 
 // Plays a script to its end at a board. The desks come back also where there was no memory.
@@ -46,32 +71,34 @@ fn play<L: Link>(
         (λ shown. IsPlayed board.now script.now result.1.items shown.items) }
     ensures of_board { AreDesksOf board.now result.1.items }
 {
-    let mut floor = match Floor::new(alloc, board, desks) {
-        Ok(floor) => floor,
+    let Ok(tray) = board.new_tray(alloc) else {
+        return (Err(NoMemory), desks);
+    };
+    let Ok(last) = nobody(alloc, board.structures()) else {
+        return (Err(NoMemory), desks);
+    };
+    let (workers, room) = match seat(alloc, desks) {
+        Ok(seated) => seated,
         Err(desks) => return (Err(NoMemory), desks),
     };
+    let mut floor = Floor {
+        workers,
+        tray,
+        last,
+    };
     let played = floor.play(rt, alloc, board, script);
-    let (desks, shown) = floor.into_parts();
+    let Floor {
+        workers,
+        tray,
+        last,
+    } = floor;
+    drop(tray);
+    drop(last);
+    let (desks, shown) = room.part(workers);
     match played {
         Ok(()) => (Ok(shown), desks),
         Err(NoMemory) => (Err(NoMemory), desks),
     }
-}
-
-// A run, of what the callers were shown and of the histories.
-fn finish(
-    shown: Result<Vec<Transcript>, NoMemory>,
-    histories: Vec<AnyHistory>,
-) -> Result<Finished, NoMemory>
-    ensures histories { IfOk result (λ it. it.histories ≡ histories.items) }
-    ensures transcripts { IfOk result
-        (λ it. IfOk shown (λ transcripts. it.transcripts ≡ transcripts.items)) }
-    ensures shown { OnOk result (IsOk shown) }
-{
-    Ok(Finished {
-        transcripts: Listing::from_vec(shown?),
-        histories: Listing::from_vec(histories),
-    })
 }
 
 /// Runs a script on one thread: its lines in their order, then the departures of the connectors in
@@ -89,10 +116,7 @@ pub fn serial<L: Link>(
     requires limit { (1 ≤ limit) × (limit ≤ 4294967000) }
     requires links { vec_len links ≡ LINKS }
     // Where the links tell which calls they answer Down, it is the run over links that tell so.
-    ensures exact { (told : ℕ → CfId → Telling)
-        → AreTelling L.calls L.downs L.faults told (length script.now.structures) links.items
-        → IfOk result.0 (λ it. (it.histories ≡ (serial_run limit told script.now).histories)
-        × (it.transcripts ≡ (serial_run limit told script.now).transcripts)) }
+    ensures exact { IsSerialRun L.calls L.downs L.faults limit script.now links.items result.0 }
     // It is one of the schedules that the callers' law speaks of: a legal history of each
     // structure, each caller's calls in it once and in their order, transcripts that follow the
     // script, and tests that tell what stood.

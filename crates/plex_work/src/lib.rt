@@ -3,12 +3,10 @@
 #![tactic(auto)]
 
 mod at_once;
-mod beginnings;
 mod crew;
-mod desks;
 mod floor;
 mod in_turn;
-mod turns;
+mod worker;
 
 pub use at_once::threads;
 pub use in_turn::{Finished, serial};

@@ -1,29 +1,26 @@
-use Rattle.std.proofs.Common.{◌≡◌, Bool, true, false, MatchBool, refl, sym, ◌∙◌, subst}
-use Rattle.plex_board.specs.Floors.{PlaysAct}
-use Rattle.plex_work.proofs.FloorLaws.{on_ok}
-use Rattle.plex_work.proofs.PlayLaws.{if_there}
+use Rattle.std.proofs.Common.{refl, sym, ◌∙◌}
+use Rattle.plex_script.specs.declared.scripts.Act.TheVariants as act
+use Rattle.plex_work.proofs.PlayLaws.{on_ok, plays_line, plays_nothing}
 use Rattle.plex_work.proofs.floor.Floor.line.Goals as goal
 
 pub returns-then-not-is_working-clause-played : goal.returns-then-not-is_working-clause-played
-returns-then-not-is_working-clause-played g c = (
-  c.requires.line.cell,
-  c.requires.line.there,
-  subst (λ (b : Bool). MatchBool b (PlaysAct c.requires.line.cell c.args.line.now c.args.line.now.act
-      c.args.self.now c.args.self.now)
-      (c.args.self.now ≡ c.args.self.now)) (sym (sym c.is_working.ensures ∙ c.if-not-is_working.true)) refl,
-)
+returns-then-not-is_working-clause-played g c =
+    plays_nothing c.args.board.now c.args.line.now c.args.self.now
+    (sym c.is_working.ensures ∙ c.if-not-is_working.true) c.requires.line.right
 
-pub returns-clause-played : goal.returns-clause-played
-returns-clause-played g c =
-    on_ok c.act.result
-    (λ played. (
-      c.requires.line.cell,
-      c.requires.line.there,
-      subst (λ (b : Bool). MatchBool b (PlaysAct c.requires.line.cell c.args.line.now c.args.line.now.act
-          c.args.self.now c.act.new.self)
-          (c.act.new.self ≡ c.args.self.now)) (sym (sym c.is_working.ensures ∙ c.if-not-is_working.false))
-          (if_there (λ it. PlaysAct it c.args.line.now c.args.line.now.act c.args.self.now c.act.new.self) _
-          c.requires.line.cell
-          c.requires.line.there played),
-    ))
-    c.act.ensures.played
+pub returns-in-Post-clause-played : goal.returns-in-Post-clause-played
+returns-in-Post-clause-played g c =
+    on_ok c.post.result
+    (plays_line c.args.board.now c.args.line.now act.Post c.args.self.now c.post.new.self
+    (sym c.is_working.ensures ∙ c.if-not-is_working.false) c.in-Post.is) c.post.ensures.posted
+
+pub returns-in-Take-clause-played : goal.returns-in-Take-clause-played
+returns-in-Take-clause-played g c =
+    on_ok c.take.result
+    (plays_line c.args.board.now c.args.line.now act.Take c.args.self.now c.take.new.self
+    (sym c.is_working.ensures ∙ c.if-not-is_working.false) c.in-Take.is) c.take.ensures.took
+
+pub returns-in-Call-clause-played : goal.returns-in-Call-clause-played
+returns-in-Call-clause-played g c =
+    plays_line c.args.board.now c.args.line.now c.args.line.now.act c.args.self.now c.turn.new.self
+    (sym c.is_working.ensures ∙ c.if-not-is_working.false) refl c.turn.ensures.played

@@ -1,70 +1,68 @@
-use Rattle.std.proofs.Common.{List, Option, set, sym, ◌∙◌, ap, subst, arith}
+use Rattle.std.proofs.Common.{List, Option, set, ◌∙◌, ap}
+use Rattle.std.proofs.lemmas.Option.{slice_get_within}
 use Rattle.plex_board.specs.Passes.{NoteShown}
-use Rattle.plex_board.specs.Boards.{IsTrayOf, note_in}
-use Rattle.plex_board.specs.Turns.{AtWork}
-use Rattle.plex_board.specs.Floors.{Floor, worker_of, with_worker, worker_after_take}
-use Rattle.plex_work.specs.Standing.{floor_of}
-use Rattle.plex_work.proofs.FloorLaws.{desk_inside, shown_inside, desk_fits, worker_is, changed_only, changed_fits, tray_is, on_ok}
+use Rattle.plex_board.specs.Notes.{with_any_note}
+use Rattle.plex_board.specs.Desks.{DeskShown, pass_at, with_pass}
+use Rattle.plex_board.specs.Boards.{note_in}
+use Rattle.plex_board.specs.Floors.{Floor}
+use Rattle.plex_work.proofs.FloorLaws.{has_desk, changed_only, changed_fits}
+use Rattle.plex_work.proofs.PlayLaws.{on_ok, takes}
 use Rattle.plex_work.proofs.floor.Floor.take.Goals as goal
 
-pub index_mut-requires : goal.index_mut-requires
-index_mut-requires g c =
-    let inside = desk_inside c.args.self.now c.self.inside.desks.items c.self.inside.shown.items c.self.inside.tray
-    c.self.inside.last.items
-    c.self.view_is c.self.invariant c.args.board.now c.requires.floor c.args.by c.from-at.result c.requires.by
-    c.from-at.ensures in
-    let count = c.self.inside.desks.ok.0 in
-    omega arith
+pub take_in-sure-requires-clause-desk : goal.take_in-sure-requires-clause-desk
+take_in-sure-requires-clause-desk g c κs within =
+    (has_desk c.self.inside.workers.items c.self.inside.tray c.self.inside.last.items c.args.self.now c.self.view_is
+    c.args.line.now.by c.from.result c.from.ensures c.args.board.now c.worker.inside.desk c.worker.inside.shown
+    c.index_mut-worker.result.now c.requires.floor c.requires.line.caller c.worker.view_is
+    c.index_mut-worker.ensures.value).fits
 
-pub index_mut-requires-2 : goal.index_mut-requires-2
-index_mut-requires-2 g c =
-    let inside = shown_inside c.args.self.now c.self.inside.desks.items c.self.inside.shown.items c.self.inside.tray
-    c.self.inside.last.items
-    c.self.view_is c.self.invariant c.args.board.now c.requires.floor c.args.by c.from-at.result c.requires.by
-    c.from-at.ensures in
-    let count = c.self.inside.shown.ok.0 in
-    omega arith
-
-pub take-requires-clause-desk : goal.take-requires-clause-desk
-take-requires-clause-desk g c κs within = desk_fits c.args.self.now c.self.inside.desks.items
-    c.self.inside.shown.items c.self.inside.tray c.self.inside.last.items
-    c.self.view_is c.self.invariant c.args.board.now c.requires.floor c.args.by c.from-at.result c.requires.by
-    c.from-at.ensures _ c.index_mut.ensures.value
-
-pub take-requires-clause-tray : goal.take-requires-clause-tray
-take-requires-clause-tray g c κs within =
-    subst (λ (it : Floor). IsTrayOf c.args.board.now it.tray) (sym c.self.view_is) c.requires.floor.tray
+pub take_in-sure-requires-clause-place : goal.take_in-sure-requires-clause-place
+take_in-sure-requires-clause-place g c κs within =
+    slice_get_within c.args.board.now.cells c.args.line.now.on.0 c.requires.line.right.cell
+    c.requires.line.right.there
 
 pub returns-clause-took : goal.returns-clause-took
 returns-clause-took g c =
-    on_ok c.take.result
-    (λ took. ap (λ (t : List (Option NoteShown)). floor_of
-    (set c.self.inside.desks.items c.from-at.result c.take.new.desk)
-    (set c.self.inside.shown.items c.from-at.result c.take.new.shown) t c.self.inside.last.items)
-    c.take.ensures.tray
-    ∙ changed_only c.args.self.now c.self.inside.desks.items c.self.inside.shown.items c.self.inside.tray
-    c.self.inside.last.items
-    c.self.view_is c.self.invariant c.args.by c.from-at.result c.take.new.desk c.take.new.shown c.from-at.ensures
-    ∙ ap (λ (w : AtWork). with_worker c.args.by w c.args.self.now) (took
-    ∙ ap (λ (w : AtWork). worker_after_take c.args.on (note_in c.self.inside.tray c.args.on) w)
-    (sym (worker_is c.args.self.now c.self.inside.desks.items c.self.inside.shown.items c.self.inside.tray
-    c.self.inside.last.items
-    c.self.view_is c.self.invariant c.args.board.now c.requires.floor c.args.by c.from-at.result c.requires.by
-    c.from-at.ensures _ _
-    c.index_mut.ensures.value c.index_mut-2.ensures.value))
-    ∙ ap (λ (t : List (Option NoteShown)). worker_after_take c.args.on (note_in t c.args.on)
-    (worker_of c.args.self.now c.args.by)) (tray_is c.args.self.now c.self.inside.desks.items
-    c.self.inside.shown.items c.self.inside.tray c.self.inside.last.items
-    c.self.view_is c.self.invariant)))
-    c.take.ensures.taken
+    on_ok c.push.result
+    (λ pushed. takes c.args.board.now c.args.line.now c.args.self.now _ c.worker.inside.desk c.take_in-sure.new.desk
+    c.worker.inside.shown c.requires.line.right
+    (has_desk c.self.inside.workers.items c.self.inside.tray c.self.inside.last.items c.args.self.now c.self.view_is
+    c.args.line.now.by c.from.result c.from.ensures c.args.board.now c.worker.inside.desk c.worker.inside.shown
+    c.index_mut-worker.result.now c.requires.floor c.requires.line.caller c.worker.view_is
+    c.index_mut-worker.ensures.value)
+    c.push.new.self c.take_in-sure.result
+    (c.take_in-sure.ensures.desk
+    ∙ ap (λ (f : Floor). with_pass c.args.line.now.on (with_any_note (note_in f.tray c.args.line.now.on)
+    (pass_at c.worker.inside.desk c.args.line.now.on)) c.worker.inside.desk) c.self.view_is)
+    c.take_in-sure.ensures.sure pushed
+    (ap (λ (t : List (Option NoteShown)). (let it : Floor = record {
+      workers = set c.self.inside.workers.items c.from.result
+          (record { desk = c.take_in-sure.new.desk; shown = record { items = c.push.new.self; end = c.worker.inside.shown.end } });
+      tray = t;
+      last = c.self.inside.last.items;
+    } in it)) c.take_in-sure.ensures.tray
+    ∙ (changed_only c.self.inside.workers.items c.self.inside.tray c.self.inside.last.items c.args.self.now
+    c.self.view_is c.args.line.now.by c.from.result c.from.ensures
+    (record { desk = c.take_in-sure.new.desk; shown = record { items = c.push.new.self; end = c.worker.inside.shown.end } }))))
+    c.push.ensures.ok
 
 pub returns-clause-of_board : goal.returns-clause-of_board
 returns-clause-of_board g c =
-    changed_fits c.args.self.now c.self.inside.desks.items c.self.inside.shown.items c.self.inside.tray
-    c.self.inside.last.items
-    c.self.view_is c.self.invariant c.args.board.now c.requires.floor c.args.by c.from-at.result c.requires.by
-    c.from-at.ensures
-    _ c.take.new.desk c.take.new.shown c.take.new.tray c.index_mut.ensures.value c.take.ensures.of_board
-    c.take.ensures.owner
-    (subst (λ (t : List (Option NoteShown)). IsTrayOf c.args.board.now t) (sym c.take.ensures.tray)
-    (subst (λ (it : Floor). IsTrayOf c.args.board.now it.tray) (sym c.self.view_is) c.requires.floor.tray))
+    let has =
+    (has_desk c.self.inside.workers.items c.self.inside.tray c.self.inside.last.items c.args.self.now c.self.view_is
+    c.args.line.now.by c.from.result c.from.ensures c.args.board.now c.worker.inside.desk c.worker.inside.shown
+    c.index_mut-worker.result.now c.requires.floor c.requires.line.caller c.worker.view_is
+    c.index_mut-worker.ensures.value) in
+    changed_fits c.args.board.now c.args.self.now _ c.args.line.now.by c.worker.inside.desk c.worker.inside.shown
+    (record { desk = c.take_in-sure.new.desk; shown = record { items = c.push.new.self; end = c.worker.inside.shown.end } })
+    c.requires.floor has
+    (ap (λ (t : List (Option NoteShown)). (let it : Floor = record {
+      workers = set c.self.inside.workers.items c.from.result
+          (record { desk = c.take_in-sure.new.desk; shown = record { items = c.push.new.self; end = c.worker.inside.shown.end } });
+      tray = t;
+      last = c.self.inside.last.items;
+    } in it)) c.take_in-sure.ensures.tray
+    ∙ (changed_only c.self.inside.workers.items c.self.inside.tray c.self.inside.last.items c.args.self.now
+    c.self.view_is c.args.line.now.by c.from.result c.from.ensures
+    (record { desk = c.take_in-sure.new.desk; shown = record { items = c.push.new.self; end = c.worker.inside.shown.end } })))
+    c.take_in-sure.ensures.of_board (ap (λ (d : DeskShown). d.owner) c.take_in-sure.ensures.desk)

@@ -1,5 +1,5 @@
 use Rattle.std.proofs.Common.{◌≡◌, replicate, None}
-use Rattle.plex_work.proofs.beginnings.nobody.Given as goal
+use Rattle.plex_work.proofs.floor.nobody.Given as goal
 
 abbrev pub invariant-loop : goal.invariant-loop
 invariant-loop l = l.last.items ≡ replicate l.counter None
