@@ -31,27 +31,50 @@ fn list_of(alloc: Global) -> Result<ListEngine, NoMemory> {
     ListEngine::empty(alloc, &form, caps)
 }
 
-// Gets ready for a command, and does it.
-fn call(
+// What a command is to be answered.
+#[derive(Clone, Copy)]
+enum Want {
+    Empty,
+    Id,
+    Entry,
+}
+
+// Whether it is.
+fn is_wanted(reply: &Result<ListReply, Refusal>, want: Want) -> bool {
+    match (reply, want) {
+        (Ok(ListReply::Empty), Want::Empty) => true,
+        (Ok(ListReply::Id { .. }), Want::Id) => true,
+        (Ok(ListReply::Entry { .. }), Want::Entry) => true,
+        _ => false,
+    }
+}
+
+// Gets ready for a command, and does it. Whether it is answered so.
+fn calls(
     engine: &mut ListEngine,
     by: ConnId,
-    cmd: &ListCmd,
+    cmd: ListCmd,
+    want: Want,
     out: &mut Effects,
-) -> Result<Result<ListReply, Refusal>, NoMemory>
+) -> Result<bool, NoMemory>
     requires { IsCaller by }
 {
-    engine.ready(by, cmd, out)?;
-    Ok(engine.apply(by, cmd, out))
+    engine.ready(by, &cmd, out)?;
+    let reply = engine.apply(by, &cmd, out);
+    Ok(is_wanted(&reply, want))
 }
 
 // The command that writes a record to the first header.
-fn write_of(alloc: Global) -> Option<ListCmd> {
-    Some(ListCmd::Write {
+fn write_of(alloc: Global) -> Result<ListCmd, NoMemory> {
+    let Ok(body) = parse_body(alloc, b"data") else {
+        return Err(NoMemory);
+    };
+    Ok(ListCmd::Write {
         header: 0,
         head: true,
         name: None,
         key: None,
-        body: Some(parse_body(alloc, b"data").ok()?),
+        body: Some(body),
         adj: None,
         cond: None,
     })
@@ -63,41 +86,44 @@ fn watches(engine: &mut ListEngine, out: &mut Effects) -> Result<bool, NoMemory>
         header: 0,
         index: 3,
     };
-    let reply = call(engine, ConnId(1), &watch, out)?;
-    Ok(matches!(&reply, Ok(ListReply::Empty)))
+    calls(engine, ConnId(1), watch, Want::Empty, out)
 }
 
-// Whether the second connector writes a record.
-fn writes(engine: &mut ListEngine, alloc: Global, out: &mut Effects) -> Result<bool, Fail> {
-    let write = write_of(alloc).ok_or("no data")?;
-    let reply = call(engine, ConnId(2), &write, out)?;
-    Ok(matches!(&reply, Ok(ListReply::Id { .. })))
+// Whether the second connector writes a record, by which one bit is set.
+fn writes(engine: &mut ListEngine, alloc: Global, out: &mut Effects) -> Result<bool, NoMemory> {
+    let write = write_of(alloc)?;
+    let written = calls(engine, ConnId(2), write, Want::Id, out)?;
+    Ok(written && out.bits.items().len() == 1)
 }
 
 // Whether the first connector reads the first record.
 fn reads(engine: &mut ListEngine, out: &mut Effects) -> Result<bool, NoMemory> {
-    let at = At::Id(EntryId(1));
-    let reply = call(engine, ConnId(1), &ListCmd::Read { at, cond: None }, out)?;
-    Ok(matches!(&reply, Ok(ListReply::Entry { .. })))
+    let read = ListCmd::Read {
+        at: At::Id(EntryId(1)),
+        cond: None,
+    };
+    calls(engine, ConnId(1), read, Want::Entry, out)
 }
 
-// How many items a copy has.
-fn copied_count(engine: &ListEngine, alloc: Global) -> Result<u32, NoMemory> {
+// Whether a copy has two items.
+fn has_a_copy(engine: &ListEngine, alloc: Global) -> Result<bool, NoMemory> {
     let copy = engine.copy(alloc)?;
-    Ok(copy.count())
+    Ok(copy.count() == 2)
+}
+
+// Whether a monitor is told of a record, which is read and copied.
+fn keeps(engine: &mut ListEngine, alloc: Global, out: &mut Effects) -> Result<bool, NoMemory> {
+    let watched = watches(engine, out)?;
+    let written = writes(engine, alloc, out)?;
+    let found = reads(engine, out)?;
+    let copied = has_a_copy(engine, alloc)?;
+    Ok(watched && written && found && copied)
 }
 
 #[test]
 fn what_is_written_is_read(rt: HostRuntime) -> Result<(), Fail> {
-    let alloc = rt.alloc();
-    let mut engine = list_of(alloc)?;
-    let mut out = Effects::new(alloc);
-    let watched = watches(&mut engine, &mut out)?;
-    let written = writes(&mut engine, alloc, &mut out)?;
-    assert!(rt; out.bits.items().len() == 1);
-    let found = reads(&mut engine, &mut out)?;
-    assert!(rt; watched && written && found);
-    let count = copied_count(&engine, alloc)?;
-    assert!(rt; count == 2);
+    let mut engine = list_of(rt.alloc())?;
+    let kept = keeps(&mut engine, rt.alloc(), &mut Effects::new(rt.alloc()))?;
+    assert!(rt; kept);
     Ok(())
 }

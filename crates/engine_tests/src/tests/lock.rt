@@ -32,17 +32,39 @@ fn locks_of(alloc: Global) -> Result<LockEngine, NoMemory> {
     LockEngine::empty(alloc, &form, caps)
 }
 
-// Gets ready for a command, and does it.
-fn call(
+// What a command is to be answered.
+#[derive(Clone, Copy)]
+enum Want {
+    Granted,
+    First,
+    Released,
+    Records,
+}
+
+// Whether it is.
+fn is_wanted(reply: &Result<LockReply, Refusal>, want: Want) -> bool {
+    match (reply, want) {
+        (Ok(LockReply::Granted), Want::Granted) => true,
+        (Ok(LockReply::Pending { place }), Want::First) => *place == 1,
+        (Ok(LockReply::Ok), Want::Released) => true,
+        (Ok(LockReply::Records(_)), Want::Records) => true,
+        _ => false,
+    }
+}
+
+// Gets ready for a command, and does it. Whether it is answered so.
+fn calls(
     engine: &mut LockEngine,
     by: ConnId,
-    cmd: &LockCmd,
+    cmd: LockCmd,
+    want: Want,
     out: &mut Effects,
-) -> Result<Result<LockReply, Refusal>, NoMemory>
+) -> Result<bool, NoMemory>
     requires { IsCaller by }
 {
-    engine.ready(by, cmd, out)?;
-    Ok(engine.apply(by, cmd, out))
+    engine.ready(by, &cmd, out)?;
+    let reply = engine.apply(by, &cmd, out);
+    Ok(is_wanted(&reply, want))
 }
 
 // Asks for the resource exclusively, with record data.
@@ -62,40 +84,21 @@ fn is_granted_to(out: &Effects, conn: ConnId) -> bool {
     }
 }
 
-// Whether a connector that asks for the resource owns it at once.
-fn obtains(engine: &mut LockEngine, by: ConnId, out: &mut Effects) -> Result<bool, NoMemory>
-    requires { IsCaller by }
-{
-    let reply = call(engine, by, &obtain(), out)?;
-    Ok(matches!(&reply, Ok(LockReply::Granted)))
-}
-
-// Whether a connector that asks for the resource waits, first of all.
-fn waits(engine: &mut LockEngine, by: ConnId, out: &mut Effects) -> Result<bool, NoMemory>
-    requires { IsCaller by }
-{
-    let reply = call(engine, by, &obtain(), out)?;
-    Ok(matches!(&reply, Ok(LockReply::Pending { place: 1 })))
-}
-
-// Whether a connector gives the resource up.
-fn releases(engine: &mut LockEngine, by: ConnId, out: &mut Effects) -> Result<bool, NoMemory>
-    requires { IsCaller by }
-{
-    let reply = call(engine, by, &LockCmd::Release { r: R }, out)?;
-    Ok(matches!(&reply, Ok(LockReply::Ok)))
+// Whether a connector owns the resource at once, a second one waits first of all, and is granted it
+// once the first gives it up.
+fn is_handed_on(engine: &mut LockEngine, out: &mut Effects) -> Result<bool, NoMemory> {
+    let owned = calls(engine, ConnId(1), obtain(), Want::Granted, out)?;
+    let waits = calls(engine, ConnId(2), obtain(), Want::First, out)?;
+    let release = LockCmd::Release { r: R };
+    let released = calls(engine, ConnId(1), release, Want::Released, out)?;
+    Ok(owned && waits && released && is_granted_to(out, ConnId(2)))
 }
 
 #[test]
 fn one_that_waits_is_granted(rt: HostRuntime) -> Result<(), Fail> {
-    let alloc = rt.alloc();
-    let mut engine = locks_of(alloc)?;
-    let mut out = Effects::new(alloc);
-    let first = obtains(&mut engine, ConnId(1), &mut out)?;
-    let second = waits(&mut engine, ConnId(2), &mut out)?;
-    let released = releases(&mut engine, ConnId(1), &mut out)?;
-    assert!(rt; first && second && released);
-    assert!(rt; is_granted_to(&out, ConnId(2)));
+    let mut engine = locks_of(rt.alloc())?;
+    let granted = is_handed_on(&mut engine, &mut Effects::new(rt.alloc()))?;
+    assert!(rt; granted);
     Ok(())
 }
 
@@ -106,29 +109,26 @@ fn fail_first(engine: &mut LockEngine, out: &mut Effects) -> Result<(), NoMemory
     Ok(())
 }
 
-// Whether the second connector reads the records of the first.
-fn reads_records(engine: &mut LockEngine, out: &mut Effects) -> Result<bool, NoMemory> {
-    let read = LockCmd::RtRead { conn: ConnId(1) };
-    let reply = call(engine, ConnId(2), &read, out)?;
-    Ok(matches!(&reply, Ok(LockReply::Records(_))))
+// Whether a copy has one interest.
+fn has_a_copy(engine: &LockEngine, alloc: Global) -> Result<bool, NoMemory> {
+    let copy = engine.copy(alloc)?;
+    Ok(copy.count() == 1)
 }
 
-// How many interests and waiters a copy has.
-fn copied_count(engine: &LockEngine, alloc: Global) -> Result<u32, NoMemory> {
-    let copy = engine.copy(alloc)?;
-    Ok(copy.count())
+// Whether the second connector reads the records of the first once that has failed, and a copy has
+// its interest.
+fn outlives(engine: &mut LockEngine, alloc: Global, out: &mut Effects) -> Result<bool, NoMemory> {
+    let owned = calls(engine, ConnId(1), obtain(), Want::Granted, out)?;
+    fail_first(engine, out)?;
+    let read = LockCmd::RtRead { conn: ConnId(1) };
+    let told = calls(engine, ConnId(2), read, Want::Records, out)?;
+    Ok(owned && told && has_a_copy(engine, alloc)?)
 }
 
 #[test]
 fn recorded_locks_outlive_a_failure(rt: HostRuntime) -> Result<(), Fail> {
-    let alloc = rt.alloc();
-    let mut engine = locks_of(alloc)?;
-    let mut out = Effects::new(alloc);
-    let owned = obtains(&mut engine, ConnId(1), &mut out)?;
-    fail_first(&mut engine, &mut out)?;
-    let told = reads_records(&mut engine, &mut out)?;
-    assert!(rt; owned && told);
-    let count = copied_count(&engine, alloc)?;
-    assert!(rt; count == 1);
+    let mut engine = locks_of(rt.alloc())?;
+    let kept = outlives(&mut engine, rt.alloc(), &mut Effects::new(rt.alloc()))?;
+    assert!(rt; kept);
     Ok(())
 }
