@@ -5,7 +5,6 @@ mod loads;
 mod locks;
 mod pools;
 mod reading;
-mod rebuilds;
 mod scripts;
 mod shells;
 mod writing;

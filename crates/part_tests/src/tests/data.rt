@@ -1,13 +1,18 @@
 use cf_link::{Link, ListLink, Steady};
-use cf_types::{copy_body, parse_body};
+use cf_types::{Body, NoMemory, copy_body, parse_body};
+use std::alloc::Global;
 use std::test::Fail;
+
+// Whether data and a copy of them have these bytes.
+fn are_copied(alloc: Global, body: &Body, bytes: &[u8]) -> Result<bool, NoMemory> {
+    let copy = copy_body(alloc, body)?;
+    Ok(body.bytes() == bytes && copy.bytes() == bytes)
+}
 
 #[test]
 fn data_is_read_and_copied(rt: HostRuntime) -> Result<(), Fail> {
     let body = parse_body(rt.alloc(), b"abc-1").ok().ok_or("no data")?;
-    let copy = copy_body(rt.alloc(), &body)?;
-    assert!(rt; body.bytes() == b"abc-1".as_slice());
-    assert!(rt; copy.bytes() == b"abc-1".as_slice());
+    assert!(rt; are_copied(rt.alloc(), &body, b"abc-1")?);
     Ok(())
 }
 

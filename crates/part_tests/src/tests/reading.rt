@@ -29,44 +29,55 @@ fn is_end(got: &Result<Vec<u8>, ReadEnd>, want: Option<&[u8]>, at: usize) -> boo
     }
 }
 
+// Whether five bytes are read so up to a limit.
+fn reads(alloc: Global, limit: usize, want: Option<&[u8]>) -> Result<bool, AllocError> {
+    let mut source = source_of(alloc, b"bytes", &[])?;
+    let got = read_all(alloc, &mut source, limit);
+    Ok(is_end(&got, want, limit))
+}
+
 #[test]
 fn reads_all_there_is(rt: HostRuntime) -> Result<(), Fail> {
-    let alloc = rt.alloc();
     for (limit, want) in [
         (5, Some(b"bytes".as_slice())),
         (9, Some(b"bytes".as_slice())),
         (4, None),
         (0, None),
     ] {
-        let mut source = source_of(alloc, b"bytes", &[])?;
-        let got = read_all(alloc, &mut source, limit);
-        assert!(rt; is_end(&got, want, limit), "at limit {limit}");
+        assert!(rt; reads(rt.alloc(), limit, want)?, "at limit {limit}");
     }
     Ok(())
 }
 
+// Whether the second read fails.
+fn fails_once(alloc: Global, source: &mut MemSource) -> bool {
+    let end = read_all(alloc, source, 9000);
+    matches!(end, Err(ReadEnd::ReadFault)) && source.faults == 1 && source.calls == 2
+}
+
+// Whether a further try takes what is left, which is a part.
+fn takes_the_rest(alloc: Global, source: &mut MemSource) -> bool {
+    let whole = source.bytes.len();
+    let rest = whole.saturating_sub(source.taken);
+    match read_all(alloc, source, 9000) {
+        Ok(text) => 0 < rest && rest < whole && text.len() == rest && source.faults == 1,
+        Err(_) => false,
+    }
+}
+
 #[test]
 fn a_read_fails_in_mid_stream(rt: HostRuntime) -> Result<(), Fail> {
-    let alloc = rt.alloc();
-    let mut source = source_of_many(alloc, 9000, &[2])?;
-    let end = read_all(alloc, &mut source, 9000);
-    assert!(rt; matches!(end, Err(ReadEnd::ReadFault)));
-    assert!(rt; source.faults == 1 && source.calls == 2);
-
-    // The next try takes what is left.
-    let rest = source.bytes.len().saturating_sub(source.taken);
-    assert!(rt; 0 < rest && rest < 9000);
-    let text = read_all(alloc, &mut source, 9000)?;
-    assert!(rt; text.len() == rest && source.faults == 1);
+    let mut source = source_of_many(rt.alloc(), 9000, &[2])?;
+    let failed = fails_once(rt.alloc(), &mut source);
+    assert!(rt; failed && takes_the_rest(rt.alloc(), &mut source));
     Ok(())
 }
 
 #[test]
 fn a_large_source_is_refused(rt: HostRuntime) -> Result<(), Fail> {
-    let alloc = rt.alloc();
-    let mut source = source_of_many(alloc, 1048577, &[])?;
-    let end = read_all(alloc, &mut source, 1048576);
-    assert!(rt; matches!(end, Err(ReadEnd::TooLong { limit: 1048576 })));
+    let mut source = source_of_many(rt.alloc(), 1048577, &[])?;
+    let end = read_all(rt.alloc(), &mut source, 1048576);
+    assert!(rt; is_end(&end, None, 1048576));
     Ok(())
 }
 
@@ -85,21 +96,29 @@ impl std::io::Read for Cut {
     }
 }
 
-#[test]
-fn errors_of_a_reader_are_counted(rt: HostRuntime) -> Result<(), Fail> {
-    let alloc = rt.alloc();
+// Whether all of a text is read, and no error counted.
+fn reads_whole(alloc: Global) -> bool {
     let mut whole = StdSource {
         inner: b"bytes".as_slice(),
         faults: 0,
     };
-    let text = read_all(alloc, &mut whole, 5)?;
-    assert!(rt; text.as_slice() == b"bytes".as_slice() && whole.faults == 0);
+    let end = read_all(alloc, &mut whole, 5);
+    is_end(&end, Some(b"bytes".as_slice()), 5) && whole.faults == 0
+}
 
+// Whether the error behind a byte ends the reading, and is counted.
+fn stops_at_an_error(alloc: Global) -> bool {
     let mut cut = StdSource {
         inner: Cut(b'a'),
         faults: 0,
     };
     let end = read_all(alloc, &mut cut, 5);
-    assert!(rt; matches!(end, Err(ReadEnd::ReadFault)) && cut.faults == 1);
+    matches!(end, Err(ReadEnd::ReadFault)) && cut.faults == 1
+}
+
+#[test]
+fn errors_of_a_reader_are_counted(rt: HostRuntime) -> Result<(), Fail> {
+    assert!(rt; reads_whole(rt.alloc()));
+    assert!(rt; stops_at_an_error(rt.alloc()));
     Ok(())
 }

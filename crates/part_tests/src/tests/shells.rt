@@ -1,14 +1,15 @@
 ghost use Rattle.std.specs.Prelude.{◌≡◌, IfOk};
 ghost use Rattle.cf_types.specs.Forms.{IsForm};
+ghost use Rattle.engine_api.specs.Asking.{MayCommand};
 
 use cf_types::{
     Caps, CfId, ConnId, ConnState, Event, Kind, Letter, Listing, Name16, NoMemory, Pref, ShellCmd,
     ShellReply, StrForm,
 };
 use conn_core::Conns;
-use engine_api::{Ask, Room};
+use engine_api::Ask;
 use event_mail::Mail;
-use plex_shell::{ACT_LETTERS, Shell, Verdict};
+use plex_shell::{ACT_LETTERS, Deeds, Room, Shell, Verdict};
 use std::alloc::Global;
 use std::test::Fail;
 
@@ -40,6 +41,20 @@ const ASKED: Event = Event::DiscFail { conn: ConnId(2) };
 
 const TOLD: Event = Event::NewConn { conn: ConnId(1) };
 
+// Posts both letters.
+fn post_both(mail: &mut Mail) -> Result<(), NoMemory> {
+    mail.room(2)?;
+    mail.post(Letter {
+        to: TO,
+        event: ASKED,
+    });
+    mail.post(Letter {
+        to: TO,
+        event: TOLD,
+    });
+    Ok(())
+}
+
 // Whether both letters are taken in order, by nobody else, and the first is answered once.
 fn are_taken(mail: &mut Mail) -> bool {
     mail.next(ConnId(4)).is_none()
@@ -50,31 +65,35 @@ fn are_taken(mail: &mut Mail) -> bool {
         && mail.respond(TO).is_none()
 }
 
-#[test]
-fn letters_are_taken_in_order_and_answered(rt: HostRuntime) -> Result<(), Fail> {
-    let mut mail = Mail::new(rt.alloc(), 4)?;
-    mail.room(2)?;
-    mail.post(Letter {
-        to: TO,
-        event: ASKED,
-    });
-    mail.post(Letter {
-        to: TO,
-        event: TOLD,
-    });
-    assert!(rt; are_taken(&mut mail));
-
+// Whether a letter goes with the connector's mail.
+fn is_cleared(mail: &mut Mail) -> Result<bool, NoMemory> {
     mail.room(1)?;
     mail.post(Letter {
         to: TO,
         event: ASKED,
     });
     mail.clear(TO);
-    assert!(rt; mail.next(TO).is_none());
+    Ok(mail.next(TO).is_none())
+}
+
+// Whether letters that are posted are taken so, and cleared.
+fn delivers(mail: &mut Mail) -> Result<bool, NoMemory> {
+    post_both(mail)?;
+    Ok(are_taken(mail) && is_cleared(mail)?)
+}
+
+#[test]
+fn letters_are_taken_in_order_and_answered(rt: HostRuntime) -> Result<(), Fail> {
+    let mut mail = Mail::new(rt.alloc(), 4)?;
+    assert!(rt; delivers(&mut mail)?);
     Ok(())
 }
 
-// A cache with one facility that has room for it.
+const FIRST: CfId = CfId(1);
+
+const SECOND: CfId = CfId(2);
+
+// A cache with two facilities that have room for it. The second comes first.
 fn cache(alloc: Global) -> Result<StrForm, NoMemory>
     ensures { IfOk result (λ form. IsForm form) }
 {
@@ -82,11 +101,15 @@ fn cache(alloc: Global) -> Result<StrForm, NoMemory>
         entries: 8,
         elements: 8,
     };
-    let pref = Pref {
-        cf: CfId(2),
+    let second = Pref {
+        cf: SECOND,
         units: 16,
     };
-    let prefs = Vec::from_slice(alloc, &[pref])?;
+    let first = Pref {
+        cf: FIRST,
+        units: 100,
+    };
+    let prefs = Vec::from_slice(alloc, &[second, first])?;
     Ok(StrForm {
         name: Name16([32; 16]),
         kind: Kind::Cache,
@@ -98,22 +121,68 @@ fn cache(alloc: Global) -> Result<StrForm, NoMemory>
     })
 }
 
-#[test]
-fn first_connector_makes_the_primary(rt: HostRuntime) -> Result<(), Fail> {
-    let form = cache(rt.alloc())?;
-    let mut shell = Shell::start(rt.alloc(), &form, 2)?;
-    assert!(rt; matches!(shell.instances(), (None, None, None)));
-    let room = Room {
-        need: shell.caps(),
-        left: 0,
-    };
-    let cmd = ShellCmd::Connect { keep: false };
-    let ask: Ask<u8> = Ask::Shell(cmd);
+// A shell of that cache.
+fn shell(alloc: Global) -> Result<Shell, NoMemory> {
+    let form = cache(alloc)?;
+    Shell::start(alloc, &form, 2)
+}
+
+// What the engines know where nothing is in the structure.
+const EMPTY: Room = Room {
+    need: Caps {
+        entries: 0,
+        elements: 0,
+    },
+    left: 0,
+};
+
+// Does a command that isn't refused: what is answered, and what is to be done to the instances.
+fn act(
+    shell: &mut Shell,
+    by: ConnId,
+    cmd: &ShellCmd,
+) -> Result<Option<(ShellReply, Deeds)>, NoMemory>
+    requires { MayCommand by cmd.now }
+{
     shell.ready(ACT_LETTERS)?;
-    assert!(rt; matches!(shell.judge(ConnId(1), &ask, &room), Verdict::Act));
-    let (reply, deeds) = shell.act(ConnId(1), &cmd, &room);
-    assert!(rt; matches!(reply, ShellReply::OkNew { cf: CfId(2) }));
-    assert!(rt; deeds.make == Some(CfId(2)));
-    assert!(rt; matches!(shell.instances(), (Some(CfId(2)), None, None)));
+    let ask: Ask<u8> = Ask::Shell(*cmd);
+    match shell.judge(by, &ask, &EMPTY) {
+        Verdict::Act => Ok(Some(shell.act(by, cmd, &EMPTY))),
+        _ => Ok(None),
+    }
+}
+
+// Whether the first connector makes the primary, in the second facility.
+fn makes_the_primary(shell: &mut Shell) -> Result<bool, NoMemory> {
+    let none = shell.instances() == (None, None, None);
+    let done = act(shell, ConnId(1), &ShellCmd::Connect { keep: false })?;
+    Ok(match done {
+        Some((ShellReply::OkNew { cf: SECOND }, deeds)) => none
+            && deeds.make == Some(SECOND)
+            && shell.instances() == (Some(SECOND), None, None),
+        _ => false,
+    })
+}
+
+// Whether a rebuild makes its instances of the capacity that it is given.
+fn takes_its_capacity(shell: &mut Shell) -> Result<bool, NoMemory> {
+    let caps = Caps {
+        entries: 10,
+        elements: 10,
+    };
+    let other = shell.caps() != caps;
+    let done = act(shell, ConnId(0), &ShellCmd::RebuildStart { caps })?;
+    Ok(other && done.is_some() && shell.caps() == caps)
+}
+
+// Whether instances are made so.
+fn makes_instances(shell: &mut Shell) -> Result<bool, NoMemory> {
+    Ok(makes_the_primary(shell)? && takes_its_capacity(shell)?)
+}
+
+#[test]
+fn instances_are_made(rt: HostRuntime) -> Result<(), Fail> {
+    let mut shell = shell(rt.alloc())?;
+    assert!(rt; makes_instances(&mut shell)?);
     Ok(())
 }

@@ -1,42 +1,43 @@
-use super::printing::PLAIN;
+use super::printing::{PLAIN, is_plain};
 use cf_types::{Listing, NoMemory};
-use plex_script::{Act, Line, copy_ask, print, read};
+use plex_script::{Act, Line, copy_ask, read};
 use std::alloc::Global;
-use std::mem::replace;
 use std::test::Fail;
 
-// The line, with a copy of its call.
-fn with_copy(alloc: Global, line: Line) -> Result<Line, NoMemory> {
-    let Line {
-        at,
-        by,
-        on,
-        act,
-        retry,
-    } = line;
-    let act = match act {
-        Act::Call(ask) => Act::Call(copy_ask(alloc, &ask)?),
-        other => other,
-    };
+// What a line does, with a copy of its call.
+fn copied_act(alloc: Global, act: &Act) -> Result<Act, NoMemory> {
+    match act {
+        Act::Call(ask) => Ok(Act::Call(copy_ask(alloc, ask)?)),
+        Act::Test(index) => Ok(Act::Test(*index)),
+        Act::TestWord(word) => Ok(Act::TestWord(*word)),
+        Act::Post => Ok(Act::Post),
+        Act::Take => Ok(Act::Take),
+        Act::Events => Ok(Act::Events),
+    }
+}
+
+fn copied(alloc: Global, line: &Line) -> Result<Line, NoMemory> {
     Ok(Line {
-        at,
-        by,
-        on,
-        act,
-        retry,
+        at: line.at,
+        by: line.by,
+        on: line.on,
+        act: copied_act(alloc, &line.act)?,
+        retry: line.retry,
     })
+}
+
+fn all_copied(alloc: Global, lines: &[Line]) -> Result<Vec<Line>, NoMemory> {
+    let mut copies = Vec::new(alloc);
+    for line in lines {
+        copies.push(copied(alloc, line)?)?;
+    }
+    Ok(copies)
 }
 
 #[test]
 fn each_call_is_copied(rt: HostRuntime) -> Result<(), Fail> {
-    let alloc = rt.alloc();
-    let mut script = read(alloc, PLAIN)?;
-    let lines = replace(&mut script.lines, Listing::new(alloc));
-    let mut copies = Vec::new(alloc);
-    for line in lines.into_vec() {
-        copies.push(with_copy(alloc, line)?)?;
-    }
-    script.lines = Listing::from_vec(copies);
-    assert!(rt; print(alloc, &script)?.as_slice() == PLAIN);
+    let mut script = read(rt.alloc(), PLAIN)?;
+    script.lines = Listing::from_vec(all_copied(rt.alloc(), script.lines.items())?);
+    assert!(rt; is_plain(rt.alloc(), &script)?);
     Ok(())
 }

@@ -1,4 +1,6 @@
-use plex_script::{print, read};
+use cf_types::NoMemory;
+use plex_script::{Line, Script, print, read};
+use std::alloc::Global;
 use std::test::Fail;
 
 // One line of each form, written loosely.
@@ -146,21 +148,27 @@ B_2 IRLM TAKE
 A IRLM EVENTS
 ";
 
+// Whether a script is printed in plain form.
+pub(super) fn is_plain(alloc: Global, script: &Script) -> Result<bool, NoMemory> {
+    Ok(print(alloc, script)?.as_slice() == PLAIN)
+}
+
 #[test]
 fn a_script_is_printed_in_plain_form(rt: HostRuntime) -> Result<(), Fail> {
-    let alloc = rt.alloc();
-    let script = read(alloc, LOOSE)?;
-    assert!(rt; print(alloc, &script)?.as_slice() == PLAIN);
+    let script = read(rt.alloc(), LOOSE)?;
+    assert!(rt; is_plain(rt.alloc(), &script)?);
     Ok(())
+}
+
+// Whether the last of so many lines stands there.
+fn ends_at(lines: &[Line], count: usize, at: u32) -> bool {
+    lines.len() == count && matches!(lines.last(), Some(last) if last.at == at)
 }
 
 #[test]
 fn plain_form_is_read_again(rt: HostRuntime) -> Result<(), Fail> {
-    let alloc = rt.alloc();
-    let script = read(alloc, PLAIN)?;
-    assert!(rt; print(alloc, &script)?.as_slice() == PLAIN);
-    let lines = script.lines.items();
-    let last = lines.last().ok_or("no line")?;
-    assert!(rt; (lines.len(), last.at) == (59, 69));
+    let script = read(rt.alloc(), PLAIN)?;
+    let plain = is_plain(rt.alloc(), &script)?;
+    assert!(rt; plain && ends_at(script.lines.items(), 59, 69));
     Ok(())
 }
