@@ -8,15 +8,20 @@ mod rebuilds;
 mod reports;
 mod runs;
 mod statuses;
-mod words;
 
 use cf_types::ConnId;
-use gates::{Guest, Hold, LineOf, Meeting, Order};
-use plex_agent::OpenGate;
-use reports::{call_numbers, entries};
-use runs::ran;
+use gates::{Hold, LineOf, at_once};
+use reports::{entries, rises};
+use runs::{Given, Ran};
 use std::alloc::{AllocError, Global};
 use std::test::Fail;
+
+/// The operator, and two connectors, each on a thread of its own.
+const OP: ConnId = ConnId(0);
+
+const A: ConnId = ConnId(1);
+
+const B: ConnId = ConnId(2);
 
 /// A policy with one cache, and two connectors.
 const POLICY: &str = "FACILITY CF1 100\n\
@@ -27,58 +32,59 @@ const POLICY: &str = "FACILITY CF1 100\n\
     CONNECTOR A\n\
     CONNECTOR B\n";
 
-// A script with this policy.
-fn script_of(alloc: Global, policy: &str, lines: &str) -> Result<String, AllocError> {
-    let mut script = String::from_str(alloc, policy)?;
-    script.push_str(lines)?;
-    Ok(script)
+// A run on threads.
+fn on_threads<'a>(policy: &'a str, lines: &'a str) -> Given<'a> {
+    Given {
+        words: "threads",
+        policy,
+        lines,
+    }
 }
 
-// Each writer's write begins once the other's has come, so no run on one thread can end well.
+// Whether the report has so many entries in the cache's history, and its end.
+fn has_entries(ran: &Ran, heading: &str, count: usize) -> bool {
+    ran.shows(heading) && entries(&ran.text) == count && ran.text.ends_with("\nEND\n")
+}
+
+/// Each writer's write begins once the other's has come, so no run on one thread can end well.
+const WRITERS: [LineOf; 2] = [LineOf(A, 10), LineOf(B, 11)];
+
 #[test]
 fn two_at_once(rt: HostRuntime) -> Result<(), Fail> {
-    let script = script_of(
-        rt.alloc(),
+    let holds = at_once(rt.alloc(), &WRITERS)?;
+    let given = on_threads(
         POLICY,
         "A GBP CONNECT DELETE\nB GBP CONNECT DELETE\n\
          A GBP WRITE NA 0 a CHANGED 1\nB GBP WRITE NB 0 b CHANGED 1\n",
-    )?;
-    let writes = [
-        Guest::new(LineOf(ConnId(1), 10)),
-        Guest::new(LineOf(ConnId(2), 11)),
-    ];
-    let gate = Meeting::new(&writes);
-    let (status, report) = ran(&rt, rt.alloc(), &script, &gate)?;
-    assert!(rt; gate.met() == 2 && status == 0);
-    assert!(rt; report.contains("\nHISTORY GBP 6\n"));
-    assert!(rt; entries(&report) == 6);
-    assert!(rt; report.ends_with("\nEND\n"));
+    );
+    let ran = given.ran(&rt, rt.alloc(), &holds)?;
+    assert!(rt; has_entries(&ran, "\nHISTORY GBP 6\n", 6));
     Ok(())
 }
 
 /// How many writes each of two connectors makes.
 const WRITES: u32 = 1_000;
 
+// Both connect and write.
+fn two_writers(alloc: Global) -> Result<String, AllocError> {
+    let mut lines = String::from_str(alloc, "A GBP CONNECT DELETE\nB GBP CONNECT DELETE\n")?;
+    for _ in 0..WRITES {
+        lines.push_str("A GBP WRITE NA 0 a CHANGED 1\nB GBP WRITE NB 0 b CHANGED 1\n")?;
+    }
+    Ok(lines)
+}
+
+// Whether both see the numbers of their own calls rise.
+fn both_rise(alloc: Global, report: &str) -> Result<bool, AllocError> {
+    Ok(rises(alloc, report, "A", 1_002)? && rises(alloc, report, "B", 1_002)?)
+}
+
 #[test]
 fn a_thousand_writes_each(rt: HostRuntime) -> Result<(), Fail> {
-    let mut script = script_of(
-        rt.alloc(),
-        POLICY,
-        "A GBP CONNECT DELETE\nB GBP CONNECT DELETE\n",
-    )?;
-    for _ in 0..WRITES {
-        script.push_str("A GBP WRITE NA 0 a CHANGED 1\nB GBP WRITE NB 0 b CHANGED 1\n")?;
-    }
-    let (status, report) = ran(&rt, rt.alloc(), &script, &OpenGate)?;
-    assert!(rt; status == 0);
-    assert!(rt; report.contains("\nHISTORY GBP 2004\n"));
-    assert!(rt; entries(&report) == 2_004);
-    for heading in ["TRANSCRIPT A 1002", "TRANSCRIPT B 1002"] {
-        let numbers = call_numbers(rt.alloc(), &report, heading, "GBP")?;
-        assert!(rt; numbers.len() == 1_002, "{heading}");
-        assert!(rt; numbers.is_sorted_by(|one, next| one < next), "{heading}");
-    }
-    assert!(rt; report.ends_with("\nEND\n"));
+    let lines = two_writers(rt.alloc())?;
+    let ran = on_threads(POLICY, &lines).ran(&rt, rt.alloc(), &[])?;
+    assert!(rt; has_entries(&ran, "\nHISTORY GBP 2004\n", 2_004));
+    assert!(rt; both_rise(rt.alloc(), &ran.text)?);
     Ok(())
 }
 
@@ -106,41 +112,41 @@ fn policy_of(alloc: Global, members: u32) -> Result<String, AllocError> {
 
 // All connect, and then each writes a row of its own, one after another in each round.
 fn writers(alloc: Global) -> Result<String, AllocError> {
-    let mut script = policy_of(alloc, MEMBERS)?;
+    let mut lines = String::new(alloc);
     for member in 1..=MEMBERS {
         let line = format!(in alloc; "C{member} GBP CONNECT DELETE\n")?;
-        script.push_str(&line)?;
+        lines.push_str(&line)?;
     }
     for _ in 0..MEMBERS_WRITES {
         for member in 1..=MEMBERS {
             let line = format!(in alloc; "C{member} GBP WRITE N{member} 0 a UNCHANGED\n")?;
-            script.push_str(&line)?;
+            lines.push_str(&line)?;
         }
     }
-    Ok(script)
+    Ok(lines)
 }
 
-// Whether the transcript of a connector has so many calls, with rising numbers.
-fn rises(alloc: Global, transcripts: &str, member: u32, calls: usize) -> Result<bool, Fail> {
-    let heading = format!(in alloc; "TRANSCRIPT C{member} {calls}")?;
-    let numbers = call_numbers(alloc, transcripts, &heading, "GBP")?;
-    Ok(numbers.len() == calls && numbers.is_sorted_by(|one, next| one < next))
+// Whether each of them sees the numbers of its own calls rise.
+fn all_rise(alloc: Global, report: &str) -> Result<bool, AllocError> {
+    let Some((_, transcripts)) = report.split_once("\nTRANSCRIPT OP 0\n") else {
+        return Ok(false);
+    };
+    for member in 1..=MEMBERS {
+        let connector = format!(in alloc; "C{member}")?;
+        if !rises(alloc, transcripts, &connector, 102)? {
+            return Ok(false);
+        }
+    }
+    Ok(true)
 }
 
 #[test]
 fn sixty_four_writers(rt: HostRuntime) -> Result<(), Fail> {
-    let script = writers(rt.alloc())?;
-    let (status, report) = ran(&rt, rt.alloc(), &script, &OpenGate)?;
-    assert!(rt; status == 0 && report.contains("\nHISTORY GBP 6528\n"));
-    assert!(rt; entries(&report) == 6_528);
-    let (_, transcripts) = report
-        .split_once("\nTRANSCRIPT OP 0\n")
-        .ok_or("no transcripts")?;
-    for member in 1..=MEMBERS {
-        let whole = rises(rt.alloc(), transcripts, member, 102)?;
-        assert!(rt; whole, "{member}");
-    }
-    assert!(rt; transcripts.ends_with("\nEND\n"));
+    let policy = policy_of(rt.alloc(), MEMBERS)?;
+    let lines = writers(rt.alloc())?;
+    let ran = on_threads(&policy, &lines).ran(&rt, rt.alloc(), &[])?;
+    assert!(rt; has_entries(&ran, "\nHISTORY GBP 6528\n", 6_528));
+    assert!(rt; all_rise(rt.alloc(), &ran.text)?);
     Ok(())
 }
 
@@ -165,25 +171,31 @@ const B_DEPARTS_FIRST: &str = "4 B DISCONNECT -> OK\n\
     TRANSCRIPT B 3\nGBP 1\nGBP TAKE 3\nGBP 4\n\
     END\n";
 
+// Whether the report has both, in one of the two orders.
+fn is_noted(ran: &Ran) -> bool {
+    match ran.text.strip_prefix(POLICY) {
+        Some(report) => match report.strip_prefix(IN_ORDER) {
+            Some(rest) => ran.status == 0 && (rest == A_DEPARTS_FIRST || rest == B_DEPARTS_FIRST),
+            None => false,
+        },
+        None => false,
+    }
+}
+
 // Departures don't come to the gate, so there are two reports.
 #[test]
 fn a_note_between_threads(rt: HostRuntime) -> Result<(), Fail> {
-    let script = script_of(
-        rt.alloc(),
+    let holds = [
+        Hold::new(LineOf(A, 8), LineOf(B, 9)),
+        Hold::new(LineOf(B, 12), LineOf(A, 11)),
+    ];
+    let given = on_threads(
         POLICY,
         "A GBP CONNECT DELETE\nB GBP CONNECT DELETE\nA GBP WRITE P1 0 a CHANGED 1\n\
          A GBP POST\nB GBP TAKE\n",
-    )?;
-    let holds = [
-        Hold::new(LineOf(ConnId(1), 8), LineOf(ConnId(2), 9)),
-        Hold::new(LineOf(ConnId(2), 12), LineOf(ConnId(1), 11)),
-    ];
-    let gate = Order::new(&holds);
-    let (status, report) = ran(&rt, rt.alloc(), &script, &gate)?;
-    assert!(rt; gate.kept() == 2 && status == 0);
-    let calls = script_of(rt.alloc(), POLICY, IN_ORDER)?;
-    let departures = report.strip_prefix(calls.as_str());
-    assert!(rt; departures == Some(A_DEPARTS_FIRST) || departures == Some(B_DEPARTS_FIRST));
+    );
+    let ran = given.ran(&rt, rt.alloc(), &holds)?;
+    assert!(rt; is_noted(&ran));
     Ok(())
 }
 
@@ -226,26 +238,25 @@ const FOUR_DONE: &str = "HISTORY PAGES 3\n\
     TRANSCRIPT D 3\nCOPIES 1\nCOPIES 2\nCOPIES 3\n\
     END\n";
 
+/// Each of four begins once the others have come.
+const SECONDS: [LineOf; 4] = [
+    LineOf(A, 18),
+    LineOf(B, 19),
+    LineOf(ConnId(3), 20),
+    LineOf(ConnId(4), 21),
+];
+
 #[test]
 fn four_at_once(rt: HostRuntime) -> Result<(), Fail> {
-    let script = script_of(
-        rt.alloc(),
+    let holds = at_once(rt.alloc(), &SECONDS)?;
+    let given = on_threads(
         FOUR,
         "A PAGES CONNECT DELETE\nB QUEUE CONNECT DELETE\n\
          C LOCKS CONNECT DELETE\nD COPIES CONNECT DELETE\n\
          A PAGES WRITE P1 0 a CHANGED 1\nB QUEUE WRITE 0 TAIL DATA b\n\
          C LOCKS OBTAIN R1@5 EXCL\nD COPIES READ P1 0\n",
-    )?;
-    let seconds = [
-        Guest::new(LineOf(ConnId(1), 18)),
-        Guest::new(LineOf(ConnId(2), 19)),
-        Guest::new(LineOf(ConnId(3), 20)),
-        Guest::new(LineOf(ConnId(4), 21)),
-    ];
-    let gate = Meeting::new(&seconds);
-    let (status, report) = ran(&rt, rt.alloc(), &script, &gate)?;
-    assert!(rt; gate.met() == 4 && status == 0);
-    let done = script_of(rt.alloc(), FOUR, FOUR_DONE)?;
-    assert!(rt; report.as_str() == done.as_str());
+    );
+    let ran = given.ran(&rt, rt.alloc(), &holds)?;
+    assert!(rt; ran.tells(FOUR, FOUR_DONE));
     Ok(())
 }

@@ -1,7 +1,8 @@
-//! Gates at which callers wait for one another, and one that counts lines. No caller waits for ever:
-//! a gate tells how many waits ended well.
+//! A gate at which callers wait for one another, and which counts lines. No caller waits for ever: the
+//! gate tells how many waits ended well.
 use cf_types::ConnId;
 use plex_agent::Gate;
+use std::alloc::{AllocError, Global};
 use std::hint::spin_loop;
 use std::sync::atomic::AtomicU64;
 use std::sync::atomic::Ordering::SeqCst;
@@ -40,74 +41,23 @@ impl Flag {
 }
 
 /// A line of a script: who gives it, and its number in the script's text, from 1.
-#[derive(Clone, Copy, Debug, PartialEq, Eq)]
+#[derive(Clone, Copy, PartialEq, Eq)]
 pub(super) struct LineOf(pub(super) ConnId, pub(super) u32);
 
-/// A line that waits for others at a gate.
-#[derive(Drop)]
-pub(super) struct Guest {
-    line: LineOf,
-    came: Flag,
+/// How far a line is for which another one waits.
+#[derive(Clone, Copy, PartialEq, Eq)]
+enum Stage {
+    Come,
+    Done,
 }
 
-impl Guest {
-    /// A line that hasn't come yet.
-    pub(super) fn new(line: LineOf) -> Guest {
-        Guest {
-            line,
-            came: Flag::new(),
-        }
-    }
-}
-
-/// A gate at which the lines of several callers begin once all of them have come.
-#[derive(Drop)]
-pub(super) struct Meeting<'a> {
-    guests: &'a [Guest],
-    met: AtomicU64,
-}
-
-impl<'a> Meeting<'a> {
-    /// A gate for these lines, each of which comes once.
-    pub(super) fn new(guests: &'a [Guest]) -> Meeting<'a> {
-        Meeting {
-            guests,
-            met: AtomicU64::new(0),
-        }
-    }
-
-    /// How many of the lines found that all had come.
-    pub(super) fn met(&self) -> u64 {
-        self.met.load(SeqCst)
-    }
-
-    // Waits for all of the lines.
-    fn meet(&self) {
-        if self.guests.iter().all(|guest| guest.came.wait()) {
-            self.met.fetch_add(1, SeqCst);
-        }
-    }
-}
-
-impl<'a> Gate for Meeting<'a> {
-    fn before(&self, who: ConnId, line: u32) {
-        for guest in self.guests {
-            if guest.line == LineOf(who, line) {
-                guest.came.raise();
-                self.meet();
-            }
-        }
-    }
-
-    fn after(&self, _who: ConnId, _line: u32) {}
-}
-
-/// A line that begins once another has been done.
+/// A line that begins once another has come, or has been done.
 #[derive(Drop)]
 pub(super) struct Hold {
     held: LineOf,
     until: LineOf,
-    done: Flag,
+    stage: Stage,
+    reached: Flag,
 }
 
 impl Hold {
@@ -116,63 +66,77 @@ impl Hold {
         Hold {
             held,
             until,
-            done: Flag::new(),
+            stage: Stage::Done,
+            reached: Flag::new(),
         }
+    }
+
+    // The first line begins once the second has come.
+    fn meeting(held: LineOf, until: LineOf) -> Hold {
+        Hold {
+            held,
+            until,
+            stage: Stage::Come,
+            reached: Flag::new(),
+        }
+    }
+
+    // A line is so far.
+    fn tell(&self, line: LineOf, stage: Stage) {
+        if self.until == line && self.stage == stage {
+            self.reached.raise();
+        }
+    }
+
+    // Whether this line waited, and not in vain.
+    fn keeps(&self, line: LineOf) -> bool {
+        self.held == line && self.reached.wait()
     }
 }
 
-/// A gate that keeps lines of several callers in order.
+/// Lines of several callers, each of which begins once all of them have come.
+pub(super) fn at_once(alloc: Global, lines: &[LineOf]) -> Result<Vec<Hold>, AllocError> {
+    let mut holds = Vec::new(alloc);
+    for held in lines {
+        for until in lines {
+            if held != until {
+                holds.push(Hold::meeting(*held, *until))?;
+            }
+        }
+    }
+    Ok(holds)
+}
+
+/// Lines of several callers, each of which begins once the one before it has been done.
+pub(super) fn in_order(alloc: Global, lines: &[LineOf]) -> Result<Vec<Hold>, AllocError> {
+    let mut holds = Vec::new(alloc);
+    for k in 1..lines.len() {
+        holds.push(Hold::new(lines[k], lines[k - 1]))?;
+    }
+    Ok(holds)
+}
+
+/// A gate that holds lines up.
 #[derive(Drop)]
-pub(super) struct Order<'a> {
+pub(super) struct Turns<'a> {
     holds: &'a [Hold],
     kept: AtomicU64,
-}
-
-impl<'a> Order<'a> {
-    /// A gate that keeps these orders.
-    pub(super) fn new(holds: &'a [Hold]) -> Order<'a> {
-        Order {
-            holds,
-            kept: AtomicU64::new(0),
-        }
-    }
-
-    /// How many of the lines that were held began behind the one that they waited for.
-    pub(super) fn kept(&self) -> u64 {
-        self.kept.load(SeqCst)
-    }
-}
-
-impl<'a> Gate for Order<'a> {
-    fn before(&self, who: ConnId, line: u32) {
-        for hold in self.holds {
-            if hold.held == LineOf(who, line) && hold.done.wait() {
-                self.kept.fetch_add(1, SeqCst);
-            }
-        }
-    }
-
-    fn after(&self, who: ConnId, line: u32) {
-        for hold in self.holds {
-            if hold.until == LineOf(who, line) {
-                hold.done.raise();
-            }
-        }
-    }
-}
-
-/// A gate that counts the lines that come to it.
-#[derive(Drop)]
-pub(super) struct Count {
     lines: AtomicU64,
 }
 
-impl Count {
-    /// A gate to which no line has come.
-    pub(super) fn new() -> Count {
-        Count {
+impl<'a> Turns<'a> {
+    /// A gate that keeps these, to which no line has come.
+    pub(super) fn new(holds: &'a [Hold]) -> Turns<'a> {
+        Turns {
+            holds,
+            kept: AtomicU64::new(0),
             lines: AtomicU64::new(0),
         }
+    }
+
+    /// Whether every line that was held waited, and not in vain.
+    pub(super) fn is_kept(&self) -> bool {
+        self.kept.load(SeqCst) == self.holds.len() as u64
     }
 
     /// How many lines have come.
@@ -181,10 +145,22 @@ impl Count {
     }
 }
 
-impl Gate for Count {
-    fn before(&self, _who: ConnId, _line: u32) {
+impl<'a> Gate for Turns<'a> {
+    fn before(&self, who: ConnId, line: u32) {
         self.lines.fetch_add(1, SeqCst);
+        for hold in self.holds {
+            hold.tell(LineOf(who, line), Stage::Come);
+        }
+        for hold in self.holds {
+            if hold.keeps(LineOf(who, line)) {
+                self.kept.fetch_add(1, SeqCst);
+            }
+        }
     }
 
-    fn after(&self, _who: ConnId, _line: u32) {}
+    fn after(&self, who: ConnId, line: u32) {
+        for hold in self.holds {
+            hold.tell(LineOf(who, line), Stage::Done);
+        }
+    }
 }

@@ -1,8 +1,8 @@
 //! A journal that one caller fills.
+use super::POLICY;
 use super::reports::entries;
-use super::runs::ran_in_writes;
-use super::{POLICY, script_of};
-use plex_agent::OpenGate;
+use super::runs::Given;
+use std::alloc::{AllocError, Global};
 use std::test::Fail;
 
 /// A connector comes to wait in a rebuild.
@@ -58,21 +58,29 @@ fn goes_on_full(text: &str) -> bool {
     text.contains(SECOND)
         && text.contains(LAST)
         && text.ends_with("\nGBP 65536\nTRANSCRIPT B 0\nEND\n")
+        && entries(text) == 65_536
 }
 
+// The lines that fill it.
+fn filling(alloc: Global) -> Result<String, AllocError> {
+    let mut lines = String::from_str(alloc, WAITS)?;
+    for _ in 0..LINES {
+        lines.push_str(ASKS)?;
+    }
+    Ok(lines)
+}
+
+// The report goes out in pieces of many lines.
 #[test]
 fn a_journal_that_one_caller_fills(rt: HostRuntime) -> Result<(), Fail> {
-    let mut script = script_of(rt.alloc(), POLICY, WAITS)?;
-    for _ in 0..LINES {
-        script.push_str(ASKS)?;
-    }
-    let (status, text, writes) = ran_in_writes(&rt, rt.alloc(), "serial", &script, &OpenGate)?;
-    assert_eq!(rt; status, 8);
-    assert!(rt; begins_full(&text));
-    assert!(rt; goes_on_full(&text));
-    assert_eq!(rt; entries(&text), 65_536);
-
-    // The report goes out in pieces of many lines.
-    assert!(rt; writes < 200, "{writes}");
+    let lines = filling(rt.alloc())?;
+    let given = Given {
+        words: "serial",
+        policy: POLICY,
+        lines: &lines,
+    };
+    let ran = given.ran(&rt, rt.alloc(), &[])?;
+    assert!(rt; ran.status == 8 && begins_full(&ran.text) && goes_on_full(&ran.text));
+    assert!(rt; ran.writes < 200, "{}", ran.writes);
     Ok(())
 }

@@ -1,116 +1,30 @@
-//! Runs over links that are down at listed calls.
-ghost use Rattle.std.specs.Prelude.{◌≡◌};
-ghost use Rattle.std.specs.Vec.{vec_len};
-
-use super::gates::{Hold, LineOf, Order};
-use super::{POLICY, script_of};
-use cf_io::{MemSink, MemSource};
-use cf_link::ListLink;
-use cf_types::ConnId;
-use plex_agent::{Gate, OpenGate};
-use plex_run::run;
+//! Runs on threads over links that are down at listed calls.
+use super::gates::{LineOf, in_order};
+use super::runs::{Given, Ran, links_of};
+use super::{A, B, OP, POLICY};
 use std::alloc::{AllocError, Global};
 use std::sync::Wait;
 use std::test::Fail;
 use std::thread::Threads;
 
-/// How many links there are.
-const LINKS: usize = 64;
-
-/// How many bytes a report can have here.
-const ROOM: usize = 1 << 16;
-
-/// What a run left: its status, what it wrote, and its links.
-#[derive(Drop)]
-struct Ran {
-    status: u8,
-    report: String,
-    links: Vec<ListLink>,
-}
-
-impl Ran {
-    // The report shows this.
-    fn shows(&self, part: &str) -> bool {
-        self.status == 0 && self.report.contains(part)
-    }
-
-    // So often were the links of the first structure to CF1 and CF2 asked, and so often down.
-    fn asked(&self, one: (u64, u64), two: (u64, u64)) -> bool {
-        self.was_asked(0, one) && self.was_asked(1, two)
-    }
-
-    fn was_asked(&self, at: usize, wanted: (u64, u64)) -> bool {
-        match self.links.get(at) {
-            Some(link) => link.calls == wanted.0 && link.faults == wanted.1,
-            None => false,
-        }
-    }
-}
-
-// A link that is down at these calls.
-fn link(alloc: Global, fails: &[u64]) -> Result<ListLink, AllocError> {
-    Ok(ListLink {
-        calls: 0,
-        fails: Vec::from_slice(alloc, fails)?,
-        faults: 0,
-    })
-}
-
-// The links to CF1 and CF2 of the first structure are down at these calls, the others never.
-fn links_of(alloc: Global, one: &[u64], two: &[u64]) -> Result<Vec<ListLink>, AllocError> {
-    let mut links = Vec::new(alloc);
-    links.push(link(alloc, one)?)?;
-    links.push(link(alloc, two)?)?;
-    for _ in 2..LINKS {
-        links.push(link(alloc, &[])?)?;
-    }
-    Ok(links)
-}
-
-// The run by this word of a script behind the policy, over such links.
+// What a run of these lines left over links to CF1 and CF2 that are down at these calls. Each of the
+// lines that are listed waits for the one before it.
 fn ran_over<R: Threads + Wait + Sync>(
     rt: &R,
     alloc: Global,
-    word: &str,
     lines: &str,
+    listed: &[LineOf],
     one: &[u64],
     two: &[u64],
-) -> Result<Ran, Fail> {
-    ran_at(rt, alloc, word, lines, one, two, &OpenGate)
-}
-
-// The same, where callers wait at a gate.
-fn ran_at<R: Threads + Wait + Sync, G: Gate>(
-    rt: &R,
-    alloc: Global,
-    word: &str,
-    lines: &str,
-    one: &[u64],
-    two: &[u64],
-    gate: &G,
-) -> Result<Ran, Fail> {
-    let script = script_of(alloc, POLICY, lines)?;
-    let mut source = MemSource {
-        bytes: Vec::from_slice(alloc, script.as_bytes())?,
-        taken: 0,
-        calls: 0,
-        fails: Vec::new(alloc),
-        faults: 0,
+) -> Result<Ran, AllocError> {
+    let holds = in_order(alloc, listed)?;
+    let links = links_of(alloc, one, two)?;
+    let given = Given {
+        words: "threads",
+        policy: POLICY,
+        lines,
     };
-    let mut sink = MemSink::new(alloc, ROOM, 4096, Vec::new(alloc))?;
-    let mut words = Vec::new(alloc);
-    words.push(String::from_str(alloc, word)?)?;
-    let mut links = links_of(alloc, one, two)?;
-    let status = if links.len() == LINKS {
-        run(rt, alloc, &words, &mut source, &mut sink, &mut links, gate)
-    } else {
-        u8::MAX
-    };
-    Ok(Ran {
-        status,
-        report: String::from_utf8(sink.bytes)?,
-        links,
-    })
+    given.ran_over(rt, alloc, links, &holds)
 }
 
 /// Work on a pool with two instances.
@@ -139,11 +53,13 @@ const BOTH_LOST: &str = "HISTORY GBP 9\n\
     GBP TEST 0 INVALID 8\nGBP 9\n\
     TRANSCRIPT B 0\nEND\n";
 
+/// A's first two calls, the operator's command between them.
+const DUPLEXED_LINES: [LineOf; 3] = [LineOf(A, 9), LineOf(OP, 10), LineOf(A, 11)];
+
 #[test]
 fn one_instance_is_lost_and_then_the_other(rt: HostRuntime) -> Result<(), Fail> {
-    let ran = ran_over(&rt, rt.alloc(), "serial", DUPLEXED, &[2], &[2])?;
-    assert!(rt; ran.shows(BOTH_LOST));
-    assert!(rt; ran.asked((2, 1), (2, 1)));
+    let ran = ran_over(&rt, rt.alloc(), DUPLEXED, &DUPLEXED_LINES, &[2], &[2])?;
+    assert!(rt; ran.shows(BOTH_LOST) && ran.asked((2, 1), (2, 1)));
     Ok(())
 }
 
@@ -156,17 +72,20 @@ const FOUR_CALLS: &str = "A GBP CONNECT DELETE\n\
     A GBP UNLOCK P1\n\
     A GBP TEST 0\n";
 
-#[test]
-fn no_instance_is_lost(rt: HostRuntime) -> Result<(), Fail> {
-    let ran = ran_over(&rt, rt.alloc(), "serial", FOUR_CALLS, &[], &[])?;
-    assert!(rt;
-        ran.shows(
-            "\n3 A WRITE P1 0 v CHANGED 1 -> OK\n4 A READ P1 0 -> DATA v CHANGED\n\
-             5 A CASTOUT P1 -> DATA v\n6 A UNLOCK P1 -> OK UNCHANGED\n7 A DISCONNECT -> OK\n"
-        )
-    );
-    assert!(rt; ran.shows("\nGBP TEST 0 VALID 6\n") && ran.asked((4, 0), (4, 0)));
-    Ok(())
+/// A's CONNECT, the operator's command, and A's WRITE.
+const FOUR_LINES: [LineOf; 3] = [LineOf(A, 8), LineOf(OP, 9), LineOf(A, 10)];
+
+// Whether the four commands show a history and a test over such links, which were asked so.
+fn four_show<R: Threads + Wait + Sync>(
+    rt: &R,
+    alloc: Global,
+    one: &[u64],
+    two: &[u64],
+    shown: [&str; 2],
+    asked: [(u64, u64); 2],
+) -> Result<bool, AllocError> {
+    let ran = ran_over(rt, alloc, FOUR_CALLS, &FOUR_LINES, one, two)?;
+    Ok(ran.shows(shown[0]) && ran.shows(shown[1]) && ran.asked(asked[0], asked[1]))
 }
 
 /// The call at which one link is down, and the history then.
@@ -196,12 +115,9 @@ const ONE_LOST: [(u64, &str); 4] = [
 #[test]
 fn the_first_instance_is_lost_at_each_call(rt: HostRuntime) -> Result<(), Fail> {
     for (call, history) in ONE_LOST {
-        let ran = ran_over(&rt, rt.alloc(), "serial", FOUR_CALLS, &[call], &[])?;
-        assert!(rt;
-            ran.shows(history) && ran.shows("\nGBP TEST 0 VALID 7\n"),
-            "{call}"
-        );
-        assert!(rt; ran.asked((call, 1), (4, 0)), "{call}");
+        let shown = [history, "\nGBP TEST 0 VALID 7\n"];
+        let told = four_show(&rt, rt.alloc(), &[call], &[], shown, [(call, 1), (4, 0)])?;
+        assert!(rt; told, "{call}");
     }
     Ok(())
 }
@@ -233,12 +149,9 @@ const OTHER_LOST: [(u64, &str); 4] = [
 #[test]
 fn the_second_instance_is_lost_at_each_call(rt: HostRuntime) -> Result<(), Fail> {
     for (call, history) in OTHER_LOST {
-        let ran = ran_over(&rt, rt.alloc(), "serial", FOUR_CALLS, &[], &[call])?;
-        assert!(rt;
-            ran.shows(history) && ran.shows("\nGBP TEST 0 VALID 7\n"),
-            "{call}"
-        );
-        assert!(rt; ran.asked((4, 0), (call, 1)), "{call}");
+        let shown = [history, "\nGBP TEST 0 VALID 7\n"];
+        let told = four_show(&rt, rt.alloc(), &[], &[call], shown, [(4, 0), (call, 1)])?;
+        assert!(rt; told, "{call}");
     }
     Ok(())
 }
@@ -274,100 +187,16 @@ const BOTH_AT_ONCE: [(u64, &str); 4] = [
 #[test]
 fn both_instances_are_lost_at_one_call(rt: HostRuntime) -> Result<(), Fail> {
     for (call, history) in BOTH_AT_ONCE {
-        let ran = ran_over(&rt, rt.alloc(), "serial", FOUR_CALLS, &[call], &[call])?;
-        assert!(rt;
-            ran.shows(history) && ran.shows("\nGBP TEST 0 INVALID 8\n"),
-            "{call}"
-        );
-        assert!(rt; ran.asked((call, 1), (call, 1)), "{call}");
-    }
-    Ok(())
-}
-
-// The run of these lines on threads, over such links, where each of the lines that are listed waits
-// for the one before it. Where one waits in vain the run counts as one that ended badly.
-fn ran_in_order<R: Threads + Wait + Sync>(
-    rt: &R,
-    alloc: Global,
-    lines: &str,
-    listed: &[LineOf],
-    one: &[u64],
-    two: &[u64],
-) -> Result<Ran, Fail> {
-    let mut holds = Vec::new(alloc);
-    for k in 1..listed.len() {
-        holds.push(Hold::new(listed[k], listed[k - 1]))?;
-    }
-    let gate = Order::new(&holds);
-    let mut ran = ran_at(rt, alloc, "threads", lines, one, two, &gate)?;
-    if gate.kept() != holds.len() as u64 {
-        ran.status = u8::MAX;
-    }
-    Ok(ran)
-}
-
-const OP: ConnId = ConnId(0);
-
-const A: ConnId = ConnId(1);
-
-const B: ConnId = ConnId(2);
-
-// The four commands on threads, over such links. The operator waits for A's CONNECT, and A's WRITE
-// for the operator.
-fn four_calls_on_threads<R: Threads + Wait + Sync>(
-    rt: &R,
-    alloc: Global,
-    one: &[u64],
-    two: &[u64],
-) -> Result<Ran, Fail> {
-    let listed = [LineOf(A, 8), LineOf(OP, 9), LineOf(A, 10)];
-    ran_in_order(rt, alloc, FOUR_CALLS, &listed, one, two)
-}
-
-#[test]
-fn one_instance_is_lost_and_then_the_other_on_threads(rt: HostRuntime) -> Result<(), Fail> {
-    let listed = [LineOf(A, 9), LineOf(OP, 10), LineOf(A, 11)];
-    let ran = ran_in_order(&rt, rt.alloc(), DUPLEXED, &listed, &[2], &[2])?;
-    assert!(rt; ran.shows(BOTH_LOST));
-    assert!(rt; ran.asked((2, 1), (2, 1)));
-    Ok(())
-}
-
-#[test]
-fn the_first_instance_is_lost_at_each_call_on_threads(rt: HostRuntime) -> Result<(), Fail> {
-    for (call, history) in ONE_LOST {
-        let ran = four_calls_on_threads(&rt, rt.alloc(), &[call], &[])?;
-        assert!(rt;
-            ran.shows(history) && ran.shows("\nGBP TEST 0 VALID 7\n"),
-            "{call}"
-        );
-        assert!(rt; ran.asked((call, 1), (4, 0)), "{call}");
-    }
-    Ok(())
-}
-
-#[test]
-fn the_second_instance_is_lost_at_each_call_on_threads(rt: HostRuntime) -> Result<(), Fail> {
-    for (call, history) in OTHER_LOST {
-        let ran = four_calls_on_threads(&rt, rt.alloc(), &[], &[call])?;
-        assert!(rt;
-            ran.shows(history) && ran.shows("\nGBP TEST 0 VALID 7\n"),
-            "{call}"
-        );
-        assert!(rt; ran.asked((4, 0), (call, 1)), "{call}");
-    }
-    Ok(())
-}
-
-#[test]
-fn both_instances_are_lost_at_one_call_on_threads(rt: HostRuntime) -> Result<(), Fail> {
-    for (call, history) in BOTH_AT_ONCE {
-        let ran = four_calls_on_threads(&rt, rt.alloc(), &[call], &[call])?;
-        assert!(rt;
-            ran.shows(history) && ran.shows("\nGBP TEST 0 INVALID 8\n"),
-            "{call}"
-        );
-        assert!(rt; ran.asked((call, 1), (call, 1)), "{call}");
+        let shown = [history, "\nGBP TEST 0 INVALID 8\n"];
+        let told = four_show(
+            &rt,
+            rt.alloc(),
+            &[call],
+            &[call],
+            shown,
+            [(call, 1), (call, 1)],
+        )?;
+        assert!(rt; told, "{call}");
     }
     Ok(())
 }
@@ -379,6 +208,23 @@ struct Failing {
     two: &'static [u64],
     shown: &'static str,
     asked: [(u64, u64); 2],
+}
+
+// Whether a run of these lines shows what it is to show, at each of the failing links.
+fn each_shows<R: Threads + Wait + Sync>(
+    rt: &R,
+    alloc: Global,
+    lines: &str,
+    listed: &[LineOf],
+    rows: &[Failing],
+) -> Result<bool, AllocError> {
+    for row in rows {
+        let ran = ran_over(rt, alloc, lines, listed, row.one, row.two)?;
+        if !ran.shows(row.shown) || !ran.asked(row.asked[0], row.asked[1]) {
+            return Ok(false);
+        }
+    }
+    Ok(true)
 }
 
 /// A rebuild up to its first COPY. One member reads while it has not been told yet, and stays until
@@ -444,34 +290,10 @@ const COPYING_FAILS: [Failing; 3] = [
     },
 ];
 
-// Whether a run shows what it is to show at these links.
-fn is_as_told(ran: &Ran, failing: &Failing) -> bool {
-    let [one, two] = failing.asked;
-    ran.shows(failing.shown) && ran.asked(one, two)
-}
-
 #[test]
 fn an_instance_is_lost_in_a_rebuild_of_two(rt: HostRuntime) -> Result<(), Fail> {
-    for failing in &COPYING_FAILS {
-        let ran = ran_over(&rt, rt.alloc(), "serial", COPYING, failing.one, failing.two)?;
-        assert!(rt; is_as_told(&ran, failing), "{}", failing.shown);
-    }
-    Ok(())
-}
-
-#[test]
-fn an_instance_is_lost_in_a_rebuild_of_two_on_threads(rt: HostRuntime) -> Result<(), Fail> {
-    for failing in &COPYING_FAILS {
-        let ran = ran_in_order(
-            &rt,
-            rt.alloc(),
-            COPYING,
-            &COPYING_LINES,
-            failing.one,
-            failing.two,
-        )?;
-        assert!(rt; is_as_told(&ran, failing), "{}", failing.shown);
-    }
+    let told = each_shows(&rt, rt.alloc(), COPYING, &COPYING_LINES, &COPYING_FAILS)?;
+    assert!(rt; told);
     Ok(())
 }
 
@@ -481,18 +303,20 @@ const ALONE: &str = "A GBP CONNECT DELETE\n\
     A GBP WRITE P2 1 two CHANGED 1\n\
     A GBP READ P1 0\n";
 
+/// The second write finds the only instance lost.
+const ALONE_FAILS: [Failing; 1] = [Failing {
+    one: &[2],
+    two: &[],
+    shown: "HISTORY GBP 6\n1 A CONNECT DELETE -> OK NEW CF1\n\
+        2 A WRITE P1 0 one CHANGED 1 -> OK\n3 SYS LOST CF1 -> FAILED\n\
+        4 A WRITE P2 1 two CHANGED 1 -> REFUSED 74 LOSTFACILITY CF1\n\
+        5 A READ P1 0 -> REFUSED 75 STRUCTUREFAILED\n6 A DISCONNECT -> OK\n",
+    asked: [(2, 1), (0, 0)],
+}];
+
 #[test]
-fn an_instance_is_lost_on_threads(rt: HostRuntime) -> Result<(), Fail> {
-    let ran = ran_over(&rt, rt.alloc(), "threads", ALONE, &[2], &[])?;
-    assert!(rt;
-        ran.shows(
-            "HISTORY GBP 6\n1 A CONNECT DELETE -> OK NEW CF1\n\
-             2 A WRITE P1 0 one CHANGED 1 -> OK\n3 SYS LOST CF1 -> FAILED\n\
-             4 A WRITE P2 1 two CHANGED 1 -> REFUSED 74 LOSTFACILITY CF1\n\
-             5 A READ P1 0 -> REFUSED 75 STRUCTUREFAILED\n6 A DISCONNECT -> OK\n"
-        )
-    );
-    assert!(rt; ran.asked((2, 1), (0, 0)));
+fn an_only_instance_is_lost(rt: HostRuntime) -> Result<(), Fail> {
+    assert!(rt; each_shows(&rt, rt.alloc(), ALONE, &[], &ALONE_FAILS)?);
     Ok(())
 }
 
@@ -605,29 +429,8 @@ const FAILING: [Failing; 8] = [
     },
 ];
 
-// The rebuild by this word shows what it is to show, at each of the failing links.
-fn fails_in_each_stage<R: Threads + Wait + Sync>(
-    rt: &R,
-    alloc: Global,
-    word: &str,
-) -> Result<bool, Fail> {
-    for failing in &FAILING {
-        let ran = ran_over(rt, alloc, word, MOVING, failing.one, failing.two)?;
-        if !is_as_told(&ran, failing) {
-            return Ok(false);
-        }
-    }
-    Ok(true)
-}
-
 #[test]
 fn a_link_fails_in_each_stage_of_a_rebuild(rt: HostRuntime) -> Result<(), Fail> {
-    assert!(rt; fails_in_each_stage(&rt, rt.alloc(), "serial")?);
-    Ok(())
-}
-
-#[test]
-fn a_link_fails_in_each_stage_on_threads(rt: HostRuntime) -> Result<(), Fail> {
-    assert!(rt; fails_in_each_stage(&rt, rt.alloc(), "threads")?);
+    assert!(rt; each_shows(&rt, rt.alloc(), MOVING, &[], &FAILING)?);
     Ok(())
 }

@@ -1,7 +1,5 @@
 //! Loads, by the whole program.
-use super::gates::Count;
-use super::runs::ran_by;
-use plex_agent::OpenGate;
+use super::runs::Given;
 use std::test::Fail;
 
 /// What is told of the load of 7, whatever the schedule.
@@ -15,24 +13,31 @@ const OF_SEVEN: &str = "LOAD 7\n\
     REFUSED 0\n\
     END\n";
 
+// A run by these words with no script.
+fn without_script(words: &str) -> Given<'_> {
+    Given {
+        words,
+        policy: "",
+        lines: "",
+    }
+}
+
 #[test]
 fn the_load_of_seven(rt: HostRuntime) -> Result<(), Fail> {
-    let gate = Count::new();
-    let (status, text) = ran_by(&rt, rt.alloc(), "load 7", "", &gate)?;
-    assert!(rt; status == 0 && text.as_str() == OF_SEVEN && gate.lines() == 4_004);
+    let ran = without_script("load 7").ran(&rt, rt.alloc(), &[])?;
+    assert!(rt; ran.tells("", OF_SEVEN) && ran.gated == 4_004);
     Ok(())
 }
+
+/// What is told of words that the program doesn't have.
+pub(super) const USAGE: &str = "USAGE plexrun serial or threads or load N or locks\n";
 
 // Numbers are those of scripts: without zeros in front, and of 32 bits.
 #[test]
 fn words_of_no_load(rt: HostRuntime) -> Result<(), Fail> {
     for words in ["load 07", "load", "load 4294967296"] {
-        let (status, text) = ran_by(&rt, rt.alloc(), words, "", &OpenGate)?;
-        assert!(rt; status == 2, "{words}");
-        assert!(rt;
-            text.as_str() == "USAGE plexrun serial or threads or load N or locks\n",
-            "{words}"
-        );
+        let told = without_script(words).ends(&rt, rt.alloc(), 2, USAGE)?;
+        assert!(rt; told, "{words}");
     }
     Ok(())
 }
