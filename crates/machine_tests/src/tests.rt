@@ -216,74 +216,73 @@ fn ends(trial: Trial) -> bool {
     live(&share) == 0
 }
 
-// Whether as many engines live behind each step as is told, and none once the machine ends, over
-// links to the two facilities that are down at these calls.
-fn lives_as_told(alloc: Global, rows: &[Row], one: &[u64], two: &[u64]) -> Result<bool, NoMemory> {
-    let mut trial = trial_of(alloc, one, two)?;
+// Whether as many engines live behind each step as is told.
+fn goes_as_told(alloc: Global, trial: &mut Trial, rows: &[Row]) -> Result<bool, NoMemory> {
     for row in rows {
-        take(alloc, &mut trial, row.0)?;
+        take(alloc, trial, row.0)?;
         if live(&trial.share) != row.1 {
             return Ok(false);
         }
     }
-    Ok(ends(trial))
+    Ok(true)
 }
+
+// The same, and whether none lives once the machine ends, over links to the two facilities that are
+// down at these calls.
+fn lives_as_told(alloc: Global, rows: &[Row], one: &[u64], two: &[u64]) -> Result<bool, NoMemory> {
+    let mut trial = trial_of(alloc, one, two)?;
+    let told = goes_as_told(alloc, &mut trial, rows)?;
+    let ended = ends(trial);
+    Ok(told && ended)
+}
+
+/// The second of two instances is stopped, and another goes with the only connector.
+const STOPPED: [Row; 7] = [
+    Row(Step::Connect, 0),
+    Row(Step::Store, 1),
+    Row(Step::Duplex, 2),
+    Row(Step::Store, 2),
+    Row(Step::Simplex, 1),
+    Row(Step::Duplex, 2),
+    Row(Step::Disconnect, 0),
+];
 
 #[test]
 fn second_instance_that_is_stopped(rt: HostRuntime) -> Result<(), Fail> {
-    let rows = [
-        Row(Step::Connect, 0),
-        Row(Step::Store, 1),
-        Row(Step::Duplex, 2),
-        Row(Step::Store, 2),
-        Row(Step::Simplex, 1),
-        Row(Step::Duplex, 2),
-        Row(Step::Disconnect, 0),
-    ];
-    let told = lives_as_told(rt.alloc(), &rows, &[], &[])?;
-    assert!(rt; told);
+    assert!(rt; lives_as_told(rt.alloc(), &STOPPED, &[], &[])?);
     Ok(())
 }
 
+/// One of two instances is lost, and then the other.
+const SECOND_LOST: [Row; 6] = [
+    Row(Step::Connect, 0),
+    Row(Step::Store, 1),
+    Row(Step::Duplex, 2),
+    Row(Step::LoseSecond, 1),
+    Row(Step::Store, 1),
+    Row(Step::LoseFirst, 0),
+];
+
+const FIRST_LOST: [Row; 6] = [
+    Row(Step::Connect, 0),
+    Row(Step::Store, 1),
+    Row(Step::Duplex, 2),
+    Row(Step::LoseFirst, 1),
+    Row(Step::Store, 1),
+    Row(Step::LoseSecond, 0),
+];
+
 #[test]
 fn instances_that_are_lost(rt: HostRuntime) -> Result<(), Fail> {
-    let second = [
-        Row(Step::Connect, 0),
-        Row(Step::Store, 1),
-        Row(Step::Duplex, 2),
-        Row(Step::LoseSecond, 1),
-        Row(Step::Store, 1),
-        Row(Step::LoseFirst, 0),
-    ];
-    let told = lives_as_told(rt.alloc(), &second, &[], &[])?;
-    assert!(rt; told);
-    let first = [
-        Row(Step::Connect, 0),
-        Row(Step::Store, 1),
-        Row(Step::Duplex, 2),
-        Row(Step::LoseFirst, 1),
-        Row(Step::Store, 1),
-        Row(Step::LoseSecond, 0),
-    ];
-    let told = lives_as_told(rt.alloc(), &first, &[], &[])?;
-    assert!(rt; told);
+    for rows in [&SECOND_LOST, &FIRST_LOST] {
+        assert!(rt; lives_as_told(rt.alloc(), rows, &[], &[])?);
+    }
     Ok(())
 }
 
 #[test]
 fn new_instance_that_takes_the_place(rt: HostRuntime) -> Result<(), Fail> {
-    let rows = [
-        Row(Step::Connect, 0),
-        Row(Step::Store, 1),
-        Row(Step::Rebuild, 1),
-        Row(Step::Next, 1),
-        Row(Step::Respond, 1),
-        Row(Step::Join, 1),
-        Row(Step::CopyOne, 2),
-        Row(Step::Complete, 1),
-    ];
-    let told = lives_as_told(rt.alloc(), &rows, &[], &[])?;
-    assert!(rt; told);
+    assert!(rt; lives_as_told(rt.alloc(), &in_copy(2, Row(Step::Complete, 1)), &[], &[])?);
     Ok(())
 }
 
@@ -303,47 +302,45 @@ fn in_copy(copied: usize, last: Row) -> [Row; 8] {
 
 #[test]
 fn new_instance_that_goes(rt: HostRuntime) -> Result<(), Fail> {
-    let stopped = lives_as_told(rt.alloc(), &in_copy(2, Row(Step::Stop, 1)), &[], &[])?;
-    assert!(rt; stopped);
-    let lost = lives_as_told(rt.alloc(), &in_copy(2, Row(Step::LoseSecond, 1)), &[], &[])?;
-    assert!(rt; lost);
-    let failed = lives_as_told(rt.alloc(), &in_copy(2, Row(Step::LoseFirst, 0)), &[], &[])?;
-    assert!(rt; failed);
-    let departed = lives_as_told(rt.alloc(), &in_copy(2, Row(Step::Fail, 0)), &[], &[])?;
-    assert!(rt; departed);
+    for last in [
+        Row(Step::Stop, 1),
+        Row(Step::LoseSecond, 1),
+        Row(Step::LoseFirst, 0),
+        Row(Step::Fail, 0),
+    ] {
+        assert!(rt; lives_as_told(rt.alloc(), &in_copy(2, last), &[], &[])?);
+    }
     Ok(())
 }
 
-// A store asks the link of each instance, the first one's also before there are two.
+/// A store asks the link of each instance, the first one's also before there are two.
+const ONE_OF_TWO: [Row; 5] = [
+    Row(Step::Connect, 0),
+    Row(Step::Store, 1),
+    Row(Step::Duplex, 2),
+    Row(Step::Store, 1),
+    Row(Step::Store, 1),
+];
+
+const BOTH_OF_TWO: [Row; 4] = [
+    Row(Step::Connect, 0),
+    Row(Step::Store, 1),
+    Row(Step::Duplex, 2),
+    Row(Step::Store, 0),
+];
+
 #[test]
 fn instances_that_links_lose(rt: HostRuntime) -> Result<(), Fail> {
-    let one_of_two = [
-        Row(Step::Connect, 0),
-        Row(Step::Store, 1),
-        Row(Step::Duplex, 2),
-        Row(Step::Store, 1),
-        Row(Step::Store, 1),
-    ];
-    let second = lives_as_told(rt.alloc(), &one_of_two, &[], &[1])?;
-    assert!(rt; second);
-    let first = lives_as_told(rt.alloc(), &one_of_two, &[2], &[])?;
-    assert!(rt; first);
-    let both_of_two = [
-        Row(Step::Connect, 0),
-        Row(Step::Store, 1),
-        Row(Step::Duplex, 2),
-        Row(Step::Store, 0),
-    ];
-    let both = lives_as_told(rt.alloc(), &both_of_two, &[2], &[1])?;
-    assert!(rt; both);
+    assert!(rt; lives_as_told(rt.alloc(), &ONE_OF_TWO, &[], &[1])?);
+    assert!(rt; lives_as_told(rt.alloc(), &ONE_OF_TWO, &[2], &[])?);
+    assert!(rt; lives_as_told(rt.alloc(), &BOTH_OF_TWO, &[2], &[1])?);
     Ok(())
 }
 
 // The copy finds the new instance lost, and the next one is refused: the rebuild stops.
 #[test]
 fn new_instance_that_a_link_loses(rt: HostRuntime) -> Result<(), Fail> {
-    let lost = lives_as_told(rt.alloc(), &in_copy(1, Row(Step::CopyOne, 1)), &[], &[1])?;
-    assert!(rt; lost);
+    assert!(rt; lives_as_told(rt.alloc(), &in_copy(1, Row(Step::CopyOne, 1)), &[], &[1])?);
     Ok(())
 }
 
@@ -369,25 +366,43 @@ fn loses(trial: &mut Trial) -> Result<Option<LostAs>, NoMemory> {
     lose_asked(&mut trial.machine, token)
 }
 
-// A trial with two instances.
-fn duplexed(alloc: Global) -> Result<Trial, NoMemory> {
+// Whether the first of two instances is lost.
+fn loses_first(trial: &mut Trial) -> Result<bool, NoMemory> {
+    let lost = loses(trial)?;
+    Ok(matches!(lost, Some(LostAs::Simplex { cf: SECOND })) && live(&trial.share) == 1)
+}
+
+// Whether the last one is.
+fn loses_last(trial: &mut Trial) -> Result<bool, NoMemory> {
+    let lost = loses(trial)?;
+    Ok(matches!(lost, Some(LostAs::FailedNow)) && live(&trial.share) == 0)
+}
+
+/// Two instances.
+const DUPLEXED: [Row; 3] = [
+    Row(Step::Connect, 0),
+    Row(Step::Store, 1),
+    Row(Step::Duplex, 2),
+];
+
+// Whether both are lost as is told, and no third one.
+fn loses_both(alloc: Global, trial: &mut Trial) -> Result<bool, NoMemory> {
+    let duplexed = goes_as_told(alloc, trial, &DUPLEXED)?;
+    let lost = loses_first(trial)? && loses_last(trial)?;
+    let none = loses(trial)?;
+    Ok(duplexed && lost && none.is_none())
+}
+
+// The same, and whether no engine is left.
+fn loses_all(alloc: Global) -> Result<bool, NoMemory> {
     let mut trial = trial_of(alloc, &[], &[])?;
-    for step in [Step::Connect, Step::Store, Step::Duplex] {
-        take(alloc, &mut trial, step)?;
-    }
-    Ok(trial)
+    let lost = loses_both(alloc, &mut trial)?;
+    let ended = ends(trial);
+    Ok(lost && ended)
 }
 
 #[test]
 fn instances_that_are_told_as_lost(rt: HostRuntime) -> Result<(), Fail> {
-    let mut trial = duplexed(rt.alloc())?;
-    let first = loses(&mut trial)?;
-    assert!(rt; matches!(first, Some(LostAs::Simplex { cf: CfId(2) })));
-    assert!(rt; live(&trial.share) == 1);
-    let second = loses(&mut trial)?;
-    assert!(rt; matches!(second, Some(LostAs::FailedNow)));
-    assert!(rt; live(&trial.share) == 0);
-    let none = loses(&mut trial)?;
-    assert!(rt; none.is_none() && ends(trial));
+    assert!(rt; loses_all(rt.alloc())?);
     Ok(())
 }

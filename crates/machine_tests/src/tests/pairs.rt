@@ -63,16 +63,30 @@ fn forgets(
     first_of(alloc, pair)
 }
 
+// Whether a pair keeps its number where registrations end, and both engines.
+fn keeps_its_number(
+    alloc: Global,
+    pair: &mut Pair<Counted, ListLink>,
+    share: &Option<Share>,
+    out: &mut Effects,
+) -> Result<bool, NoMemory>
+    requires { is_some pair.old.primary ≡ true }
+{
+    let stored = stores(pair, share, out)? && live(share) == 2;
+    let first = forgets(alloc, pair, out)?;
+    Ok(stored && first == Some(7) && live(share) == 2)
+}
+
+// The same of two instances with nothing in them, which go then.
+fn keeps_numbers(alloc: Global, share: &Option<Share>) -> Result<bool, NoMemory> {
+    let mut pair = two_of(alloc)?;
+    keeps_its_number(alloc, &mut pair, share, &mut Effects::new(alloc))
+}
+
 #[test]
 fn pair_that_forgets_keeps_its_numbers(rt: HostRuntime) -> Result<(), Fail> {
     let share = Some(Arc::new(rt.alloc(), 0)?);
-    let mut out = Effects::new(rt.alloc());
-    let mut pair = two_of(rt.alloc())?;
-    let stored = stores(&mut pair, &share, &mut out)?;
-    assert!(rt; stored && live(&share) == 2);
-    let first = forgets(rt.alloc(), &mut pair, &mut out)?;
-    assert!(rt; first == Some(7) && live(&share) == 2);
-    drop(pair);
-    assert!(rt; live(&share) == 0);
+    let kept = keeps_numbers(rt.alloc(), &share)?;
+    assert!(rt; kept && live(&share) == 0);
     Ok(())
 }
