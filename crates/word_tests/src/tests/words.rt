@@ -8,7 +8,7 @@ use std::sync::atomic::AtomicU64;
 use std::sync::atomic::Ordering::SeqCst;
 use std::test::Fail;
 use std::thread::join;
-use vec_words::{Changes, EngineSeat, Note, Pass, Place, TestedWord, Vectors};
+use vec_words::{Changes, EngineSeat, Pass, Place, TestedWord, Vectors};
 
 const CALLS: u32 = 10_000;
 
@@ -201,107 +201,6 @@ fn words_change(rt: HostRuntime) -> Result<(), Fail> {
     Ok(())
 }
 
-// The call that is under way is over, for a caller.
-fn end_call(vectors: &Vectors<u32>, seat: &mut EngineSeat<u32>, pass: &mut Pass<u32>)
-    requires tokens { (seat.old.table ≡ vectors.now) × (pass.old.table ≡ vectors.now) }
-    requires begun { 0 < seat.old.number }
-    ensures tokens { (seat.new.table ≡ vectors.now) × (pass.new.table ≡ vectors.now) }
-    ensures over { (seat.new.number ≡ 0) × (count_of seat.new.log ≡ seat.old.number) }
-    ensures owner { pass.new.owner ≡ pass.old.owner }
-{
-    vectors.commit(seat, pass);
-}
-
-// Call 1 sets indices 1 and 39 of connector 2's vector.
-fn set_both(vectors: &Vectors<u32>, seat: &mut EngineSeat<u32>, pass: &mut Pass<u32>)
-    requires form { (vectors.now.conns ≡ 2) × (vectors.now.len ≡ 40) }
-    requires tokens { (seat.old.table ≡ vectors.now) × (pass.old.table ≡ vectors.now) }
-    requires idle { (seat.old.number ≡ 0) × (seat.old.log ≡ []) }
-    ensures tokens { (seat.new.table ≡ vectors.now) × (pass.new.table ≡ vectors.now) }
-    ensures idle { (seat.new.number ≡ 0) × (count_of seat.new.log ≡ 1) }
-{
-    vectors.begin(seat, 1);
-    vectors.store_word(seat, ConnId(2), 0, 2);
-    vectors.store_word(seat, ConnId(2), 1, 128);
-    end_call(vectors, seat, pass);
-}
-
-// Whether connector 2 finds them set, and another index clear.
-fn finds_both(vectors: &Vectors<u32>, second: &mut Pass<u32>) -> bool
-    requires len { vectors.now.len ≡ 40 }
-    requires pass { (second.old.table ≡ vectors.now) × (0 < second.old.owner) }
-    ensures { (second.new.table ≡ vectors.now) × (second.new.owner ≡ second.old.owner) }
-{
-    let set = vectors.test(second, 1);
-    let known = second.known() == 1 && second.sure() == 0;
-    let clear = vectors.test(second, 0);
-    let last = vectors.test(second, 39);
-    set.bit && set.at == 1 && known && !clear.bit && clear.at == 1 && last.bit && last.at == 1
-}
-
-// Call 4, of connector 1, stores no word. A note of it, and a copy.
-fn note_of_four(
-    vectors: &Vectors<u32>,
-    seat: &mut EngineSeat<u32>,
-    first: &mut Pass<u32>,
-) -> (Note<u32>, Note<u32>)
-    requires tokens { (seat.old.table ≡ vectors.now) × (first.old.table ≡ vectors.now) }
-    requires idle { (seat.old.number ≡ 0) × (count_of seat.old.log ≡ 1) }
-    ensures tokens { (seat.new.table ≡ vectors.now) × (first.new.table ≡ vectors.now) }
-    ensures idle { (seat.new.number ≡ 0) × (count_of seat.new.log ≡ 4) }
-    ensures notes { (result.0.table ≡ vectors.now) × (result.1.table ≡ vectors.now) }
-{
-    vectors.begin(seat, 4);
-    end_call(vectors, seat, first);
-    let mut note = vectors.tell(first);
-    let copy = vectors.copy_note(&mut note);
-    (note, copy)
-}
-
-// Whether connector 2 hears of call 4 by the note, and finds what stood then.
-fn hears(vectors: &Vectors<u32>, second: &mut Pass<u32>, note: Note<u32>) -> bool
-    requires len { vectors.now.len ≡ 40 }
-    requires pass { (second.old.table ≡ vectors.now) × (0 < second.old.owner) }
-    requires note { note.table ≡ vectors.now }
-    ensures { (second.new.table ≡ vectors.now) × (second.new.owner ≡ second.old.owner) }
-{
-    let numbers = note.known() == 4 && note.sure() == 4;
-    let told = vectors.told(second, note) == 4;
-    let set = vectors.test(second, 1);
-    let word = vectors.test_word(second, 1);
-    numbers && told && set.bit && set.at == 4 && word.bits == 128 && word.at == 4
-}
-
-// Call 5 clears index 1.
-fn clear_one(vectors: &Vectors<u32>, seat: &mut EngineSeat<u32>, first: &mut Pass<u32>)
-    requires form { (vectors.now.conns ≡ 2) × (vectors.now.len ≡ 40) }
-    requires tokens { (seat.old.table ≡ vectors.now) × (first.old.table ≡ vectors.now) }
-    requires idle { (seat.old.number ≡ 0) × (count_of seat.old.log ≡ 4) }
-    ensures { seat.new.table ≡ vectors.now }
-{
-    vectors.begin(seat, 5);
-    vectors.store_word(seat, ConnId(2), 0, 4);
-    end_call(vectors, seat, first);
-}
-
-// Whether connector 2, whom nobody tells, finds it clear.
-fn finds_clear(vectors: &Vectors<u32>, second: &mut Pass<u32>) -> bool
-    requires len { vectors.now.len ≡ 40 }
-    requires pass { (second.old.table ≡ vectors.now) × (0 < second.old.owner) }
-    ensures { second.new.table ≡ vectors.now }
-{
-    let again = vectors.test(second, 1);
-    !again.bit && again.at == 5
-}
-
-// Whether the operator knows number 1 alone, till a copy of the note tells it of call 4.
-fn hears_late(vectors: &Vectors<u32>, operator: &mut Pass<u32>, copy: Note<u32>) -> bool
-    requires { (operator.old.table ≡ vectors.now) × (copy.table ≡ vectors.now) }
-{
-    let one = operator.known() == 1 && operator.sure() == 1;
-    one && vectors.told(operator, copy) == 4
-}
-
 #[test]
 fn words_notes(rt: HostRuntime) -> Result<(), Fail> {
     let (vectors, mut seat, mut passes) = Vectors::start(rt.alloc(), 2, 40)?;
@@ -309,13 +208,42 @@ fn words_notes(rt: HostRuntime) -> Result<(), Fail> {
     let mut first = take_pass(&vectors, &mut passes).ok_or("no pass of connector 1")?;
     let mut operator = take_pass(&vectors, &mut passes).ok_or("no pass of the operator")?;
     assert!(rt; first.owner() == ConnId(1) && second.owner() == ConnId(2));
-    set_both(&vectors, &mut seat, &mut operator);
-    assert!(rt; finds_both(&vectors, &mut second));
-    let (note, copy) = note_of_four(&vectors, &mut seat, &mut first);
-    assert!(rt; hears(&vectors, &mut second, note));
-    clear_one(&vectors, &mut seat, &mut first);
-    assert!(rt; finds_clear(&vectors, &mut second));
-    assert!(rt; hears_late(&vectors, &mut operator, copy));
+
+    // Call 1 sets indices 1 and 39 of connector 2's vector.
+    vectors.begin(&mut seat, 1);
+    vectors.store_word(&mut seat, ConnId(2), 0, 2);
+    vectors.store_word(&mut seat, ConnId(2), 1, 128);
+    vectors.commit(&mut seat, &mut operator);
+    let set = vectors.test(&mut second, 1);
+    assert!(rt; set.bit && set.at == 1);
+    assert!(rt; second.known() == 1 && second.sure() == 0);
+    let clear = vectors.test(&mut second, 0);
+    assert!(rt; !clear.bit && clear.at == 1);
+    let last = vectors.test(&mut second, 39);
+    assert!(rt; last.bit && last.at == 1);
+
+    // Call 4, of connector 1, stores no word. Connector 2 hears of it by a note.
+    vectors.begin(&mut seat, 4);
+    vectors.commit(&mut seat, &mut first);
+    let mut note = vectors.tell(&mut first);
+    assert!(rt; note.known() == 4 && note.sure() == 4);
+    let copy = vectors.copy_note(&mut note);
+    assert!(rt; vectors.told(&mut second, note) == 4);
+    let set = vectors.test(&mut second, 1);
+    assert!(rt; set.bit && set.at == 4);
+    let word = vectors.test_word(&mut second, 1);
+    assert!(rt; word.bits == 128 && word.at == 4);
+
+    // Call 5 clears index 1, and nobody tells connector 2.
+    vectors.begin(&mut seat, 5);
+    vectors.store_word(&mut seat, ConnId(2), 0, 4);
+    vectors.commit(&mut seat, &mut first);
+    let again = vectors.test(&mut second, 1);
+    assert!(rt; !again.bit && again.at == 5);
+
+    // The operator knew number 1 alone. A copy of the note tells it the same.
+    assert!(rt; operator.known() == 1 && operator.sure() == 1);
+    assert!(rt; vectors.told(&mut operator, copy) == 4);
     vectors.learn(&mut seat, &mut second);
     assert!(rt; second.known() == 5 && second.sure() == 5);
     Ok(())
