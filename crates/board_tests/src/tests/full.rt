@@ -9,8 +9,6 @@ use crate::trial::Trial;
 use crate::trials::{close, start, start_connected};
 use crate::waits::{raise, wait_for};
 use cf_link::Steady;
-use cf_types::{CacheCmd, CacheReply, ConnId};
-use engine_api::Entry;
 use plex_board::{Board, Desk};
 use std::alloc::Global;
 use std::sync::Wait;
@@ -78,63 +76,53 @@ fn fill_in_two<R: Threads + Wait + Sync>(
     )
 }
 
-// Whether a caller's calls are all in the full journal.
-fn is_filled(entries: &[Entry<CacheCmd, CacheReply>], caller: ConnId, filled: Filled) -> bool {
-    filled.refusal == CallRefused::JournalFull { limit: FULL }
-        && counted(entries, caller) == 1 + filled.answered as usize
-}
-
-// Whether the journal is full of what both wrote.
-fn is_full(
-    entries: &[Entry<CacheCmd, CacheReply>],
-    one: Result<Filled, Halt>,
-    two: Result<Filled, Halt>,
-) -> bool {
-    match (one, two) {
-        (Ok(one), Ok(two)) => entries.len() == FULL as usize
-            && is_filled(entries, FIRST, one)
-            && is_filled(entries, SECOND, two)
-            && 2 + u64::from(one.answered) + u64::from(two.answered) == u64::from(FULL),
-        _ => false,
-    }
-}
-
 #[test]
 fn journal_gets_full(rt: HostRuntime) -> Result<(), Fail> {
-    let mut trial = start_connected(&rt, rt.alloc(), FULL)?;
-    let (one, two) = fill_in_two(&rt, rt.alloc(), &mut trial);
-    let history = close(&rt, rt.alloc(), trial)?;
-    assert!(rt; is_full(history.entries(), one, two));
+    let alloc = rt.alloc();
+    let mut trial = start_connected(&rt, alloc, FULL)?;
+    let (one, two) = fill_in_two(&rt, alloc, &mut trial);
+    let history = close(&rt, alloc, trial)?;
+    let one = one?;
+    let two = two?;
+    let entries = history.entries();
+    assert!(rt; one.refusal == CallRefused::JournalFull { limit: FULL });
+    assert!(rt; two.refusal == CallRefused::JournalFull { limit: FULL });
+    assert!(rt; entries.len() == FULL as usize);
+    assert!(rt; counted(entries, FIRST) == 1 + one.answered as usize);
+    assert!(rt; counted(entries, SECOND) == 1 + two.answered as usize);
+    assert!(rt; 2 + u64::from(one.answered) + u64::from(two.answered) == u64::from(FULL));
     Ok(())
 }
 
-// Whether three calls are answered, and a fourth isn't made.
-fn stops_at_four(
+// Three calls, and why there is no fourth.
+fn call_four_times(
     rt: &impl Wait,
     alloc: Global,
     board: &Board<Steady>,
     desk: &mut Desk,
-) -> Result<bool, Halt>
+) -> Result<([u32; 3], Result<u32, Halt>), Halt>
     requires { IsSeat board.now desk.old }
     ensures { IsSeat board.now desk.new }
 {
-    let first = connect(rt, alloc, board, desk)?;
-    let second = read(rt, alloc, board, desk)?;
-    let third = write(rt, alloc, board, desk)?;
-    let full = Halt::Refused(CallRefused::JournalFull { limit: 3 });
-    Ok(write(rt, alloc, board, desk) == Err(full) && [first, second, third] == [1, 2, 3])
-}
-
-// Whether the journal has the three calls.
-fn has_three(entries: &[Entry<CacheCmd, CacheReply>]) -> bool {
-    entries.len() == 3 && counted(entries, FIRST) == 3
+    let numbers = [
+        connect(rt, alloc, board, desk)?,
+        read(rt, alloc, board, desk)?,
+        write(rt, alloc, board, desk)?,
+    ];
+    let fourth = write(rt, alloc, board, desk);
+    Ok((numbers, fourth))
 }
 
 #[test]
 fn fourth_call_finds_journal_full(rt: HostRuntime) -> Result<(), Fail> {
-    let mut trial = start(&rt, rt.alloc(), 3)?;
-    let stopped = stops_at_four(&rt, rt.alloc(), &trial.board, &mut trial.first);
-    let history = close(&rt, rt.alloc(), trial)?;
-    assert!(rt; stopped == Ok(true) && has_three(history.entries()));
+    let alloc = rt.alloc();
+    let mut trial = start(&rt, alloc, 3)?;
+    let (numbers, fourth) = call_four_times(&rt, alloc, &trial.board, &mut trial.first)?;
+    let history = close(&rt, alloc, trial)?;
+    assert!(rt; numbers == [1, 2, 3]);
+    let full = Halt::Refused(CallRefused::JournalFull { limit: 3 });
+    assert!(rt; fourth == Err(full));
+    assert!(rt; history.entries().len() == 3);
+    assert!(rt; counted(history.entries(), FIRST) == 3);
     Ok(())
 }

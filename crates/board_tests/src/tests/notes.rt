@@ -9,10 +9,8 @@ use crate::trial::Trial;
 use crate::trials::{close, start_connected};
 use crate::waits::{raise, wait_for};
 use cf_link::Steady;
-use cf_types::{CacheCmd, CacheReply};
-use engine_api::Entry;
 use plex_board::{Board, Desk};
-use std::alloc::{AllocError, Global};
+use std::alloc::Global;
 use std::sync::Wait;
 use std::sync::atomic::Ordering::SeqCst;
 use std::test::Fail;
@@ -111,31 +109,25 @@ fn post_in_two<R: Threads + Wait + Sync>(
     )
 }
 
-// Whether a caller heard of the write that was posted, and tested what stood.
-fn is_right(entries: &[Entry<CacheCmd, CacheReply>], bits: &[bool], heard: &Heard) -> bool {
-    let Answer { bit, at, sure } = heard.answer;
-    !bit && heard.posted <= u64::from(sure)
-        && sure <= at
-        && tells(bits, heard.answer)
-        && is_of(entries, sure, FIRST)
-}
-
-// Whether all that was heard is right, in each of the rounds.
-fn are_right(
-    alloc: Global,
-    entries: &[Entry<CacheCmd, CacheReply>],
-    heard: &[Heard],
-) -> Result<bool, AllocError> {
-    let bits = bits_after(alloc, entries, SECOND)?;
-    Ok(heard.len() == READS as usize && heard.iter().all(|heard| is_right(entries, &bits, heard)))
-}
-
 #[test]
 fn a_note_tells_of_a_write(rt: HostRuntime) -> Result<(), Fail> {
-    let mut trial = start_connected(&rt, rt.alloc(), PLENTY)?;
-    let (wrote, heard) = post_in_two(&rt, rt.alloc(), &mut trial);
-    let history = close(&rt, rt.alloc(), trial)?;
+    let alloc = rt.alloc();
+    let mut trial = start_connected(&rt, alloc, PLENTY)?;
+    let (wrote, heard) = post_in_two(&rt, alloc, &mut trial);
+    let history = close(&rt, alloc, trial)?;
+    wrote?;
     let heard = heard?;
-    assert!(rt; wrote.is_ok() && are_right(rt.alloc(), history.entries(), &heard)?);
+    let entries = history.entries();
+    let bits = bits_after(alloc, entries, SECOND)?;
+    assert!(rt; heard.len() == READS as usize);
+    for Heard { posted, answer } in &heard {
+        let Answer { bit, at, sure } = *answer;
+        assert!(rt;
+            !bit && *posted <= u64::from(sure) && sure <= at,
+            "{answer:?}"
+        );
+        assert!(rt; tells(&bits, *answer), "{answer:?}");
+        assert!(rt; is_of(entries, sure, FIRST), "{answer:?}");
+    }
     Ok(())
 }

@@ -9,10 +9,8 @@ use crate::trial::Trial;
 use crate::trials::{close, start_connected};
 use crate::waits::{PATIENCE, raise, wait_for};
 use cf_link::Steady;
-use cf_types::{CacheCmd, CacheReply};
-use engine_api::Entry;
 use plex_board::{Board, Desk};
-use std::alloc::{AllocError, AllocFailed, Global};
+use std::alloc::{AllocFailed, Global};
 use std::sync::Wait;
 use std::test::Fail;
 use std::thread::{Threads, join_mut};
@@ -110,33 +108,23 @@ fn race_in_two<R: Threads + Wait + Sync>(
     )
 }
 
-// Whether each test told what stood, and as many found the bit cleared as pages were read.
-fn are_right(bits: &[bool], answers: &[Answer]) -> bool {
-    answers.iter().all(|answer| tells(bits, *answer))
-        && never_falls(answers)
-        && answers.iter().filter(|answer| !answer.bit).count() == READS as usize
-}
-
-// Whether all calls of both are in the history, and the tests are right by it.
-fn is_told(
-    alloc: Global,
-    entries: &[Entry<CacheCmd, CacheReply>],
-    answers: &[Answer],
-) -> Result<bool, AllocError> {
-    let bits = bits_after(alloc, entries, SECOND)?;
-    Ok(
-        counted(entries, FIRST) == 1 + (READS * WRITES) as usize
-            && counted(entries, SECOND) == 1 + READS as usize
-            && are_right(&bits, answers),
-    )
-}
-
 #[test]
 fn tests_race_with_writes(rt: HostRuntime) -> Result<(), Fail> {
-    let mut trial = start_connected(&rt, rt.alloc(), PLENTY)?;
-    let (wrote, answers) = race_in_two(&rt, rt.alloc(), &mut trial);
-    let history = close(&rt, rt.alloc(), trial)?;
+    let alloc = rt.alloc();
+    let mut trial = start_connected(&rt, alloc, PLENTY)?;
+    let (wrote, answers) = race_in_two(&rt, alloc, &mut trial);
+    let history = close(&rt, alloc, trial)?;
+    wrote?;
     let answers = answers?;
-    assert!(rt; wrote.is_ok() && is_told(rt.alloc(), history.entries(), &answers)?);
+    let entries = history.entries();
+    assert!(rt; counted(entries, FIRST) == 1 + (READS * WRITES) as usize);
+    assert!(rt; counted(entries, SECOND) == 1 + READS as usize);
+    let bits = bits_after(alloc, entries, SECOND)?;
+    for answer in &answers {
+        assert!(rt; tells(&bits, *answer), "{answer:?}");
+    }
+    assert!(rt; never_falls(&answers));
+    let cleared = answers.iter().filter(|answer| !answer.bit).count();
+    assert!(rt; cleared == READS as usize);
     Ok(())
 }
