@@ -1,9 +1,4 @@
 pub mod Checks
-pub mod ListFacts
-pub mod StageLaws
-pub mod GivenLaws
-pub mod OnwardLaws
-pub mod NextLaws
 pub mod ReadingLaws
 pub mod CauseLaws
 pub mod LossLaws

@@ -1,425 +1,200 @@
--- The rebuild that counters keep is the one that the history tells of.
-use Rattle.std.proofs.Common.{◌≡◌, ◌≢◌, ⊎_elim, ℕ, Bool, true, false, not, ◌||◌, cond, List, [], ◌∷◌, ◌++◌, Option, None, Some, option_map, filter, refl, sym, ap, ◌∙◌, subst, append_assoc, append-nil}
-use Rattle.std.proofs.lemmas.List.{map-append}
+-- What is read of a history, and what counters keep, with one entry more.
+use Rattle.std.proofs.Common.{◌≡◌, ℕ, Bool, true, false, cond, not, ◌&&◌, ◌||◌, ◌==◌, List, [], ◌∷◌, Option, None, Some, option_map, filter, refl, sym, ap, ◌∙◌}
+use Rattle.std.specs.Prelude.{unwrap_or}
+use Rattle.std.proofs.lemmas.List.Elements.{filter_agree}
 use Rattle.cf_types.specs.declared.events.Stage.{Stage}
-use Rattle.cf_types.specs.declared.events.Stage.TheVariants.{Quiesce, Connect, Copy, Cleanup, Stopping}
+use Rattle.cf_types.specs.declared.events.Stage.TheVariants.{Copy, Stopping}
 use Rattle.cf_types.specs.declared.forms.Caps.{Caps}
 use Rattle.cf_types.specs.declared.numbers.CfId.{CfId}
 use Rattle.cf_types.specs.declared.numbers.ConnId.{ConnId}
-use Rattle.engine_api.specs.declared.histories.Entry.{Entry}
-use Rattle.rebuild_core.specs.declared.rebuild.Rebuild.{Rebuild}
-use Rattle.rebuild_core.specs.Stages.{next_stage, new_rebuild}
-use Rattle.shell_laws.specs.Tellings.{Telling, TellingEntry, telling_entry, is_stop, is_awaited}
-use Rattle.shell_laws.specs.Tellings.Telling.{Starts, Places, Completes, Responds, Stops, Departs, Forces, Fails, Nothing}
-use Rattle.shell_laws.specs.Readings.{Start, During, departs, has_failure, has_given, is_empty, is_passed, members_left, place_or, first_place, stage_from, stage_of, start_at, start_or, last_start, rebuild_during, rebuild_since, rebuild_from, rebuild_told}
-use Rattle.shell_laws.specs.Steps.{rebuild_by, rebuild_if, rebuild_next, rebuild_kept, IsInStage, IsEarly, MayBeTold, MayAllBeTold}
-use Rattle.shell_laws.proofs.StageLaws.{given-none, passed-none, during_behind, during_next, stage-more, stage-stopped, no-stop}
-use Rattle.shell_laws.proofs.GivenLaws.{members-more, more-counted, all-owe, failed-still, place-more}
-use Rattle.shell_laws.proofs.OnwardLaws.{same_rebuild, failed-read}
-use Rattle.shell_laws.proofs.NextLaws.{unchanged, given_or_not, departed, forced_by, placed, stopped, failed, early_is}
+use Rattle.cf_types.specs.ConnSets.{without_member}
+use Rattle.engine_api.specs.Rebuilds.{is_copy}
+use Rattle.list_laws.proofs.FilterLaws.{filter-filter, filter_swap}
+use Rattle.rebuild_core.specs.declared.passed.Passed.{Passed}
+use Rattle.rebuild_core.specs.declared.passed.Passed.TheVariants.{No, Into, Ended}
+use Rattle.rebuild_core.specs.Stages.{outcome, owing_after, rebuild_emptied, rebuild_left, rebuild_onward}
+use Rattle.shell_laws.specs.Members.{HasMembers}
+use Rattle.shell_laws.specs.Readings.{Reading, awaited, begun, has_given, passed, read_next, read_past, rebuild_of, with_entry, with_stage, with_told}
+use Rattle.shell_laws.specs.Steps.{rebuild_given, rebuild_next}
+use Rattle.shell_laws.specs.Tellings.{Telling, TellingEntry, is_awaited}
+use Rattle.shell_laws.specs.Tellings.Telling.{Starts, Places, Stops, Departs, Forces, Fails, Nothing}
 
--- ---- the last start
+filter_true : {X : Type 0} (xs : List X) → filter (λ x. true) xs ≡ xs
+filter_true [] = refl
+filter_true (x ∷ xs) = ap (λ ys. x ∷ ys) (filter_true xs)
 
-abbrev pub longer : {C R : Type 0} → Entry C R → Start C R → Start C R
-longer entry start = record start { since = start.since ++ telling_entry entry ∷ [] }
+-- who owes where a connector has given what is awaited, and where it hasn't
+module _ (by : ConnId) (given : ConnId → Bool) (conns : List ConnId) where
+  owing_given : filter (λ conn. not (((conn.0 == by.0) && true) || given conn)) conns
+      ≡ without_member by (filter (λ conn. not (given conn)) conns)
+  owing_given =
+      filter_agree (λ conn. not (((conn.0 == by.0) && true) || given conn))
+      (λ conn. not (given conn) && not (conn.0 == by.0)) (λ conn. either (conn.0 == by.0) (given conn)) conns
+      ∙ sym (filter-filter (λ conn. not (conn.0 == by.0)) (λ conn. not (given conn)) conns)
+    where
+      either : (a b : Bool) → not ((a && true) || b) ≡ (not b && not a)
+      either true true = refl
+      either true false = refl
+      either false true = refl
+      either false false = refl
 
-abbrev pub is_start : Telling → Bool
-is_start (Starts number caps) = true
-is_start _ = false
+  owing_same : filter (λ conn. not (((conn.0 == by.0) && false) || given conn)) conns
+      ≡ filter (λ conn. not (given conn)) conns
+  owing_same =
+      filter_agree (λ conn. not (((conn.0 == by.0) && false) || given conn)) (λ conn. not (given conn))
+      (λ conn. either (conn.0 == by.0) (given conn)) conns
+    where
+      either : (a b : Bool) → not ((a && false) || b) ≡ not b
+      either true b = refl
+      either false b = refl
 
-module _ {C R : Type 0} where
-  no_start : (entries : List (Entry C R)) (telling : Telling) → is_start telling ≡ false
-      → start_at entries telling ≡ None
-  no_start entries (Starts number caps) none = absurd cc
-  no_start entries (Places cf) none = refl
-  no_start entries Completes none = refl
-  no_start entries (Responds event) none = refl
-  no_start entries Stops none = refl
-  no_start entries Departs none = refl
-  no_start entries Forces none = refl
-  no_start entries Fails none = refl
-  no_start entries Nothing none = refl
+-- ---- a stage that may pass
 
-  start_longer : (entries : List (Entry C R)) (entry : Entry C R) (telling : Telling)
-      → start_at (entries ++ entry ∷ []) telling ≡ option_map (longer entry) (start_at entries telling)
-  start_longer entries entry (Starts number caps) =
-      ap (λ since. Some (record { number = number; caps = caps; before = []; since = since }))
-      (map-append telling_entry entries (entry ∷ []))
-  start_longer entries entry (Places cf) = refl
-  start_longer entries entry Completes = refl
-  start_longer entries entry (Responds event) = refl
-  start_longer entries entry Stops = refl
-  start_longer entries entry Departs = refl
-  start_longer entries entry Forces = refl
-  start_longer entries entry Fails = refl
-  start_longer entries entry Nothing = refl
+-- the stage that is read hasn't passed
+abbrev pub IsGoing : Option Reading → Type 0
+IsGoing None = Unit {0}
+IsGoing (Some read) = outcome read.stage read.members (awaited read) ≡ No
 
-  or_longer : (first : Entry C R) (entries : List (Entry C R)) (entry : Entry C R) (later : Option (Start C R))
-      → start_or first (entries ++ entry ∷ []) (option_map (longer entry) later)
-      ≡ option_map (longer entry) (start_or first entries later)
-  or_longer first entries entry None = start_longer entries entry (telling_entry first).telling
-  or_longer first entries entry (Some start) = refl
+same_rebuild : (read : Reading) (owing : List ConnId) → awaited read ≡ owing
+    → rebuild_of read ≡ record (rebuild_of read) { owing = owing }
+same_rebuild read owing is = ap (λ (o : List ConnId). record (rebuild_of read) { owing = o }) is
 
-  -- an entry that is no start
-  start-more : (before : List (Entry C R)) (entry : Entry C R) → is_start (telling_entry entry).telling ≡ false
-      → last_start (before ++ entry ∷ []) ≡ option_map (longer entry) (last_start before)
-  start-more [] entry none = no_start [] (telling_entry entry).telling none
-  start-more (first ∷ before) entry none =
-      ap (start_or first (before ++ entry ∷ [])) (start-more before entry none)
-      ∙ or_longer first before entry (last_start before)
+into_some : (at next : Stage) (members owing : List ConnId) → outcome at members owing ≡ Into next
+    → outcome next members members ≡ No
+into_some at next [] owing is = absurd (cc)
+into_some at next (conn ∷ conns) owing is = refl
 
-  -- one that is
-  start-new : (before : List (Entry C R)) (entry : Entry C R) (number : ℕ) (caps : Caps)
-      → (telling_entry entry).telling ≡ Starts number caps
-      → last_start (before ++ entry ∷ [])
-      ≡ Some (record { number = number; caps = caps; before = before; since = [] })
-  start-new [] entry number caps is = ap (start_at []) is
-  start-new (first ∷ before) entry number caps is =
-      ap (start_or first (before ++ entry ∷ [])) (start-new before entry number caps is)
+-- where one has passed, the next one hasn't
+going_past : (read : Reading) → IsGoing (passed read)
+going_past read = go (outcome read.stage read.members (awaited read)) refl
+  where
+    go : (p : Passed) → outcome read.stage read.members (awaited read) ≡ p → IsGoing (read_past p read)
+    go No is = is
+    go (Into next) is =
+        ap (outcome next read.members) (filter_true read.members)
+        ∙ into_some read.stage next read.members (awaited read) is
+    go Ended is = tt
 
--- ---- a start
+-- it passes as counters do
+past : (read : Reading) → option_map rebuild_of (passed read) ≡ rebuild_onward (rebuild_of read)
+past read = go (outcome read.stage read.members (awaited read))
+  where
+    go : (p : Passed) → option_map rebuild_of (read_past p read) ≡ rebuild_left p (rebuild_of read)
+    go No = refl
+    go (Into next) = ap Some (same_rebuild (with_stage next read) read.members (filter_true read.members))
+    go Ended = refl
 
-filter-always : (xs : List ConnId) → members_left xs [] ≡ xs
-filter-always [] = refl
-filter-always (x ∷ xs) = ap (λ l. x ∷ l) (filter-always xs)
+past_as : (read : Reading) (owing : List ConnId) → awaited read ≡ owing
+    → option_map rebuild_of (passed read) ≡ rebuild_onward (record (rebuild_of read) { owing = owing })
+past_as read owing is = past read ∙ ap rebuild_onward (same_rebuild read owing is)
 
-begins : {C R : Type 0} (begun : List ConnId) (number : ℕ) (caps : Caps) (before : List (Entry C R)) (conn : ConnId)
-    (others : List ConnId) → begun ≡ conn ∷ others
-    → rebuild_since begun (record { number = number; caps = caps; before = before; since = [] })
-    ≡ Some (new_rebuild number begun caps)
-begins {C} {R} begun number caps before conn others some =
-    let left = filter-always begun in
-    let start : Start C R = record { number = number; caps = caps; before = before; since = [] } in
-    ap (λ b. cond (b || false) None (option_map (rebuild_during begun start) (stage_of begun number [])))
-    (ap is_empty (left ∙ some))
-    ∙ ap (λ b. option_map (rebuild_during begun start)
-    (cond b (stage_from begun number (Connect ∷ Copy ∷ Cleanup ∷ []) [] []) (Some (record {
-      stage = Quiesce;
+-- ---- one entry more
+
+-- one that the stage perhaps waits for
+module _ (by : ConnId) (telling : Telling) (read : Reading) (going : IsGoing (Some read)) where
+  abbrev longer : Reading
+  longer = record read { entries = record { by = by; telling = telling } ∷ read.entries }
+
+  given_or_not : (b : Bool) → is_awaited read.stage read.number telling ≡ b
+      → option_map rebuild_of (passed longer) ≡ rebuild_given b by (rebuild_of read)
+  given_or_not false other =
+      past_as longer (awaited read)
+      (rw other (owing_same by (has_given read.stage read.number read.entries) read.members))
+      ∙ ap (λ (p : Passed). rebuild_left p (rebuild_of read)) going
+  given_or_not true awaits =
+      past_as longer (without_member by (awaited read))
+      (rw awaits (owing_given by (has_given read.stage read.number read.entries) read.members))
+
+  given : option_map rebuild_of (passed longer)
+      ≡ rebuild_given (is_awaited read.stage read.number telling) by (rebuild_of read)
+  given = given_or_not (is_awaited read.stage read.number telling) refl
+
+-- a departure
+awaited_left : (by : ConnId) (read : Reading)
+    → awaited (with_told by Departs read)
+    ≡ owing_after read.stage by (without_member by read.members) (awaited read)
+awaited_left by read = go read.stage
+  where
+    left : List ConnId
+    left = without_member by read.members
+
+    entry : TellingEntry
+    entry = record { by = by; telling = Departs }
+
+    go : (at : Stage)
+        → filter (λ conn. not (has_given at read.number (cond (is_copy at) [] (entry ∷ read.entries)) conn)) left
+        ≡ owing_after at by left (filter (λ conn. not (has_given at read.number read.entries conn)) read.members)
+    go Copy = filter_true left
+    go at = owing_same by (has_given at read.number read.entries) left ∙ filter_swap _ _ read.members
+
+-- the forcing of a connection: in COPY all are awaited again
+still : (at : Stage) (members owing : List ConnId) → outcome at members owing ≡ No → outcome at members members ≡ No
+still at [] owing is = absurd (cc)
+still at (conn ∷ conns) owing is = refl
+
+forced : (at : Stage) (by : ConnId) (number : ℕ) (caps : Caps) (members : List ConnId) (entries : List TellingEntry)
+    (place : Option CfId)
+    → let read : Reading = record {
+      number = number;
+      caps = caps;
+      members = members;
+      stage = at;
+      entries = entries;
+      place = place;
+    } in
+    IsGoing (Some read)
+    → option_map rebuild_of (passed (with_entry by Forces read)) ≡ Some (rebuild_emptied at (rebuild_of read))
+forced Copy by number caps members entries place going =
+    let read : Reading = record {
+      number = number;
+      caps = caps;
+      members = members;
+      stage = Copy;
       entries = [];
-    })))) (passed-none begun number Quiesce [])
-    ∙ ap Some (same_rebuild number Quiesce caps (members_left begun []) begun
-    (filter (λ c. not (has_given Quiesce number [] c)) (members_left begun [])) begun None None left
-    (all-owe (has_given Quiesce number []) (given-none Quiesce number) (members_left begun []) ∙ left) refl)
+      place = place;
+    } in
+    past_as read members (filter_true members)
+    ∙ ap (λ (p : Passed). rebuild_left p (record (rebuild_of read) { owing = members }))
+    (still Copy members _ going)
+forced at by number caps members entries place going = given_or_not by Forces _ going false refl
 
--- ---- one entry more of a rebuild
+none_awaited : (at : Stage) (number : ℕ) → is_awaited at number Nothing ≡ false
+none_awaited Copy number = refl
+none_awaited _ number = refl
 
-never_awaited : (stage : Stage) (number : ℕ) → is_awaited stage number Nothing ≡ false
-never_awaited Quiesce number = refl
-never_awaited Connect number = refl
-never_awaited Copy number = refl
-never_awaited Cleanup number = refl
-never_awaited Stopping number = refl
+-- counters go on as the reading does
+pub told-next : (actives : List ConnId) (by : ConnId) (telling : Telling) (read : Option Reading) → IsGoing read
+    → option_map rebuild_of (read_next actives by telling read)
+    ≡ rebuild_next actives by telling (option_map rebuild_of read)
+told-next actives by (Starts number caps) read going =
+    ap Some (same_rebuild (begun number caps actives) actives (filter_true actives))
+told-next actives by Stops (Some read) going =
+    ap Some (same_rebuild (with_stage Stopping read) read.members (filter_true read.members))
+told-next actives by Fails (Some read) going = refl
+told-next actives by Departs (Some read) going = past_as (with_told by Departs read) _ (awaited_left by read)
+told-next actives by Forces (Some read) going =
+    forced read.stage by read.number read.caps read.members read.entries read.place going
+told-next actives by (Places cf) (Some read) going =
+    given by (Places cf) (record read { place = Some (unwrap_or read.place cf) }) going
+told-next actives by Nothing (Some read) going =
+    given_or_not by Nothing read going false (none_awaited read.stage read.number)
+told-next actives by telling (Some read) going = given by telling read going
+told-next actives by _ None going = refl
 
-cond_none : (b : Bool) → cond {A = Option Rebuild} b None None ≡ None
-cond_none true = refl
-cond_none false = refl
+-- a stage in which all members are awaited hasn't passed, where there are some
+all_awaited : (read : Reading) (actives : List ConnId) → HasMembers (Some (rebuild_of read)) actives
+    → awaited read ≡ read.members → IsGoing (Some read)
+all_awaited read actives (same, (conn, (others, some))) all =
+    ap (outcome read.stage read.members) all ∙ rw (same, some) refl
 
-module _ {C R : Type 0} (begun : List ConnId) (start : Start C R) (by : ConnId) where
-  abbrev more : Telling → Start C R
-  more telling = record start { since = start.since ++ record { by = by; telling = telling } ∷ [] }
-
-  abbrev IsQuiet : Type 0
-  IsQuiet = (during : During) → stage_of begun start.number start.since ≡ Some during → during.stage ≡ Quiesce
-      → first_place start.since ≡ None
-
-  under_way : (actives : List ConnId) (telling : Telling) (stage : Stage) (entries : List TellingEntry)
-      → is_start telling ≡ false
-      → stage_of begun start.number start.since ≡ Some (record { stage = stage; entries = entries })
-      → is_empty (members_left begun start.since) ≡ false → has_failure start.since ≡ false
-      → (stage ≡ Quiesce → first_place start.since ≡ None)
-      → MayBeTold actives telling (Some (rebuild_during begun start (record { stage = stage; entries = entries })))
-      → rebuild_by by telling (rebuild_during begun start (record { stage = stage; entries = entries }))
-      ≡ rebuild_since begun (more telling)
-  under_way actives (Starts number caps) stage entries none found some intact quiet may = absurd cc
-  under_way actives (Places cf) stage entries none found some intact quiet may =
-      placed begun start stage entries found some intact quiet by cf may
-  under_way actives Completes stage entries none found some intact quiet may =
-      given_or_not begun start stage entries found some intact quiet (is_awaited stage start.number Completes)
-      (record { by = by; telling = Completes }) refl refl refl refl refl refl
-  under_way actives (Responds event) stage entries none found some intact quiet may =
-      given_or_not begun start stage entries found some intact quiet (is_awaited stage start.number (Responds event))
-      (record { by = by; telling = Responds event }) refl refl refl refl refl refl
-  under_way actives Stops stage entries none found some intact quiet may =
-      stopped begun start stage entries found some intact quiet by
-      (early_is begun start stage entries found some intact quiet may)
-  under_way actives Departs stage entries none found some intact quiet may =
-      departed begun start stage entries found some intact quiet by
-  under_way actives Forces stage entries none found some intact quiet may =
-      forced_by begun start stage entries found some intact quiet by stage refl
-  under_way actives Fails stage entries none found some intact quiet may =
-      failed begun start stage entries found some intact quiet by
-  under_way actives Nothing stage entries none found some intact quiet may =
-      unchanged begun start stage entries found some intact quiet (record { by = by; telling = Nothing })
-      refl refl refl refl
-      (more-counted stage entries (record { by = by; telling = Nothing }) refl) (never_awaited stage start.number)
-
-  -- nobody is left
-  ended : (telling : Telling) → is_empty (members_left begun start.since) ≡ true
-      → is_empty (members_left begun (more telling).since) ≡ true
-  ended telling none =
-      let entry : TellingEntry = record { by = by; telling = telling } in
-      ap is_empty (members-more begun start.since entry) ∙ by_members (members_left begun start.since) none
-    where
-      by_members : (members : List ConnId) → is_empty members ≡ true
-          → is_empty (filter (λ conn. not (departs conn (record { by = by; telling = telling }))) members) ≡ true
-      by_members [] e = refl
-      by_members (conn ∷ members) e = absurd cc
-
-  -- no stage is left
-  over : (actives : List ConnId) (telling : Telling) → stage_of begun start.number start.since ≡ None
-      → MayBeTold actives telling None → is_start telling ≡ false
-      → stage_of begun start.number (more telling).since ≡ None
-  over actives (Starts number caps) found may none = absurd cc
-  over actives (Places cf) found may none =
-      stage-more begun start.number start.since (record { by = by; telling = Places cf }) refl
-      ∙ ap (during_next begun start.number (more (Places cf)).since (record { by = by; telling = Places cf })) found
-  over actives Completes found may none =
-      stage-more begun start.number start.since (record { by = by; telling = Completes }) refl
-      ∙ ap (during_next begun start.number (more Completes).since (record { by = by; telling = Completes })) found
-  over actives (Responds event) found may none =
-      stage-more begun start.number start.since (record { by = by; telling = Responds event }) refl
-      ∙ ap (during_next begun start.number (more (Responds event)).since
-      (record { by = by; telling = Responds event })) found
-  over actives Stops found may none = absurd may
-  over actives Departs found may none =
-      stage-more begun start.number start.since (record { by = by; telling = Departs }) refl
-      ∙ ap (during_next begun start.number (more Departs).since (record { by = by; telling = Departs })) found
-  over actives Forces found may none =
-      stage-more begun start.number start.since (record { by = by; telling = Forces }) refl
-      ∙ ap (during_next begun start.number (more Forces).since (record { by = by; telling = Forces })) found
-  over actives Fails found may none =
-      stage-more begun start.number start.since (record { by = by; telling = Fails }) refl
-      ∙ ap (during_next begun start.number (more Fails).since (record { by = by; telling = Fails })) found
-  over actives Nothing found may none =
-      stage-more begun start.number start.since (record { by = by; telling = Nothing }) refl
-      ∙ ap (during_next begun start.number (more Nothing).since (record { by = by; telling = Nothing })) found
-
-  abbrev is_ended : List TellingEntry → Bool
-  is_ended since = is_empty (members_left begun since) || has_failure since
-
-  by_state : (actives : List ConnId) (telling : Telling) (empty fails : Bool) (during : Option During)
-      → is_start telling ≡ false → IsQuiet → is_empty (members_left begun start.since) ≡ empty
-      → has_failure start.since ≡ fails → stage_of begun start.number start.since ≡ during
-      → MayBeTold actives telling (cond (empty || fails) None (option_map (rebuild_during begun start) during))
-      → rebuild_if by telling (cond (empty || fails) None (option_map (rebuild_during begun start) during))
-      ≡ rebuild_since begun (more telling)
-  by_state actives telling true fails during none quiet empty fail found may =
-      sym (ap (λ b. cond (b || has_failure (more telling).since) None (option_map (rebuild_during begun (more telling))
-      (stage_of begun start.number (more telling).since))) (ended telling empty))
-  by_state actives telling false true during none quiet some fail found may =
-      sym (failed-read begun (more telling) (failed-still start.since (record { by = by; telling = telling }) fail))
-  by_state actives telling false false None none quiet some intact found may =
-      sym (ap (λ d. cond (is_ended (more telling).since) None (option_map (rebuild_during begun (more telling)) d))
-      (over actives telling found may none)
-      ∙ cond_none (is_ended (more telling).since))
-  by_state actives telling false false (Some during) none quiet some intact found may =
-      under_way actives telling during.stage during.entries none found some intact (quiet during found) may
-
-  -- the rebuild as it is read moves on with each entry that is no start
-  read-more : (actives : List ConnId) (telling : Telling) → is_start telling ≡ false → IsQuiet
-      → MayBeTold actives telling (rebuild_since begun start)
-      → rebuild_if by telling (rebuild_since begun start) ≡ rebuild_since begun (more telling)
-  read-more actives telling none quiet may =
-      by_state actives telling (is_empty (members_left begun start.since)) (has_failure start.since)
-      (stage_of begun start.number start.since) none quiet refl refl refl may
-
-  -- ---- no place is told before CONNECT
-
-  still_quiet : (passed : Bool) (stage : Stage) (entries : List TellingEntry) (during : During)
-      → cond passed (during_behind (next_stage stage)) (Some (record { stage = stage; entries = entries }))
-      ≡ Some during
-      → during.stage ≡ Quiesce → stage ≡ Quiesce
-  still_quiet true Quiesce entries during found is = refl
-  still_quiet true Connect entries during found is = absurd cc
-  still_quiet true Copy entries during found is = absurd cc
-  still_quiet true Cleanup entries during found is = absurd cc
-  still_quiet true Stopping entries during found is = absurd cc
-  still_quiet false stage entries during found is = cc
-
-  was_quiet : (telling : Telling) (before : Option During) (during : During)
-      → during_next begun start.number (more telling).since (record { by = by; telling = telling }) before ≡ Some during
-      → during.stage ≡ Quiesce → (old : During) × ((before ≡ Some old) × (old.stage ≡ Quiesce))
-  was_quiet telling None during found is = absurd cc
-  was_quiet telling (Some old) during found is = (
-    old,
-    (
-      refl,
-      still_quiet (is_passed begun start.number old.stage (more telling).since
-          (old.entries ++ record { by = by; telling = telling } ∷ [])) old.stage
-          (old.entries ++ record { by = by; telling = telling } ∷ []) during found is,
-    ),
-  )
-
-  quiet_other : (telling : Telling) → is_stop telling ≡ false → place_or telling None ≡ None → IsQuiet
-      → (during : During) → stage_of begun start.number (more telling).since ≡ Some during → during.stage ≡ Quiesce
-      → first_place (more telling).since ≡ None
-  quiet_other telling other none quiet during found is =
-      let entry : TellingEntry = record { by = by; telling = telling } in
-      let was = was_quiet telling (stage_of begun start.number start.since) during
-      (sym (stage-more begun start.number start.since entry other) ∙ found) is in
-      place-more start.since entry none ∙ quiet was.0 was.1.0 was.1.1
-
-  in_stage : (holds : Stage → Type 0) (ended : Bool) (rebuild : Rebuild)
-      → IsInStage holds (cond ended None (Some rebuild)) → holds rebuild.stage
-  in_stage holds true rebuild is = absurd is
-  in_stage holds false rebuild is = is
-
-  quiet_placed : (cf : CfId) → IsInStage (λ stage. stage ≡ Connect) (rebuild_since begun start)
-      → (during : During) → stage_of begun start.number (more (Places cf)).since ≡ Some during → during.stage ≡ Quiesce
-      → first_place (more (Places cf)).since ≡ None
-  quiet_placed cf may during found is =
-      let entry : TellingEntry = record { by = by; telling = Places cf } in
-      let was = was_quiet (Places cf) (stage_of begun start.number start.since) during
-      (sym (stage-more begun start.number start.since entry refl) ∙ found) is in
-      let connect : was.0.stage ≡ Connect =
-      in_stage (λ stage. stage ≡ Connect) (is_ended start.since) (rebuild_during begun start was.0)
-      (subst (λ (d : Option During). IsInStage (λ stage. stage ≡ Connect)
-      (cond (is_ended start.since) None (option_map (rebuild_during begun start) d))) was.1.0 may) in
-      absurd (apart (sym connect ∙ was.1.1))
-    where
-      apart : Connect ≡ Quiesce → ⊥
-      apart e = cc
-
-  some_stage : (ended : Bool) (during : Option During)
-      → IsInStage IsEarly (cond ended None (option_map (rebuild_during begun start) during))
-      → (d : During) × ((during ≡ Some d) × IsEarly d.stage)
-  some_stage true during is = absurd is
-  some_stage false None is = absurd is
-  some_stage false (Some during) is = (during, (refl, is))
-
-  quiet_stopped : IsInStage IsEarly (rebuild_since begun start)
-      → (during : During) → stage_of begun start.number (more Stops).since ≡ Some during → during.stage ≡ Quiesce
-      → first_place (more Stops).since ≡ None
-  quiet_stopped may during found is =
-      let entry : TellingEntry = record { by = by; telling = Stops } in
-      let now = some_stage (is_ended start.since) (stage_of begun start.number start.since) may in
-      let none = no-stop begun start.number start.since now.0 now.1.0 (not_stopping now.0.stage now.1.1) in
-      absurd (apart (sym (stage-stopped begun start.number start.since entry refl none) ∙ found) is)
-    where
-      apart : Some (record { stage = Stopping; entries = [] }) ≡ Some during → during.stage ≡ Quiesce → ⊥
-      apart e f = let same : Stopping ≡ during.stage = cc in cc
-
-      not_stopping : (stage : Stage) → IsEarly stage → stage ≢ Stopping
-      not_stopping stage early stopping =
-          ⊎_elim (λ (e : stage ≡ Quiesce). absurd cc)
-          (λ later. ⊎_elim (λ (e : stage ≡ Connect). absurd cc) (λ (e : stage ≡ Copy). absurd cc) later) early
-
-  quiet-more : (actives : List ConnId) (telling : Telling) → is_start telling ≡ false → IsQuiet
-      → MayBeTold actives telling (rebuild_since begun start)
-      → (during : During) → stage_of begun start.number (more telling).since ≡ Some during → during.stage ≡ Quiesce
-      → first_place (more telling).since ≡ None
-  quiet-more actives (Starts number caps) none quiet may = absurd cc
-  quiet-more actives (Places cf) none quiet may = quiet_placed cf may
-  quiet-more actives Completes none quiet may = quiet_other Completes refl refl quiet
-  quiet-more actives (Responds event) none quiet may = quiet_other (Responds event) refl refl quiet
-  quiet-more actives Stops none quiet may = quiet_stopped may
-  quiet-more actives Departs none quiet may = quiet_other Departs refl refl quiet
-  quiet-more actives Forces none quiet may = quiet_other Forces refl refl quiet
-  quiet-more actives Fails none quiet may = quiet_other Fails refl refl quiet
-  quiet-more actives Nothing none quiet may = quiet_other Nothing refl refl quiet
-
--- ---- whole histories
-
-next_if : (actives : List ConnId) (by : ConnId) (telling : Telling) (rebuild : Option Rebuild)
-    → is_start telling ≡ false → rebuild_next actives by telling rebuild ≡ rebuild_if by telling rebuild
-next_if actives by (Starts number caps) rebuild none = absurd cc
-next_if actives by (Places cf) rebuild none = refl
-next_if actives by Completes rebuild none = refl
-next_if actives by (Responds event) rebuild none = refl
-next_if actives by Stops rebuild none = refl
-next_if actives by Departs rebuild none = refl
-next_if actives by Forces rebuild none = refl
-next_if actives by Fails rebuild none = refl
-next_if actives by Nothing rebuild none = refl
-
-module _ {C R : Type 0} (actives_after : List (Entry C R) → List ConnId) where
-  abbrev QuietAt : Option (Start C R) → Type 0
-  QuietAt None = Unit {0}
-  QuietAt (Some start) =
-      (during : During) → stage_of (actives_after start.before) start.number start.since ≡ Some during
-      → during.stage ≡ Quiesce → first_place start.since ≡ None
-
-  abbrev Reads : (before : List (Entry C R)) → Entry C R → Type 0
-  Reads before entry =
-      (rebuild_next (actives_after before) entry.by (telling_entry entry).telling (rebuild_told actives_after before)
-      ≡ rebuild_told actives_after (before ++ entry ∷ []))
-      × QuietAt (last_start (before ++ entry ∷ []))
-
-  reads_start : (before : List (Entry C R)) (entry : Entry C R) (number : ℕ) (caps : Caps)
-      → (telling_entry entry).telling ≡ Starts number caps
-      → MayBeTold (actives_after before) (telling_entry entry).telling (rebuild_told actives_after before)
-      → Reads before entry
-  reads_start before entry number caps is may =
-      let new = start-new before entry number caps is in
-      let some = subst (λ (t : Telling). MayBeTold (actives_after before) t (rebuild_told actives_after before)) is may
-      in (
-        ap (λ t. rebuild_next (actives_after before) entry.by t (rebuild_told actives_after before)) is
-            ∙ sym (ap (rebuild_from actives_after) new
-            ∙ begins (actives_after before) number caps before some.0 some.1.0 some.1.1),
-        subst QuietAt (sym new) (λ during found stage. refl),
-      )
-
-  reads_other : (before : List (Entry C R)) (entry : Entry C R) (start : Option (Start C R))
-      → is_start (telling_entry entry).telling ≡ false → last_start before ≡ start → QuietAt start
-      → MayBeTold (actives_after before) (telling_entry entry).telling (rebuild_from actives_after start)
-      → Reads before entry
-  reads_other before entry None none is quiet may =
-      let more = start-more before entry none ∙ ap (option_map (longer entry)) is in (
-        ap (λ s. rebuild_next (actives_after before) entry.by (telling_entry entry).telling
-            (rebuild_from actives_after s)) is
-            ∙ next_if (actives_after before) entry.by (telling_entry entry).telling None none
-            ∙ sym (ap (rebuild_from actives_after) more),
-        subst QuietAt (sym more) tt,
-      )
-  reads_other before entry (Some start) none is quiet may =
-      let begun = actives_after start.before in
-      let more = start-more before entry none ∙ ap (option_map (longer entry)) is in (
-        ap (λ s. rebuild_next (actives_after before) entry.by (telling_entry entry).telling
-            (rebuild_from actives_after s)) is
-            ∙ next_if (actives_after before) entry.by (telling_entry entry).telling (rebuild_since begun start) none
-            ∙ read-more begun start entry.by (actives_after before) (telling_entry entry).telling none quiet may
-            ∙ sym (ap (rebuild_from actives_after) more),
-        subst QuietAt (sym more)
-            (quiet-more begun start entry.by (actives_after before) (telling_entry entry).telling none quiet may),
-      )
-
-  reads_either : (before : List (Entry C R)) (entry : Entry C R) (telling : Telling)
-      → (telling_entry entry).telling ≡ telling
-      → QuietAt (last_start before)
-      → MayBeTold (actives_after before) (telling_entry entry).telling (rebuild_told actives_after before)
-      → Reads before entry
-  reads_either before entry (Starts number caps) is quiet may = reads_start before entry number caps is may
-  reads_either before entry (Places cf) is quiet may =
-      reads_other before entry (last_start before) (ap is_start is) refl quiet may
-  reads_either before entry Completes is quiet may =
-      reads_other before entry (last_start before) (ap is_start is) refl quiet may
-  reads_either before entry (Responds event) is quiet may =
-      reads_other before entry (last_start before) (ap is_start is) refl quiet may
-  reads_either before entry Stops is quiet may =
-      reads_other before entry (last_start before) (ap is_start is) refl quiet may
-  reads_either before entry Departs is quiet may =
-      reads_other before entry (last_start before) (ap is_start is) refl quiet may
-  reads_either before entry Forces is quiet may =
-      reads_other before entry (last_start before) (ap is_start is) refl quiet may
-  reads_either before entry Fails is quiet may =
-      reads_other before entry (last_start before) (ap is_start is) refl quiet may
-  reads_either before entry Nothing is quiet may =
-      reads_other before entry (last_start before) (ap is_start is) refl quiet may
-
-  kept_reads : (before entries : List (Entry C R)) (rebuild : Option Rebuild)
-      → rebuild ≡ rebuild_told actives_after before → QuietAt (last_start before)
-      → MayAllBeTold actives_after before entries rebuild
-      → rebuild_kept actives_after before entries rebuild ≡ rebuild_told actives_after (before ++ entries)
-  kept_reads before [] rebuild same quiet may = same ∙ ap (rebuild_told actives_after) (sym (append-nil before))
-  kept_reads before (entry ∷ entries) rebuild same quiet may =
-      let step = reads_either before entry (telling_entry entry).telling refl quiet
-      (subst (MayBeTold (actives_after before) (telling_entry entry).telling) same may.0) in
-      kept_reads (before ++ entry ∷ []) entries
-      (rebuild_next (actives_after before) entry.by (telling_entry entry).telling rebuild)
-      (ap (rebuild_next (actives_after before) entry.by (telling_entry entry).telling) same ∙ step.0) step.1 may.1
-      ∙ ap (rebuild_told actives_after) (append_assoc before (entry ∷ []) entries)
-
-  -- after each history in which every entry may be told where it stands
-  pub kept-is-told : (history : List (Entry C R)) → MayAllBeTold actives_after [] history None
-      → rebuild_kept actives_after [] history None ≡ rebuild_told actives_after history
-  kept-is-told history may = kept_reads [] history None refl tt may
+-- the stage that is read hasn't passed, where the rebuild has members
+pub going-next : (actives left : List ConnId) (by : ConnId) (telling : Telling) (read : Option Reading) → IsGoing read
+    → HasMembers (option_map rebuild_of (read_next actives by telling read)) left
+    → IsGoing (read_next actives by telling read)
+going-next actives left by (Starts number caps) read going some =
+    all_awaited (begun number caps actives) left some (filter_true actives)
+going-next actives left by Stops (Some read) going some =
+    all_awaited (with_stage Stopping read) left some (filter_true read.members)
+going-next actives left by Fails (Some read) going some = tt
+going-next actives left by telling (Some read) going some = going_past (with_told by telling read)
+going-next actives left by _ None going some = tt

@@ -1,12 +1,11 @@
 -- What an entry does to a rebuild, as counters keep it.
-use Rattle.std.specs.Prelude.{◌≡◌, Bool, true, false, List, [], ◌∷◌, ◌++◌, Option, None, Some, ◌⊎◌}
+use Rattle.std.specs.Prelude.{◌≡◌, Bool, true, false, List, ◌∷◌, Option, None, Some, ◌⊎◌}
 use Rattle.cf_types.specs.declared.events.Stage.{Stage}
 use Rattle.cf_types.specs.declared.events.Stage.TheVariants.{Quiesce, Connect, Copy, Stopping}
 use Rattle.cf_types.specs.declared.numbers.ConnId.{ConnId}
-use Rattle.engine_api.specs.declared.histories.Entry.{Entry}
 use Rattle.rebuild_core.specs.declared.rebuild.Rebuild.{Rebuild}
 use Rattle.rebuild_core.specs.Stages.{new_rebuild, rebuild_in, without_owing, rebuild_without, rebuild_onward, rebuild_emptied, with_place}
-use Rattle.shell_laws.specs.Tellings.{Telling, telling_entry, is_awaited}
+use Rattle.shell_laws.specs.Tellings.{Telling, is_awaited}
 use Rattle.shell_laws.specs.Tellings.Telling.{Starts, Places, Completes, Responds, Stops, Departs, Forces, Fails, Nothing}
 
 -- a connector gave what the stage waits for, if it does
@@ -35,14 +34,7 @@ rebuild_if by telling (Some rebuild) = rebuild_by by telling rebuild
 -- a start begins one, whose members are those active then
 abbrev pub rebuild_next : List ConnId → ConnId → Telling → Option Rebuild → Option Rebuild
 rebuild_next actives by (Starts number caps) rebuild = Some (new_rebuild number actives caps)
-rebuild_next actives by (Places cf) rebuild = rebuild_if by (Places cf) rebuild
-rebuild_next actives by Completes rebuild = rebuild_if by Completes rebuild
-rebuild_next actives by (Responds event) rebuild = rebuild_if by (Responds event) rebuild
-rebuild_next actives by Stops rebuild = rebuild_if by Stops rebuild
-rebuild_next actives by Departs rebuild = rebuild_if by Departs rebuild
-rebuild_next actives by Forces rebuild = rebuild_if by Forces rebuild
-rebuild_next actives by Fails rebuild = rebuild_if by Fails rebuild
-rebuild_next actives by Nothing rebuild = rebuild_if by Nothing rebuild
+rebuild_next actives by telling rebuild = rebuild_if by telling rebuild
 
 -- what may be told next: a start with somebody active, a place in CONNECT, a stop up to COPY
 abbrev pub IsEarly : Stage → Type 0
@@ -55,28 +47,5 @@ IsInStage holds (Some rebuild) = holds rebuild.stage
 abbrev pub MayBeTold : List ConnId → Telling → Option Rebuild → Type 0
 MayBeTold actives (Starts number caps) rebuild = (conn : ConnId) × ((others : List ConnId) × (actives ≡ conn ∷ others))
 MayBeTold actives (Places cf) rebuild = IsInStage (λ stage. stage ≡ Connect) rebuild
-MayBeTold actives Completes rebuild = Unit {0}
-MayBeTold actives (Responds event) rebuild = Unit {0}
 MayBeTold actives Stops rebuild = IsInStage IsEarly rebuild
-MayBeTold actives Departs rebuild = Unit {0}
-MayBeTold actives Forces rebuild = Unit {0}
-MayBeTold actives Fails rebuild = Unit {0}
-MayBeTold actives Nothing rebuild = Unit {0}
-
--- ---- a whole history
-
-module _ {C R : Type 0} (actives_after : List (Entry C R) → List ConnId) where
-  -- the rebuild that counters keep behind these entries, from the one that they kept before
-  abbrev pub rebuild_kept : (before entries : List (Entry C R)) → Option Rebuild → Option Rebuild
-  rebuild_kept before [] rebuild = rebuild
-  rebuild_kept before (entry ∷ entries) rebuild =
-      rebuild_kept (before ++ entry ∷ []) entries
-      (rebuild_next (actives_after before) entry.by (telling_entry entry).telling rebuild)
-
-  -- each entry may be told where it stands
-  abbrev pub MayAllBeTold : (before entries : List (Entry C R)) → Option Rebuild → Type 0
-  MayAllBeTold before [] rebuild = Unit {0}
-  MayAllBeTold before (entry ∷ entries) rebuild =
-      MayBeTold (actives_after before) (telling_entry entry).telling rebuild
-      × MayAllBeTold (before ++ entry ∷ []) entries
-      (rebuild_next (actives_after before) entry.by (telling_entry entry).telling rebuild)
+MayBeTold actives _ rebuild = Unit {0}

@@ -1,5 +1,5 @@
 -- What entries of a history tell of a rebuild.
-use Rattle.std.specs.Prelude.{ℕ, Bool, true, false, List, map}
+use Rattle.std.specs.Prelude.{ℕ, Bool, true, false}
 use Rattle.cf_types.specs.declared.events.Event.{Event}
 use Rattle.cf_types.specs.declared.events.Stage.{Stage}
 use Rattle.cf_types.specs.declared.events.Stage.TheVariants.{Connect, Copy}
@@ -64,22 +64,7 @@ module _ {C R : Type 0} where
   abbrev pub telling_entry : Entry C R → TellingEntry
   telling_entry entry = record { by = entry.by; telling = telling_of entry.what entry.reply }
 
-  abbrev pub told_by : List (Entry C R) → List TellingEntry
-  told_by entries = map telling_entry entries
-
 -- ---- tests
-
-abbrev pub is_stop : Telling → Bool
-is_stop Stops = true
-is_stop _ = false
-
-abbrev pub is_failure : Telling → Bool
-is_failure Fails = true
-is_failure _ = false
-
-abbrev pub is_departure : Telling → Bool
-is_departure Departs = true
-is_departure _ = false
 
 -- a departure or the forcing of a connection empties a new instance that is being filled
 abbrev pub is_emptying : Telling → Bool
