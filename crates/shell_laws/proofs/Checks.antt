@@ -76,10 +76,8 @@ abbrev rebuild : ℕ → Stage → (members owing : List ConnId) → Option CfId
 rebuild number stage members owing fresh =
     record { number = number; stage = stage; members = members; owing = owing; caps = caps; fresh = fresh }
 
--- ---- a rebuild that ends
-
-abbrev whole : List Row
-whole =
+-- a rebuild that ends
+whole : let history : List Row =
     begin ++ (record {
       no = 19;
       by = a;
@@ -90,120 +88,63 @@ whole =
     ∷ said 22 b cmd.RebuildComplete shown.Ok ∷ event_taken 23 a (event.RebuildConnect 1)
     ∷ event_taken 24 a (event.ConnectsDone 1) ∷ event_taken 25 a (event.Cleanup 1) ∷ answered 26 a (event.Cleanup 1)
     ∷ no_event 27 a ∷ event_taken 28 b (event.ConnectsDone 1) ∷ event_taken 29 b (event.Cleanup 1)
-    ∷ answered 30 b (event.Cleanup 1) ∷ [])
+    ∷ answered 30 b (event.Cleanup 1) ∷ []) in
+    (read_at 4 history ≡ None)
+    × (read_at 5 history ≡ Some (rebuild 1 Quiesce both both None))
+    × (read_at 8 history ≡ Some (rebuild 1 Quiesce both (b ∷ []) None))
+    × (read_at 13 history ≡ Some (rebuild 1 Connect both both None))
+    × (read_at 16 history ≡ Some (rebuild 1 Connect both (b ∷ []) (Some cf2)))
+    × (read_at 17 history ≡ Some (rebuild 1 Copy both both (Some cf2)))
+    × (read_at 19 history ≡ Some (rebuild 1 Copy both both (Some cf2)))
+    × (read_at 21 history ≡ Some (rebuild 1 Copy both (b ∷ []) (Some cf2)))
+    × (read_at 22 history ≡ Some (rebuild 1 Cleanup both both None))
+    × (read_at 29 history ≡ Some (rebuild 1 Cleanup both (b ∷ []) None))
+    × (read_at 30 history ≡ None)
+whole = (refl, refl, refl, refl, refl, refl, refl, refl, refl, refl, refl)
 
-before-start : read_at 4 whole ≡ None
-before-start = refl
-
-at-start : read_at 5 whole ≡ Some (rebuild 1 Quiesce both both None)
-at-start = refl
-
-a-quiesced : read_at 8 whole ≡ Some (rebuild 1 Quiesce both (b ∷ []) None)
-a-quiesced = refl
-
-both-quiesced : read_at 13 whole ≡ Some (rebuild 1 Connect both both None)
-both-quiesced = refl
-
-a-connected : read_at 16 whole ≡ Some (rebuild 1 Connect both (b ∷ []) (Some cf2))
-a-connected = refl
-
-both-connected : read_at 17 whole ≡ Some (rebuild 1 Copy both both (Some cf2))
-both-connected = refl
-
-a-refused : read_at 19 whole ≡ Some (rebuild 1 Copy both both (Some cf2))
-a-refused = refl
-
-a-completed : read_at 21 whole ≡ Some (rebuild 1 Copy both (b ∷ []) (Some cf2))
-a-completed = refl
-
-both-completed : read_at 22 whole ≡ Some (rebuild 1 Cleanup both both None)
-both-completed = refl
-
-a-cleaned : read_at 29 whole ≡ Some (rebuild 1 Cleanup both (b ∷ []) None)
-a-cleaned = refl
-
-at-end : read_at 30 whole ≡ None
-at-end = refl
-
--- ---- one that is stopped, and another behind it
-
-abbrev stopped : List Row
-stopped =
+-- one that is stopped, and another behind it
+stopped : let history : List Row =
     begin ++ (said 19 op cmd.RebuildStop shown.Ok ∷ done 20 a ∷ event_taken 21 a (event.RebuildConnect 1)
     ∷ event_taken 22 a (event.ConnectsDone 1) ∷ event_taken 23 a (event.Stop 1) ∷ answered 24 a (event.Stop 1)
     ∷ no_event 25 a ∷ event_taken 26 b (event.ConnectsDone 1) ∷ event_taken 27 b (event.Stop 1)
     ∷ answered 28 b (event.Stop 1) ∷ event_taken 29 b (event.StopDone 1) ∷ no_event 30 b
     ∷ said 31 op (cmd.RebuildStart caps) (shown.OkNumber 2) ∷ said 32 b cmd.Fail shown.Ok
-    ∷ event_taken 33 a (event.StopDone 1) ∷ event_taken 34 a (event.Quiesce 2) ∷ answered 35 a (event.Quiesce 2) ∷ [])
+    ∷ event_taken 33 a (event.StopDone 1) ∷ event_taken 34 a (event.Quiesce 2)
+    ∷ answered 35 a (event.Quiesce 2) ∷ []) in
+    (read_at 19 history ≡ Some (rebuild 1 Stopping both both None))
+    × (read_at 24 history ≡ Some (rebuild 1 Stopping both (b ∷ []) None))
+    × (read_at 28 history ≡ None)
+    × (read_at 31 history ≡ Some (rebuild 2 Quiesce both both None))
+    × (read_at 32 history ≡ Some (rebuild 2 Quiesce (a ∷ []) (a ∷ []) None))
+    × (read_at 35 history ≡ Some (rebuild 2 Connect (a ∷ []) (a ∷ []) None))
+stopped = (refl, refl, refl, refl, refl, refl)
 
-at-stop : read_at 19 stopped ≡ Some (rebuild 1 Stopping both both None)
-at-stop = refl
-
-a-stopped : read_at 24 stopped ≡ Some (rebuild 1 Stopping both (b ∷ []) None)
-a-stopped = refl
-
-both-stopped : read_at 28 stopped ≡ None
-both-stopped = refl
-
-started-again : read_at 31 stopped ≡ Some (rebuild 2 Quiesce both both None)
-started-again = refl
-
-b-failed : read_at 32 stopped ≡ Some (rebuild 2 Quiesce (a ∷ []) (a ∷ []) None)
-b-failed = refl
-
-a-alone : read_at 35 stopped ≡ Some (rebuild 2 Connect (a ∷ []) (a ∷ []) None)
-a-alone = refl
-
--- ---- one in which a connector fails behind another's COMPLETE
-
-abbrev emptied : List Row
-emptied =
+-- one in which a connector fails in COPY; another's COMPLETE before it counts no more
+emptied : let history : List Row =
     begin ++ (said 19 b cmd.Fail shown.Ok ∷ said 20 a (cmd.Copy 4) (shown.Copied 2 0)
     ∷ said 21 a cmd.RebuildComplete shown.Ok ∷ event_taken 22 a (event.RebuildConnect 1)
     ∷ event_taken 23 a (event.ConnectsDone 1) ∷ event_taken 24 a (event.DiscFail b)
-    ∷ answered 25 a (event.DiscFail b) ∷ event_taken 26 a (event.Cleanup 1) ∷ answered 27 a (event.Cleanup 1) ∷ [])
+    ∷ answered 25 a (event.DiscFail b) ∷ event_taken 26 a (event.Cleanup 1) ∷ answered 27 a (event.Cleanup 1) ∷ []) in
+    (read_at 20 history ≡ Some (rebuild 1 Copy (a ∷ []) (a ∷ []) (Some cf2)))
+    × (read_at 25 history ≡ Some (rebuild 1 Cleanup (a ∷ []) (a ∷ []) None))
+    × (read_at 27 history ≡ None)
+    × (read_at 20 (begin ++ (said 19 a cmd.RebuildComplete shown.Ok ∷ said 20 b cmd.Fail shown.Ok ∷ []))
+    ≡ Some (rebuild 1 Copy (a ∷ []) (a ∷ []) (Some cf2)))
+emptied = (refl, refl, refl, refl)
 
-a-owes : read_at 20 emptied ≡ Some (rebuild 1 Copy (a ∷ []) (a ∷ []) (Some cf2))
-a-owes = refl
-
-a-cleans : read_at 25 emptied ≡ Some (rebuild 1 Cleanup (a ∷ []) (a ∷ []) None)
-a-cleans = refl
-
-nobody-owes : read_at 27 emptied ≡ None
-nobody-owes = refl
-
--- a COMPLETE before the failure counts no more
-completed-again : read_at 20
-    (begin ++ (said 19 a cmd.RebuildComplete shown.Ok ∷ said 20 b cmd.Fail shown.Ok ∷ []))
-    ≡ Some (rebuild 1 Copy (a ∷ []) (a ∷ []) (Some cf2))
-completed-again = refl
-
--- ---- two in which a facility is varied off: that of the new instance, and that of the only one
-
-abbrev cf1 : CfId
-cf1 = record { 0 = 1 }
-
-abbrev new_lost : List Row
-new_lost =
+-- one in which the facility of the new instance is varied off
+new_lost : let history : List Row =
     begin ++ (said 19 op (cmd.Vary cf2 true) (shown.Stopped 1) ∷ event_taken 20 a (event.RebuildConnect 1)
-    ∷ event_taken 21 a (event.ConnectsDone 1) ∷ event_taken 22 a (event.Stop 1) ∷ answered 23 a (event.Stop 1) ∷ [])
+    ∷ event_taken 21 a (event.ConnectsDone 1) ∷ event_taken 22 a (event.Stop 1) ∷ answered 23 a (event.Stop 1) ∷ []) in
+    (read_at 19 history ≡ Some (rebuild 1 Stopping both both None))
+    × (read_at 23 history ≡ Some (rebuild 1 Stopping both (b ∷ []) None))
+new_lost = (refl, refl)
 
-at-vary : read_at 19 new_lost ≡ Some (rebuild 1 Stopping both both None)
-at-vary = refl
-
-a-answered : read_at 23 new_lost ≡ Some (rebuild 1 Stopping both (b ∷ []) None)
-a-answered = refl
-
-abbrev old_lost : List Row
-old_lost =
-    take 5 begin ++ (said 6 op (cmd.Vary cf1 true) shown.FailedNow ∷ event_taken 7 a (event.NewConn b)
-    ∷ event_taken 8 a (event.Quiesce 1) ∷ answered 9 a (event.Quiesce 1) ∷ [])
-
-begun-once : read_at 5 old_lost ≡ Some (rebuild 1 Quiesce both both None)
-begun-once = refl
-
-at-failure : read_at 6 old_lost ≡ None
-at-failure = refl
-
-none-behind : read_at 9 old_lost ≡ None
-none-behind = refl
+-- and one in which that of the only one is
+old_lost : let history : List Row =
+    take 5 begin ++ (said 6 op (cmd.Vary (record { 0 = 1 }) true) shown.FailedNow ∷ event_taken 7 a (event.NewConn b)
+    ∷ event_taken 8 a (event.Quiesce 1) ∷ answered 9 a (event.Quiesce 1) ∷ []) in
+    (read_at 5 history ≡ Some (rebuild 1 Quiesce both both None))
+    × (read_at 6 history ≡ None)
+    × (read_at 9 history ≡ None)
+old_lost = (refl, refl, refl)
