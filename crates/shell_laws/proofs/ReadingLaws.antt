@@ -4,8 +4,6 @@ use Rattle.std.specs.Prelude.{unwrap_or}
 use Rattle.std.proofs.lemmas.List.Elements.{filter_agree}
 use Rattle.cf_types.specs.declared.events.Stage.{Stage}
 use Rattle.cf_types.specs.declared.events.Stage.TheVariants.{Copy, Stopping}
-use Rattle.cf_types.specs.declared.forms.Caps.{Caps}
-use Rattle.cf_types.specs.declared.numbers.CfId.{CfId}
 use Rattle.cf_types.specs.declared.numbers.ConnId.{ConnId}
 use Rattle.cf_types.specs.ConnSets.{without_member}
 use Rattle.engine_api.specs.Rebuilds.{is_copy}
@@ -28,8 +26,7 @@ module _ (by : ConnId) (given : ConnId → Bool) (conns : List ConnId) where
   owing_given : filter (λ conn. not (((conn.0 == by.0) && true) || given conn)) conns
       ≡ without_member by (filter (λ conn. not (given conn)) conns)
   owing_given =
-      filter_agree (λ conn. not (((conn.0 == by.0) && true) || given conn))
-      (λ conn. not (given conn) && not (conn.0 == by.0)) (λ conn. either (conn.0 == by.0) (given conn)) conns
+      filter_agree _ _ (λ conn. either (conn.0 == by.0) (given conn)) conns
       ∙ sym (filter-filter (λ conn. not (conn.0 == by.0)) (λ conn. not (given conn)) conns)
     where
       either : (a b : Bool) → not ((a && true) || b) ≡ (not b && not a)
@@ -40,9 +37,7 @@ module _ (by : ConnId) (given : ConnId → Bool) (conns : List ConnId) where
 
   owing_same : filter (λ conn. not (((conn.0 == by.0) && false) || given conn)) conns
       ≡ filter (λ conn. not (given conn)) conns
-  owing_same =
-      filter_agree (λ conn. not (((conn.0 == by.0) && false) || given conn)) (λ conn. not (given conn))
-      (λ conn. either (conn.0 == by.0) (given conn)) conns
+  owing_same = filter_agree _ _ (λ conn. either (conn.0 == by.0) (given conn)) conns
     where
       either : (a b : Bool) → not ((a && false) || b) ≡ not b
       either true b = refl
@@ -132,31 +127,14 @@ still : (at : Stage) (members owing : List ConnId) → outcome at members owing 
 still at [] owing is = absurd (cc)
 still at (conn ∷ conns) owing is = refl
 
-forced : (at : Stage) (by : ConnId) (number : ℕ) (caps : Caps) (members : List ConnId) (entries : List TellingEntry)
-    (place : Option CfId)
-    → let read : Reading = record {
-      number = number;
-      caps = caps;
-      members = members;
-      stage = at;
-      entries = entries;
-      place = place;
-    } in
-    IsGoing (Some read)
-    → option_map rebuild_of (passed (with_entry by Forces read)) ≡ Some (rebuild_emptied at (rebuild_of read))
-forced Copy by number caps members entries place going =
-    let read : Reading = record {
-      number = number;
-      caps = caps;
-      members = members;
-      stage = Copy;
-      entries = [];
-      place = place;
-    } in
-    past_as read members (filter_true members)
-    ∙ ap (λ (p : Passed). rebuild_left p (record (rebuild_of read) { owing = members }))
-    (still Copy members _ going)
-forced at by number caps members entries place going = given_or_not by Forces _ going false refl
+forced : (at : Stage) (by : ConnId) (read : Reading) → IsGoing (Some (record read { stage = at }))
+    → option_map rebuild_of (passed (with_entry by Forces (record read { stage = at })))
+    ≡ Some (rebuild_emptied at (rebuild_of (record read { stage = at })))
+forced Copy by read going =
+    past_as (record read { stage = Copy; entries = [] }) read.members (filter_true read.members)
+    ∙ ap (λ (p : Passed). rebuild_left p (record (rebuild_of read) { stage = Copy; owing = read.members }))
+    (still Copy read.members _ going)
+forced at by read going = given_or_not by Forces (record read { stage = at }) going false refl
 
 none_awaited : (at : Stage) (number : ℕ) → is_awaited at number Nothing ≡ false
 none_awaited Copy number = refl
@@ -172,8 +150,7 @@ told-next actives by Stops (Some read) going =
     ap Some (same_rebuild (with_stage Stopping read) read.members (filter_true read.members))
 told-next actives by Fails (Some read) going = refl
 told-next actives by Departs (Some read) going = past_as (with_told by Departs read) _ (awaited_left by read)
-told-next actives by Forces (Some read) going =
-    forced read.stage by read.number read.caps read.members read.entries read.place going
+told-next actives by Forces (Some read) going = forced read.stage by read going
 told-next actives by (Places cf) (Some read) going =
     given by (Places cf) (record read { place = Some (unwrap_or read.place cf) }) going
 told-next actives by Nothing (Some read) going =
