@@ -1,18 +1,18 @@
 -- What is read of a history, and what counters keep, with one entry more.
-use Rattle.std.proofs.Common.{◌≡◌, ℕ, Bool, true, false, cond, not, ◌&&◌, ◌||◌, ◌==◌, List, [], ◌∷◌, Option, None, Some, option_map, filter, refl, sym, ap, ◌∙◌}
+use Rattle.std.proofs.Common.{◌≡◌, ℕ, Bool, true, false, cond, not, ◌&&◌, ◌||◌, ◌==◌, List, [], ◌∷◌, Option, None, Some, option_map, filter, refl, sym, ap, ◌∙◌, subst}
 use Rattle.std.specs.Prelude.{unwrap_or}
 use Rattle.std.proofs.lemmas.List.Elements.{filter_agree}
 use Rattle.cf_types.specs.declared.events.Stage.{Stage}
-use Rattle.cf_types.specs.declared.events.Stage.TheVariants.{Copy, Stopping}
+use Rattle.cf_types.specs.declared.events.Stage.TheVariants.{Quiesce, Connect, Copy, Cleanup, Stopping}
 use Rattle.cf_types.specs.declared.numbers.ConnId.{ConnId}
 use Rattle.cf_types.specs.ConnSets.{without_member}
 use Rattle.engine_api.specs.Rebuilds.{is_copy}
 use Rattle.list_laws.proofs.FilterLaws.{filter-filter, filter_swap}
 use Rattle.rebuild_core.specs.declared.passed.Passed.{Passed}
-use Rattle.rebuild_core.specs.declared.passed.Passed.TheVariants.{No, Into, Ended}
-use Rattle.rebuild_core.specs.Stages.{outcome, owing_after, rebuild_emptied, rebuild_left, rebuild_onward}
-use Rattle.shell_laws.specs.Members.{HasMembers}
-use Rattle.shell_laws.specs.Readings.{Reading, awaited, begun, has_given, passed, read_next, read_past, rebuild_of, with_entry, with_stage, with_told}
+use Rattle.rebuild_core.specs.declared.passed.Passed.TheVariants.{No}
+use Rattle.rebuild_core.specs.Stages.{next_stage, outcome, owing_after, rebuild_emptied, rebuild_in, rebuild_left, rebuild_onward}
+use Rattle.shell_laws.specs.Members.{HasMembers, Somebody}
+use Rattle.shell_laws.specs.Readings.{Reading, awaited, begun, has_given, passed, read_behind, read_next, read_past, rebuild_of, with_entry, with_stage, with_told}
 use Rattle.shell_laws.specs.Steps.{rebuild_given, rebuild_next}
 use Rattle.shell_laws.specs.Tellings.{Telling, TellingEntry, is_awaited}
 use Rattle.shell_laws.specs.Tellings.Telling.{Starts, Places, Stops, Departs, Forces, Fails, Nothing}
@@ -54,30 +54,46 @@ same_rebuild : (read : Reading) (owing : List ConnId) → awaited read ≡ owing
     → rebuild_of read ≡ record (rebuild_of read) { owing = owing }
 same_rebuild read owing is = ap (λ (o : List ConnId). record (rebuild_of read) { owing = o }) is
 
-into_some : (at next : Stage) (members owing : List ConnId) → outcome at members owing ≡ Into next
-    → outcome next members members ≡ No
-into_some at next [] owing is = absurd (cc)
-into_some at next (conn ∷ conns) owing is = refl
+-- a stage in which all members are awaited hasn't passed
+all_awaited : (read : Reading) → Somebody read.members → awaited read ≡ read.members → IsGoing (Some read)
+all_awaited read (conn, (others, some)) all = ap (outcome read.stage read.members) all ∙ rw some refl
 
 -- where one has passed, the next one hasn't
 going_past : (read : Reading) → IsGoing (passed read)
-going_past read = go (outcome read.stage read.members (awaited read)) refl
+going_past read = go read.members (awaited read) refl refl
   where
-    go : (p : Passed) → outcome read.stage read.members (awaited read) ≡ p → IsGoing (read_past p read)
-    go No is = is
-    go (Into next) is =
-        ap (outcome next read.members) (filter_true read.members)
-        ∙ into_some read.stage next read.members (awaited read) is
-    go Ended is = tt
+    behind : (at : Stage) → Somebody read.members → IsGoing (read_behind at read)
+    behind Quiesce some = all_awaited (with_stage Connect read) some (filter_true read.members)
+    behind Connect some = all_awaited (with_stage Copy read) some (filter_true read.members)
+    behind Copy some = all_awaited (with_stage Cleanup read) some (filter_true read.members)
+    behind at some = tt
+
+    go : (members owing : List ConnId) → read.members ≡ members → awaited read ≡ owing
+        → IsGoing (read_past members owing read)
+    go [] owing are owes = tt
+    go (member ∷ members) [] are owes = behind read.stage (member, (members, are))
+    go (member ∷ members) (conn ∷ owing) are owes = rw (owes, are) refl
 
 -- it passes as counters do
 past : (read : Reading) → option_map rebuild_of (passed read) ≡ rebuild_onward (rebuild_of read)
-past read = go (outcome read.stage read.members (awaited read))
+past read = go read.members (awaited read)
   where
-    go : (p : Passed) → option_map rebuild_of (read_past p read) ≡ rebuild_left p (rebuild_of read)
-    go No = refl
-    go (Into next) = ap Some (same_rebuild (with_stage next read) read.members (filter_true read.members))
-    go Ended = refl
+    begins : (at : Stage)
+        → Some (rebuild_of (with_stage at read)) ≡ Some (rebuild_in at (rebuild_of read))
+    begins at = ap Some (same_rebuild (with_stage at read) read.members (filter_true read.members))
+
+    behind : (at : Stage) → option_map rebuild_of (read_behind at read) ≡ rebuild_left (next_stage at) (rebuild_of read)
+    behind Quiesce = begins Connect
+    behind Connect = begins Copy
+    behind Copy = begins Cleanup
+    behind at = refl
+
+    go : (members owing : List ConnId)
+        → option_map rebuild_of (read_past members owing read)
+        ≡ rebuild_left (outcome read.stage members owing) (rebuild_of read)
+    go [] owing = refl
+    go (member ∷ members) [] = behind read.stage
+    go (member ∷ members) (conn ∷ owing) = refl
 
 past_as : (read : Reading) (owing : List ConnId) → awaited read ≡ owing
     → option_map rebuild_of (passed read) ≡ rebuild_onward (record (rebuild_of read) { owing = owing })
@@ -158,20 +174,14 @@ told-next actives by Nothing (Some read) going =
 told-next actives by telling (Some read) going = given by telling read going
 told-next actives by _ None going = refl
 
--- a stage in which all members are awaited hasn't passed, where there are some
-all_awaited : (read : Reading) (actives : List ConnId) → HasMembers (Some (rebuild_of read)) actives
-    → awaited read ≡ read.members → IsGoing (Some read)
-all_awaited read actives (same, (conn, (others, some))) all =
-    ap (outcome read.stage read.members) all ∙ rw (same, some) refl
-
 -- the stage that is read hasn't passed, where the rebuild has members
 pub going-next : (actives left : List ConnId) (by : ConnId) (telling : Telling) (read : Option Reading) → IsGoing read
     → HasMembers (option_map rebuild_of (read_next actives by telling read)) left
     → IsGoing (read_next actives by telling read)
 going-next actives left by (Starts number caps) read going some =
-    all_awaited (begun number caps actives) left some (filter_true actives)
+    all_awaited (begun number caps actives) (subst Somebody (sym some.0) some.1) (filter_true actives)
 going-next actives left by Stops (Some read) going some =
-    all_awaited (with_stage Stopping read) left some (filter_true read.members)
+    all_awaited (with_stage Stopping read) (subst Somebody (sym some.0) some.1) (filter_true read.members)
 going-next actives left by Fails (Some read) going some = tt
 going-next actives left by telling (Some read) going some = going_past (with_told by telling read)
 going-next actives left by _ None going some = tt

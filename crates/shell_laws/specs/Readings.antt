@@ -2,17 +2,15 @@
 use Rattle.std.specs.Prelude.{ℕ, Bool, not, ◌&&◌, ◌==◌, if◌then◌else◌, List, [], ◌∷◌, ◌++◌, filter, Option, None, Some, option_map, unwrap_or}
 use Rattle.std.specs.List.{list_any}
 use Rattle.cf_types.specs.declared.events.Stage.{Stage}
-use Rattle.cf_types.specs.declared.events.Stage.TheVariants.{Quiesce, Stopping}
+use Rattle.cf_types.specs.declared.events.Stage.TheVariants.{Quiesce, Connect, Copy, Cleanup, Stopping}
 use Rattle.cf_types.specs.declared.forms.Caps.{Caps}
 use Rattle.cf_types.specs.declared.numbers.CfId.{CfId}
 use Rattle.cf_types.specs.declared.numbers.ConnId.{ConnId}
 use Rattle.cf_types.specs.ConnSets.{without_member}
 use Rattle.engine_api.specs.declared.histories.Entry.{Entry}
 use Rattle.engine_api.specs.Rebuilds.{is_copy}
-use Rattle.rebuild_core.specs.declared.passed.Passed.{Passed}
-use Rattle.rebuild_core.specs.declared.passed.Passed.TheVariants.{No, Into, Ended}
 use Rattle.rebuild_core.specs.declared.rebuild.Rebuild.{Rebuild}
-use Rattle.rebuild_core.specs.Stages.{fresh_in, outcome}
+use Rattle.rebuild_core.specs.Stages.{fresh_in}
 use Rattle.shell_laws.specs.Tellings.{Telling, TellingEntry, is_awaited, is_emptying, telling_entry}
 use Rattle.shell_laws.specs.Tellings.Telling.{Starts, Places, Stops, Departs, Fails}
 
@@ -23,7 +21,7 @@ pub record Reading : Type 0 where
   -- the connectors that were active at its start and haven't departed since
   pub members : List ConnId
   pub stage : Stage
-  -- those of its stage so far, the last one first; in COPY those behind the last departure or forcing
+  -- those of its stage, the last one first; in COPY those behind the last departure or forcing
   pub entries : List TellingEntry
   -- where the first REBUILD CONNECT put the new instance
   pub place : Option CfId
@@ -43,15 +41,23 @@ abbrev pub with_stage : Stage → Reading → Reading
 with_stage stage read =
     record read { stage = stage; entries = []; place = fresh_in stage read.place }
 
-abbrev pub read_past : Passed → Reading → Option Reading
-read_past No read = Some read
-read_past (Into stage) read = Some (with_stage stage read)
-read_past Ended read = None
+-- what follows a stage that has passed; behind CLEANUP and STOPPING the rebuild has ended
+abbrev pub read_behind : Stage → Reading → Option Reading
+read_behind Quiesce read = Some (with_stage Connect read)
+read_behind Connect read = Some (with_stage Copy read)
+read_behind Copy read = Some (with_stage Cleanup read)
+read_behind Cleanup read = None
+read_behind Stopping read = None
 
--- a stage passes where a member is left and none is awaited; the rebuild ends behind the last stage,
--- and where no member is left
+-- with these members left, and those awaited: a stage passes where a member is left and none is
+-- awaited, and the rebuild has ended where none is left
+abbrev pub read_past : (members awaited : List ConnId) → Reading → Option Reading
+read_past [] awaited read = None
+read_past (member ∷ members) [] read = read_behind read.stage read
+read_past (member ∷ members) (conn ∷ awaited) read = Some read
+
 abbrev pub passed : Reading → Option Reading
-passed read = read_past (outcome read.stage read.members (awaited read)) read
+passed read = read_past read.members (awaited read) read
 
 -- ---- one entry more
 
