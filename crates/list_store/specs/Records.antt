@@ -1,7 +1,8 @@
 -- Records whose data lie in chains of a pool, and the chains that no record has.
-use Rattle.std.specs.Prelude.{ℕ, ◌&&◌, Bool, true, nat_le, List, [], ◌∷◌, length, sum_by, slice_index_or, slice_set, Option, None, Some}
+use Rattle.std.specs.Prelude.{ℕ, ◌+◌, ◌-◌, ◌&&◌, Bool, true, nat_le, List, [], ◌∷◌, length, sum_by, slice_index_or, slice_set, Option, None, Some}
 use Rattle.cf_pool.specs.declared.chain.Chain.{Chain}
-use Rattle.cf_pool.specs.Pools.{IsChain, need_at}
+use Rattle.cf_pool.specs.Chains.{need_of}
+use Rattle.cf_pool.specs.Pools.{IsChain, need_at, need_in}
 use Rattle.list_store.specs.declared.records.Rec.{Rec}
 use Rattle.list_store.specs.Record.{Record}
 
@@ -35,6 +36,14 @@ chains_less (Some chain) loose = slice_set loose chain.head None
 abbrev pub loose_in : List (Option (List ℕ)) → List Rec → List (Option (List ℕ))
 loose_in chains [] = chains
 loose_in chains (rec ∷ recs) = chains_less rec.body (loose_in chains recs)
+
+-- these bytes in a chain of their own, in the place of another's
+abbrev pub chains_put : List (Option (List ℕ)) → (old new : ℕ) → List ℕ → List (Option (List ℕ))
+chains_put chains old new bytes = slice_set (slice_set chains old None) new (Some bytes)
+
+-- how many elements are free then
+abbrev pub free_put : ℕ → List (Option (List ℕ)) → ℕ → List ℕ → ℕ
+free_put free chains old bytes = free + need_in chains old - need_of (length bytes)
 
 -- each record has a chain of the pool that no other record has
 abbrev pub AreHeld : List (Option (List ℕ)) → List Rec → Type 0

@@ -36,11 +36,16 @@ abbrev pub transcripts_lines : Script → List Transcript → List (List ℕ)
 transcripts_lines script transcripts =
     lines_each (λ i transcript. transcript_lines script i transcript) 0 transcripts
 
+-- the lines behind the facilities
+abbrev pub lines_behind : Script → List AnyHistory → List Transcript → List (List ℕ)
+lines_behind script histories transcripts =
+    structures_lines script
+    ++ (map connector_line script.connectors
+    ++ (histories_lines script histories ++ (transcripts_lines script transcripts ++ codes "END" ∷ [])))
+
 abbrev pub report_lines : Script → List AnyHistory → List Transcript → List (List ℕ)
 report_lines script histories transcripts =
-    map facility_line (by_number script.facilities) ++ (structures_lines script
-    ++ (map connector_line script.connectors
-    ++ (histories_lines script histories ++ (transcripts_lines script transcripts ++ codes "END" ∷ []))))
+    map facility_line (by_number script.facilities) ++ lines_behind script histories transcripts
 
 -- each line of the report, with its line feed
 abbrev pub report : Script → List AnyHistory → List Transcript → List ℕ

@@ -4,7 +4,7 @@ ghost use Rattle.std.specs.Prelude.{◌≡◌, ℕ, ◌∷◌, ◌++◌, [], ◌
 ghost use Rattle.plex_spell.specs.Words.{line_text};
 ghost use Rattle.plex_plain.specs.PolicyLines.{connector_line, structure_lines};
 ghost use Rattle.plex_report.specs.Lines.{entry_lines, history_lines, transcript_lines};
-ghost use Rattle.plex_report.specs.Report.{with_number, by_number, structures_lines, histories_lines, transcripts_lines, report_lines, report};
+ghost use Rattle.plex_report.specs.Report.{with_number, by_number, structures_lines, histories_lines, transcripts_lines, lines_behind, report_lines, report};
 
 use crate::lines::{
     connector_line, entry_line, facility_line, form_line, history_heading, pref_line, shown_line,
@@ -190,9 +190,7 @@ fn behind_facilities(
     k: usize,
 ) -> Result<Option<Vec<u8>>, NoMemory>
     ensures { IfOk result (λ line. option_map (λ v. v.items) line
-        ≡ slice_get (structures_lines script.now ++ (map connector_line script.now.connectors
-        ++ (histories_lines script.now histories.now
-        ++ (transcripts_lines script.now transcripts.now ++ codes "END" ∷ [])))) k) }
+        ≡ slice_get (lines_behind script.now histories.now transcripts.now) k) }
 {
     let forms = script.structures.items();
     match spot_of(forms, k) {

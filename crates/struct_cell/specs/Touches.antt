@@ -45,6 +45,10 @@ AreWordsOf conns len words bits =
     (conn word : ℕ) → 0 < conn → conn ≤ conns → word < words_of len
     → word_at len words conn word ≡ word_in len bits conn word
 
+-- the words of all vectors are those of these bits
+abbrev pub AreMirroring : MirrorWords → Bits → Type 0
+AreMirroring mirror bits = AreWordsOf mirror.conns mirror.len mirror.words bits
+
 -- bits, once one is told
 abbrev pub with_told : Bits → BitChange → Bits
 with_told bits change conn index = if is_for conn index change then change.bit else bits conn index

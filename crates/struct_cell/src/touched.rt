@@ -4,7 +4,7 @@ ghost use Rattle.cf_types.specs.Gains.{Bits, is_for};
 ghost use Rattle.cf_types.specs.declared.numbers.ConnId.{ConnId};
 ghost use Rattle.struct_machine.specs.Changes.{IsUntouched, Names};
 ghost use Rattle.struct_machine.specs.StructureView.{stands_at};
-ghost use Rattle.struct_cell.specs.Touches.{AreMirrorsOf, AreOfTable, AreWordsOf, IsOfTable, IsEvery, ComeBefore, word_at};
+ghost use Rattle.struct_cell.specs.Touches.{AreMirroring, AreMirrorsOf, AreOfTable, AreWordsOf, IsOfTable, IsEvery, ComeBefore, word_at};
 ghost use Rattle.vec_words.specs.Logged.{words_of};
 ghost use Rattle.vec_words.specs.Stores.{IsWithin, IsSpared, AreDistinct};
 
@@ -144,10 +144,9 @@ fn follow<E: Engine, L: Link>(
     requires every { IsEvery mirror.old.conns mirror.old.len every.now }
     ensures table { AreMirrorsOf mirror.old mirror.new }
     ensures words { (before : Bits)
-        → AreWordsOf mirror.old.conns mirror.old.len mirror.old.words before
+        → AreMirroring mirror.old before
         → Names changed.now before (stands_at E.meaning machine.now.machine)
-        → AreWordsOf mirror.new.conns mirror.new.len mirror.new.words
-        (stands_at E.meaning machine.now.machine) }
+        → AreMirroring mirror.new (stands_at E.meaning machine.now.machine) }
 {
     if changed.is_all() {
         mirror.look_up(machine, every);

@@ -109,6 +109,12 @@ structure_of meaning holds form shelled content =
       links = content.pair.links;
     }
 
+-- the links of a structure in its parts were asked, and those that are down are marked
+abbrev pub IsMarked : {C R I S L : Type 0} → (L → Option ℕ) → (L → Option (List ℕ)) → (L → ℕ) → Meaning C R I S
+    → (old new : StructureView S L) → Asks → List Mark → Type 0
+IsMarked calls downs faults meaning old new asks marks =
+    AreMarked calls downs faults meaning old.form old.machine new.machine old.links new.links asks marks
+
 -- the same of structures
 abbrev pub IsJudgedCall : {C R I S L : Type 0} → (L → Option ℕ) → (L → Option (List ℕ)) → (L → ℕ) → Meaning C R I S
     → StructureView S L → StructureView S L → ConnId → Ask C → List Mark → Reply R → Type 0

@@ -16,7 +16,7 @@ ghost use Rattle.engine_api.specs.Shell.{call_cause, shell_cause, shell_done, co
 ghost use Rattle.struct_machine.specs.Changes.{Names, any_failure, deeds_by, may_be_any, may_change_bits};
 ghost use Rattle.struct_machine.specs.Content.{kept_of};
 ghost use Rattle.struct_machine.specs.Kept.{AreOf, answered, machine_of, state_in, judged, command_looks, copy_reply, is_copying, items_named, looks_at_need, room_seen};
-ghost use Rattle.struct_machine.specs.Turns.{AreMarked, IsTurn, IsJudgedCall, content_asks_of, copy_asks_of, marks_in, structure_of};
+ghost use Rattle.struct_machine.specs.Turns.{IsMarked, IsTurn, IsJudgedCall, content_asks_of, copy_asks_of, marks_in, structure_of};
 
 use crate::asking::{Asked, ask_links};
 use crate::changed::Changed;
@@ -348,10 +348,10 @@ fn ask_and_mark<E: Engine, L: Link>(
     requires unmarked { marks.old ≡ [] }
     requires room { MARK_LETTERS ≤ shell.old.room }
     requires of_form { AreOf E.meaning form.now shell.old (kept_of E.held content.old) }
-    ensures marked { AreMarked L.calls L.downs L.faults E.meaning form.now
-        (machine_of E.meaning form.now shell.old (kept_of E.held content.old))
-        (machine_of E.meaning form.now shell.new (kept_of E.held content.new))
-        content.old.pair.links content.new.pair.links (content_asks_of shell.old.shell) marks.new }
+    ensures marked { IsMarked L.calls L.downs L.faults E.meaning
+        (structure_of E.meaning E.held form.now shell.old content.old)
+        (structure_of E.meaning E.held form.now shell.new content.new)
+        (content_asks_of shell.old.shell) marks.new }
     ensures failed { result ≡ any_failure marks.new }
     ensures same { result ≡ false
         → content_of E.held content.new.pair ≡ content_of E.held content.old.pair }
