@@ -38,8 +38,8 @@ loose_in chains [] = chains
 loose_in chains (rec ∷ recs) = chains_less rec.body (loose_in chains recs)
 
 -- these bytes in a chain of their own, in the place of another's
-abbrev pub chains_put : List (Option (List ℕ)) → (old new : ℕ) → List ℕ → List (Option (List ℕ))
-chains_put chains old new bytes = slice_set (slice_set chains old None) new (Some bytes)
+abbrev pub chain_put : List (Option (List ℕ)) → (old new : ℕ) → List ℕ → List (Option (List ℕ))
+chain_put chains old new bytes = slice_set (slice_set chains old None) new (Some bytes)
 
 -- how many elements are free then
 abbrev pub free_put : ℕ → List (Option (List ℕ)) → ℕ → List ℕ → ℕ

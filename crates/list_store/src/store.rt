@@ -6,7 +6,7 @@ ghost use Rattle.cf_pool.specs.Chains.{need_of};
 ghost use Rattle.cf_pool.specs.Pools.{IsChain, need_at, need_in};
 ghost use Rattle.record_lists.specs.Lists.{IsLastFull, lists_popped};
 ghost use Rattle.list_store.specs.Lists.{all_records, records_of, is_id, record_of, spot_of, lists_without, lists_with, lists_replaced, ids_apart};
-ghost use Rattle.list_store.specs.Records.{record_in, HasChain, chains_less, chains_put, free_put, elements_in};
+ghost use Rattle.list_store.specs.Records.{record_in, HasChain, chains_less, chain_put, free_put, elements_in};
 
 use crate::records::{Rec, Spot};
 use crate::table::Table;
@@ -278,8 +278,8 @@ impl Store {
         )) }
         ensures same { OnErr result (self.new ≡ self.old) }
         ensures put { IfOk result (λ new. self.new ≡ record self.old {
-          chains = chains_put self.old.chains chain.head new.head bytes.now;
-          loose = chains_put self.old.loose chain.head new.head bytes.now;
+          chains = chain_put self.old.chains chain.head new.head bytes.now;
+          loose = chain_put self.old.loose chain.head new.head bytes.now;
           free = free_put self.old.free self.old.chains chain.head bytes.now;
         }) }
         ensures fresh { IfOk result (λ new. slice_get (slice_set self.old.chains chain.head None)

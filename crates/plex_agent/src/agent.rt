@@ -7,7 +7,7 @@ ghost use Rattle.plex_board.specs.Turns.{Acts, Turns, Departs};
 ghost use Rattle.plex_agent.specs.Calls.{at_work};
 ghost use Rattle.plex_board.specs.Callers.{IsLineFor, Serves, Closes, no_items};
 
-use crate::calls::ask_all;
+use crate::calls::{LineCall, ask_all};
 use crate::gate::Gate;
 use crate::items::{is_done, take_items};
 use crate::vectors::{post, take, test, test_word};
@@ -53,11 +53,13 @@ fn act<L: Link>(
     match &line.act {
         Act::Call(ask) => {
             let first = Step::Call { asks: line.retry };
-            ask_all(rt, alloc, board, on, Some(ask), first, desk, items)
+            let call = LineCall { on, ask: Some(ask) };
+            ask_all(rt, alloc, board, &call, first, desk, items)
         }
         Act::Events => {
             let first = Step::first(&line.act, line.retry);
-            ask_all(rt, alloc, board, on, None, first, desk, items)
+            let call = LineCall { on, ask: None };
+            ask_all(rt, alloc, board, &call, first, desk, items)
         }
         Act::Test(index) => end_after(test(board, on, *index, desk, items)),
         Act::TestWord(word) => end_after(test_word(board, on, *word, desk, items)),
@@ -125,7 +127,11 @@ fn depart<L: Link>(
     let ask = closing_ask(board.kind(on));
     let first = Step::Call { asks: 0 };
     let mut items = take_items(alloc, shown);
-    let end = ask_all(rt, alloc, board, on, Some(&ask), first, desk, &mut items);
+    let call = LineCall {
+        on,
+        ask: Some(&ask),
+    };
+    let end = ask_all(rt, alloc, board, &call, first, desk, &mut items);
     *shown = Transcript {
         items: Listing::from_vec(items),
         end,

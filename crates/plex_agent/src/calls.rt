@@ -19,6 +19,13 @@ use std::alloc::Global;
 use std::sync::Wait;
 use struct_cell::CallRefused;
 
+/// What a line asks of a structure: its call, where it is one.
+#[derive(Clone, Copy)]
+pub(crate) struct LineCall<'a> {
+    pub on: StrNo,
+    pub ask: Option<&'a AnyAsk>,
+}
+
 // Whether anything is left to ask.
 fn asks(now: Step) -> bool
     ensures { IsTrue result ↔ now ≢ step.Rest }
@@ -42,33 +49,34 @@ fn ask_step<L: Link>(
     rt: &impl Wait,
     alloc: Global,
     board: &Board<L>,
-    on: StrNo,
-    line: Option<&AnyAsk>,
+    call: &LineCall<'_>,
     now: Step,
     desk: &mut Desk,
     items: &mut Vec<Shown>,
 ) -> Result<Step, CallRefused>
     requires desk { IsDeskOf board.now desk.old }
-    requires place { on.0 < length board.now.cells }
-    requires may { IfSome (cell_on board.now on)
-        (IsAskable (option_copied line) desk.old.owner) }
-    requires ready { IsReady (option_copied line) now }
+    requires place { call.now.on.0 < length board.now.cells }
+    requires may { IfSome (cell_on board.now call.now.on)
+        (IsAskable (option_copied call.now.ask) desk.old.owner) }
+    requires ready { IsReady (option_copied call.now.ask) now }
     requires goes { now ≢ step.Rest }
-    ensures asked { IfOk result (λ next. IfSome (cell_on board.now on)
-        (λ cell. IsAsked cell.form.kind (option_copied line.entry) on now next
+    ensures asked { IfOk result (λ next. IfSome (cell_on board.now call.now.on)
+        (λ cell. IsAsked cell.form.kind (option_copied call.now.ask) call.now.on now next
         (at_work desk.old items.old.items ended.Done)
         (at_work desk.new items.new.items ended.Done))) }
-    ensures refused { IfErr result (λ _. IsLaterOn on desk.old desk.new) }
+    ensures refused { IfErr result (λ _. IsLaterOn call.now.on desk.old desk.new) }
     ensures no_memory { IfErr result (λ refusal. refusal ≡ refused.NoMemory
         → desk.new ≡ desk.old) }
     ensures full { IfErr result (λ refusal. refusal ≢ refused.NoMemory
-        → IfSome (cell_on board.now on) (λ cell. cell.limit ≤ (pass_at desk.new on).known)) }
+        → IfSome (cell_on board.now call.now.on)
+        (λ cell. cell.limit ≤ (pass_at desk.new call.now.on).known)) }
     ensures items { IfErr result (λ _. items.new.items ≡ items.old.items) }
     ensures of_board { IsDeskOf board.now desk.new }
 {
+    let on = call.on;
     let kind = board.kind(on);
     reserve_item(items)?;
-    let Some(ask) = now.asked(alloc, kind, line)? else {
+    let Some(ask) = now.asked(alloc, kind, call.ask)? else {
         return Ok(Step::Rest);
     };
     let told = board.call(rt, alloc, desk, on, ask)?;
@@ -83,19 +91,18 @@ pub(crate) fn ask_all<L: Link>(
     rt: &impl Wait,
     alloc: Global,
     board: &Board<L>,
-    on: StrNo,
-    line: Option<&AnyAsk>,
+    call: &LineCall<'_>,
     first: Step,
     desk: &mut Desk,
     items: &mut Vec<Shown>,
 ) -> AgentEnd
     requires desk { IsDeskOf board.now desk.old }
-    requires place { on.0 < length board.now.cells }
-    requires may { IfSome (cell_on board.now on)
-        (IsAskable (option_copied line) desk.old.owner) }
-    requires ready { IsReady (option_copied line) first }
-    ensures asks { IfSome (cell_on board.now on)
-        (λ cell. Asks cell.limit cell.form.kind (option_copied line.entry) on first
+    requires place { call.now.on.0 < length board.now.cells }
+    requires may { IfSome (cell_on board.now call.now.on)
+        (IsAskable (option_copied call.now.ask) desk.old.owner) }
+    requires ready { IsReady (option_copied call.now.ask) first }
+    ensures asks { IfSome (cell_on board.now call.now.on)
+        (λ cell. Asks cell.limit cell.form.kind (option_copied call.now.ask) call.now.on first
         (at_work desk.old items.old.items ended.Done)
         (at_work desk.new items.new.items result)) }
     ensures of_board { IsDeskOf board.now desk.new }
@@ -103,11 +110,11 @@ pub(crate) fn ask_all<L: Link>(
 {
     let mut now = first;
     while asks(now) {
-        match ask_step(rt, alloc, board, on, line, now, desk, items) {
+        match ask_step(rt, alloc, board, call, now, desk, items) {
             Ok(next) => now = next,
             Err(refusal) => {
-                desk.ordered(on);
-                return end_of(on, refusal);
+                desk.ordered(call.on);
+                return end_of(call.on, refusal);
             }
         }
     }

@@ -12,11 +12,11 @@ abbrev pub invariant-loop-alloc : goal.invariant-loop-alloc
 invariant-loop-alloc g l = record {
   of_board : IsDeskOf l.board l.desk;
   owner : l.desk.owner ≡ l.fn.desk.owner;
-  ready : IsReady (option_copied l.line) l.now;
-  rest : (cell : CellShown g.row.L.Denot) → cell_on l.board l.on ≡ Some cell → (after : AtWork)
-      → Asks cell.limit cell.form.kind (option_copied l.line) l.on l.now
+  ready : IsReady (option_copied l.call.ask) l.now;
+  rest : (cell : CellShown g.row.L.Denot) → cell_on l.board l.call.on ≡ Some cell → (after : AtWork)
+      → Asks cell.limit cell.form.kind (option_copied l.call.ask) l.call.on l.now
       (at_work l.desk l.items.items ended.Done) after
-      → Asks cell.limit cell.form.kind (option_copied l.line) l.on l.fn.first
+      → Asks cell.limit cell.form.kind (option_copied l.call.ask) l.call.on l.fn.first
       (at_work l.fn.desk l.fn.items.items ended.Done) after;
 }
 
