@@ -1,11 +1,33 @@
 -- Refusals in their order: where none holds, each of them doesn't.
-use Rattle.std.proofs.Common.{◌≡◌, ◌≤◌, ℕ, Bool, true, false, List, ◌∷◌, Option, None, Some, refl}
+use Rattle.std.proofs.Common.{◌≡◌, ◌≤◌, ℕ, Bool, true, false, List, [], ◌∷◌, ◌++◌, Option, None, Some, refl, arith}
 use Rattle.std.proofs.lemmas.Bool.{ltb-false}
 use Rattle.std.specs.Prelude.{nat_lt}
+use Rattle.cf_types.specs.declared.forms.Caps.{Caps}
+use Rattle.cf_types.specs.declared.forms.Kind.{Kind}
+use Rattle.cf_types.specs.declared.forms.Kind.TheVariants as kind
+use Rattle.cf_types.specs.declared.forms.StrForm.{StrForm}
+use Rattle.cf_types.specs.declared.numbers.ConnId.{ConnId}
 use Rattle.cf_types.specs.declared.refusals.Refusal.{Refusal}
+use Rattle.engine_api.specs.declared.deeds.Room.{Room}
+use Rattle.engine_api.specs.Items.{Fits}
 use Rattle.engine_api.specs.Meaning.{first_refusal}
-use Rattle.engine_api.specs.Shell.{if_rebuilding, refusal_when}
+use Rattle.engine_api.specs.Shell.{Shell, if_rebuilding, if_small, if_too_small, refusal_when, unless_copied_to}
 use Rattle.rebuild_core.specs.declared.rebuild.Rebuild.{Rebuild}
+
+-- none of these holds
+abbrev pub NoneHolds : List (Option Refusal) → Type 0
+NoneHolds [] = Unit {0}
+NoneHolds (cause ∷ causes) = (cause ≡ None) × NoneHolds causes
+
+pub none_holds : (causes : List (Option Refusal)) → first_refusal causes ≡ None → NoneHolds causes
+none_holds [] fine = tt
+none_holds (None ∷ causes) fine = (refl, none_holds causes fine)
+none_holds (Some refusal ∷ causes) fine = absurd (cc)
+
+pub past_front : (front rest : List (Option Refusal)) → first_refusal (front ++ rest) ≡ None → first_refusal rest ≡ None
+past_front [] rest fine = fine
+past_front (None ∷ front) rest fine = past_front front rest fine
+past_front (Some refusal ∷ front) rest fine = absurd (cc)
 
 pub past_first : (first : Option Refusal) (rest : List (Option Refusal)) → first_refusal (first ∷ rest) ≡ None
     → first_refusal rest ≡ None
@@ -63,3 +85,26 @@ not_so false why fine = refl
 pub idle_rebuild : (rebuild : Option Rebuild) → if_rebuilding rebuild ≡ None → rebuild ≡ None
 idle_rebuild None fine = refl
 idle_rebuild (Some rebuild) fine = absurd (cc)
+
+pub nothing_left : (n : ℕ) (why : Refusal) → refusal_when (nat_lt 0 n) why ≡ None → n ≡ 0
+nothing_left n why fine = let low = ltb-false 0 n (not_so (nat_lt 0 n) why fine) in omega (arith, low)
+
+-- a capacity that isn't refused as too small has room
+fits_accepted : (kind : Kind) (need caps : Caps) (rest : List (Option Refusal))
+    → first_refusal (if_too_small kind need caps ++ rest) ≡ None → Fits kind need caps
+fits_accepted kind.Cache need caps rest fine = (
+  not_above caps.entries need.entries _ (if_small need.elements caps.elements ∷ rest) fine,
+  not_above caps.elements need.elements _ rest
+      (past_first (if_small need.entries caps.entries) (if_small need.elements caps.elements ∷ rest) fine),
+)
+fits_accepted (kind.List headers locks refs) need caps rest fine = (
+  not_above caps.entries need.entries _ (if_small need.elements caps.elements ∷ rest) fine,
+  not_above caps.elements need.elements _ rest
+      (past_first (if_small need.entries caps.entries) (if_small need.elements caps.elements ∷ rest) fine),
+)
+fits_accepted kind.Lock need caps rest fine = not_above caps.elements need.elements _ rest fine
+
+pub fits_first : (form : StrForm) (shell : Shell) (room : Room) (by : ConnId) (rebuild : Rebuild) → rebuild.fresh ≡ None
+    → first_refusal (unless_copied_to form shell room by (Some rebuild)) ≡ None
+    → Fits form.kind room.need rebuild.caps
+fits_first form shell room by rebuild is fine = fits_accepted form.kind room.need rebuild.caps _ (rw is at fine)
