@@ -1,5 +1,5 @@
 -- The content fits the instance that it is in, and the new one of a rebuild.
-use Rattle.std.proofs.Common.{◌≡◌, ℕ, Bool, true, false, IsTrue, List, [], ◌∷◌, ◌++◌, Option, None, Some, refl, sym, subst, arith}
+use Rattle.std.proofs.Common.{◌≡◌, ℕ, Bool, true, false, IsTrue, List, [], ◌++◌, Option, None, Some, refl, sym, subst, arith}
 use Rattle.std.specs.Prelude.{if◌then◌else◌, is_some}
 use Rattle.cf_types.specs.declared.events.Stage.{Stage}
 use Rattle.cf_types.specs.declared.events.Stage.TheVariants.{Quiesce, Connect, Copy, Cleanup, Stopping}
@@ -17,7 +17,7 @@ use Rattle.engine_api.specs.declared.histories.Entry.{Entry}
 use Rattle.engine_api.specs.declared.shapes.Shape.{Shape}
 use Rattle.engine_api.specs.History.{after_what, replay}
 use Rattle.engine_api.specs.Items.{Fits, IsNoMore, IsNoMoreOf}
-use Rattle.engine_api.specs.Machine.{Machine, departure_from, opening, room_of, with_back_of, with_made}
+use Rattle.engine_api.specs.Machine.{Machine, departure_from, room_of, with_back_of, with_made}
 use Rattle.engine_api.specs.Meaning.{Meaning, unless_refused}
 use Rattle.engine_api.specs.Rebuilds.{fresh_of, is_held_up, is_switch}
 use Rattle.engine_api.specs.Shapes.{shape_of}

@@ -16,15 +16,15 @@ use Rattle.engine_api.specs.Items.{Fits}
 use Rattle.engine_api.specs.Machine.{Machine, items_of, room_of}
 use Rattle.engine_api.specs.Meaning.{Meaning}
 use Rattle.engine_api.specs.Rebuilds.{fresh_of, is_switch}
-use Rattle.engine_api.specs.Shell.{Shell, ShellOutcome, caps_in, emptied, is_drop, mark_outcome, shell_cause}
+use Rattle.engine_api.specs.Shell.{Shell, caps_in, emptied, is_drop, mark_outcome, shell_cause}
 use Rattle.rebuild_core.specs.declared.rebuild.Rebuild.{Rebuild}
-use Rattle.rebuild_core.specs.Stages.{outcome, outcome_of, rebuild_emptied, rebuild_left, rebuild_onward, rebuild_without, with_place, without_owing}
+use Rattle.rebuild_core.specs.Stages.{outcome, outcome_of, rebuild_emptied, rebuild_left, rebuild_without, with_place, without_owing}
 use Rattle.shell_laws.specs.Capacities.{AreFitting, caps_behind, fresh_behind, fresh_caps}
 use Rattle.shell_laws.specs.Members.{HasMembers, IsManned, IsPlaced, Somebody}
 use Rattle.shell_laws.proofs.LossLaws.{loss-cases}
 use Rattle.shell_laws.proofs.MemberLaws.{rebuild_in_it, sound_of}
 use Rattle.shell_laws.proofs.PlaceLaws.{IsRebuild, is-without, no_switch, no_switch_outside, placed-owed, switch_copy, switch_stands}
-use Rattle.shell_laws.proofs.ShellMoves.{Allows, IsSound, Move, Standing, deeds_of, left_by, moved, standing_of}
+use Rattle.shell_laws.proofs.ShellMoves.{Allows, IsSound, Move, Standing, Work, deeds_of, left_by, moved, standing_of}
 use Rattle.shell_laws.proofs.ShellMoves.Move.{Connects, Departs, Forces, Deallocates, Starts, Gives, Places, Stops, Fails}
 use Rattle.shell_laws.proofs.StepLaws.{done, move_by}
 
@@ -244,12 +244,12 @@ module _ {C R I S : Type 0} (meaning : Meaning C R I S) (form : StrForm) (machin
       let s : Standing = standing_of machine.shell in
       let may = is.allows manned.places sound in
       let room : Room = room_of meaning form machine in (
-        ap (λ (s : Standing). s.caps) is.standing
+        ap (λ (w : Work). w.0.caps) is.does
             ∙ caps-move form room s is.move may
-            ∙ ap (caps_behind form machine.shell) (sym is.deeds),
-        ap (λ (s : Standing). fresh_caps s.rebuild) is.standing
+            ∙ ap (λ (w : Work). caps_behind form machine.shell w.1) (sym is.does),
+        ap (λ (w : Work). fresh_caps w.0.rebuild) is.does
             ∙ fresh-move form room s sound is.move may
-            ∙ ap (fresh_behind machine.shell) (sym is.deeds),
+            ∙ ap (λ (w : Work). fresh_behind machine.shell w.1) (sym is.does),
       )
 
   -- the deeds of a command are such as may be done
@@ -259,5 +259,5 @@ module _ {C R I S : Type 0} (meaning : Meaning C R I S) (form : StrForm) (machin
   fitting-command command manned fine =
       let is = move_by meaning form machine by command fine in
       let sound : IsSound (standing_of machine.shell) = sound_of machine.shell manned in
-      subst (λ (deeds : Deeds). AreFitting meaning form machine deeds) (sym is.deeds)
+      subst (λ (w : Work). AreFitting meaning form machine w.1) (sym is.does)
       (fitting-move meaning form machine sound is.move (is.allows manned.places sound))

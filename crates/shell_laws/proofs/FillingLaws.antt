@@ -15,7 +15,7 @@ use Rattle.engine_api.specs.declared.asks.What.{What}
 use Rattle.engine_api.specs.History.{after_what, replay}
 use Rattle.engine_api.specs.Machine.{Machine, content_after, copied_after, items_of, loss_step, room_of, step}
 use Rattle.engine_api.specs.Meaning.{Meaning}
-use Rattle.engine_api.specs.Rebuilds.{is_held_up, is_switch}
+use Rattle.engine_api.specs.Rebuilds.{is_switch}
 use Rattle.engine_api.specs.Shapes.{shape_of}
 use Rattle.engine_api.specs.Shell.{ShellOutcome, content_cause, is_drop, is_restart}
 use Rattle.rebuild_core.specs.declared.rebuild.Rebuild.{Rebuild}
@@ -26,7 +26,7 @@ use Rattle.shell_laws.proofs.LossLaws.{loss-cases}
 use Rattle.shell_laws.proofs.MemberLaws.{content_waits, kept-replay, rebuild_in_it, sound_of}
 use Rattle.shell_laws.proofs.MoveLaws.{Past, kept-call}
 use Rattle.shell_laws.proofs.PlaceLaws.{IsRebuild}
-use Rattle.shell_laws.proofs.ShellMoves.{Allows, IsSound, Move, Standing, copied_of, deeds_of, left_by, moved, standing_of}
+use Rattle.shell_laws.proofs.ShellMoves.{Allows, Move, Standing, copied_of, deeds_of, left_by, moved, standing_of}
 use Rattle.shell_laws.proofs.ShellMoves.Move.{Connects, Departs, Forces, Deallocates, Starts, Gives, Places, Stops, Fails, Copies}
 
 -- a departure in COPY empties the new instance, or drops it with the rebuild

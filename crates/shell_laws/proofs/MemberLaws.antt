@@ -5,7 +5,7 @@ use Rattle.std.specs.Prelude.{fold, is_some, if◌then◌else◌, unwrap_or}
 use Rattle.std.proofs.lemmas.Bool.{both_ways}
 use Rattle.cf_types.specs.declared.limits.TheConstants.{CALLERS}
 use Rattle.cf_types.specs.declared.events.Stage.{Stage}
-use Rattle.cf_types.specs.declared.events.Stage.TheVariants.{Connect, Quiesce, Stopping}
+use Rattle.cf_types.specs.declared.events.Stage.TheVariants.{Quiesce, Stopping}
 use Rattle.cf_types.specs.declared.forms.StrForm.{StrForm}
 use Rattle.cf_types.specs.declared.numbers.CfId.{CfId}
 use Rattle.cf_types.specs.declared.numbers.ConnId.{ConnId}

@@ -13,7 +13,7 @@ use Rattle.engine_api.specs.Machine.{Machine, command_done, content_after, conte
 use Rattle.engine_api.specs.Meaning.{Meaning}
 use Rattle.engine_api.specs.Shell.{Leaver, ShellOutcome, content_cause, loss_outcome, shell_cause}
 use Rattle.shell_laws.specs.Tellings.{Telling}
-use Rattle.shell_laws.proofs.ShellMoves.{Allows, IsSound, Move, Standing, copied_of, deeds_of, leaver_of, moved, standing_of}
+use Rattle.shell_laws.proofs.ShellMoves.{Allows, IsSound, Move, Standing, Work, copied_of, deeds_of, leaver_of, moved, standing_of}
 use Rattle.shell_laws.proofs.StepLaws.{IsMove, move_by, moves-loss}
 
 module _ {C R I S : Type 0} (meaning : Meaning C R I S) (form : StrForm) (P : Standing → S → ℕ → Type 0)
@@ -40,29 +40,9 @@ module _ {C R I S : Type 0} (meaning : Meaning C R I S) (form : StrForm) (P : St
         → IsMove form (room_of meaning form machine) (standing_of machine.shell) enough by who copied told acted
         → Behind who copied acted
     kept enough by who copied told acted places is =
-        subst (λ (p : Standing × S × ℕ). P p.0 p.1 p.2) (sym same) (moves is.move (is.allows places sound))
-      where
-        same : let before : Standing × S × ℕ = (
-              standing_of acted.shell,
-              content_after meaning form (is_some machine.shell.rebuild) acted.deeds
-                  (departure_from meaning form who machine).state,
-              copied_after acted.deeds (machine.copied + copied),
-            ) in
-            let past : Standing × S × ℕ = (
-              moved form is.move (standing_of machine.shell),
-              content_after meaning form (is_some machine.shell.rebuild)
-                  (deeds_of is.move (standing_of machine.shell))
-                  (departure_from meaning form (leaver_of is.move) machine).state,
-              copied_after (deeds_of is.move (standing_of machine.shell))
-                  (machine.copied + copied_of (room_of meaning form machine) is.move),
-            ) in
-            before ≡ past
-        same = λ i. (
-          is.standing i,
-          content_after meaning form (is_some machine.shell.rebuild) (is.deeds i)
-              (departure_from meaning form (is.leaves i) machine).state,
-          copied_after (is.deeds i) (machine.copied + is.copies i),
-        )
+        subst (λ (w : Work). P w.0 (content_after meaning form (is_some machine.shell.rebuild) w.1
+        (departure_from meaning form w.2 machine).state) (copied_after w.1 (machine.copied + w.3))) (sym is.does)
+        (moves is.move (is.allows places sound))
 
     pub kept-mark : (cf : CfId) → let after = (loss_step meaning form machine cf).machine in
         P (standing_of after.shell) after.content after.copied

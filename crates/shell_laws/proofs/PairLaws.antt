@@ -1,5 +1,5 @@
 -- The secondary stands beside a primary, in another facility and in no rebuild.
-use Rattle.std.proofs.Common.{◌≡◌, None, subst, sym}
+use Rattle.std.proofs.Common.{◌≡◌, None, ap, subst, sym}
 use Rattle.cf_types.specs.declared.forms.StrForm.{StrForm}
 use Rattle.cf_types.specs.declared.numbers.ConnId.{ConnId}
 use Rattle.cf_types.specs.declared.shell_commands.ShellCmd.{ShellCmd}
@@ -8,7 +8,7 @@ use Rattle.engine_api.specs.Meaning.{Meaning}
 use Rattle.engine_api.specs.Shell.{Shell, shell_cause}
 use Rattle.shell_laws.specs.Members.{IsManned, IsPaired}
 use Rattle.shell_laws.proofs.MemberLaws.{sound-move, sound_of}
-use Rattle.shell_laws.proofs.ShellMoves.{IsSound, standing_of}
+use Rattle.shell_laws.proofs.ShellMoves.{IsSound, Work, standing_of}
 use Rattle.shell_laws.proofs.StepLaws.{done, move_by}
 
 -- they stand so behind what has changed, where they did before
@@ -27,7 +27,7 @@ module _ {C R I S : Type 0} (meaning : Meaning C R I S) (form : StrForm) (machin
       let is = move_by meaning form machine by command fine in
       let sound : IsSound (standing_of machine.shell) = sound_of machine.shell manned in
       let behind : IsSound (standing_of (done meaning form machine by command).shell) =
-      subst IsSound (sym is.standing)
+      subst IsSound (sym (ap (λ (w : Work). w.0) is.does))
       (sound-move form (room_of meaning form machine) (standing_of machine.shell) sound is.move
       (is.allows manned.places sound)) in
       record { primary = behind.paired.primary; apart = behind.paired.apart; rebuild = behind.paired.idle }

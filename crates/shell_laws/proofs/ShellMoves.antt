@@ -13,7 +13,7 @@ use Rattle.engine_api.specs.declared.deeds.Room.{Room}
 use Rattle.engine_api.specs.Instances.{Instances, no_instance}
 use Rattle.engine_api.specs.Items.{Fits}
 use Rattle.engine_api.specs.Rebuilds.{is_copy, is_switch}
-use Rattle.engine_api.specs.Shell.{Leaver, Shell, emptied, is_connect, is_drop, is_restart, no_deeds, with_primary}
+use Rattle.engine_api.specs.Shell.{Leaver, Shell, ShellOutcome, emptied, is_connect, is_drop, is_restart, no_deeds, with_primary}
 use Rattle.rebuild_core.specs.declared.rebuild.Rebuild.{Rebuild}
 use Rattle.rebuild_core.specs.Stages.{new_rebuild, outcome_of, rebuild_in, rebuild_onward, with_place, without_owing}
 use Rattle.shell_laws.specs.Filling.{IsFilling}
@@ -136,6 +136,16 @@ leaver_of _ = None
 abbrev pub copied_of : Room → Move → ℕ
 copied_of room (Copies n) = min n room.left
 copied_of room _ = 0
+
+-- what stands behind it, what is done, who leaves before it, and how many items are copied
+abbrev pub Work : Type 0
+Work = Standing × Deeds × Option Leaver × ℕ
+
+abbrev pub work_of : StrForm → Room → Standing → Move → Work
+work_of form room s move = (moved form move s, deeds_of move s, leaver_of move, copied_of room move)
+
+abbrev pub work_by : Option Leaver → ℕ → ShellOutcome → Work
+work_by who copied acted = (standing_of acted.shell, acted.deeds, who, copied)
 
 -- ---- what is true between two calls, as specs/Members says it of a shell
 

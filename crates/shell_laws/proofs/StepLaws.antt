@@ -32,28 +32,25 @@ use Rattle.engine_api.specs.declared.deeds.Room.{Room}
 use Rattle.engine_api.specs.Instances.{Instances, is_at, no_instance, place_for, units_of}
 use Rattle.engine_api.specs.Machine.{Machine, CallOutcome, call_done, command_done, content_done, departure_from, loss_step, moved_by, room_of, step, unless}
 use Rattle.engine_api.specs.Meaning.{Meaning, first_refusal}
-use Rattle.engine_api.specs.Rebuilds.{is_copy, is_switch}
-use Rattle.engine_api.specs.Shell.{Leaver, Shell, ShellOutcome, call_cause, can_stop, candidates, complete_outcome, conns_answered, content_cause, departing_shell, departure_outcome, emptied, facility_of, fresh_made, given_outcome, goes, idle_outcome, if_connected, if_failed, if_rebuilding, if_severed, if_too_many, if_too_small, is_connect, is_drop, is_empty, is_kept, is_operator, is_restart, leaver, loss_outcome, made_at, no_deeds, rebuild_connect_outcome, refusal_when, responded, response_outcome, shell_cause, shell_causes, shell_done, shell_without, simplex_again, stop_outcome, take_event, unless_active, unless_copied_to, unless_failed, unless_in, unless_owed, unless_reached, unless_rebuilding, unless_somebody, vary_outcome, with_off, with_posted}
+use Rattle.engine_api.specs.Rebuilds.{is_copy}
+use Rattle.engine_api.specs.Shell.{Leaver, Shell, ShellOutcome, call_cause, can_stop, candidates, complete_outcome, conns_answered, content_cause, departure_outcome, emptied, facility_of, fresh_made, given_outcome, goes, idle_outcome, if_connected, if_failed, if_rebuilding, if_severed, if_too_many, if_too_small, is_connect, is_drop, is_empty, is_kept, is_operator, is_restart, leaver, loss_outcome, made_at, no_deeds, rebuild_connect_outcome, refusal_when, responded, response_outcome, shell_cause, shell_causes, shell_done, shell_without, simplex_again, stop_outcome, take_event, unless_active, unless_copied_to, unless_failed, unless_in, unless_owed, unless_reached, unless_rebuilding, vary_outcome, with_off, with_posted}
 use Rattle.rebuild_core.specs.declared.rebuild.Rebuild.{Rebuild}
-use Rattle.rebuild_core.specs.Stages.{is_response, rebuild_onward, rebuild_without, with_place, without_owing}
+use Rattle.rebuild_core.specs.Stages.{is_response, rebuild_onward, rebuild_without, without_owing}
 use Rattle.shell_laws.specs.Members.{HasPlace, IsPlaced, Somebody}
 use Rattle.shell_laws.specs.Steps.{IsEarly, IsInStage, MayBeTold, rebuild_next}
-use Rattle.shell_laws.specs.Tellings.{Telling, is_awaited, mark_telling, telling, telling_of}
+use Rattle.shell_laws.specs.Tellings.{Telling, mark_telling, telling, telling_of}
 use Rattle.shell_laws.specs.Tellings.Telling.{Completes, Nothing, Responds}
 use Rattle.shell_laws.proofs.CauseLaws.{NoneHolds, fits_first, idle_rebuild, none_holds, not_so, nothing_left, past_front}
 use Rattle.shell_laws.proofs.LossLaws.{loss-cases}
 use Rattle.shell_laws.proofs.PlaceLaws.{made_apart, no_switch, nobody_active, placed_for, primary-connect}
-use Rattle.shell_laws.proofs.ShellMoves.{Allows, IsSound, MayConnect, MayPlace, MayStart, Move, Standing, copied_of, deeds_of, gone_if, gone_on, leaver_of, left_by, moved, standing_of, switched_if}
+use Rattle.shell_laws.proofs.ShellMoves.{Allows, IsSound, MayPlace, Move, Standing, Work, copied_of, deeds_of, gone_if, gone_on, leaver_of, left_by, moved, standing_of, switched_if, work_by, work_of}
 
 -- an outcome is what a move makes of what stood, and what came before it is what comes before the move; what is told is
 -- what becomes of the rebuild, and may be told; and the move is allowed
 pub record IsMove (form : StrForm) (room : Room) (s : Standing) (places : Type 0) (by : ConnId) (who : Option Leaver)
     (copied : ℕ) (told : Telling) (acted : ShellOutcome) : Type 0 where
   pub move : Move
-  pub standing : standing_of acted.shell ≡ moved form move s
-  pub deeds : acted.deeds ≡ deeds_of move s
-  pub leaves : who ≡ leaver_of move
-  pub copies : copied ≡ copied_of room move
+  pub does : work_by who copied acted ≡ work_of form room s move
   pub tells : (moved form move s).rebuild ≡ rebuild_next s.active by told s.rebuild
   pub may : places → HasPlace s.rebuild → MayBeTold s.active told s.rebuild
   pub allows : places → IsSound s → Allows form room s move
@@ -211,23 +208,22 @@ unfailed_with s sound has none stands = go s.failed refl
 -- ---- what changes nothing, and what is lost
 
 module _ (form : StrForm) (room : Room) (s : Standing) (places : Type 0) (by : ConnId) where
-  quiet : (told : Telling) (acted : ShellOutcome) → standing_of acted.shell ≡ s → acted.deeds ≡ no_deeds
-      → s.rebuild ≡ rebuild_next s.active by told s.rebuild → MayBeTold s.active told s.rebuild
-      → IsMove form room s places by None 0 told acted
-  quiet told acted same deeds tells may = record {
-    move = Move.Quiet;
-    standing = same;
-    deeds = deeds;
-    leaves = refl;
-    copies = refl;
-    tells = tells;
-    may = λ places placed. may;
-    allows = λ places sound. tt;
+  -- the entry tells nothing of a rebuild
+  unheard : (move : Move) (who : Option Leaver) (copied : ℕ) (acted : ShellOutcome)
+      → work_by who copied acted ≡ work_of form room s move → (moved form move s).rebuild ≡ s.rebuild
+      → (places → IsSound s → Allows form room s move) → IsMove form room s places by who copied Nothing acted
+  unheard move who copied acted does same allows = record {
+    move = move;
+    does = does;
+    tells = same ∙ nothing_told s.active by s.rebuild;
+    may = λ places placed. tt;
+    allows = allows;
   }
 
   dull : (acted : ShellOutcome) → standing_of acted.shell ≡ s → acted.deeds ≡ no_deeds
       → IsMove form room s places by None 0 Nothing acted
-  dull acted same deeds = quiet Nothing acted same deeds (nothing_told s.active by s.rebuild) tt
+  dull acted same deeds =
+      unheard Move.Quiet None 0 acted (λ i. (same i, deeds i, None, 0)) refl (λ places sound. tt)
 
 pub moves-loss : (form : StrForm) (room : Room) (shell : Shell) (places : Type 0) (by : ConnId) (cf : CfId)
     → let acted = loss_outcome form cf shell in
@@ -236,23 +232,17 @@ moves-loss form room shell places by cf =
     let s : Standing = standing_of shell in
     loss-cases form cf shell (λ acted. IsMove form room s places by None 0 (mark_telling acted.reply) acted) (record {
       none = dull form room s places by (idle_outcome shown.OkNone shell) refl refl;
-      simplex = λ left lost. record {
-        move = Move.Simplexes cf (Some left);
-        standing = refl;
-        deeds = refl;
-        leaves = refl;
-        copies = refl;
-        tells = nothing_told s.active by s.rebuild;
-        may = λ places placed. tt;
-        allows = λ places sound.
-            (refl, unfailed_with s sound (λ i. is_at cf i.primary || is_at cf i.secondary) refl lost);
-      };
+      simplex = λ left lost.
+          unheard form room s places by (Move.Simplexes cf (Some left)) None 0 _ refl refl
+          (λ places sound. (refl, unfailed_with s sound (λ i. is_at cf i.primary || is_at cf i.secondary) refl lost));
       stops = λ rebuild is there. record {
         move = Move.Stops rebuild;
-        standing = refl;
-        deeds = ap (λ (b : Bool). record no_deeds { drop_fresh = b }) (at_some cf rebuild.fresh there);
-        leaves = refl;
-        copies = refl;
+        does = λ i. (
+          moved form (Move.Stops rebuild) s,
+          record no_deeds { drop_fresh = at_some cf rebuild.fresh there i },
+          None,
+          0,
+        );
         tells = rw is refl;
         may = λ places placed.
             subst (IsInStage IsEarly) (sym is)
@@ -262,10 +252,7 @@ moves-loss form room shell places by cf =
       };
       fails = record {
         move = Move.Fails;
-        standing = refl;
-        deeds = refl;
-        leaves = refl;
-        copies = refl;
+        does = refl;
         tells = fails_told s.active by s.rebuild;
         may = λ places placed. tt;
         allows = λ places sound. tt;
@@ -313,41 +300,36 @@ module _ (form : StrForm) (room : Room) (judged : Shell) (letters : List Letter)
   moves_connect : (keep : Bool) → IsTaken (cmd.Connect keep)
       → Moves (cmd.Connect keep) (shell_done form room shell by (cmd.Connect keep))
   moves_connect keep fine =
-      let none = none (cmd.Connect keep) fine in record {
-        move = Move.Connects (actives (with_connect by keep judged.conns)) (made_at form judged by)
-            (if is_some (state_of judged.conns by) then Some by else None);
-        standing = refl;
-        deeds = refl;
-        leaves = refl;
-        copies = refl;
-        tells = nothing_told s.active by s.rebuild;
-        may = λ places placed. tt;
-        allows = λ places sound. record {
-          idle = idle_rebuild judged.rebuild none.1.1.0;
-          unfailed = unfailed none.0;
-          stands =
-              primary-connect judged.instances.primary (units_of judged.caps) (candidates form judged by)
-              (if_severed judged by judged.instances.primary ∷ if_severed judged by judged.instances.secondary ∷ [])
-              judged.instances refl
-              (past_front (if_failed judged ∷ if_connected (state_of judged.conns by)
-              ∷ if_rebuilding judged.rebuild ∷ if_too_many form judged by ∷ []) (unless_reached form judged by) fine);
-          kept = none_made judged.instances.primary _;
-        };
-      }
+      let none = none (cmd.Connect keep) fine in
+      unheard form room s HasPlaces by (Move.Connects (actives (with_connect by keep judged.conns))
+      (made_at form judged by) (if is_some (state_of judged.conns by) then Some by else None)) None 0 _ refl refl
+      (λ places sound. record {
+        idle = idle_rebuild judged.rebuild none.1.1.0;
+        unfailed = unfailed none.0;
+        stands =
+            primary-connect judged.instances.primary (units_of judged.caps) (candidates form judged by)
+            (if_severed judged by judged.instances.primary ∷ if_severed judged by judged.instances.secondary ∷ [])
+            judged.instances refl
+            (past_front (if_failed judged ∷ if_connected (state_of judged.conns by)
+            ∷ if_rebuilding judged.rebuild ∷ if_too_many form judged by ∷ []) (unless_reached form judged by) fine);
+        kept = none_made judged.instances.primary _;
+      })
 
   moves_departure : (keep : Bool) → unless_active judged by ≡ None
       → IsMove form room s HasPlaces by (Some (record { conn = by; keep = keep })) 0 Telling.Departs
       (departure_outcome form shell by keep)
   moves_departure keep fine = record {
     move = Move.Departs (record { conn = by; keep = keep }) (goes form conns);
-    standing = λ i. gone_if (goes form conns) form (record (left i) { active = active i });
-    deeds = λ i. record no_deeds {
-      restart = is_restart judged.rebuild (left i).rebuild;
-      drop_fresh = is_drop judged.rebuild (left i).rebuild;
-      drop_all = goes form conns;
-    };
-    leaves = refl;
-    copies = refl;
+    does = λ i. (
+      gone_if (goes form conns) form (record (left i) { active = active i }),
+      record no_deeds {
+        restart = is_restart judged.rebuild (left i).rebuild;
+        drop_fresh = is_drop judged.rebuild (left i).rebuild;
+        drop_all = goes form conns;
+      },
+      Some (record { conn = by; keep = keep }),
+      0,
+    );
     tells = refl;
     may = λ places placed. tt;
     allows = λ places sound gone. sym active ∙ none_behind form conns gone;
@@ -378,10 +360,12 @@ module _ (form : StrForm) (room : Room) (judged : Shell) (letters : List Letter)
       → IsMove form room s HasPlaces by None 0 told (given_outcome answer by rebuild noted)
   moves_given told answer rebuild noted same is tells may elsewhere filled = record {
     move = Move.Gives rebuild by;
-    standing = ap (gone_on (without_owing by rebuild)) same;
-    deeds = refl;
-    leaves = refl;
-    copies = refl;
+    does = λ i. (
+      gone_on (without_owing by rebuild) (same i),
+      deeds_of (Move.Gives rebuild by) s,
+      None,
+      0,
+    );
     tells = tells ∙ ap (rebuild_next s.active by told) (sym is);
     may = λ places placed. may;
     allows = λ places sound. record { is = is; elsewhere = elsewhere; filled = filled };
@@ -396,16 +380,27 @@ module _ (form : StrForm) (room : Room) (judged : Shell) (letters : List Letter)
       }) (ap (λ (active : List ConnId). record s { active = active })
       (actives-answering by answered judged.conns)) refl
     where
+      unawaited : (rebuild : Option Rebuild) (noted : Shell) → standing_of noted ≡ s → judged.rebuild ≡ rebuild
+          → rebuild ≡ rebuild_next s.active by (Responds answered) rebuild
+          → Moves cmd.Respond (record { reply = shown.Responded answered; shell = noted; deeds = no_deeds })
+      unawaited rebuild noted same is tells = record {
+        move = Move.Quiet;
+        does = λ i. (same i, no_deeds, None, 0);
+        tells = rw is tells;
+        may = λ places placed. tt;
+        allows = λ places sound. tt;
+      }
+
       by_rebuild : (rebuild : Option Rebuild) (noted : Shell) → standing_of noted ≡ s → judged.rebuild ≡ rebuild
           → Moves cmd.Respond (responded by answered rebuild noted)
       by_rebuild None noted same is =
-          quiet form room s HasPlaces by (Responds answered) _ same refl (rw is refl) tt
+          unawaited None noted same is refl
       by_rebuild (Some rebuild) noted same is = go (is_response rebuild.stage rebuild.number answered) refl
         where
           go : (b : Bool) → is_response rebuild.stage rebuild.number answered ≡ b → Moves cmd.Respond (if b
               then given_outcome (shown.Responded answered) by rebuild noted
               else record { reply = shown.Responded answered; shell = noted; deeds = no_deeds })
-          go false late = quiet form room s HasPlaces by (Responds answered) _ same refl (rw (is, late) refl) tt
+          go false late = unawaited (Some rebuild) noted same is (rw late refl)
           go true awaited =
               let elsewhere = response_elsewhere rebuild.stage rebuild.number answered awaited in
               moves_given (Responds answered) (shown.Responded answered) rebuild noted same is (rw awaited refl) tt
@@ -416,10 +411,7 @@ module _ (form : StrForm) (room : Room) (judged : Shell) (letters : List Letter)
   moves_start caps fine =
       let none = none (cmd.RebuildStart caps) fine in record {
         move = Move.Starts _ caps;
-        standing = refl;
-        deeds = refl;
-        leaves = refl;
-        copies = refl;
+        does = refl;
         tells = refl;
         may = λ places placed. some places (is_operator by) none.0;
         allows = λ places sound. record {
@@ -440,10 +432,7 @@ module _ (form : StrForm) (room : Room) (judged : Shell) (letters : List Letter)
   moves_stop None is fine = absurd (let wrong = rw is at ((none cmd.RebuildStop fine).1.1.0) in cc)
   moves_stop (Some rebuild) is fine = record {
     move = Move.Stops rebuild;
-    standing = refl;
-    deeds = refl;
-    leaves = refl;
-    copies = refl;
+    does = refl;
     tells = rw is refl;
     may = λ places placed.
         subst (IsInStage IsEarly) (sym is)
@@ -480,10 +469,7 @@ module _ (form : StrForm) (room : Room) (judged : Shell) (letters : List Letter)
   moves_place (Some rebuild) is fine =
       let made = fresh_made form judged by rebuild in record {
         move = Move.Places rebuild by (unwrap_or rebuild.fresh (facility_of made)) made;
-        standing = refl;
-        deeds = refl;
-        leaves = refl;
-        copies = refl;
+        does = refl;
         tells = rw (is, connect_stage form room judged by rebuild rebuild.stage is refl fine) refl;
         may = λ places placed. rw is (connect_stage form room judged by rebuild rebuild.stage is refl fine);
         allows = may_place rebuild is fine;
@@ -492,17 +478,9 @@ module _ (form : StrForm) (room : Room) (judged : Shell) (letters : List Letter)
   moves_copy : (n : ℕ) (rebuild : Option Rebuild) → judged.rebuild ≡ rebuild → IsTaken (cmd.Copy n)
       → Moves (cmd.Copy n) (shell_done form room shell by (cmd.Copy n))
   moves_copy n None is fine = absurd (let wrong = rw is at ((none (cmd.Copy n) fine).1.1.1.0) in cc)
-  moves_copy n (Some rebuild) is fine = record {
-    move = Move.Copies n;
-    standing = refl;
-    deeds = refl;
-    leaves = refl;
-    copies = refl;
-    tells = nothing_told s.active by s.rebuild;
-    may = λ places placed. tt;
-    allows = λ places sound.
-        rw is (copy, rw copy at (subst HasPlace is sound.placed));
-  }
+  moves_copy n (Some rebuild) is fine =
+      unheard form room s HasPlaces by (Move.Copies n) None _ _ refl refl
+      (λ places sound. rw is (copy, rw copy at (subst HasPlace is sound.placed)))
     where
       copy : rebuild.stage ≡ stage.Copy
       copy =
@@ -524,11 +502,12 @@ module _ (form : StrForm) (room : Room) (judged : Shell) (letters : List Letter)
       → Moves (cmd.ForceConn other) (shell_done form room shell by (cmd.ForceConn other))
   moves_forced other fine = record {
     move = Move.Forces other (goes form conns);
-    standing = ap (λ (active : List ConnId).
-        gone_if (goes form conns) form (record s { active = active; rebuild = emptied judged.rebuild })) active;
-    deeds = refl;
-    leaves = refl;
-    copies = refl;
+    does = λ i. (
+      gone_if (goes form conns) form (record s { active = active i; rebuild = emptied judged.rebuild }),
+      deeds_of (Move.Forces other (goes form conns)) s,
+      Some (record { conn = other; keep = false }),
+      0,
+    );
     tells = forces_told s.active by s.rebuild;
     may = λ places placed. tt;
     allows = λ places sound gone. sym active ∙ none_behind form conns gone;
@@ -543,17 +522,10 @@ module _ (form : StrForm) (room : Room) (judged : Shell) (letters : List Letter)
           (idle_failed (state_of judged.conns other) (none (cmd.ForceConn other) fine).0)
 
   moves_structure : IsTaken cmd.ForceStr → Moves cmd.ForceStr (shell_done form room shell by cmd.ForceStr)
-  moves_structure fine = record {
-    move = Move.Deallocates;
-    standing = refl;
-    deeds = refl;
-    leaves = refl;
-    copies = refl;
-    tells = nothing_told s.active by s.rebuild;
-    may = λ places placed. tt;
-    allows = λ places sound.
-        none_active judged.conns (nothing_left (defined_count judged.conns) _ (none cmd.ForceStr fine).0);
-  }
+  moves_structure fine =
+      unheard form room s HasPlaces by Move.Deallocates None 0 _ refl refl
+      (λ places sound. none_active judged.conns
+      (nothing_left (defined_count judged.conns) _ (none cmd.ForceStr fine).0))
 
   moves_vary : (cf : CfId) (off : Bool) → Moves (cmd.Vary cf off) (vary_outcome form cf off shell)
   moves_vary cf true = moves-loss form room (with_off cf true shell) HasPlaces by cf
@@ -561,24 +533,16 @@ module _ (form : StrForm) (room : Room) (judged : Shell) (letters : List Letter)
 
   moves_duplex : IsTaken cmd.DuplexStart → Moves cmd.DuplexStart (shell_done form room shell by cmd.DuplexStart)
   moves_duplex fine =
-      let none = none cmd.DuplexStart fine in record {
-        move = Move.Duplexes (facility_of place);
-        standing = refl;
-        deeds = refl;
-        leaves = refl;
-        copies = refl;
-        tells = nothing_told s.active by s.rebuild;
-        may = λ places placed. tt;
-        allows = λ places sound. record {
-          idle = idle_rebuild judged.rebuild none.1.0;
-          unfailed = unfailed none.0;
-          primary = stands_of judged.instances.primary refusal.NotAllocated none.1.1.1.0;
-          apart = λ one stands.
-              made_apart form judged by one _ stands
-              (facility_is place (placed_for (units_of judged.caps) (candidates form judged by)
-              (rw none.1.1.1.1.0 refl)));
-        };
-      }
+      let none = none cmd.DuplexStart fine in
+      unheard form room s HasPlaces by (Move.Duplexes (facility_of place)) None 0 _ refl refl (λ places sound. record {
+        idle = idle_rebuild judged.rebuild none.1.0;
+        unfailed = unfailed none.0;
+        primary = stands_of judged.instances.primary refusal.NotAllocated none.1.1.1.0;
+        apart = λ one stands.
+            made_apart form judged by one _ stands
+            (facility_is place (placed_for (units_of judged.caps) (candidates form judged by)
+            (rw none.1.1.1.1.0 refl)));
+      })
     where
       place : Option CfId
       place = place_for (units_of judged.caps) (candidates form judged by)
@@ -586,18 +550,11 @@ module _ (form : StrForm) (room : Room) (judged : Shell) (letters : List Letter)
   moves_simplex : (second : Option CfId) → judged.instances.secondary ≡ second
       → Moves cmd.DuplexStop (simplex_again second shell)
   moves_simplex None is = dull form room s HasPlaces by _ refl refl
-  moves_simplex (Some cf) is = record {
-    move = Move.Simplexes cf judged.instances.primary;
-    standing = refl;
-    deeds = refl;
-    leaves = refl;
-    copies = refl;
-    tells = nothing_told s.active by s.rebuild;
-    may = λ places placed. tt;
-    allows = λ places sound.
-        let stands : is_some judged.instances.secondary ≡ true = rw is refl in
-        (sound.paired.primary stands, unfailed_with s sound (λ i. is_some i.secondary) refl stands);
-  }
+  moves_simplex (Some cf) is =
+      unheard form room s HasPlaces by (Move.Simplexes cf judged.instances.primary) None 0 _ refl refl
+      (λ places sound.
+      let stands : is_some judged.instances.secondary ≡ true = rw is refl in
+      (sound.paired.primary stands, unfailed_with s sound (λ i. is_some i.secondary) refl stands))
 
   pub moves-command : (command : ShellCmd) → IsTaken command → Moves command (shell_done form room shell by command)
   moves-command (cmd.Connect keep) fine = moves_connect keep fine
@@ -644,7 +601,7 @@ module _ {C R I S : Type 0} (meaning : Meaning C R I S) (form : StrForm) (machin
       → (done command).shell.rebuild
       ≡ rebuild_next active by (telling command (done command).reply) machine.shell.rebuild
   tells_command command fine =
-      let is = move_by command fine in ap (λ (s : Standing). s.rebuild) is.standing ∙ is.tells
+      let is = move_by command fine in ap (λ (w : Work). w.0.rebuild) is.does ∙ is.tells
 
   -- what a call does, but that it has come
   abbrev pub called : Ask C → CallOutcome R S
@@ -696,7 +653,7 @@ module _ {C R I S : Type 0} (meaning : Meaning C R I S) (form : StrForm) (machin
       ≡ rebuild_next active by (marked cf) machine.shell.rebuild
   rebuild-loss cf =
       let is = moves-loss form room machine.shell (Unit {0}) by cf in
-      ap (λ (s : Standing). s.rebuild) is.standing ∙ is.tells
+      ap (λ (w : Work). w.0.rebuild) is.does ∙ is.tells
 
   pub may-loss : HasPlace machine.shell.rebuild → (cf : CfId) → MayBeTold active (marked cf) machine.shell.rebuild
   may-loss placed cf = (moves-loss form room machine.shell (Unit {0}) by cf).may tt placed
