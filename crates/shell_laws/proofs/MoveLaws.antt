@@ -1,6 +1,6 @@
 -- A law of what stands, of the content and of the items copied: what each move and each command on the content keeps,
 -- calls and marks keep.
-use Rattle.std.proofs.Common.{◌≡◌, ℕ, ◌+◌, length, Option, None, Some, refl, sym, subst, arith}
+use Rattle.std.proofs.Common.{◌≡◌, ℕ, ◌+◌, Bool, false, length, Option, None, Some, refl, sym, subst, arith}
 use Rattle.std.specs.Prelude.{is_some}
 use Rattle.cf_types.specs.declared.limits.TheConstants.{CALLERS}
 use Rattle.cf_types.specs.declared.forms.StrForm.{StrForm}
@@ -35,11 +35,11 @@ module _ {C R I S : Type 0} (meaning : Meaning C R I S) (form : StrForm) (P : St
   module _ (places : length machine.shell.conns ≡ CALLERS) (sound : IsSound (standing_of machine.shell))
       (moves : (move : Move) → Allows form (room_of meaning form machine) (standing_of machine.shell) move → Past move)
       where
-    kept : (enough : Type 0) (by : ConnId) (who : Option Leaver) (copied : ℕ) (told : Telling) (acted : ShellOutcome)
+    kept : (enough : Type 0) (by : ConnId) (connects : Bool) (who : Option Leaver) (copied : ℕ) (told : Telling) (acted : ShellOutcome)
         → enough
-        → IsMove form (room_of meaning form machine) (standing_of machine.shell) enough by who copied told acted
+        → IsMove form (room_of meaning form machine) (standing_of machine.shell) enough by connects who copied told acted
         → Behind who copied acted
-    kept enough by who copied told acted places is =
+    kept enough by connects who copied told acted places is =
         subst (λ (w : Work). P w.0 (content_after meaning form (is_some machine.shell.rebuild) w.1
         (departure_from meaning form w.2 machine).state) (copied_after w.1 (machine.copied + w.3))) (sym is.does)
         (moves is.move (is.allows places sound))
@@ -52,7 +52,7 @@ module _ {C R I S : Type 0} (meaning : Meaning C R I S) (form : StrForm) (P : St
         subst (λ (n : ℕ). P (standing_of acted.shell)
         (content_after meaning form (is_some machine.shell.rebuild) acted.deeds machine.content)
         (copied_after acted.deeds n)) none
-        (kept (Unit {0}) (record { 0 = 0 }) None 0 _ acted tt
+        (kept (Unit {0}) (record { 0 = 0 }) false None 0 _ acted tt
         (moves-loss form (room_of meaning form machine) machine.shell (Unit {0}) (record { 0 = 0 }) cf))
 
     pub kept-call : P (standing_of machine.shell) machine.content machine.copied
@@ -69,7 +69,7 @@ module _ {C R I S : Type 0} (meaning : Meaning C R I S) (form : StrForm) (P : St
             P (standing_of after.shell) after.content after.copied
         go (Some refusal) is = keeps
         go None is =
-            kept (length machine.shell.conns ≡ CALLERS) by _ _ _ _ places (move_by meaning form machine by command is)
+            kept (length machine.shell.conns ≡ CALLERS) by _ _ _ _ _ places (move_by meaning form machine by command is)
     kept-call keeps contents by (ask.Content command) = go (content_cause machine.shell by) refl
       where
         go : (cause : Option Refusal) → content_cause machine.shell by ≡ cause

@@ -214,3 +214,10 @@ Allows form room s (Simplexes lost left) = (is_some left ≡ true) × (s.failed 
 Allows form room s Fails = Unit {0}
 Allows form room s (Duplexes at) = MayDuplex s at
 Allows form room s (Copies n) = IsFilling s.rebuild
+
+-- and what is known of it in any case: a connector connects with CONNECT alone, and only a rebuild's new instance is made
+-- by other commands
+abbrev pub IsKnown : (connects : Bool) → Move → Standing → Type 0
+IsKnown connects (Connects active made back) s = connects ≡ true
+IsKnown connects (Places rebuild who at made) s = s.rebuild ≡ Some rebuild
+IsKnown connects _ s = Unit {0}

@@ -43,14 +43,15 @@ use Rattle.shell_laws.specs.Tellings.Telling.{Completes, Nothing, Responds}
 use Rattle.shell_laws.proofs.CauseLaws.{NoneHolds, fits_first, idle_rebuild, none_holds, not_so, nothing_left, past_front}
 use Rattle.shell_laws.proofs.LossLaws.{loss-cases}
 use Rattle.shell_laws.proofs.PlaceLaws.{made_apart, no_switch, nobody_active, placed_for, primary-connect}
-use Rattle.shell_laws.proofs.ShellMoves.{Allows, IsSound, MayPlace, Move, Standing, Work, copied_of, deeds_of, gone_if, gone_on, leaver_of, left_by, moved, standing_of, switched_if, work_by, work_of}
+use Rattle.shell_laws.proofs.ShellMoves.{Allows, IsKnown, IsSound, MayPlace, Move, Standing, Work, copied_of, deeds_of, gone_if, gone_on, leaver_of, left_by, moved, standing_of, switched_if, work_by, work_of}
 
 -- an outcome is what a move makes of what stood, and what came before it is what comes before the move; what is told is
 -- what becomes of the rebuild, and may be told; and the move is allowed
-pub record IsMove (form : StrForm) (room : Room) (s : Standing) (places : Type 0) (by : ConnId) (who : Option Leaver)
-    (copied : ℕ) (told : Telling) (acted : ShellOutcome) : Type 0 where
+pub record IsMove (form : StrForm) (room : Room) (s : Standing) (places : Type 0) (by : ConnId) (connects : Bool)
+    (who : Option Leaver) (copied : ℕ) (told : Telling) (acted : ShellOutcome) : Type 0 where
   pub move : Move
   pub does : work_by who copied acted ≡ work_of form room s move
+  pub known : IsKnown connects move s
   pub tells : (moved form move s).rebuild ≡ rebuild_next s.active by told s.rebuild
   pub may : places → HasPlace s.rebuild → MayBeTold s.active told s.rebuild
   pub allows : places → IsSound s → Allows form room s move
@@ -207,33 +208,40 @@ unfailed_with s sound has none stands = go s.failed refl
 
 -- ---- what changes nothing, and what is lost
 
-module _ (form : StrForm) (room : Room) (s : Standing) (places : Type 0) (by : ConnId) where
+abbrev pub is_connection : ShellCmd → Bool
+is_connection (cmd.Connect keep) = true
+is_connection _ = false
+
+module _ (form : StrForm) (room : Room) (s : Standing) (places : Type 0) (by : ConnId) (connects : Bool)
+    where
   -- the entry tells nothing of a rebuild
   unheard : (move : Move) (who : Option Leaver) (copied : ℕ) (acted : ShellOutcome)
       → work_by who copied acted ≡ work_of form room s move → (moved form move s).rebuild ≡ s.rebuild
-      → (places → IsSound s → Allows form room s move) → IsMove form room s places by who copied Nothing acted
-  unheard move who copied acted does same allows = record {
+      → IsKnown connects move s → (places → IsSound s → Allows form room s move)
+      → IsMove form room s places by connects who copied Nothing acted
+  unheard move who copied acted does same known allows = record {
     move = move;
     does = does;
+    known = known;
     tells = same ∙ nothing_told s.active by s.rebuild;
     may = λ places placed. tt;
     allows = allows;
   }
 
   dull : (acted : ShellOutcome) → standing_of acted.shell ≡ s → acted.deeds ≡ no_deeds
-      → IsMove form room s places by None 0 Nothing acted
+      → IsMove form room s places by connects None 0 Nothing acted
   dull acted same deeds =
-      unheard Move.Quiet None 0 acted (λ i. (same i, deeds i, None, 0)) refl (λ places sound. tt)
+      unheard Move.Quiet None 0 acted (λ i. (same i, deeds i, None, 0)) refl tt (λ places sound. tt)
 
 pub moves-loss : (form : StrForm) (room : Room) (shell : Shell) (places : Type 0) (by : ConnId) (cf : CfId)
     → let acted = loss_outcome form cf shell in
-    IsMove form room (standing_of shell) places by None 0 (mark_telling acted.reply) acted
+    IsMove form room (standing_of shell) places by false None 0 (mark_telling acted.reply) acted
 moves-loss form room shell places by cf =
     let s : Standing = standing_of shell in
-    loss-cases form cf shell (λ acted. IsMove form room s places by None 0 (mark_telling acted.reply) acted) (record {
-      none = dull form room s places by (idle_outcome shown.OkNone shell) refl refl;
+    loss-cases form cf shell (λ acted. IsMove form room s places by false None 0 (mark_telling acted.reply) acted) (record {
+      none = dull form room s places by false (idle_outcome shown.OkNone shell) refl refl;
       simplex = λ left lost.
-          unheard form room s places by (Move.Simplexes cf (Some left)) None 0 _ refl refl
+          unheard form room s places by false (Move.Simplexes cf (Some left)) None 0 _ refl refl tt
           (λ places sound. (refl, unfailed_with s sound (λ i. is_at cf i.primary || is_at cf i.secondary) refl lost));
       stops = λ rebuild is there. record {
         move = Move.Stops rebuild;
@@ -243,6 +251,7 @@ moves-loss form room shell places by cf =
           None,
           0,
         );
+        known = tt;
         tells = rw is refl;
         may = λ places placed.
             subst (IsInStage IsEarly) (sym is)
@@ -253,6 +262,7 @@ moves-loss form room shell places by cf =
       fails = record {
         move = Move.Fails;
         does = refl;
+        known = tt;
         tells = fails_told s.active by s.rebuild;
         may = λ places placed. tt;
         allows = λ places sound. tt;
@@ -280,7 +290,7 @@ module _ (form : StrForm) (room : Room) (judged : Shell) (letters : List Letter)
 
   abbrev Moves : ShellCmd → ShellOutcome → Type 0
   Moves command acted =
-      IsMove form room s HasPlaces by (leaver judged by command) (moved_by room command)
+      IsMove form room s HasPlaces by (is_connection command) (leaver judged by command) (moved_by room command)
       (telling command acted.reply) acted
 
   abbrev IsTaken : ShellCmd → Type 0
@@ -301,8 +311,8 @@ module _ (form : StrForm) (room : Room) (judged : Shell) (letters : List Letter)
       → Moves (cmd.Connect keep) (shell_done form room shell by (cmd.Connect keep))
   moves_connect keep fine =
       let none = none (cmd.Connect keep) fine in
-      unheard form room s HasPlaces by (Move.Connects (actives (with_connect by keep judged.conns))
-      (made_at form judged by) (if is_some (state_of judged.conns by) then Some by else None)) None 0 _ refl refl
+      unheard form room s HasPlaces by true (Move.Connects (actives (with_connect by keep judged.conns))
+      (made_at form judged by) (if is_some (state_of judged.conns by) then Some by else None)) None 0 _ refl refl refl
       (λ places sound. record {
         idle = idle_rebuild judged.rebuild none.1.1.0;
         unfailed = unfailed none.0;
@@ -316,7 +326,7 @@ module _ (form : StrForm) (room : Room) (judged : Shell) (letters : List Letter)
       })
 
   moves_departure : (keep : Bool) → unless_active judged by ≡ None
-      → IsMove form room s HasPlaces by (Some (record { conn = by; keep = keep })) 0 Telling.Departs
+      → IsMove form room s HasPlaces by false (Some (record { conn = by; keep = keep })) 0 Telling.Departs
       (departure_outcome form shell by keep)
   moves_departure keep fine = record {
     move = Move.Departs (record { conn = by; keep = keep }) (goes form conns);
@@ -330,6 +340,7 @@ module _ (form : StrForm) (room : Room) (judged : Shell) (letters : List Letter)
       Some (record { conn = by; keep = keep }),
       0,
     );
+    known = tt;
     tells = refl;
     may = λ places placed. tt;
     allows = λ places sound gone. sym active ∙ none_behind form conns gone;
@@ -348,8 +359,8 @@ module _ (form : StrForm) (room : Room) (judged : Shell) (letters : List Letter)
       left = standing-without by judged.rebuild (record shell { mail = with_cleared by shell.mail }) refl
 
   moves_next : (taken : Option Event) → Moves cmd.Next (take_event shell by taken)
-  moves_next None = dull form room s HasPlaces by _ refl refl
-  moves_next (Some taken) = dull form room s HasPlaces by _ refl refl
+  moves_next None = dull form room s HasPlaces by false _ refl refl
+  moves_next (Some taken) = dull form room s HasPlaces by false _ refl refl
 
   -- a member gives what the stage waits for
   moves_given : (told : Telling) (answer : ShellReply) (rebuild : Rebuild) (noted : Shell) → standing_of noted ≡ s
@@ -357,7 +368,7 @@ module _ (form : StrForm) (room : Room) (judged : Shell) (letters : List Letter)
       → rebuild_onward (without_owing by rebuild) ≡ rebuild_next s.active by told (Some rebuild)
       → MayBeTold s.active told s.rebuild → is_connect rebuild.stage ≡ false
       → (is_copy rebuild.stage ≡ true → room.left ≡ 0)
-      → IsMove form room s HasPlaces by None 0 told (given_outcome answer by rebuild noted)
+      → IsMove form room s HasPlaces by false None 0 told (given_outcome answer by rebuild noted)
   moves_given told answer rebuild noted same is tells may elsewhere filled = record {
     move = Move.Gives rebuild by;
     does = λ i. (
@@ -366,13 +377,14 @@ module _ (form : StrForm) (room : Room) (judged : Shell) (letters : List Letter)
       None,
       0,
     );
+    known = tt;
     tells = tells ∙ ap (rebuild_next s.active by told) (sym is);
     may = λ places placed. may;
     allows = λ places sound. record { is = is; elsewhere = elsewhere; filled = filled };
   }
 
   moves_response : (owed : Option Event) → Moves cmd.Respond (response_outcome shell by owed)
-  moves_response None = dull form room s HasPlaces by _ refl refl
+  moves_response None = dull form room s HasPlaces by false _ refl refl
   moves_response (Some answered) =
       by_rebuild judged.rebuild (record shell {
         conns = conns_answered by answered judged.conns;
@@ -386,6 +398,7 @@ module _ (form : StrForm) (room : Room) (judged : Shell) (letters : List Letter)
       unawaited rebuild noted same is tells = record {
         move = Move.Quiet;
         does = λ i. (same i, no_deeds, None, 0);
+        known = tt;
         tells = rw is tells;
         may = λ places placed. tt;
         allows = λ places sound. tt;
@@ -412,6 +425,7 @@ module _ (form : StrForm) (room : Room) (judged : Shell) (letters : List Letter)
       let none = none (cmd.RebuildStart caps) fine in record {
         move = Move.Starts _ caps;
         does = refl;
+        known = tt;
         tells = refl;
         may = λ places placed. some places (is_operator by) none.0;
         allows = λ places sound. record {
@@ -433,6 +447,7 @@ module _ (form : StrForm) (room : Room) (judged : Shell) (letters : List Letter)
   moves_stop (Some rebuild) is fine = record {
     move = Move.Stops rebuild;
     does = refl;
+    known = tt;
     tells = rw is refl;
     may = λ places placed.
         subst (IsInStage IsEarly) (sym is)
@@ -470,6 +485,7 @@ module _ (form : StrForm) (room : Room) (judged : Shell) (letters : List Letter)
       let made = fresh_made form judged by rebuild in record {
         move = Move.Places rebuild by (unwrap_or rebuild.fresh (facility_of made)) made;
         does = refl;
+        known = is;
         tells = rw (is, connect_stage form room judged by rebuild rebuild.stage is refl fine) refl;
         may = λ places placed. rw is (connect_stage form room judged by rebuild rebuild.stage is refl fine);
         allows = may_place rebuild is fine;
@@ -479,7 +495,7 @@ module _ (form : StrForm) (room : Room) (judged : Shell) (letters : List Letter)
       → Moves (cmd.Copy n) (shell_done form room shell by (cmd.Copy n))
   moves_copy n None is fine = absurd (let wrong = rw is at ((none (cmd.Copy n) fine).1.1.1.0) in cc)
   moves_copy n (Some rebuild) is fine =
-      unheard form room s HasPlaces by (Move.Copies n) None _ _ refl refl
+      unheard form room s HasPlaces by false (Move.Copies n) None _ _ refl refl tt
       (λ places sound. rw is (copy, rw copy at (subst HasPlace is sound.placed)))
     where
       copy : rebuild.stage ≡ stage.Copy
@@ -508,6 +524,7 @@ module _ (form : StrForm) (room : Room) (judged : Shell) (letters : List Letter)
       Some (record { conn = other; keep = false }),
       0,
     );
+    known = tt;
     tells = forces_told s.active by s.rebuild;
     may = λ places placed. tt;
     allows = λ places sound gone. sym active ∙ none_behind form conns gone;
@@ -523,18 +540,18 @@ module _ (form : StrForm) (room : Room) (judged : Shell) (letters : List Letter)
 
   moves_structure : IsTaken cmd.ForceStr → Moves cmd.ForceStr (shell_done form room shell by cmd.ForceStr)
   moves_structure fine =
-      unheard form room s HasPlaces by Move.Deallocates None 0 _ refl refl
+      unheard form room s HasPlaces by false Move.Deallocates None 0 _ refl refl tt
       (λ places sound. none_active judged.conns
       (nothing_left (defined_count judged.conns) _ (none cmd.ForceStr fine).0))
 
   moves_vary : (cf : CfId) (off : Bool) → Moves (cmd.Vary cf off) (vary_outcome form cf off shell)
   moves_vary cf true = moves-loss form room (with_off cf true shell) HasPlaces by cf
-  moves_vary cf false = dull form room s HasPlaces by _ refl refl
+  moves_vary cf false = dull form room s HasPlaces by false _ refl refl
 
   moves_duplex : IsTaken cmd.DuplexStart → Moves cmd.DuplexStart (shell_done form room shell by cmd.DuplexStart)
   moves_duplex fine =
       let none = none cmd.DuplexStart fine in
-      unheard form room s HasPlaces by (Move.Duplexes (facility_of place)) None 0 _ refl refl (λ places sound. record {
+      unheard form room s HasPlaces by false (Move.Duplexes (facility_of place)) None 0 _ refl refl tt (λ places sound. record {
         idle = idle_rebuild judged.rebuild none.1.0;
         unfailed = unfailed none.0;
         primary = stands_of judged.instances.primary refusal.NotAllocated none.1.1.1.0;
@@ -549,9 +566,9 @@ module _ (form : StrForm) (room : Room) (judged : Shell) (letters : List Letter)
 
   moves_simplex : (second : Option CfId) → judged.instances.secondary ≡ second
       → Moves cmd.DuplexStop (simplex_again second shell)
-  moves_simplex None is = dull form room s HasPlaces by _ refl refl
+  moves_simplex None is = dull form room s HasPlaces by false _ refl refl
   moves_simplex (Some cf) is =
-      unheard form room s HasPlaces by (Move.Simplexes cf judged.instances.primary) None 0 _ refl refl
+      unheard form room s HasPlaces by false (Move.Simplexes cf judged.instances.primary) None 0 _ refl refl tt
       (λ places sound.
       let stands : is_some judged.instances.secondary ≡ true = rw is refl in
       (sound.paired.primary stands, unfailed_with s sound (λ i. is_some i.secondary) refl stands))
@@ -573,7 +590,7 @@ module _ (form : StrForm) (room : Room) (judged : Shell) (letters : List Letter)
   moves-command (cmd.Vary cf off) fine = moves_vary cf off
   moves-command cmd.DuplexStart fine = moves_duplex fine
   moves-command cmd.DuplexStop fine = moves_simplex judged.instances.secondary refl
-  moves-command command fine = dull form room s HasPlaces by _ refl refl
+  moves-command command fine = dull form room s HasPlaces by false _ refl refl
 
 module _ {C R I S : Type 0} (meaning : Meaning C R I S) (form : StrForm) (machine : Machine S) (by : ConnId) where
   abbrev pub active : List ConnId
@@ -592,7 +609,7 @@ module _ {C R I S : Type 0} (meaning : Meaning C R I S) (form : StrForm) (machin
 
   pub move_by : (command : ShellCmd) → shell_cause form room machine.shell by command ≡ None
       → IsMove form room (standing_of machine.shell) (length machine.shell.conns ≡ CALLERS) by
-      (leaver machine.shell by command) (moved_by room command) (telling command (done command).reply) (done command)
+      (is_connection command) (leaver machine.shell by command) (moved_by room command) (telling command (done command).reply) (done command)
   move_by command fine =
       moves-command form room machine.shell
       (departure_from meaning form (leaver machine.shell by command) machine).letters by command fine
