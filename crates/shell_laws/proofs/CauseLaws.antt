@@ -31,45 +31,23 @@ past_front (Some refusal ∷ front) rest fine = absurd (cc)
 
 pub past_first : (first : Option Refusal) (rest : List (Option Refusal)) → first_refusal (first ∷ rest) ≡ None
     → first_refusal rest ≡ None
-past_first None rest fine = fine
-past_first (Some refusal) rest fine = absurd (cc)
+past_first first rest fine = past_front (first ∷ []) rest fine
 
 pub past_second : (first second : Option Refusal) (rest : List (Option Refusal))
     → first_refusal (first ∷ second ∷ rest) ≡ None → first_refusal rest ≡ None
-past_second first second rest fine = past_first second rest (past_first first (second ∷ rest) fine)
-
-pub second_none : (first second : Option Refusal) (rest : List (Option Refusal))
-    → first_refusal (first ∷ second ∷ rest) ≡ None → second ≡ None
-second_none None None rest fine = refl
-second_none None (Some refusal) rest fine = absurd (cc)
-second_none (Some refusal) second rest fine = absurd (cc)
+past_second first second rest fine = past_front (first ∷ second ∷ []) rest fine
 
 pub third_none : (first second third : Option Refusal) (rest : List (Option Refusal))
     → first_refusal (first ∷ second ∷ third ∷ rest) ≡ None → third ≡ None
-third_none first second third rest fine =
-    second_none second third rest (past_first first (second ∷ third ∷ rest) fine)
+third_none first second third rest fine = (none_holds (first ∷ second ∷ third ∷ rest) fine).1.1.0
 
 pub fourth_none : (first second third fourth : Option Refusal) (rest : List (Option Refusal))
     → first_refusal (first ∷ second ∷ third ∷ fourth ∷ rest) ≡ None → fourth ≡ None
 fourth_none first second third fourth rest fine =
-    third_none second third fourth rest (past_first first (second ∷ third ∷ fourth ∷ rest) fine)
-
--- a third cause that holds
-pub third_never : (first second : Option Refusal) (refusal : Refusal) (rest : List (Option Refusal))
-    → first_refusal (first ∷ second ∷ Some refusal ∷ rest) ≡ None → ⊥
-third_never None None refusal rest is = cc
-third_never None (Some other) refusal rest is = cc
-third_never (Some other) second refusal rest is = cc
-
--- a fourth cause that holds
-pub never : (first second : Option Refusal) (refusal : Refusal) (rest : List (Option Refusal))
-    → first_refusal (first ∷ second ∷ None ∷ Some refusal ∷ rest) ≡ None → ⊥
-never None None refusal rest is = cc
-never None (Some other) refusal rest is = cc
-never (Some other) second refusal rest is = cc
+    (none_holds (first ∷ second ∷ third ∷ fourth ∷ rest) fine).1.1.1.0
 
 -- a number that is refused where it is above another isn't above it
-pub not_above : (low high : ℕ) (why : Refusal) (rest : List (Option Refusal))
+not_above : (low high : ℕ) (why : Refusal) (rest : List (Option Refusal))
     → first_refusal (refusal_when (nat_lt low high) why ∷ rest) ≡ None → high ≤ low
 not_above low high why rest fine = go (nat_lt low high) refl fine
   where

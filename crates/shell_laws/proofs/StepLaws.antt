@@ -30,10 +30,10 @@ use Rattle.engine_api.specs.declared.asks.Ask.TheVariants as ask
 use Rattle.engine_api.specs.declared.asks.What.TheVariants as what
 use Rattle.engine_api.specs.declared.deeds.Room.{Room}
 use Rattle.engine_api.specs.Instances.{Instances, is_at, no_instance, place_for, units_of}
-use Rattle.engine_api.specs.Machine.{Machine, CallOutcome, call_done, command_done, content_done, departure_from, loss_step, moved_by, room_of, step, unless}
+use Rattle.engine_api.specs.Machine.{Machine, CallOutcome, command_done, content_done, departure_from, loss_step, moved_by, room_of, step, unless}
 use Rattle.engine_api.specs.Meaning.{Meaning, first_refusal}
 use Rattle.engine_api.specs.Rebuilds.{is_copy}
-use Rattle.engine_api.specs.Shell.{Leaver, Shell, ShellOutcome, call_cause, can_stop, candidates, complete_outcome, conns_answered, content_cause, departure_outcome, emptied, facility_of, fresh_made, given_outcome, goes, idle_outcome, if_connected, if_failed, if_rebuilding, if_severed, if_too_many, if_too_small, is_connect, is_drop, is_empty, is_kept, is_operator, is_restart, leaver, loss_outcome, made_at, no_deeds, rebuild_connect_outcome, refusal_when, responded, response_outcome, shell_cause, shell_causes, shell_done, shell_without, simplex_again, stop_outcome, take_event, unless_active, unless_copied_to, unless_failed, unless_in, unless_owed, unless_reached, unless_rebuilding, vary_outcome, with_off, with_posted}
+use Rattle.engine_api.specs.Shell.{Leaver, Shell, ShellOutcome, can_stop, candidates, complete_outcome, conns_answered, content_cause, departure_outcome, emptied, facility_of, fresh_made, given_outcome, goes, idle_outcome, if_connected, if_failed, if_rebuilding, if_severed, if_too_many, if_too_small, is_connect, is_drop, is_empty, is_kept, is_operator, is_restart, leaver, loss_outcome, made_at, no_deeds, rebuild_connect_outcome, refusal_when, responded, response_outcome, shell_cause, shell_causes, shell_done, shell_without, simplex_again, stop_outcome, take_event, unless_active, unless_copied_to, unless_failed, unless_owed, unless_reached, unless_rebuilding, vary_outcome, with_off, with_posted}
 use Rattle.rebuild_core.specs.declared.rebuild.Rebuild.{Rebuild}
 use Rattle.rebuild_core.specs.Stages.{is_response, rebuild_onward, rebuild_without, without_owing}
 use Rattle.shell_laws.specs.Members.{HasPlace, IsPlaced, Somebody}
@@ -43,7 +43,7 @@ use Rattle.shell_laws.specs.Tellings.Telling.{Completes, Nothing, Responds}
 use Rattle.shell_laws.proofs.CauseLaws.{NoneHolds, fits_first, idle_rebuild, none_holds, not_so, nothing_left, past_front}
 use Rattle.shell_laws.proofs.LossLaws.{loss-cases}
 use Rattle.shell_laws.proofs.PlaceLaws.{made_apart, no_switch, nobody_active, placed_for, primary-connect}
-use Rattle.shell_laws.proofs.ShellMoves.{Allows, IsKnown, IsSound, MayPlace, Move, Standing, Work, copied_of, deeds_of, gone_if, gone_on, leaver_of, left_by, moved, standing_of, switched_if, work_by, work_of}
+use Rattle.shell_laws.proofs.ShellMoves.{Allows, IsKnown, IsSound, MayPlace, Move, Standing, Work, deeds_of, gone_if, gone_on, left_by, moved, standing_of, switched_if, work_by, work_of}
 
 -- an outcome is what a move makes of what stood, and what came before it is what comes before the move; what is told is
 -- what becomes of the rebuild, and may be told; and the move is allowed
@@ -167,8 +167,7 @@ module _ (form : StrForm) (room : Room) (shell : Shell) (by : ConnId) where
       → shell_cause form room shell by cmd.RebuildConnect ≡ None → rebuild.stage ≡ stage.Connect
   connect_stage rebuild at is in_stage fine =
       connect_is rebuild.stage (in_its (is_connect rebuild.stage) (is_member by rebuild.owing) _
-      (subst (λ (r : Option Rebuild). unless_owed is_connect by r ≡ None) is
-      (none_holds (shell_causes form room shell by cmd.RebuildConnect) fine).1.1.1.0))
+      (rw is at ((none_holds (shell_causes form room shell by cmd.RebuildConnect) fine).1.1.1.0)))
 
 -- ---- instances
 
@@ -452,7 +451,7 @@ module _ (form : StrForm) (room : Room) (judged : Shell) (letters : List Letter)
     may = λ places placed.
         subst (IsInStage IsEarly) (sym is)
         (early_is rebuild.stage (in_stage (can_stop rebuild.stage) _
-        (subst (λ (r : Option Rebuild). unless_in can_stop r ≡ None) is (none cmd.RebuildStop fine).1.1.1.0)));
+        (rw is at ((none cmd.RebuildStop fine).1.1.1.0))));
     allows = λ places sound. is;
   }
 
@@ -500,8 +499,7 @@ module _ (form : StrForm) (room : Room) (judged : Shell) (letters : List Letter)
     where
       copy : rebuild.stage ≡ stage.Copy
       copy =
-          copy_is rebuild.stage (in_stage (is_copy rebuild.stage) _
-          (subst (λ (r : Option Rebuild). unless_in is_copy r ≡ None) is (none (cmd.Copy n) fine).1.1.1.1.0))
+          copy_is rebuild.stage (in_stage (is_copy rebuild.stage) _ (rw is at ((none (cmd.Copy n) fine).1.1.1.1.0)))
 
   moves_completion : (rebuild : Option Rebuild) → judged.rebuild ≡ rebuild → IsTaken cmd.RebuildComplete
       → Moves cmd.RebuildComplete (complete_outcome shell by rebuild)
@@ -510,7 +508,7 @@ module _ (form : StrForm) (room : Room) (judged : Shell) (letters : List Letter)
       let none = none cmd.RebuildComplete fine in
       let copy : rebuild.stage ≡ stage.Copy =
       copy_is rebuild.stage (in_its (is_copy rebuild.stage) (is_member by rebuild.owing) _
-      (subst (λ (r : Option Rebuild). unless_owed is_copy by r ≡ None) is none.1.1.1.0)) in
+      (rw is at (none.1.1.1.0))) in
       moves_given Completes shown.Ok rebuild shell refl is (rw copy refl) tt (rw copy refl)
       (λ copies. nothing_left room.left _ none.1.1.1.1.0)
 
@@ -620,45 +618,39 @@ module _ {C R I S : Type 0} (meaning : Meaning C R I S) (form : StrForm) (machin
   tells_command command fine =
       let is = move_by command fine in ap (λ (w : Work). w.0.rebuild) is.does ∙ is.tells
 
-  -- what a call does, but that it has come
-  abbrev pub called : Ask C → CallOutcome R S
-  called asked =
-      unless meaning form (call_cause form room machine.shell by asked) machine
-      (call_done meaning form machine by asked)
-
   abbrev pub told : (asked : Ask C) → CallOutcome R S → Telling
   told asked answered = telling_of (what.Call asked) answered.reply
+
+  -- what is told of a rebuild is what becomes of it, and may be told
+  abbrev IsTold : Ask C → CallOutcome R S → Type 0
+  IsTold asked answered =
+      (answered.machine.shell.rebuild ≡ rebuild_next active by (told asked answered) machine.shell.rebuild)
+      × (length machine.shell.conns ≡ CALLERS → HasPlace machine.shell.rebuild
+      → MayBeTold active (told asked answered) machine.shell.rebuild)
+
+  told-step : (asked : Ask C) → IsTold asked (step meaning form machine by asked)
+  told-step (ask.Shell command) = go (shell_cause form room machine.shell by command) refl
+    where
+      go : (cause : Option Refusal) → shell_cause form room machine.shell by command ≡ cause
+          → IsTold (ask.Shell command)
+          (unless meaning form cause machine (command_done meaning form machine by command))
+      go (Some refusal) is = (nothing_told active by machine.shell.rebuild, λ places placed. tt)
+      go None is = (tells_command command is, (move_by command is).may)
+  told-step (ask.Content command) = go (content_cause machine.shell by)
+    where
+      go : (cause : Option Refusal) → IsTold (ask.Content command)
+          (unless meaning form cause machine (content_done meaning form machine by command))
+      go (Some refusal) = (nothing_told active by machine.shell.rebuild, λ places placed. tt)
+      go None = (nothing_told active by machine.shell.rebuild, λ places placed. tt)
 
   pub rebuild-step : (asked : Ask C)
       → (step meaning form machine by asked).machine.shell.rebuild
       ≡ rebuild_next active by (told asked (step meaning form machine by asked)) machine.shell.rebuild
-  rebuild-step (ask.Shell command) = go (shell_cause form room machine.shell by command) refl
-    where
-      go : (cause : Option Refusal) → shell_cause form room machine.shell by command ≡ cause
-          → let answered = unless meaning form cause machine (command_done meaning form machine by command) in
-          answered.machine.shell.rebuild
-          ≡ rebuild_next active by (told (ask.Shell command) answered) machine.shell.rebuild
-      go (Some refusal) is = nothing_told active by machine.shell.rebuild
-      go None is = tells_command command is
-  rebuild-step (ask.Content command) = go (content_cause machine.shell by)
-    where
-      go : (cause : Option Refusal)
-          → let answered = unless meaning form cause machine (content_done meaning form machine by command) in
-          answered.machine.shell.rebuild
-          ≡ rebuild_next active by (told (ask.Content command) answered) machine.shell.rebuild
-      go (Some refusal) = nothing_told active by machine.shell.rebuild
-      go None = nothing_told active by machine.shell.rebuild
+  rebuild-step asked = (told-step asked).0
 
   pub may-step : length machine.shell.conns ≡ CALLERS → HasPlace machine.shell.rebuild → (asked : Ask C)
       → MayBeTold active (told asked (step meaning form machine by asked)) machine.shell.rebuild
-  may-step places placed (ask.Shell command) = go (shell_cause form room machine.shell by command) refl
-    where
-      go : (cause : Option Refusal) → shell_cause form room machine.shell by command ≡ cause
-          → MayBeTold active (told (ask.Shell command)
-          (unless meaning form cause machine (command_done meaning form machine by command))) machine.shell.rebuild
-      go (Some refusal) is = tt
-      go None is = (move_by command is).may places placed
-  may-step places placed (ask.Content command) = tt
+  may-step places placed asked = (told-step asked).1 places placed
 
   -- ---- a mark
 
