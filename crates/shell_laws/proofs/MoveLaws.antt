@@ -34,46 +34,46 @@ module _ {C R I S : Type 0} (meaning : Meaning C R I S) (form : StrForm) (P : St
 
   module _ (places : length machine.shell.conns ≡ CALLERS) (sound : IsSound (standing_of machine.shell))
       (moves : (move : Move) → Allows form (room_of meaning form machine) (standing_of machine.shell) move → Past move)
-      where
-    kept : (enough : Type 0) (by : ConnId) (connects : Bool) (who : Option Leaver) (copied : ℕ) (told : Telling) (acted : ShellOutcome)
-        → enough
-        → IsMove form (room_of meaning form machine) (standing_of machine.shell) enough by connects who copied told acted
-        → Behind who copied acted
-    kept enough by connects who copied told acted places is =
-        subst (λ (w : Work). P w.0 (content_after meaning form (is_some machine.shell.rebuild) w.1
-        (departure_from meaning form w.2 machine).state) (copied_after w.1 (machine.copied + w.3))) (sym is.does)
-        (moves is.move (is.allows places sound))
+    where
+      kept : (enough : Type 0) (by : ConnId) (connects : Bool) (who : Option Leaver) (copied : ℕ) (told : Telling) (acted : ShellOutcome)
+          → enough
+          → IsMove form (room_of meaning form machine) (standing_of machine.shell) enough by connects who copied told acted
+          → Behind who copied acted
+      kept enough by connects who copied told acted places is =
+          subst (λ (w : Work). P w.0 (content_after meaning form (is_some machine.shell.rebuild) w.1
+          (departure_from meaning form w.2 machine).state) (copied_after w.1 (machine.copied + w.3))) (sym is.does)
+          (moves is.move (is.allows places sound))
 
-    pub kept-mark : (cf : CfId) → let after = (loss_step meaning form machine cf).machine in
-        P (standing_of after.shell) after.content after.copied
-    kept-mark cf =
-        let acted : ShellOutcome = loss_outcome form cf machine.shell in
-        let none : machine.copied + 0 ≡ machine.copied = omega arith in
-        subst (λ (n : ℕ). P (standing_of acted.shell)
-        (content_after meaning form (is_some machine.shell.rebuild) acted.deeds machine.content)
-        (copied_after acted.deeds n)) none
-        (kept (Unit {0}) (record { 0 = 0 }) false None 0 _ acted tt
-        (moves-loss form (room_of meaning form machine) machine.shell (Unit {0}) (record { 0 = 0 }) cf))
+      pub kept-mark : (cf : CfId) → let after = (loss_step meaning form machine cf).machine in
+          P (standing_of after.shell) after.content after.copied
+      kept-mark cf =
+          let acted : ShellOutcome = loss_outcome form cf machine.shell in
+          let none : machine.copied + 0 ≡ machine.copied = omega arith in
+          subst (λ (n : ℕ). P (standing_of acted.shell)
+          (content_after meaning form (is_some machine.shell.rebuild) acted.deeds machine.content)
+          (copied_after acted.deeds n)) none
+          (kept (Unit {0}) (record { 0 = 0 }) false None 0 _ acted tt
+          (moves-loss form (room_of meaning form machine) machine.shell (Unit {0}) (record { 0 = 0 }) cf))
 
-    pub kept-call : P (standing_of machine.shell) machine.content machine.copied
-        → ((by : ConnId) (command : C) → content_cause machine.shell by ≡ None
-        → P (standing_of machine.shell) (content_done meaning form machine by command).machine.content machine.copied)
-        → (by : ConnId) (asked : Ask C) → let after = (step meaning form machine by asked).machine in
-        P (standing_of after.shell) after.content after.copied
-    kept-call keeps contents by (ask.Shell command) =
-        go (shell_cause form (room_of meaning form machine) machine.shell by command) refl
-      where
-        go : (cause : Option Refusal)
-            → shell_cause form (room_of meaning form machine) machine.shell by command ≡ cause
-            → let after = (unless meaning form cause machine (command_done meaning form machine by command)).machine in
-            P (standing_of after.shell) after.content after.copied
-        go (Some refusal) is = keeps
-        go None is =
-            kept (length machine.shell.conns ≡ CALLERS) by _ _ _ _ _ places (move_by meaning form machine by command is)
-    kept-call keeps contents by (ask.Content command) = go (content_cause machine.shell by) refl
-      where
-        go : (cause : Option Refusal) → content_cause machine.shell by ≡ cause
-            → let after = (unless meaning form cause machine (content_done meaning form machine by command)).machine in
-            P (standing_of after.shell) after.content after.copied
-        go (Some refusal) is = keeps
-        go None is = contents by command is
+      pub kept-call : P (standing_of machine.shell) machine.content machine.copied
+          → ((by : ConnId) (command : C) → content_cause machine.shell by ≡ None
+          → P (standing_of machine.shell) (content_done meaning form machine by command).machine.content machine.copied)
+          → (by : ConnId) (asked : Ask C) → let after = (step meaning form machine by asked).machine in
+          P (standing_of after.shell) after.content after.copied
+      kept-call keeps contents by (ask.Shell command) =
+          go (shell_cause form (room_of meaning form machine) machine.shell by command) refl
+        where
+          go : (cause : Option Refusal)
+              → shell_cause form (room_of meaning form machine) machine.shell by command ≡ cause
+              → let after = (unless meaning form cause machine (command_done meaning form machine by command)).machine in
+              P (standing_of after.shell) after.content after.copied
+          go (Some refusal) is = keeps
+          go None is =
+              kept (length machine.shell.conns ≡ CALLERS) by _ _ _ _ _ places (move_by meaning form machine by command is)
+      kept-call keeps contents by (ask.Content command) = go (content_cause machine.shell by) refl
+        where
+          go : (cause : Option Refusal) → content_cause machine.shell by ≡ cause
+              → let after = (unless meaning form cause machine (content_done meaning form machine by command)).machine in
+              P (standing_of after.shell) after.content after.copied
+          go (Some refusal) is = keeps
+          go None is = contents by command is

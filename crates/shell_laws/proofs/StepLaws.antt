@@ -212,25 +212,25 @@ is_connection (cmd.Connect keep) = true
 is_connection _ = false
 
 module _ (form : StrForm) (room : Room) (s : Standing) (places : Type 0) (by : ConnId) (connects : Bool)
-    where
-  -- the entry tells nothing of a rebuild
-  unheard : (move : Move) (who : Option Leaver) (copied : ℕ) (acted : ShellOutcome)
-      → work_by who copied acted ≡ work_of form room s move → (moved form move s).rebuild ≡ s.rebuild
-      → IsKnown connects move s → (places → IsSound s → Allows form room s move)
-      → IsMove form room s places by connects who copied Nothing acted
-  unheard move who copied acted does same known allows = record {
-    move = move;
-    does = does;
-    known = known;
-    tells = same ∙ nothing_told s.active by s.rebuild;
-    may = λ places placed. tt;
-    allows = allows;
-  }
+  where
+    -- the entry tells nothing of a rebuild
+    unheard : (move : Move) (who : Option Leaver) (copied : ℕ) (acted : ShellOutcome)
+        → work_by who copied acted ≡ work_of form room s move → (moved form move s).rebuild ≡ s.rebuild
+        → IsKnown connects move s → (places → IsSound s → Allows form room s move)
+        → IsMove form room s places by connects who copied Nothing acted
+    unheard move who copied acted does same known allows = record {
+      move = move;
+      does = does;
+      known = known;
+      tells = same ∙ nothing_told s.active by s.rebuild;
+      may = λ places placed. tt;
+      allows = allows;
+    }
 
-  dull : (acted : ShellOutcome) → standing_of acted.shell ≡ s → acted.deeds ≡ no_deeds
-      → IsMove form room s places by connects None 0 Nothing acted
-  dull acted same deeds =
-      unheard Move.Quiet None 0 acted (λ i. (same i, deeds i, None, 0)) refl tt (λ places sound. tt)
+    dull : (acted : ShellOutcome) → standing_of acted.shell ≡ s → acted.deeds ≡ no_deeds
+        → IsMove form room s places by connects None 0 Nothing acted
+    dull acted same deeds =
+        unheard Move.Quiet None 0 acted (λ i. (same i, deeds i, None, 0)) refl tt (λ places sound. tt)
 
 pub moves-loss : (form : StrForm) (room : Room) (shell : Shell) (places : Type 0) (by : ConnId) (cf : CfId)
     → let acted = loss_outcome form cf shell in
