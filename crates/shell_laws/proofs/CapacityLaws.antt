@@ -28,7 +28,7 @@ use Rattle.rebuild_core.specs.declared.rebuild.Rebuild.{Rebuild}
 use Rattle.rebuild_core.specs.Stages.{outcome_of, rebuild_emptied, rebuild_in, rebuild_left, rebuild_without, with_place, without_owing}
 use Rattle.shell_laws.specs.Capacities.{HasRoom, IsHeld}
 use Rattle.shell_laws.specs.Members.{HasPlace, IsManned, IsPlaced}
-use Rattle.shell_laws.proofs.MemberLaws.{content_waits, kept-replay, rebuild_in_it, sound_of}
+use Rattle.shell_laws.proofs.MemberLaws.{content_waits, kept-manned, rebuild_in_it, sound_of}
 use Rattle.shell_laws.proofs.MoveLaws.{Past, kept-call, kept-mark}
 use Rattle.shell_laws.proofs.PlaceLaws.{placed-owed, switch_stands}
 use Rattle.shell_laws.proofs.ShellMoves.{Allows, IsSound, Move, Standing, gone_if, gone_on, left_by, standing_of}
@@ -300,5 +300,5 @@ module _ {C R I S : Type 0} (meaning : Meaning C R I S) (is_kind : Kind → Bool
 
     pub held-replay : (history : List (Entry C R)) → IsHeldBy (replay meaning form history)
     held-replay history =
-        (kept-replay meaning form IsHeldBy held-after history
+        (kept-manned meaning form IsHeldBy held-after history
         (record { content = laws.content_empty (shape_of form) form.caps; room = tt })).1

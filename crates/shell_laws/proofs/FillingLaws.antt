@@ -23,7 +23,7 @@ use Rattle.rebuild_core.specs.Stages.{outcome, outcome_of, rebuild_onward, witho
 use Rattle.shell_laws.specs.Filling.{IsFilled, IsFilling}
 use Rattle.shell_laws.specs.Members.{IsManned, Somebody}
 use Rattle.shell_laws.proofs.LossLaws.{loss-cases}
-use Rattle.shell_laws.proofs.MemberLaws.{content_waits, kept-replay, rebuild_in_it, sound_of}
+use Rattle.shell_laws.proofs.MemberLaws.{content_waits, kept-manned, rebuild_in_it, sound_of}
 use Rattle.shell_laws.proofs.MoveLaws.{Past, kept-call}
 use Rattle.shell_laws.proofs.PlaceLaws.{IsRebuild}
 use Rattle.shell_laws.proofs.ShellMoves.{Allows, Move, Standing, copied_of, deeds_of, left_by, moved, standing_of}
@@ -226,5 +226,5 @@ module _ {C R I S : Type 0} (meaning : Meaning C R I S) (form : StrForm) where
 
   pub filled-replay : (history : List (Entry C R)) → IsFilled meaning form (replay meaning form history)
   filled-replay history =
-      (kept-replay meaning form (λ machine. IsFilled meaning form machine) filled-after history
+      (kept-manned meaning form (λ machine. IsFilled meaning form machine) filled-after history
       (record { filling = inl refl; within = omega arith })).1

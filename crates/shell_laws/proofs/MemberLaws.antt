@@ -265,13 +265,13 @@ module _ {C R I S : Type 0} (meaning : Meaning C R I S) (form : StrForm) where
         kept_fold (machine_after meaning form machine entry) entries
         (manned-after machine entry.by entry.what manned) (step machine entry.by entry.what manned is)
 
-    pub kept-replay : (history : List (Entry C R)) → P (opening meaning form)
+    pub kept-manned : (history : List (Entry C R)) → P (opening meaning form)
         → IsManned (replay meaning form history).shell × P (replay meaning form history)
-    kept-replay history is = kept_fold (opening meaning form) history manned-opening is
+    kept-manned history is = kept_fold (opening meaning form) history manned-opening is
 
   pub manned-replay : (history : List (Entry C R)) → IsManned (replay meaning form history).shell
   manned-replay history =
-      (kept-replay (λ machine. Unit {0}) (λ machine by told manned is. is) history tt).0
+      (kept-manned (λ machine. Unit {0}) (λ machine by told manned is. is) history tt).0
 
 -- ---- who waits
 
