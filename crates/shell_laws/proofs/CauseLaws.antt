@@ -11,7 +11,7 @@ use Rattle.cf_types.specs.declared.refusals.Refusal.{Refusal}
 use Rattle.engine_api.specs.declared.deeds.Room.{Room}
 use Rattle.engine_api.specs.Items.{Fits}
 use Rattle.engine_api.specs.Meaning.{first_refusal}
-use Rattle.engine_api.specs.Shell.{Shell, if_rebuilding, if_small, if_too_small, refusal_when, unless_copied_to}
+use Rattle.engine_api.specs.Shell.{Shell, if_rebuilding, if_too_small, refusal_when, unless_copied_to}
 use Rattle.rebuild_core.specs.declared.rebuild.Rebuild.{Rebuild}
 
 -- none of these holds
@@ -46,43 +46,33 @@ pub fourth_none : (first second third fourth : Option Refusal) (rest : List (Opt
 fourth_none first second third fourth rest fine =
     (none_holds (first ∷ second ∷ third ∷ fourth ∷ rest) fine).1.1.1.0
 
--- a number that is refused where it is above another isn't above it
-not_above : (low high : ℕ) (why : Refusal) (rest : List (Option Refusal))
-    → first_refusal (refusal_when (nat_lt low high) why ∷ rest) ≡ None → high ≤ low
-not_above low high why rest fine = go (nat_lt low high) refl fine
-  where
-    go : (b : Bool) → nat_lt low high ≡ b → first_refusal (refusal_when b why ∷ rest) ≡ None → high ≤ low
-    go true is fine = absurd (cc)
-    go false is fine = ltb-false low high is
-
 -- what isn't refused isn't so
 pub not_so : (b : Bool) (why : Refusal) → refusal_when b why ≡ None → b ≡ false
 not_so true why fine = absurd (cc)
 not_so false why fine = refl
 
+-- a number that is refused where it is above another isn't above it
+not_above : (low high : ℕ) (why : Refusal) → refusal_when (nat_lt low high) why ≡ None → high ≤ low
+not_above low high why fine = ltb-false low high (not_so (nat_lt low high) why fine)
+
+pub nothing_left : (n : ℕ) (why : Refusal) → refusal_when (nat_lt 0 n) why ≡ None → n ≡ 0
+nothing_left n why fine = omega (arith, not_above 0 n why fine)
+
 pub idle_rebuild : (rebuild : Option Rebuild) → if_rebuilding rebuild ≡ None → rebuild ≡ None
 idle_rebuild None fine = refl
 idle_rebuild (Some rebuild) fine = absurd (cc)
 
-pub nothing_left : (n : ℕ) (why : Refusal) → refusal_when (nat_lt 0 n) why ≡ None → n ≡ 0
-nothing_left n why fine = let low = ltb-false 0 n (not_so (nat_lt 0 n) why fine) in omega (arith, low)
-
 -- a capacity that isn't refused as too small has room
 fits_accepted : (kind : Kind) (need caps : Caps) (rest : List (Option Refusal))
-    → first_refusal (if_too_small kind need caps ++ rest) ≡ None → Fits kind need caps
-fits_accepted kind.Cache need caps rest fine = (
-  not_above caps.entries need.entries _ (if_small need.elements caps.elements ∷ rest) fine,
-  not_above caps.elements need.elements _ rest
-      (past_first (if_small need.entries caps.entries) (if_small need.elements caps.elements ∷ rest) fine),
-)
-fits_accepted (kind.List headers locks refs) need caps rest fine = (
-  not_above caps.entries need.entries _ (if_small need.elements caps.elements ∷ rest) fine,
-  not_above caps.elements need.elements _ rest
-      (past_first (if_small need.entries caps.entries) (if_small need.elements caps.elements ∷ rest) fine),
-)
-fits_accepted kind.Lock need caps rest fine = not_above caps.elements need.elements _ rest fine
+    → NoneHolds (if_too_small kind need caps ++ rest) → Fits kind need caps
+fits_accepted kind.Cache need caps rest none =
+    (not_above caps.entries need.entries _ none.0, not_above caps.elements need.elements _ none.1.0)
+fits_accepted (kind.List headers locks refs) need caps rest none =
+    (not_above caps.entries need.entries _ none.0, not_above caps.elements need.elements _ none.1.0)
+fits_accepted kind.Lock need caps rest none = not_above caps.elements need.elements _ none.0
 
 pub fits_first : (form : StrForm) (shell : Shell) (room : Room) (by : ConnId) (rebuild : Rebuild) → rebuild.fresh ≡ None
     → first_refusal (unless_copied_to form shell room by (Some rebuild)) ≡ None
     → Fits form.kind room.need rebuild.caps
-fits_first form shell room by rebuild is fine = fits_accepted form.kind room.need rebuild.caps _ (rw is at fine)
+fits_first form shell room by rebuild is fine =
+    fits_accepted form.kind room.need rebuild.caps _ (none_holds _ (rw is at fine))

@@ -25,7 +25,7 @@ use Rattle.shell_laws.proofs.LossLaws.{loss-cases}
 use Rattle.shell_laws.proofs.MemberLaws.{rebuild_in_it, sound_of}
 use Rattle.shell_laws.proofs.PlaceLaws.{IsRebuild, is-without, no_switch, no_switch_outside, placed-owed, switch_copy, switch_stands}
 use Rattle.shell_laws.proofs.ShellMoves.{Allows, IsSound, Move, Standing, Work, deeds_of, left_by, moved, standing_of}
-use Rattle.shell_laws.proofs.ShellMoves.Move.{Connects, Departs, Forces, Deallocates, Starts, Gives, Places, Stops, Fails}
+use Rattle.shell_laws.proofs.ShellMoves.Move.{Connects, Departs, Forces, Deallocates, Starts, Gives, Places, Stops}
 use Rattle.shell_laws.proofs.StepLaws.{done, move_by}
 
 -- what the deeds of a mark make of the capacities is what the shell has behind it
@@ -160,7 +160,6 @@ fresh-move form room s sound (Stops rebuild) may = rw may (go (is_some rebuild.f
     go : (b : Bool) → None ≡ (if b then None else if b then Some rebuild.caps else None)
     go true = refl
     go false = refl
-fresh-move form room s sound Fails may = refl
 fresh-move form room s sound _ may = refl
 
 -- ---- what may be done

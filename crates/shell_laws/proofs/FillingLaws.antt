@@ -68,20 +68,21 @@ module _ {C R I S : Type 0} (meaning : Meaning C R I S) (form : StrForm) (machin
   -- there are no items in the new instance; or it is being filled, and the content is as it was
   abbrev Fills : Standing → S → ℕ → Type 0
   Fills s content copied =
-      ((copied ≡ 0) ⊎ (IsFilling s.rebuild × (content ≡ machine.content)))
+      ((copied ≡ 0) ⊎ IsFilling s.rebuild)
+      × ((copied ≡ 0) ⊎ (content ≡ machine.content))
       × (copied ≤ length (meaning.items (shape_of form) content))
 
   abbrev Behind : Move → Type 0
   Behind move = Past meaning form Fills machine move
 
   empty : (s : Standing) (content : S) (copied : ℕ) → copied ≡ 0 → Fills s content copied
-  empty s content copied none = (inl none, omega (arith, none))
+  empty s content copied none = (inl none, inl none, omega (arith, none))
 
   low : machine.copied ≤ length (items_of meaning form machine)
   low = filled.within
 
   same : (after : Standing) → IsFilling after.rebuild → Fills after machine.content (machine.copied + 0)
-  same after filling = (inr (filling, refl), omega (arith, low))
+  same after filling = (inr filling, inr refl, omega (arith, low))
 
   copies_more : (n : ℕ) (b : Bool) → machine.copied + min n (if b
       then length (items_of meaning form machine) - machine.copied else 0) ≤ length (items_of meaning form machine)
@@ -106,7 +107,7 @@ module _ {C R I S : Type 0} (meaning : Meaning C R I S) (form : StrForm) (machin
           × IsFilling (rebuild_onward (without_owing who rebuild)))
           → Behind (Gives rebuild who)
       go (inl switch) = empty (moved form (Gives rebuild who) s) _ _ (rw switch refl)
-      go (inr stays) = (inr (stays.1, rw (stays.0) refl), rw (stays.0) (omega (arith, low)))
+      go (inr stays) = (inr stays.1, inr (rw (stays.0) refl), rw (stays.0) (omega (arith, low)))
 
   fills-filling : IsFilling s.rebuild → (move : Move) → Allows form (room_of meaning form machine) s move
       → copied_of (room_of meaning form machine) move ≡ 0 → Behind move
@@ -129,7 +130,7 @@ module _ {C R I S : Type 0} (meaning : Meaning C R I S) (form : StrForm) (machin
   fills-filling filling move may none = same (moved form move s) filling
 
   fills-move : (move : Move) → Allows form (room_of meaning form machine) s move → Behind move
-  fills-move (Copies n) may = (inr (may, refl), copies_more n _)
+  fills-move (Copies n) may = (inr may, inr refl, copies_more n _)
   fills-move move may = by_filling move may refl filled.filling
     where
       by_filling : (move : Move) → Allows form (room_of meaning form machine) s move
@@ -157,13 +158,8 @@ module _ {C R I S : Type 0} (meaning : Meaning C R I S) (form : StrForm) (machin
       Fills (standing_of after.shell) after.content after.copied
   fills-step =
       kept-call meaning form Fills machine manned.places (sound_of machine.shell manned) fills-move
-      (now filled.filling, low)
-      (λ by command accepted. let none = none_copied by accepted in (inl none, omega (arith, none)))
-    where
-      now : (machine.copied ≡ 0) ⊎ IsFilling s.rebuild
-          → (machine.copied ≡ 0) ⊎ (IsFilling s.rebuild × (machine.content ≡ machine.content))
-      now (inl none) = inl none
-      now (inr filling) = inr (filling, refl)
+      (filled.filling, inr refl, low)
+      (λ by command accepted. let none = none_copied by accepted in (inl none, inl none, omega (arith, none)))
 
 -- ---- calls, marks and histories
 
@@ -172,21 +168,13 @@ module _ {C R I S : Type 0} (meaning : Meaning C R I S) (form : StrForm) where
       → IsFilled meaning form machine → IsFilled meaning form (step meaning form machine by asked).machine
   filled-step machine by asked manned filled =
       let fills = fills-step meaning form machine manned filled by asked in
-      record { filling = go _ _ fills.0; within = fills.1 }
-    where
-      go : (A B : Type 0) {X : Type 0} → X ⊎ (A × B) → X ⊎ A
-      go A B (inl x) = inl x
-      go A B (inr both) = inr both.0
+      record { filling = fills.0; within = fills.2 }
 
   pub front-step : (machine : Machine S) (by : ConnId) (asked : Ask C) → IsManned machine.shell
       → IsFilled meaning form machine
       → ((step meaning form machine by asked).machine.copied ≡ 0)
       ⊎ ((step meaning form machine by asked).machine.content ≡ machine.content)
-  front-step machine by asked manned filled = go _ _ (fills-step meaning form machine manned filled by asked).0
-    where
-      go : (A B : Type 0) {X : Type 0} → X ⊎ (A × B) → X ⊎ B
-      go A B (inl x) = inl x
-      go A B (inr both) = inr both.1
+  front-step machine by asked manned filled = (fills-step meaning form machine manned filled by asked).1
 
   -- behind a mark
   abbrev marked : Machine S → CfId → ShellOutcome → Machine S

@@ -32,7 +32,7 @@ use Rattle.shell_laws.proofs.CauseLaws.{fourth_none}
 use Rattle.shell_laws.proofs.MoveLaws.{kept-call, kept-mark}
 use Rattle.shell_laws.proofs.PlaceLaws.{IsRebuild, is-emptied, is-onward, is-without, nobody, nobody_active, placed-owed, somebody_without, switch_stands}
 use Rattle.shell_laws.proofs.ShellMoves.{Allows, ArePaired, IsSound, Move, Standing, gone_if, gone_on, left_by, moved, standing_of}
-use Rattle.shell_laws.proofs.ShellMoves.Move.{Quiet, Connects, Departs, Forces, Deallocates, Starts, Gives, Places, Stops, Simplexes, Fails, Duplexes, Copies}
+use Rattle.shell_laws.proofs.ShellMoves.Move.{Quiet, Connects, Departs, Forces, Deallocates, Starts, Gives, Places, Stops, Simplexes, Fails, Duplexes}
 use Rattle.shell_laws.proofs.StepLaws.{active_member, active_of, first_none}
 
 -- ---- what each move keeps
@@ -178,7 +178,7 @@ sound-move form room s sound (Duplexes at) may = record {
   };
   bare = λ failed. absurd (both_ways s.failed may.unfailed failed);
 }
-sound-move form room s sound (Copies n) may = sound
+sound-move form room s sound _ may = sound
 
 -- ---- the same of a shell
 
