@@ -1,5 +1,5 @@
--- In a rebuild the members are just the connectors that are active, of whom there are some, and the instances stand that
--- there are to be: each move keeps it, so it holds after every history.
+-- In a rebuild the members are just the connectors that are active, of whom there are some, and the instances stand
+-- that there are to be: each move keeps it, so it holds after every history.
 use Rattle.std.proofs.Common.{◌≡◌, ◌≢◌, ℕ, Bool, true, false, List, [], ◌∷◌, length, Option, None, Some, inr, refl, sym, ap, ◌∙◌, subst}
 use Rattle.std.specs.Prelude.{fold, is_some, if◌then◌else◌, unwrap_or}
 use Rattle.std.proofs.lemmas.Bool.{both_ways}
@@ -147,7 +147,8 @@ sound-move form room s sound (Gives rebuild who) may =
     sound-onward form s sound rebuild (without_owing who rebuild) may.is refl
     (placed-owed who rebuild may.elsewhere (rebuild_in_it s rebuild sound may.is).1)
 sound-move form room s sound (Places rebuild who at made) may =
-    sound-onward form s sound rebuild (without_owing who (with_place at rebuild)) may.is refl (rw (may.stage) (inr refl))
+    sound-onward form s sound rebuild (without_owing who (with_place at rebuild)) may.is refl
+    (rw (may.stage) (inr refl))
 sound-move form room s sound (Stops rebuild) may =
     sound-rebuilt form s sound (Some (rebuild_in Stopping rebuild)) s.active
     ((rebuild_in_it s rebuild sound may).0, refl) (λ idle. absurd (stands_none s.rebuild rebuild may idle))

@@ -1,4 +1,4 @@
--- Where the members of a rebuild are, and the instances: the new one of a rebuild, and the primary, whose place it takes.
+-- The members of a rebuild, its new instance, and the primary, whose place the new one takes.
 use Rattle.std.proofs.Common.{◌≡◌, ◌≢◌, ℕ, Bool, true, false, not, List, [], ◌∷◌, Option, None, Some, inl, inr, refl, sym, ap, ◌∙◌, subst}
 use Rattle.std.specs.Prelude.{if◌then◌else◌, ◌||◌, ◌&&◌, filter, is_some, is_none, nat_le, unwrap_or}
 use Rattle.std.proofs.lemmas.Bool.{eq-eqb, both_ways, false_from_ne_true}

@@ -215,8 +215,7 @@ Allows form room s Fails = Unit {0}
 Allows form room s (Duplexes at) = MayDuplex s at
 Allows form room s (Copies n) = IsFilling s.rebuild
 
--- and what is known of it in any case: a connector connects with CONNECT alone, and only a rebuild's new instance is made
--- by other commands
+-- and what is known of it in any case: CONNECT alone connects, and only a rebuild's new instance is made else
 abbrev pub IsKnown : (connects : Bool) → Move → Standing → Type 0
 IsKnown connects (Connects active made back) s = connects ≡ true
 IsKnown connects (Places rebuild who at made) s = s.rebuild ≡ Some rebuild

@@ -237,7 +237,8 @@ pub moves-loss : (form : StrForm) (room : Room) (shell : Shell) (places : Type 0
     IsMove form room (standing_of shell) places by false None 0 (mark_telling acted.reply) acted
 moves-loss form room shell places by cf =
     let s : Standing = standing_of shell in
-    loss-cases form cf shell (λ acted. IsMove form room s places by false None 0 (mark_telling acted.reply) acted) (record {
+    loss-cases form cf shell (λ acted.
+    IsMove form room s places by false None 0 (mark_telling acted.reply) acted) (record {
       none = dull form room s places by false (idle_outcome shown.OkNone shell) refl refl;
       simplex = λ left lost.
           unheard form room s places by false (Move.Simplexes cf (Some left)) None 0 _ refl refl tt
@@ -549,7 +550,8 @@ module _ (form : StrForm) (room : Room) (judged : Shell) (letters : List Letter)
   moves_duplex : IsTaken cmd.DuplexStart → Moves cmd.DuplexStart (shell_done form room shell by cmd.DuplexStart)
   moves_duplex fine =
       let none = none cmd.DuplexStart fine in
-      unheard form room s HasPlaces by false (Move.Duplexes (facility_of place)) None 0 _ refl refl tt (λ places sound. record {
+      unheard form room s HasPlaces by false (Move.Duplexes (facility_of place)) None 0 _ refl refl tt
+      (λ places sound. record {
         idle = idle_rebuild judged.rebuild none.1.0;
         unfailed = unfailed none.0;
         primary = stands_of judged.instances.primary refusal.NotAllocated none.1.1.1.0;
@@ -607,7 +609,8 @@ module _ {C R I S : Type 0} (meaning : Meaning C R I S) (form : StrForm) (machin
 
   pub move_by : (command : ShellCmd) → shell_cause form room machine.shell by command ≡ None
       → IsMove form room (standing_of machine.shell) (length machine.shell.conns ≡ CALLERS) by
-      (is_connection command) (leaver machine.shell by command) (moved_by room command) (telling command (done command).reply) (done command)
+      (is_connection command) (leaver machine.shell by command) (moved_by room command)
+      (telling command (done command).reply) (done command)
   move_by command fine =
       moves-command form room machine.shell
       (departure_from meaning form (leaver machine.shell by command) machine).letters by command fine
