@@ -2,8 +2,10 @@ pub mod Checks
 pub mod ReadingLaws
 pub mod CauseLaws
 pub mod LossLaws
+pub mod ShellMoves
 pub mod StepLaws
 pub mod PlaceLaws
+pub mod MoveLaws
 pub mod PairLaws
 pub mod HistoryLaws
 pub mod MemberLaws

@@ -1,10 +1,17 @@
--- What a call does to a rebuild is what its entry tells of it.
-use Rattle.std.proofs.Common.{◌≡◌, Bool, true, false, List, [], ◌∷◌, length, Option, None, Some, not, inl, inr, refl, sym, ap, ◌∙◌, subst, arith}
-use Rattle.std.specs.Prelude.{if◌then◌else◌, unwrap_or}
+-- Each command that isn't refused is a move, and so is a loss: what it makes of what stands, what its entry tells of a
+-- rebuild, and what its causes leave of the move.
+use Rattle.std.proofs.Common.{◌≡◌, ℕ, Bool, true, false, List, [], ◌∷◌, length, Option, None, Some, not, is_some, inl, inr, refl, sym, ap, ◌∙◌, subst, arith}
+use Rattle.std.specs.Prelude.{if◌then◌else◌, ◌||◌, ◌&&◌, unwrap_or, is_none}
+use Rattle.std.proofs.lemmas.Bool.{and_parts, both_ways, eqb-true}
 use Rattle.cf_types.specs.declared.limits.TheConstants.{CALLERS}
+use Rattle.cf_types.specs.declared.connections.ConnState.{ConnState}
+use Rattle.cf_types.specs.declared.connections.ConnState.TheVariants as conn
 use Rattle.cf_types.specs.declared.events.Event.{Event}
+use Rattle.cf_types.specs.declared.events.Event.TheVariants as event
+use Rattle.cf_types.specs.declared.events.Letter.{Letter}
 use Rattle.cf_types.specs.declared.events.Stage.{Stage}
 use Rattle.cf_types.specs.declared.events.Stage.TheVariants as stage
+use Rattle.cf_types.specs.declared.forms.Caps.{Caps}
 use Rattle.cf_types.specs.declared.forms.StrForm.{StrForm}
 use Rattle.cf_types.specs.declared.numbers.CfId.{CfId}
 use Rattle.cf_types.specs.declared.numbers.ConnId.{ConnId}
@@ -12,79 +19,76 @@ use Rattle.cf_types.specs.declared.refusals.Refusal.{Refusal}
 use Rattle.cf_types.specs.declared.refusals.Refusal.TheVariants as refusal
 use Rattle.cf_types.specs.declared.shell_commands.ShellCmd.{ShellCmd}
 use Rattle.cf_types.specs.declared.shell_commands.ShellCmd.TheVariants as cmd
+use Rattle.cf_types.specs.declared.shell_commands.ShellReply.{ShellReply}
 use Rattle.cf_types.specs.declared.shell_commands.ShellReply.TheVariants as shown
-use Rattle.cf_types.specs.Connections.{Connections, actives, state_of, is_active}
-use Rattle.cf_types.specs.ConnSets.{is_member}
-use Rattle.cf_types.proofs.ConnectionLaws.{is_member-actives, is_active-within}
+use Rattle.cf_types.specs.Connections.{Connections, actives, defined_count, is_active, is_active_state, state_of, with_connect, with_departure, with_forced}
+use Rattle.cf_types.specs.ConnSets.{is_member, without_member}
+use Rattle.cf_types.proofs.ConnectionLaws.{actives-with_answer, actives-with_departure, actives-with_forced, is_active-within, is_member-actives}
 use Rattle.cf_types.specs.Mailboxes.{next_event, owed_event, with_cleared, with_response}
 use Rattle.engine_api.specs.declared.asks.Ask.{Ask}
 use Rattle.engine_api.specs.declared.asks.Ask.TheVariants as ask
 use Rattle.engine_api.specs.declared.asks.What.TheVariants as what
-use Rattle.engine_api.specs.Meaning.{Meaning, first_refusal}
-use Rattle.engine_api.specs.Instances.{is_at}
-use Rattle.engine_api.specs.Shell.{call_cause, with_off, if_failed, simplex_again, refusal_when, no_deeds, conns_answered, facility_of, is_kept, Shell, shell_cause, content_cause, shell_without, departing_shell, take_event, response_outcome, responded, rebuild_connect_outcome, complete_outcome, stop_outcome, with_posted, ShellOutcome, shell_done, given_outcome, leaver, unless_active, fresh_made, emptied, is_operator, unless_operator, unless_somebody, is_empty}
-use Rattle.rebuild_core.specs.declared.rebuild.Rebuild.{Rebuild}
-use Rattle.rebuild_core.specs.Stages.{with_place, is_response}
-use Rattle.shell_laws.specs.Tellings.{Telling, mark_telling, telling, telling_of, is_awaited}
-use Rattle.shell_laws.specs.Tellings.Telling.{Places, Completes, Responds, Departs, Fails, Forces, Nothing}
-use Rattle.shell_laws.specs.Steps.{IsEarly, IsInStage, MayBeTold, rebuild_next, rebuild_given}
 use Rattle.engine_api.specs.declared.deeds.Room.{Room}
+use Rattle.engine_api.specs.Instances.{Instances, is_at, no_instance, place_for, units_of}
+use Rattle.engine_api.specs.Machine.{Machine, CallOutcome, command_done, content_done, departure_from, loss_step, moved_by, room_of, step, unless}
+use Rattle.engine_api.specs.Meaning.{Meaning, first_refusal}
+use Rattle.engine_api.specs.Rebuilds.{is_copy}
+use Rattle.engine_api.specs.Shell.{Leaver, Shell, ShellOutcome, can_stop, candidates, complete_outcome, conns_answered, content_cause, departure_outcome, emptied, facility_of, fresh_made, given_outcome, goes, idle_outcome, if_connected, if_failed, if_rebuilding, if_severed, if_too_many, if_too_small, is_connect, is_drop, is_empty, is_kept, is_operator, is_restart, leaver, loss_outcome, made_at, no_deeds, rebuild_connect_outcome, refusal_when, responded, response_outcome, shell_cause, shell_causes, shell_done, shell_without, simplex_again, stop_outcome, take_event, unless_active, unless_copied_to, unless_failed, unless_owed, unless_reached, unless_rebuilding, vary_outcome, with_off, with_posted}
+use Rattle.rebuild_core.specs.declared.rebuild.Rebuild.{Rebuild}
+use Rattle.rebuild_core.specs.Stages.{is_response, rebuild_onward, rebuild_without, without_owing}
 use Rattle.shell_laws.specs.Members.{HasPlace, IsPlaced, Somebody}
-use Rattle.shell_laws.proofs.LossLaws.{InEachCase, loss-cases, vary-cases}
-use Rattle.shell_laws.proofs.CauseLaws.{never, third_never}
-use Rattle.engine_api.specs.Machine.{Machine, CallOutcome, step, loss_step, unless, call_done, command_done, content_done, room_of, departure_from}
+use Rattle.shell_laws.specs.Steps.{IsEarly, IsInStage, MayBeTold, rebuild_next}
+use Rattle.shell_laws.specs.Tellings.{Telling, mark_telling, telling, telling_of}
+use Rattle.shell_laws.specs.Tellings.Telling.{Completes, Nothing, Responds}
+use Rattle.shell_laws.proofs.CauseLaws.{NoneHolds, fits_first, idle_rebuild, none_holds, not_so, nothing_left, past_front}
+use Rattle.shell_laws.proofs.LossLaws.{loss-cases}
+use Rattle.shell_laws.proofs.PlaceLaws.{made_apart, no_switch, nobody_active, placed_for, primary-connect}
+use Rattle.shell_laws.proofs.ShellMoves.{Allows, IsKnown, IsSound, MayPlace, Move, Standing, Work, deeds_of, gone_if, gone_on, left_by, moved, standing_of, switched_if, work_by, work_of}
+
+-- an outcome is what a move makes of what stood, and what came before it is what comes before the move; what is told is
+-- what becomes of the rebuild, and may be told; and the move is allowed
+pub record IsMove (form : StrForm) (room : Room) (s : Standing) (places : Type 0) (by : ConnId) (connects : Bool)
+    (who : Option Leaver) (copied : ℕ) (told : Telling) (acted : ShellOutcome) : Type 0 where
+  pub move : Move
+  pub does : work_by who copied acted ≡ work_of form room s move
+  pub known : IsKnown connects move s
+  pub tells : (moved form move s).rebuild ≡ rebuild_next s.active by told s.rebuild
+  pub may : places → HasPlace s.rebuild → MayBeTold s.active told s.rebuild
+  pub allows : places → IsSound s → Allows form room s move
+
+-- ---- what is told where a rebuild is none, or some
 
 nothing_told : (actives : List ConnId) (by : ConnId) (rebuild : Option Rebuild)
     → rebuild ≡ rebuild_next actives by Nothing rebuild
 nothing_told actives by None = refl
 nothing_told actives by (Some rebuild) = refl
 
-rebuild-without : (actives : List ConnId) (by : ConnId) (rebuild : Option Rebuild) (shell : Shell)
-    → shell.rebuild ≡ rebuild → (shell_without by rebuild shell).rebuild ≡ rebuild_next actives by Departs rebuild
-rebuild-without actives by None shell is = is
-rebuild-without actives by (Some rebuild) shell is = refl
-
-pub rebuild-departing : (active : List ConnId) (form : StrForm) (shell : Shell) (by : ConnId) (keep : Bool)
-    → (departing_shell form shell by keep).rebuild ≡ rebuild_next active by Departs shell.rebuild
-rebuild-departing active form shell by keep =
-    rebuild-without active by shell.rebuild (record shell { mail = with_cleared by shell.mail }) refl
-
--- a response changes the rebuild where its stage waits for it
-rebuild-responded : (active : List ConnId) (by : ConnId) (answered : Event) (rebuild : Option Rebuild) (shell : Shell)
-    → shell.rebuild ≡ rebuild
-    → (responded by answered rebuild shell).shell.rebuild ≡ rebuild_next active by (Responds answered) rebuild
-rebuild-responded active by answered None shell is = is
-rebuild-responded active by answered (Some rebuild) shell is =
-    go (is_response rebuild.stage rebuild.number answered)
-  where
-    given : ShellOutcome
-    given = given_outcome (shown.Responded answered) by rebuild shell
-
-    kept : ShellOutcome
-    kept = record { reply = shown.Responded answered; shell = shell; deeds = no_deeds }
-
-    go : (b : Bool) → (if b then given else kept).shell.rebuild ≡ rebuild_given b by rebuild
-    go true = refl
-    go false = is
-
-rebuild-forced : (active : List ConnId) (by : ConnId) (rebuild : Option Rebuild)
-    → emptied rebuild ≡ rebuild_next active by Forces rebuild
-rebuild-forced active by None = refl
-rebuild-forced active by (Some rebuild) = refl
-
-rebuild-stopped : (active : List ConnId) (by : ConnId) (rebuild : Option Rebuild) (shell : Shell)
-    → shell.rebuild ≡ rebuild
-    → (stop_outcome shell rebuild).shell.rebuild
-    ≡ rebuild_next active by (telling cmd.RebuildStop (stop_outcome shell rebuild).reply) rebuild
-rebuild-stopped active by None shell is = is
-rebuild-stopped active by (Some rebuild) shell is = refl
-
--- ---- what is lost
+forces_told : (active : List ConnId) (by : ConnId) (rebuild : Option Rebuild)
+    → emptied rebuild ≡ rebuild_next active by Telling.Forces rebuild
+forces_told active by None = refl
+forces_told active by (Some rebuild) = refl
 
 fails_told : (active : List ConnId) (by : ConnId) (rebuild : Option Rebuild)
-    → None ≡ rebuild_next active by Fails rebuild
+    → None ≡ rebuild_next active by Telling.Fails rebuild
 fails_told active by None = refl
 fails_told active by (Some rebuild) = refl
+
+-- ---- stages
+
+connect_is : (at : Stage) → is_connect at ≡ true → at ≡ stage.Connect
+connect_is stage.Connect is = refl
+connect_is at is = absurd (cc)
+
+copy_is : (at : Stage) → is_copy at ≡ true → at ≡ stage.Copy
+copy_is stage.Copy is = refl
+copy_is at is = absurd (cc)
+
+-- a rebuild can be stopped up to COPY
+early_is : (at : Stage) → can_stop at ≡ true → IsEarly at
+early_is stage.Quiesce is = inl refl
+early_is stage.Connect is = inr (inl refl)
+early_is stage.Copy is = inr (inr refl)
+early_is at is = absurd (cc)
 
 -- a new instance is lost in CONNECT or COPY
 early_placed : (at : Stage) (members owing : List ConnId) (fresh : Option CfId) (cf : CfId)
@@ -95,51 +99,37 @@ early_placed stage.Copy members owing fresh cf placed lost = inr (inr refl)
 early_placed at members owing fresh cf placed lost =
     absurd (let wrong : false ≡ true = rw placed at lost in cc)
 
--- what becomes of the rebuild is what the reply tells
-abbrev TellsOf : List ConnId → ConnId → Option Rebuild → ShellOutcome → Type 0
-TellsOf active by rebuild acted = acted.shell.rebuild ≡ rebuild_next active by (mark_telling acted.reply) rebuild
+response_elsewhere : (at : Stage) (number : ℕ) (answered : Event) → is_response at number answered ≡ true
+    → (is_connect at ≡ false) × (is_copy at ≡ false)
+response_elsewhere stage.Connect number answered awaited = absurd (cc)
+response_elsewhere stage.Copy number answered awaited = absurd (cc)
+response_elsewhere at number answered awaited = (refl, refl)
 
-tells_loss : (active : List ConnId) (by : ConnId) (form : StrForm) (cf : CfId) (shell : Shell)
-    → InEachCase form cf shell (TellsOf active by shell.rebuild)
-tells_loss active by form cf shell = record {
-  none = nothing_told active by shell.rebuild;
-  simplex = λ left lost. nothing_told active by shell.rebuild;
-  stops = λ rebuild is lost. rw is refl;
-  fails = fails_told active by shell.rebuild;
-}
+-- a command of a stage is accepted in it
+in_its : (its owes : Bool) (why : Refusal) → refusal_when (not (its && owes)) why ≡ None → its ≡ true
+in_its true owes why fine = refl
+in_its false owes why fine = absurd (cc)
 
-abbrev MayTell : List ConnId → Option Rebuild → ShellOutcome → Type 0
-MayTell active rebuild acted = MayBeTold active (mark_telling acted.reply) rebuild
+in_stage : (its : Bool) (why : Refusal) → refusal_when (not its) why ≡ None → its ≡ true
+in_stage true why fine = refl
+in_stage false why fine = absurd (cc)
 
-may_tell_loss : (active : List ConnId) (form : StrForm) (cf : CfId) (shell : Shell) → HasPlace shell.rebuild
-    → InEachCase form cf shell (MayTell active shell.rebuild)
-may_tell_loss active form cf shell placed = record {
-  none = tt;
-  simplex = λ left lost. tt;
-  stops = λ rebuild is lost.
-      subst (IsInStage IsEarly) (sym is)
-      (early_placed rebuild.stage rebuild.members rebuild.owing rebuild.fresh cf (subst HasPlace is placed) lost);
-  fails = tt;
-}
-
--- ---- what may be told
+-- ---- who is active
 
 pub first_none : (first : Option Refusal) (rest : List (Option Refusal)) → first_refusal (first ∷ rest) ≡ None
     → first ≡ None
-first_none None rest fine = refl
-first_none (Some refusal) rest fine = absurd (cc)
+first_none first rest fine = (none_holds (first ∷ rest) fine).0
 
-somebody : (conns : List ConnId) → refusal_when (is_empty conns) refusal.NotConnected ≡ None → Somebody conns
-somebody [] fine = absurd (cc)
-somebody (conn ∷ others) fine = (conn, (others, refl))
+somebody_of : (conns : List ConnId) → refusal_when (is_empty conns) refusal.NotConnected ≡ None → Somebody conns
+somebody_of [] fine = absurd (cc)
+somebody_of (conn ∷ others) fine = (conn, (others, refl))
 
 pub somebody_member : (conn : ConnId) (conns : List ConnId) → is_member conn conns ≡ true → Somebody conns
 somebody_member conn [] is = absurd (cc)
 somebody_member conn (first ∷ others) is = (first, (others, refl))
 
 pub active_of : (b : Bool) → refusal_when (not b) refusal.NotConnected ≡ None → b ≡ true
-active_of true fine = refl
-active_of false fine = absurd (cc)
+active_of b fine = in_stage b refusal.NotConnected fine
 
 -- whoever is active is one of those that are, since its connection has a place
 pub active_member : (conns : Connections) (conn : ConnId) → length conns ≡ CALLERS → is_active conns conn ≡ true
@@ -147,55 +137,460 @@ pub active_member : (conns : Connections) (conn : ConnId) → length conns ≡ C
 active_member conns conn places active =
     is_member-actives conns conn (omega (arith, places, is_active-within conns conn active)) ∙ active
 
-somebody_active : (shell : Shell) (by : ConnId) → length shell.conns ≡ CALLERS → unless_somebody shell by ≡ None
-    → Somebody (actives shell.conns)
-somebody_active shell by places fine = go (is_operator by) fine
+-- an answer to an event leaves those active that were
+actives-answering : (by : ConnId) (answered : Event) (conns : Connections)
+    → actives (conns_answered by answered conns) ≡ actives conns
+actives-answering by (event.DiscFail other) conns = actives-with_answer by other conns
+actives-answering by answered conns = refl
+
+-- whoever can be forced away isn't active
+idle_failed : (state : Option ConnState) → unless_failed state ≡ None → is_active_state state ≡ false
+idle_failed (Some (conn.Active keep)) fine = absurd (cc)
+idle_failed (Some (conn.Leaving keep awaits)) fine = refl
+idle_failed (Some conn.Failed) fine = refl
+idle_failed None fine = refl
+
+-- where no connection is defined nobody is active
+none_active : (conns : Connections) → defined_count conns ≡ 0 → actives conns ≡ []
+none_active conns none = go (actives conns) (nobody_active conns none)
   where
-    go : (b : Bool) → (if b then refusal_when (is_empty (actives shell.conns)) refusal.NotConnected
-        else unless_active shell by) ≡ None
-        → Somebody (actives shell.conns)
-    go true fine = somebody (actives shell.conns) fine
-    go false fine =
-        somebody_member by (actives shell.conns)
-        (active_member shell.conns by places (active_of (is_active shell.conns by) fine))
+    go : (active : List ConnId) → (Somebody active → ⊥) → active ≡ []
+    go [] never = refl
+    go (conn ∷ others) never = absurd (never (conn, (others, refl)))
+
+none_behind : (form : StrForm) (conns : Connections) → goes form conns ≡ true → actives conns ≡ []
+none_behind form conns gone =
+    none_active conns (eqb-true (defined_count conns) 0 ((and_parts _ _ gone).1))
 
 module _ (form : StrForm) (room : Room) (shell : Shell) (by : ConnId) where
   pub connect_stage : (rebuild : Rebuild) (at : Stage) → shell.rebuild ≡ Some rebuild → rebuild.stage ≡ at
       → shell_cause form room shell by cmd.RebuildConnect ≡ None → rebuild.stage ≡ stage.Connect
-  connect_stage rebuild stage.Connect is in_stage fine = in_stage
   connect_stage rebuild at is in_stage fine =
-      absurd (never (unless_active shell by) (if_failed shell) (refusal.WrongStage at)
-      _ (rw (is, in_stage) at fine))
+      connect_is rebuild.stage (in_its (is_connect rebuild.stage) (is_member by rebuild.owing) _
+      (rw is at ((none_holds (shell_causes form room shell by cmd.RebuildConnect) fine).1.1.1.0)))
 
-  stop_stage : (rebuild : Rebuild) (at : Stage) → shell.rebuild ≡ Some rebuild → rebuild.stage ≡ at
-      → shell_cause form room shell by cmd.RebuildStop ≡ None → IsEarly rebuild.stage
-  stop_stage rebuild stage.Quiesce is in_stage fine = inl in_stage
-  stop_stage rebuild stage.Connect is in_stage fine = inr (inl in_stage)
-  stop_stage rebuild stage.Copy is in_stage fine = inr (inr in_stage)
-  stop_stage rebuild stage.Cleanup is in_stage fine =
-      absurd (never (unless_operator shell by) (if_failed shell) (refusal.WrongStage stage.Cleanup)
-      [] (rw (is, in_stage) at fine))
-  stop_stage rebuild stage.Stopping is in_stage fine =
-      absurd (never (unless_operator shell by) (if_failed shell) (refusal.WrongStage stage.Stopping)
-      [] (rw (is, in_stage) at fine))
+-- ---- instances
 
-  complete_stage : (rebuild : Rebuild) (at : Stage) → shell.rebuild ≡ Some rebuild → rebuild.stage ≡ at
-      → shell_cause form room shell by cmd.RebuildComplete ≡ None → rebuild.stage ≡ stage.Copy
-  complete_stage rebuild stage.Copy is in_stage fine = in_stage
-  complete_stage rebuild at is in_stage fine =
-      absurd (never (unless_active shell by) (if_failed shell) (refusal.WrongStage at)
-      _ (rw (is, in_stage) at fine))
+stands_of : (at : Option CfId) (why : Refusal) → refusal_when (is_none at) why ≡ None → is_some at ≡ true
+stands_of None why fine = absurd (cc)
+stands_of (Some cf) why fine = refl
 
-  -- where the command isn't refused, the stage waits for it
-  connect_awaited : (rebuild : Rebuild) (cf : CfId) → shell.rebuild ≡ Some rebuild
-      → shell_cause form room shell by cmd.RebuildConnect ≡ None
-      → is_awaited rebuild.stage rebuild.number (Places cf) ≡ true
-  connect_awaited rebuild cf is fine = rw (connect_stage rebuild rebuild.stage is refl fine) refl
+none_of : (at : Option CfId) (why : Refusal) → refusal_when (is_some at) why ≡ None → at ≡ None
+none_of None why fine = refl
+none_of (Some cf) why fine = absurd (cc)
 
-  complete_awaited : (rebuild : Rebuild) → shell.rebuild ≡ Some rebuild
-      → shell_cause form room shell by cmd.RebuildComplete ≡ None
-      → is_awaited rebuild.stage rebuild.number Completes ≡ true
-  complete_awaited rebuild is fine = rw (complete_stage rebuild rebuild.stage is refl fine) refl
+-- one is made where none stands
+made_alone : (at place : Option CfId) → is_some (if is_none at then place else None) ≡ true → at ≡ None
+made_alone None place made = refl
+made_alone (Some cf) place made = absurd (cc)
+
+none_made : (at place : Option CfId) → is_some at ≡ true → (if is_none at then place else None) ≡ None
+none_made None place stands = absurd (cc)
+none_made (Some cf) place stands = refl
+
+facility_is : (place : Option CfId) → is_some place ≡ true → place ≡ Some (facility_of place)
+facility_is None found = absurd (cc)
+facility_is (Some cf) found = refl
+
+at_some : (cf : CfId) (fresh : Option CfId) → is_at cf fresh ≡ true → true ≡ is_some fresh
+at_some cf None there = absurd (cc)
+at_some cf (Some other) there = refl
+
+-- what has an instance has not failed
+unfailed_with : (s : Standing) → IsSound s → (has : Instances → Bool) → has no_instance ≡ false
+    → has s.instances ≡ true → s.failed ≡ false
+unfailed_with s sound has none stands = go s.failed refl
+  where
+    go : (b : Bool) → s.failed ≡ b → b ≡ false
+    go false is = refl
+    go true is = absurd (both_ways (has no_instance) none (sym (ap has (sound.bare is).0) ∙ stands))
+
+-- ---- what changes nothing, and what is lost
+
+abbrev pub is_connection : ShellCmd → Bool
+is_connection (cmd.Connect keep) = true
+is_connection _ = false
+
+module _ (form : StrForm) (room : Room) (s : Standing) (places : Type 0) (by : ConnId) (connects : Bool)
+  where
+    -- the entry tells nothing of a rebuild
+    unheard : (move : Move) (who : Option Leaver) (copied : ℕ) (acted : ShellOutcome)
+        → work_by who copied acted ≡ work_of form room s move → (moved form move s).rebuild ≡ s.rebuild
+        → IsKnown connects move s → (places → IsSound s → Allows form room s move)
+        → IsMove form room s places by connects who copied Nothing acted
+    unheard move who copied acted does same known allows = record {
+      move = move;
+      does = does;
+      known = known;
+      tells = same ∙ nothing_told s.active by s.rebuild;
+      may = λ places placed. tt;
+      allows = allows;
+    }
+
+    dull : (acted : ShellOutcome) → standing_of acted.shell ≡ s → acted.deeds ≡ no_deeds
+        → IsMove form room s places by connects None 0 Nothing acted
+    dull acted same deeds =
+        unheard Move.Quiet None 0 acted (λ i. (same i, deeds i, None, 0)) refl tt (λ places sound. tt)
+
+pub moves-loss : (form : StrForm) (room : Room) (shell : Shell) (places : Type 0) (by : ConnId) (cf : CfId)
+    → let acted = loss_outcome form cf shell in
+    IsMove form room (standing_of shell) places by false None 0 (mark_telling acted.reply) acted
+moves-loss form room shell places by cf =
+    let s : Standing = standing_of shell in
+    loss-cases form cf shell (λ acted.
+    IsMove form room s places by false None 0 (mark_telling acted.reply) acted) (record {
+      none = dull form room s places by false (idle_outcome shown.OkNone shell) refl refl;
+      simplex = λ left lost.
+          unheard form room s places by false (Move.Simplexes cf (Some left)) None 0 _ refl refl tt
+          (λ places sound. (refl, unfailed_with s sound (λ i. is_at cf i.primary || is_at cf i.secondary) refl lost));
+      stops = λ rebuild is there. record {
+        move = Move.Stops rebuild;
+        does = λ i. (
+          moved form (Move.Stops rebuild) s,
+          record no_deeds { drop_fresh = at_some cf rebuild.fresh there i },
+          None,
+          0,
+        );
+        known = tt;
+        tells = rw is refl;
+        may = λ places placed.
+            subst (IsInStage IsEarly) (sym is)
+            (early_placed rebuild.stage rebuild.members rebuild.owing rebuild.fresh cf (subst HasPlace is placed)
+            there);
+        allows = λ places sound. is;
+      };
+      fails = record {
+        move = Move.Fails;
+        does = refl;
+        known = tt;
+        tells = fails_told s.active by s.rebuild;
+        may = λ places placed. tt;
+        allows = λ places sound. tt;
+      };
+    })
+
+-- ---- commands
+
+standing-without : (by : ConnId) (rebuild : Option Rebuild) (shell : Shell) → shell.rebuild ≡ rebuild
+    → standing_of (shell_without by rebuild shell) ≡ record (standing_of shell) { rebuild = left_by by rebuild }
+standing-without by None shell is = ap (λ (r : Option Rebuild). record (standing_of shell) { rebuild = r }) is
+standing-without by (Some rebuild) shell is =
+    ap (λ (b : Bool). switched_if b (rebuild_without by rebuild) (standing_of shell)) (no_switch by rebuild)
+
+module _ (form : StrForm) (room : Room) (judged : Shell) (letters : List Letter) (by : ConnId) where
+  -- the shell that acts: the letters of a departure from the content are posted
+  abbrev shell : Shell
+  shell = with_posted letters judged
+
+  abbrev s : Standing
+  s = standing_of judged
+
+  abbrev HasPlaces : Type 0
+  HasPlaces = length judged.conns ≡ CALLERS
+
+  abbrev Moves : ShellCmd → ShellOutcome → Type 0
+  Moves command acted =
+      IsMove form room s HasPlaces by (is_connection command) (leaver judged by command) (moved_by room command)
+      (telling command acted.reply) acted
+
+  abbrev IsTaken : ShellCmd → Type 0
+  IsTaken command = shell_cause form room judged by command ≡ None
+
+  none : (command : ShellCmd) → IsTaken command → NoneHolds (shell_causes form room judged by command)
+  none command fine = none_holds (shell_causes form room judged by command) fine
+
+  unfailed : if_failed judged ≡ None → judged.failed ≡ false
+  unfailed fine = not_so judged.failed refusal.StructureFailed fine
+
+  somebody : HasPlaces → unless_active judged by ≡ None → Somebody (actives judged.conns)
+  somebody places fine =
+      somebody_member by (actives judged.conns)
+      (active_member judged.conns by places (active_of (is_active judged.conns by) fine))
+
+  moves_connect : (keep : Bool) → IsTaken (cmd.Connect keep)
+      → Moves (cmd.Connect keep) (shell_done form room shell by (cmd.Connect keep))
+  moves_connect keep fine =
+      let none = none (cmd.Connect keep) fine in
+      unheard form room s HasPlaces by true (Move.Connects (actives (with_connect by keep judged.conns))
+      (made_at form judged by) (if is_some (state_of judged.conns by) then Some by else None)) None 0 _ refl refl refl
+      (λ places sound. record {
+        idle = idle_rebuild judged.rebuild none.1.1.0;
+        unfailed = unfailed none.0;
+        stands =
+            primary-connect judged.instances.primary (units_of judged.caps) (candidates form judged by)
+            (if_severed judged by judged.instances.primary ∷ if_severed judged by judged.instances.secondary ∷ [])
+            judged.instances refl
+            (past_front (if_failed judged ∷ if_connected (state_of judged.conns by)
+            ∷ if_rebuilding judged.rebuild ∷ if_too_many form judged by ∷ []) (unless_reached form judged by) fine);
+        kept = none_made judged.instances.primary _;
+      })
+
+  moves_departure : (keep : Bool) → unless_active judged by ≡ None
+      → IsMove form room s HasPlaces by false (Some (record { conn = by; keep = keep })) 0 Telling.Departs
+      (departure_outcome form shell by keep)
+  moves_departure keep fine = record {
+    move = Move.Departs (record { conn = by; keep = keep }) (goes form conns);
+    does = λ i. (
+      gone_if (goes form conns) form (record (left i) { active = active i }),
+      record no_deeds {
+        restart = is_restart judged.rebuild (left i).rebuild;
+        drop_fresh = is_drop judged.rebuild (left i).rebuild;
+        drop_all = goes form conns;
+      },
+      Some (record { conn = by; keep = keep }),
+      0,
+    );
+    known = tt;
+    tells = refl;
+    may = λ places placed. tt;
+    allows = λ places sound gone. sym active ∙ none_behind form conns gone;
+  }
+    where
+      conns : Connections
+      conns = with_departure by keep judged.conns
+
+      active : actives conns ≡ without_member by (actives judged.conns)
+      active =
+          actives-with_departure by keep judged.conns
+          (is_active-within judged.conns by (active_of (is_active judged.conns by) fine))
+
+      left : standing_of (shell_without by judged.rebuild (record shell { mail = with_cleared by shell.mail }))
+          ≡ record s { rebuild = left_by by judged.rebuild }
+      left = standing-without by judged.rebuild (record shell { mail = with_cleared by shell.mail }) refl
+
+  moves_next : (taken : Option Event) → Moves cmd.Next (take_event shell by taken)
+  moves_next None = dull form room s HasPlaces by false _ refl refl
+  moves_next (Some taken) = dull form room s HasPlaces by false _ refl refl
+
+  -- a member gives what the stage waits for
+  moves_given : (told : Telling) (answer : ShellReply) (rebuild : Rebuild) (noted : Shell) → standing_of noted ≡ s
+      → judged.rebuild ≡ Some rebuild
+      → rebuild_onward (without_owing by rebuild) ≡ rebuild_next s.active by told (Some rebuild)
+      → MayBeTold s.active told s.rebuild → is_connect rebuild.stage ≡ false
+      → (is_copy rebuild.stage ≡ true → room.left ≡ 0)
+      → IsMove form room s HasPlaces by false None 0 told (given_outcome answer by rebuild noted)
+  moves_given told answer rebuild noted same is tells may elsewhere filled = record {
+    move = Move.Gives rebuild by;
+    does = λ i. (
+      gone_on (without_owing by rebuild) (same i),
+      deeds_of (Move.Gives rebuild by) s,
+      None,
+      0,
+    );
+    known = tt;
+    tells = tells ∙ ap (rebuild_next s.active by told) (sym is);
+    may = λ places placed. may;
+    allows = λ places sound. record { is = is; elsewhere = elsewhere; filled = filled };
+  }
+
+  moves_response : (owed : Option Event) → Moves cmd.Respond (response_outcome shell by owed)
+  moves_response None = dull form room s HasPlaces by false _ refl refl
+  moves_response (Some answered) =
+      by_rebuild judged.rebuild (record shell {
+        conns = conns_answered by answered judged.conns;
+        mail = with_response by shell.mail;
+      }) (ap (λ (active : List ConnId). record s { active = active })
+      (actives-answering by answered judged.conns)) refl
+    where
+      unawaited : (rebuild : Option Rebuild) (noted : Shell) → standing_of noted ≡ s → judged.rebuild ≡ rebuild
+          → rebuild ≡ rebuild_next s.active by (Responds answered) rebuild
+          → Moves cmd.Respond (record { reply = shown.Responded answered; shell = noted; deeds = no_deeds })
+      unawaited rebuild noted same is tells = record {
+        move = Move.Quiet;
+        does = λ i. (same i, no_deeds, None, 0);
+        known = tt;
+        tells = rw is tells;
+        may = λ places placed. tt;
+        allows = λ places sound. tt;
+      }
+
+      by_rebuild : (rebuild : Option Rebuild) (noted : Shell) → standing_of noted ≡ s → judged.rebuild ≡ rebuild
+          → Moves cmd.Respond (responded by answered rebuild noted)
+      by_rebuild None noted same is =
+          unawaited None noted same is refl
+      by_rebuild (Some rebuild) noted same is = go (is_response rebuild.stage rebuild.number answered) refl
+        where
+          go : (b : Bool) → is_response rebuild.stage rebuild.number answered ≡ b → Moves cmd.Respond (if b
+              then given_outcome (shown.Responded answered) by rebuild noted
+              else record { reply = shown.Responded answered; shell = noted; deeds = no_deeds })
+          go false late = unawaited (Some rebuild) noted same is (rw late refl)
+          go true awaited =
+              let elsewhere = response_elsewhere rebuild.stage rebuild.number answered awaited in
+              moves_given (Responds answered) (shown.Responded answered) rebuild noted same is (rw awaited refl) tt
+              elsewhere.0 (λ copy. absurd (both_ways (is_copy rebuild.stage) elsewhere.1 copy))
+
+  moves_start : (caps : Caps) → IsTaken (cmd.RebuildStart caps)
+      → Moves (cmd.RebuildStart caps) (shell_done form room shell by (cmd.RebuildStart caps))
+  moves_start caps fine =
+      let none = none (cmd.RebuildStart caps) fine in record {
+        move = Move.Starts _ caps;
+        does = refl;
+        known = tt;
+        tells = refl;
+        may = λ places placed. some places (is_operator by) none.0;
+        allows = λ places sound. record {
+          somebody = some places (is_operator by) none.0;
+          unfailed = unfailed none.1.0;
+          idle = idle_rebuild judged.rebuild none.1.1.0;
+          alone = none_of judged.instances.secondary refusal.AlreadyDuplexed none.1.1.1.0;
+        };
+      }
+    where
+      some : HasPlaces → (b : Bool) → (if b then refusal_when (is_empty (actives judged.conns)) refusal.NotConnected
+          else unless_active judged by) ≡ None → Somebody (actives judged.conns)
+      some places true fine = somebody_of (actives judged.conns) fine
+      some places false fine = somebody places fine
+
+  moves_stop : (rebuild : Option Rebuild) → judged.rebuild ≡ rebuild → IsTaken cmd.RebuildStop
+      → Moves cmd.RebuildStop (stop_outcome shell rebuild)
+  moves_stop None is fine = absurd (let wrong = rw is at ((none cmd.RebuildStop fine).1.1.0) in cc)
+  moves_stop (Some rebuild) is fine = record {
+    move = Move.Stops rebuild;
+    does = refl;
+    known = tt;
+    tells = rw is refl;
+    may = λ places placed.
+        subst (IsInStage IsEarly) (sym is)
+        (early_is rebuild.stage (in_stage (can_stop rebuild.stage) _
+        (rw is at ((none cmd.RebuildStop fine).1.1.1.0))));
+    allows = λ places sound. is;
+  }
+
+  may_place : (rebuild : Rebuild) → judged.rebuild ≡ Some rebuild → IsTaken cmd.RebuildConnect → HasPlaces → IsSound s
+      → MayPlace form room s rebuild (fresh_made form judged by rebuild)
+  may_place rebuild is fine places sound = record {
+    is = is;
+    stage = connect_stage form room judged by rebuild rebuild.stage is refl fine;
+    stands = sound.primary (somebody places none.0) (unfailed none.1.0);
+    alone = made_alone rebuild.fresh _;
+    found = λ first.
+        rw first (placed_for (units_of rebuild.caps) (candidates form judged by)
+        (past_front (if_too_small form.kind room.need rebuild.caps) _ (rw first at past)));
+    fits = λ first. fits_first form judged room by rebuild first past;
+  }
+    where
+      none : NoneHolds (shell_causes form room judged by cmd.RebuildConnect)
+      none = none_holds (shell_causes form room judged by cmd.RebuildConnect) fine
+
+      past : first_refusal (unless_copied_to form judged room by (Some rebuild)) ≡ None
+      past =
+          subst (λ (r : Option Rebuild). first_refusal (unless_copied_to form judged room by r) ≡ None) is
+          (past_front (unless_active judged by ∷ if_failed judged ∷ unless_rebuilding judged.rebuild
+          ∷ unless_owed is_connect by judged.rebuild ∷ []) (unless_copied_to form judged room by judged.rebuild) fine)
+
+  moves_place : (rebuild : Option Rebuild) → judged.rebuild ≡ rebuild → IsTaken cmd.RebuildConnect
+      → Moves cmd.RebuildConnect (rebuild_connect_outcome form shell by rebuild)
+  moves_place None is fine = absurd (let wrong = rw is at ((none cmd.RebuildConnect fine).1.1.0) in cc)
+  moves_place (Some rebuild) is fine =
+      let made = fresh_made form judged by rebuild in record {
+        move = Move.Places rebuild by (unwrap_or rebuild.fresh (facility_of made)) made;
+        does = refl;
+        known = is;
+        tells = rw (is, connect_stage form room judged by rebuild rebuild.stage is refl fine) refl;
+        may = λ places placed. rw is (connect_stage form room judged by rebuild rebuild.stage is refl fine);
+        allows = may_place rebuild is fine;
+      }
+
+  moves_copy : (n : ℕ) (rebuild : Option Rebuild) → judged.rebuild ≡ rebuild → IsTaken (cmd.Copy n)
+      → Moves (cmd.Copy n) (shell_done form room shell by (cmd.Copy n))
+  moves_copy n None is fine = absurd (let wrong = rw is at ((none (cmd.Copy n) fine).1.1.1.0) in cc)
+  moves_copy n (Some rebuild) is fine =
+      unheard form room s HasPlaces by false (Move.Copies n) None _ _ refl refl tt
+      (λ places sound. rw is (copy, rw copy at (subst HasPlace is sound.placed)))
+    where
+      copy : rebuild.stage ≡ stage.Copy
+      copy =
+          copy_is rebuild.stage (in_stage (is_copy rebuild.stage) _ (rw is at ((none (cmd.Copy n) fine).1.1.1.1.0)))
+
+  moves_completion : (rebuild : Option Rebuild) → judged.rebuild ≡ rebuild → IsTaken cmd.RebuildComplete
+      → Moves cmd.RebuildComplete (complete_outcome shell by rebuild)
+  moves_completion None is fine = absurd (let wrong = rw is at ((none cmd.RebuildComplete fine).1.1.0) in cc)
+  moves_completion (Some rebuild) is fine =
+      let none = none cmd.RebuildComplete fine in
+      let copy : rebuild.stage ≡ stage.Copy =
+      copy_is rebuild.stage (in_its (is_copy rebuild.stage) (is_member by rebuild.owing) _
+      (rw is at (none.1.1.1.0))) in
+      moves_given Completes shown.Ok rebuild shell refl is (rw copy refl) tt (rw copy refl)
+      (λ copies. nothing_left room.left _ none.1.1.1.1.0)
+
+  moves_forced : (other : ConnId) → IsTaken (cmd.ForceConn other)
+      → Moves (cmd.ForceConn other) (shell_done form room shell by (cmd.ForceConn other))
+  moves_forced other fine = record {
+    move = Move.Forces other (goes form conns);
+    does = λ i. (
+      gone_if (goes form conns) form (record s { active = active i; rebuild = emptied judged.rebuild }),
+      deeds_of (Move.Forces other (goes form conns)) s,
+      Some (record { conn = other; keep = false }),
+      0,
+    );
+    known = tt;
+    tells = forces_told s.active by s.rebuild;
+    may = λ places placed. tt;
+    allows = λ places sound gone. sym active ∙ none_behind form conns gone;
+  }
+    where
+      conns : Connections
+      conns = with_forced other judged.conns
+
+      active : actives conns ≡ actives judged.conns
+      active =
+          actives-with_forced other judged.conns
+          (idle_failed (state_of judged.conns other) (none (cmd.ForceConn other) fine).0)
+
+  moves_structure : IsTaken cmd.ForceStr → Moves cmd.ForceStr (shell_done form room shell by cmd.ForceStr)
+  moves_structure fine =
+      unheard form room s HasPlaces by false Move.Deallocates None 0 _ refl refl tt
+      (λ places sound. none_active judged.conns
+      (nothing_left (defined_count judged.conns) _ (none cmd.ForceStr fine).0))
+
+  moves_vary : (cf : CfId) (off : Bool) → Moves (cmd.Vary cf off) (vary_outcome form cf off shell)
+  moves_vary cf true = moves-loss form room (with_off cf true shell) HasPlaces by cf
+  moves_vary cf false = dull form room s HasPlaces by false _ refl refl
+
+  moves_duplex : IsTaken cmd.DuplexStart → Moves cmd.DuplexStart (shell_done form room shell by cmd.DuplexStart)
+  moves_duplex fine =
+      let none = none cmd.DuplexStart fine in
+      unheard form room s HasPlaces by false (Move.Duplexes (facility_of place)) None 0 _ refl refl tt
+      (λ places sound. record {
+        idle = idle_rebuild judged.rebuild none.1.0;
+        unfailed = unfailed none.0;
+        primary = stands_of judged.instances.primary refusal.NotAllocated none.1.1.1.0;
+        apart = λ one stands.
+            made_apart form judged by one _ stands
+            (facility_is place (placed_for (units_of judged.caps) (candidates form judged by)
+            (rw none.1.1.1.1.0 refl)));
+      })
+    where
+      place : Option CfId
+      place = place_for (units_of judged.caps) (candidates form judged by)
+
+  moves_simplex : (second : Option CfId) → judged.instances.secondary ≡ second
+      → Moves cmd.DuplexStop (simplex_again second shell)
+  moves_simplex None is = dull form room s HasPlaces by false _ refl refl
+  moves_simplex (Some cf) is =
+      unheard form room s HasPlaces by false (Move.Simplexes cf judged.instances.primary) None 0 _ refl refl tt
+      (λ places sound.
+      let stands : is_some judged.instances.secondary ≡ true = rw is refl in
+      (sound.paired.primary stands, unfailed_with s sound (λ i. is_some i.secondary) refl stands))
+
+  pub moves-command : (command : ShellCmd) → IsTaken command → Moves command (shell_done form room shell by command)
+  moves-command (cmd.Connect keep) fine = moves_connect keep fine
+  moves-command cmd.Disconnect fine = moves_departure false (none cmd.Disconnect fine).0
+  moves-command cmd.Fail fine =
+      moves_departure (is_kept (state_of judged.conns by)) (none cmd.Fail fine).0
+  moves-command cmd.Next fine = moves_next (next_event shell.mail by)
+  moves-command cmd.Respond fine = moves_response (owed_event shell.mail by)
+  moves-command (cmd.RebuildStart caps) fine = moves_start caps fine
+  moves-command cmd.RebuildStop fine = moves_stop judged.rebuild refl fine
+  moves-command cmd.RebuildConnect fine = moves_place judged.rebuild refl fine
+  moves-command (cmd.Copy n) fine = moves_copy n judged.rebuild refl fine
+  moves-command cmd.RebuildComplete fine = moves_completion judged.rebuild refl fine
+  moves-command (cmd.ForceConn other) fine = moves_forced other fine
+  moves-command cmd.ForceStr fine = moves_structure fine
+  moves-command (cmd.Vary cf off) fine = moves_vary cf off
+  moves-command cmd.DuplexStart fine = moves_duplex fine
+  moves-command cmd.DuplexStop fine = moves_simplex judged.instances.secondary refl
+  moves-command command fine = dull form room s HasPlaces by false _ refl refl
 
 module _ {C R I S : Type 0} (meaning : Meaning C R I S) (form : StrForm) (machine : Machine S) (by : ConnId) where
   abbrev pub active : List ConnId
@@ -204,7 +599,7 @@ module _ {C R I S : Type 0} (meaning : Meaning C R I S) (form : StrForm) (machin
   abbrev pub room : Room
   room = room_of meaning form machine
 
-  -- the shell that acts: the letters of a departure from the content are posted
+  -- the shell that acts
   abbrev pub acting : ShellCmd → Shell
   acting command =
       with_posted (departure_from meaning form (leaver machine.shell by command) machine).letters machine.shell
@@ -212,207 +607,53 @@ module _ {C R I S : Type 0} (meaning : Meaning C R I S) (form : StrForm) (machin
   abbrev pub done : ShellCmd → ShellOutcome
   done command = shell_done form room (acting command) by command
 
-  -- what a command does to the rebuild is what its reply tells
-  abbrev Tells : ShellCmd → Type 0
-  Tells command =
-      (done command).shell.rebuild ≡ rebuild_next active by (telling command (done command).reply) machine.shell.rebuild
+  pub move_by : (command : ShellCmd) → shell_cause form room machine.shell by command ≡ None
+      → IsMove form room (standing_of machine.shell) (length machine.shell.conns ≡ CALLERS) by
+      (is_connection command) (leaver machine.shell by command) (moved_by room command)
+      (telling command (done command).reply) (done command)
+  move_by command fine =
+      moves-command form room machine.shell
+      (departure_from meaning form (leaver machine.shell by command) machine).letters by command fine
 
-  quiet : machine.shell.rebuild ≡ rebuild_next active by Nothing machine.shell.rebuild
-  quiet = nothing_told active by machine.shell.rebuild
-
-  tells_next : (taken : Option Event) → (take_event (acting cmd.Next) by taken).shell.rebuild
-      ≡ rebuild_next active by (telling cmd.Next (take_event (acting cmd.Next) by taken).reply) machine.shell.rebuild
-  tells_next None = quiet
-  tells_next (Some taken) = quiet
-
-  tells_response : (owed : Option Event) → (response_outcome (acting cmd.Respond) by owed).shell.rebuild
-      ≡ rebuild_next active by (telling cmd.Respond (response_outcome (acting cmd.Respond) by owed).reply)
-      machine.shell.rebuild
-  tells_response None = quiet
-  tells_response (Some answered) =
-      let shell : Shell = record (acting cmd.Respond) {
-        conns = conns_answered by answered machine.shell.conns;
-        mail = with_response by (acting cmd.Respond).mail;
-      } in
-      rebuild-responded active by answered machine.shell.rebuild shell refl
-      ∙ ap (λ (t : Telling). rebuild_next active by t machine.shell.rebuild)
-      (sym (responds answered machine.shell.rebuild shell))
-    where
-      responds : (answered : Event) (rebuild : Option Rebuild) (shell : Shell)
-          → telling cmd.Respond (responded by answered rebuild shell).reply ≡ Responds answered
-      responds answered None shell = refl
-      responds answered (Some rebuild) shell = go (is_response rebuild.stage rebuild.number answered)
-        where
-          go : (b : Bool)
-              → telling cmd.Respond (if b then given_outcome (shown.Responded answered) by rebuild shell
-              else record { reply = shown.Responded answered; shell = shell; deeds = no_deeds }).reply
-              ≡ Responds answered
-          go true = refl
-          go false = refl
-
-  tells_connection : (rebuild : Option Rebuild) → machine.shell.rebuild ≡ rebuild
-      → shell_cause form room machine.shell by cmd.RebuildConnect ≡ None
-      → (rebuild_connect_outcome form (acting cmd.RebuildConnect) by rebuild).shell.rebuild
-      ≡ rebuild_next active by (telling cmd.RebuildConnect
-      (rebuild_connect_outcome form (acting cmd.RebuildConnect) by rebuild).reply) rebuild
-  tells_connection None is fine = is
-  tells_connection (Some rebuild) is fine =
-      let at : CfId = unwrap_or rebuild.fresh (facility_of (fresh_made form (acting cmd.RebuildConnect) by rebuild)) in
-      let placed : Rebuild = with_place at rebuild in
-      ap (λ (b : Bool). rebuild_given b by placed)
-      (sym (connect_awaited form room machine.shell by rebuild at is fine))
-
-  tells_completion : (rebuild : Option Rebuild) → machine.shell.rebuild ≡ rebuild
-      → shell_cause form room machine.shell by cmd.RebuildComplete ≡ None
-      → (complete_outcome (acting cmd.RebuildComplete) by rebuild).shell.rebuild
-      ≡ rebuild_next active by (telling cmd.RebuildComplete
-      (complete_outcome (acting cmd.RebuildComplete) by rebuild).reply) rebuild
-  tells_completion None is fine = is
-  tells_completion (Some rebuild) is fine =
-      ap (λ (b : Bool). rebuild_given b by rebuild)
-      (sym (complete_awaited form room machine.shell by rebuild is fine))
-
-  tells_vary : (cf : CfId) (off : Bool) → Tells (cmd.Vary cf off)
-  tells_vary cf off =
-      vary-cases form cf off (acting (cmd.Vary cf off)) (TellsOf active by machine.shell.rebuild) quiet
-      (tells_loss active by form cf (with_off cf true (acting (cmd.Vary cf off))))
-
-  tells_simplex : (second : Option CfId) → (simplex_again second (acting cmd.DuplexStop)).shell.rebuild
-      ≡ rebuild_next active by (telling cmd.DuplexStop (simplex_again second (acting cmd.DuplexStop)).reply)
-      machine.shell.rebuild
-  tells_simplex None = quiet
-  tells_simplex (Some cf) = quiet
-
-  pub tells_command : (command : ShellCmd) → shell_cause form room machine.shell by command ≡ None → Tells command
-  tells_command cmd.Disconnect fine = rebuild-departing active form (acting cmd.Disconnect) by false
-  tells_command cmd.Fail fine =
-      rebuild-departing active form (acting cmd.Fail) by (is_kept (state_of machine.shell.conns by))
-  tells_command cmd.Next fine = tells_next (next_event (acting cmd.Next).mail by)
-  tells_command cmd.Respond fine = tells_response (owed_event (acting cmd.Respond).mail by)
-  tells_command (cmd.RebuildStart caps) fine = refl
-  tells_command cmd.RebuildStop fine =
-      rebuild-stopped active by machine.shell.rebuild (acting cmd.RebuildStop) refl
-  tells_command cmd.RebuildConnect fine = tells_connection machine.shell.rebuild refl fine
-  tells_command cmd.RebuildComplete fine = tells_completion machine.shell.rebuild refl fine
-  tells_command (cmd.ForceConn other) fine = rebuild-forced active by machine.shell.rebuild
-  tells_command (cmd.Vary cf off) fine = tells_vary cf off
-  tells_command cmd.DuplexStop fine = tells_simplex machine.shell.instances.secondary
-  tells_command command fine = quiet
-
-  -- ---- a call
-
-  -- what it does, but that it has come
-  abbrev pub called : Ask C → CallOutcome R S
-  called asked =
-      unless meaning form (call_cause form room machine.shell by asked) machine
-      (call_done meaning form machine by asked)
+  pub tells_command : (command : ShellCmd) → shell_cause form room machine.shell by command ≡ None
+      → (done command).shell.rebuild
+      ≡ rebuild_next active by (telling command (done command).reply) machine.shell.rebuild
+  tells_command command fine =
+      let is = move_by command fine in ap (λ (w : Work). w.0.rebuild) is.does ∙ is.tells
 
   abbrev pub told : (asked : Ask C) → CallOutcome R S → Telling
   told asked answered = telling_of (what.Call asked) answered.reply
 
+  -- what is told of a rebuild is what becomes of it, and may be told
+  abbrev IsTold : Ask C → CallOutcome R S → Type 0
+  IsTold asked answered =
+      (answered.machine.shell.rebuild ≡ rebuild_next active by (told asked answered) machine.shell.rebuild)
+      × (length machine.shell.conns ≡ CALLERS → HasPlace machine.shell.rebuild
+      → MayBeTold active (told asked answered) machine.shell.rebuild)
+
+  told-step : (asked : Ask C) → IsTold asked (step meaning form machine by asked)
+  told-step (ask.Shell command) = go (shell_cause form room machine.shell by command) refl
+    where
+      go : (cause : Option Refusal) → shell_cause form room machine.shell by command ≡ cause
+          → IsTold (ask.Shell command)
+          (unless meaning form cause machine (command_done meaning form machine by command))
+      go (Some refusal) is = (nothing_told active by machine.shell.rebuild, λ places placed. tt)
+      go None is = (tells_command command is, (move_by command is).may)
+  told-step (ask.Content command) = go (content_cause machine.shell by)
+    where
+      go : (cause : Option Refusal) → IsTold (ask.Content command)
+          (unless meaning form cause machine (content_done meaning form machine by command))
+      go (Some refusal) = (nothing_told active by machine.shell.rebuild, λ places placed. tt)
+      go None = (nothing_told active by machine.shell.rebuild, λ places placed. tt)
+
   pub rebuild-step : (asked : Ask C)
       → (step meaning form machine by asked).machine.shell.rebuild
       ≡ rebuild_next active by (told asked (step meaning form machine by asked)) machine.shell.rebuild
-  rebuild-step (ask.Shell command) = go (shell_cause form room machine.shell by command) refl
-    where
-      go : (cause : Option Refusal) → shell_cause form room machine.shell by command ≡ cause
-          → let answered = unless meaning form cause machine (command_done meaning form machine by command) in
-          answered.machine.shell.rebuild
-          ≡ rebuild_next active by (told (ask.Shell command) answered) machine.shell.rebuild
-      go (Some refusal) is = quiet
-      go None is = tells_command command is
-  rebuild-step (ask.Content command) = go (content_cause machine.shell by)
-    where
-      go : (cause : Option Refusal)
-          → let answered = unless meaning form cause machine (content_done meaning form machine by command) in
-          answered.machine.shell.rebuild
-          ≡ rebuild_next active by (told (ask.Content command) answered) machine.shell.rebuild
-      go (Some refusal) = quiet
-      go None = quiet
-
-  -- ---- what a call may tell
-
-  may_next : (taken : Option Event)
-      → MayBeTold active (telling cmd.Next (take_event (acting cmd.Next) by taken).reply) machine.shell.rebuild
-  may_next None = tt
-  may_next (Some taken) = tt
-
-  may_response : (owed : Option Event)
-      → MayBeTold active (telling cmd.Respond (response_outcome (acting cmd.Respond) by owed).reply)
-      machine.shell.rebuild
-  may_response None = tt
-  may_response (Some answered) = by_rebuild machine.shell.rebuild _
-    where
-      by_rebuild : (rebuild : Option Rebuild) (shell : Shell)
-          → MayBeTold active (telling cmd.Respond (responded by answered rebuild shell).reply) machine.shell.rebuild
-      by_rebuild None shell = tt
-      by_rebuild (Some rebuild) shell = go (is_response rebuild.stage rebuild.number answered)
-        where
-          go : (b : Bool)
-              → MayBeTold active (telling cmd.Respond (if b
-              then given_outcome (shown.Responded answered) by rebuild shell
-              else record { reply = shown.Responded answered; shell = shell; deeds = no_deeds }).reply)
-              machine.shell.rebuild
-          go true = tt
-          go false = tt
-
-  may_stop : (rebuild : Option Rebuild) → machine.shell.rebuild ≡ rebuild
-      → shell_cause form room machine.shell by cmd.RebuildStop ≡ None
-      → MayBeTold active (telling cmd.RebuildStop (stop_outcome (acting cmd.RebuildStop) rebuild).reply) rebuild
-  may_stop None is fine =
-      absurd (third_never (unless_operator machine.shell by) (if_failed machine.shell) refusal.NoRebuild _
-      (rw is at fine))
-  may_stop (Some rebuild) is fine = stop_stage form room machine.shell by rebuild rebuild.stage is refl fine
-
-  may_connection : (rebuild : Option Rebuild) → machine.shell.rebuild ≡ rebuild
-      → shell_cause form room machine.shell by cmd.RebuildConnect ≡ None
-      → MayBeTold active (telling cmd.RebuildConnect
-      (rebuild_connect_outcome form (acting cmd.RebuildConnect) by rebuild).reply) rebuild
-  may_connection None is fine = tt
-  may_connection (Some rebuild) is fine = connect_stage form room machine.shell by rebuild rebuild.stage is refl fine
-
-  may_completion : (rebuild : Option Rebuild)
-      → MayBeTold active (telling cmd.RebuildComplete (complete_outcome (acting cmd.RebuildComplete) by rebuild).reply)
-      machine.shell.rebuild
-  may_completion None = tt
-  may_completion (Some rebuild) = tt
-
-  may_vary : HasPlace machine.shell.rebuild → (cf : CfId) (off : Bool)
-      → MayBeTold active (telling (cmd.Vary cf off) (done (cmd.Vary cf off)).reply) machine.shell.rebuild
-  may_vary placed cf off =
-      vary-cases form cf off (acting (cmd.Vary cf off)) (MayTell active machine.shell.rebuild) tt
-      (may_tell_loss active form cf (with_off cf true (acting (cmd.Vary cf off))) placed)
-
-  may_simplex : (second : Option CfId)
-      → MayBeTold active (telling cmd.DuplexStop (simplex_again second (acting cmd.DuplexStop)).reply)
-      machine.shell.rebuild
-  may_simplex None = tt
-  may_simplex (Some cf) = tt
-
-  pub may_command : length machine.shell.conns ≡ CALLERS → HasPlace machine.shell.rebuild → (command : ShellCmd)
-      → shell_cause form room machine.shell by command ≡ None
-      → MayBeTold active (telling command (done command).reply) machine.shell.rebuild
-  may_command places placed cmd.Next fine = may_next (next_event (acting cmd.Next).mail by)
-  may_command places placed cmd.Respond fine = may_response (owed_event (acting cmd.Respond).mail by)
-  may_command places placed (cmd.RebuildStart caps) fine =
-      somebody_active machine.shell by places (first_none (unless_somebody machine.shell by) _ fine)
-  may_command places placed cmd.RebuildStop fine = may_stop machine.shell.rebuild refl fine
-  may_command places placed cmd.RebuildConnect fine = may_connection machine.shell.rebuild refl fine
-  may_command places placed cmd.RebuildComplete fine = may_completion machine.shell.rebuild
-  may_command places placed (cmd.Vary cf off) fine = may_vary placed cf off
-  may_command places placed cmd.DuplexStop fine = may_simplex machine.shell.instances.secondary
-  may_command places placed command fine = tt
+  rebuild-step asked = (told-step asked).0
 
   pub may-step : length machine.shell.conns ≡ CALLERS → HasPlace machine.shell.rebuild → (asked : Ask C)
       → MayBeTold active (told asked (step meaning form machine by asked)) machine.shell.rebuild
-  may-step places placed (ask.Shell command) = go (shell_cause form room machine.shell by command) refl
-    where
-      go : (cause : Option Refusal) → shell_cause form room machine.shell by command ≡ cause
-          → MayBeTold active (told (ask.Shell command)
-          (unless meaning form cause machine (command_done meaning form machine by command))) machine.shell.rebuild
-      go (Some refusal) is = tt
-      go None is = may_command places placed command is
-  may-step places placed (ask.Content command) = tt
+  may-step places placed asked = (told-step asked).1 places placed
 
   -- ---- a mark
 
@@ -423,10 +664,8 @@ module _ {C R I S : Type 0} (meaning : Meaning C R I S) (form : StrForm) (machin
       → (loss_step meaning form machine cf).machine.shell.rebuild
       ≡ rebuild_next active by (marked cf) machine.shell.rebuild
   rebuild-loss cf =
-      loss-cases form cf machine.shell (TellsOf active by machine.shell.rebuild)
-      (tells_loss active by form cf machine.shell)
+      let is = moves-loss form room machine.shell (Unit {0}) by cf in
+      ap (λ (w : Work). w.0.rebuild) is.does ∙ is.tells
 
   pub may-loss : HasPlace machine.shell.rebuild → (cf : CfId) → MayBeTold active (marked cf) machine.shell.rebuild
-  may-loss placed cf =
-      loss-cases form cf machine.shell (MayTell active machine.shell.rebuild)
-      (may_tell_loss active form cf machine.shell placed)
+  may-loss placed cf = (moves-loss form room machine.shell (Unit {0}) by cf).may tt placed

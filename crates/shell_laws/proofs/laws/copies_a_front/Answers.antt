@@ -6,8 +6,7 @@ use Rattle.shell_laws.proofs.laws.copies_a_front.Goals as goal
 pub returns : goal.returns
 returns g c = record {
   mark = λ cf.
-      front-loss g.E.Engine.meaning c.args.form.now (replay g.E.Engine.meaning c.args.form.now c.args.history.now) cf
-      (filled-replay g.E.Engine.meaning c.args.form.now c.args.history.now);
+      front-loss g.E.Engine.meaning c.args.form.now (replay g.E.Engine.meaning c.args.form.now c.args.history.now) cf;
   front = λ by asked.
       front-step g.E.Engine.meaning c.args.form.now (replay g.E.Engine.meaning c.args.form.now c.args.history.now) by
       asked
