@@ -45,23 +45,3 @@ pub seen_more : {L : Type 0} (before between after : SeatShown L) → IsSame bef
 seen_more before between after same one two =
     later_later before.on before.desk between.desk after.desk one
     (subst (λ (on : StrNo). IsLaterOn on between.desk after.desk) same.on two)
-
--- ---- which desks may be used
-
-last_same : {A : Type 0} (front other : List A) (x y : A) → front ++ x ∷ [] ≡ other ++ y ∷ [] → x ≡ y
-last_same front other x y same =
-    let long : length front ≡ length other =
-    omega (arith, ap length same, length-append front (x ∷ []), length-append other (y ∷ [])) in
-    sym (get_or-append_seam front x [] x) ∙ ap (λ l. get_or l (length front) x) same
-    ∙ ap (λ (n : ℕ). get_or (other ++ y ∷ []) n x) long ∙ get_or-append_seam other y [] x
-
-module _ {L : Type 0} (board : BoardShown L) (on : StrNo) where
-  pub none_sits : (desks : List DeskShown) → desks ≡ [] → MaySit board desks on → ⊥
-  none_sits desks none sits =
-      omega (arith, ap length none, ap length sits.are, length-append sits.front (sits.last ∷ []))
-
-  pub last_sits : (desks front : List DeskShown) (last : DeskShown) → desks ≡ front ++ last ∷ []
-      → (sits : MaySit board desks on) → (on.0 < length board.cells) × IsConnector last.owner
-  last_sits desks front last are sits =
-      let same : sits.last ≡ last = last_same sits.front front sits.last last (sym sits.are ∙ are) in
-      (sits.there, subst (λ (desk : DeskShown). IsConnector desk.owner) same sits.connector)

@@ -651,10 +651,6 @@ module _ {C R I S : Type 0} (meaning : Meaning C R I S) (form : StrForm) (machin
       ≡ rebuild_next active by (told asked (step meaning form machine by asked)) machine.shell.rebuild
   rebuild-step asked = (told-step asked).0
 
-  pub may-step : length machine.shell.conns ≡ CALLERS → HasPlace machine.shell.rebuild → (asked : Ask C)
-      → MayBeTold active (told asked (step meaning form machine by asked)) machine.shell.rebuild
-  may-step places placed asked = (told-step asked).1 places placed
-
   -- ---- a mark
 
   abbrev marked : CfId → Telling
@@ -666,6 +662,3 @@ module _ {C R I S : Type 0} (meaning : Meaning C R I S) (form : StrForm) (machin
   rebuild-loss cf =
       let is = moves-loss form room machine.shell (Unit {0}) by cf in
       ap (λ (w : Work). w.0.rebuild) is.does ∙ is.tells
-
-  pub may-loss : HasPlace machine.shell.rebuild → (cf : CfId) → MayBeTold active (marked cf) machine.shell.rebuild
-  may-loss placed cf = (moves-loss form room machine.shell (Unit {0}) by cf).may tt placed
